@@ -1,0 +1,2 @@
+pub mod PortRange
+pub mod Prefix

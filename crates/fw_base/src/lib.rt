@@ -1,0 +1,19 @@
+//! What the packet filter is given from outside, and the plain values that every crate above speaks
+//! of: addresses, prefixes, port ranges, link types, names.
+#![tactic(auto)]
+
+pub use address::Addr;
+pub use failure::{Failed, OutOfMemory};
+pub use link::Link;
+pub use name::Name;
+pub use port::{Direction, Port};
+pub use port_range::PortRange;
+pub use prefix::Prefix;
+
+mod address;
+mod failure;
+mod link;
+mod name;
+mod port;
+mod port_range;
+mod prefix;
