@@ -1,2 +1,6 @@
+pub mod Faults
+pub mod Memory
+pub mod Pairs
 pub mod PortRange
 pub mod Prefix
+pub mod Texts

@@ -4,16 +4,24 @@
 
 pub use address::Addr;
 pub use failure::{Failed, OutOfMemory};
+pub use gate::{FreeGate, Gate};
+pub use library::Library;
 pub use link::Link;
 pub use name::Name;
 pub use port::{Direction, Port};
 pub use port_range::PortRange;
 pub use prefix::Prefix;
+pub use sink::{Sink, write_text};
+pub use source::Source;
 
 mod address;
 mod failure;
+mod gate;
+mod library;
 mod link;
 mod name;
 mod port;
 mod port_range;
 mod prefix;
+mod sink;
+mod source;

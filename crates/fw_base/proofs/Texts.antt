@@ -1,0 +1,42 @@
+-- How writes follow each other.
+use Rattle.std.proofs.Common.{◌≡◌, ℕ, ◌+◌, ◌-◌, ◌^◌, ◌≤◌, List, [], ◌++◌, Option, None, Some, Result, Ok, Err, OnOk, OnErr, length, take, drop, refl, sym, ap, ◌∙◌, subst, append_assoc, append-nil, take-append-drop, drop_of_length-le, arith}
+use Rattle.std.specs.Io.KnownBytes.{Appends, Keeps}
+use Rattle.std.proofs.KnownBytes.{Appends-nil, Appends-trans, Appends-kept}
+use Rattle.fw_base.specs.Faults.{Rose, HasCause}
+use Rattle.fw_base.specs.Texts.{AppendsPart, WritesText}
+
+-- so far the front of the text that isn't in rest was appended
+pub record IsUnderWay (old now : Option (List ℕ)) (before count : ℕ) (text rest : List ℕ) : Type 0 where
+  pub done : List ℕ
+  pub split : text ≡ done ++ rest
+  pub appended : Appends old now done
+  pub later : before ≤ count
+
+pub starts : (a : Option (List ℕ)) (n : ℕ) (text : List ℕ) → IsUnderWay a a n n text text
+starts a n text = record { done = []; split = refl; appended = Appends-nil a; later = omega arith }
+
+-- one write took the front of rest
+pub goes_on : (a b c : Option (List ℕ)) (before mid now : ℕ) (text rest : List ℕ) (n : ℕ) → IsUnderWay a b before mid text rest
+    → Appends b c (take n rest) → mid ≤ now → IsUnderWay a c before now text (drop n rest)
+goes_on a b c before mid now text rest n way more rises = record {
+  done = way.done ++ take n rest;
+  split = way.split ∙ ap (λ l. way.done ++ l) (sym (take-append-drop n rest)) ∙ sym (append_assoc way.done (take n rest) (drop n rest));
+  appended = Appends-trans a b c way.done (take n rest) way.appended more;
+  later = omega arith;
+}
+
+pub ends : {T E : Type 0} (a b : Option (List ℕ)) (before now : ℕ) (text rest : List ℕ) (x : T) → IsUnderWay a b before now text rest → rest ≡ []
+    → WritesText {E = E} a b before now text (Ok x)
+ends a b before now text rest x way none = record {
+  whole = subst (Appends a b) (sym (way.split ∙ ap (λ l. way.done ++ l) none ∙ append-nil way.done)) way.appended;
+  part = tt;
+  cause = record { later = way.later; failed = tt };
+}
+
+pub breaks : {T E : Type 0} (a b c : Option (List ℕ)) (before mid now : ℕ) (text rest : List ℕ) (e : E) → IsUnderWay a b before mid text rest
+    → Keeps b c → mid ≤ now → Rose mid now → WritesText {T = T} a c before now text (Err e)
+breaks a b c before mid now text rest e way kept later rose = record {
+  whole = tt;
+  part = (way.done, rest, way.split, Appends-kept a b c way.done way.appended kept);
+  cause = record { later = omega arith; failed = omega arith };
+}

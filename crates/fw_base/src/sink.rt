@@ -1,0 +1,37 @@
+ghost use Rattle.std.specs.Prelude.{◌≡◌, ◌<◌, ℕ, List, Option, IfOk, length};
+ghost use Rattle.std.specs.Io.{WritesAtMost};
+ghost use Rattle.std.specs.Io.KnownBytes.{WriteAppends};
+ghost use Rattle.fw_base.specs.Faults.{HasCause};
+ghost use Rattle.fw_base.specs.Texts.{WritesText};
+
+use crate::Failed;
+
+/// Where text goes.
+///
+/// Contracts see the bytes that were written, where the sink tells them, and a count of its faults,
+/// which never falls.
+pub trait Sink: Drop {
+    ghost written: { Self → Option (List ℕ) };
+
+    ghost faults: { Self → ℕ };
+
+    /// Takes some of the front of `bytes` and answers how many: at least one, unless there are none.
+    /// Where it fails it takes nothing; it fails only where the count of faults rose.
+    fn write(&mut self, bytes: &[u8]) -> Result<usize, Failed>
+        ensures bound { WritesAtMost result bytes.now }
+        ensures advances { IfOk result (λ count. 0 < length bytes.now → 0 < count) }
+        ensures bytes { WriteAppends (written self.old) (written self.new) result bytes.now }
+        ensures cause { HasCause (faults self.old) (faults self.new) result };
+}
+
+/// Writes the whole text. Where the sink fails, a front of the text was written.
+pub fn write_text<K: Sink>(out: &mut K, text: &[u8]) -> Result<(), Failed>
+    ensures { WritesText (K.written out.old) (K.written out.new) (K.faults out.old) (K.faults out.new) text.now result }
+{
+    let mut rest = text;
+    while !rest.is_empty() {
+        let count = out.write(rest)?;
+        rest = &rest[count..];
+    }
+    Ok(())
+}
