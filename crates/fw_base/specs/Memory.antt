@@ -1,5 +1,5 @@
 -- Sources, sinks and libraries over memory, as contracts see them.
-use Rattle.std.specs.Prelude.{◌≡◌, ℕ, ◌+◌, ◌-◌, ◌%◌, min, max, List, [], ◌∷◌, ◌++◌, length, take, drop, map, slice_index, Option, None, Some, Bool, nat_eq}
+use Rattle.std.specs.Prelude.{◌≡◌, ℕ, ◌+◌, ◌-◌, ◌%◌, ◌<◌, min, max, List, [], ◌∷◌, ◌++◌, length, take, drop, map, slice_index, Option, None, Some, Bool, nat_eq}
 use Rattle.std.specs.Option.{option_map}
 use Rattle.std.specs.List.{list_any}
 use Rattle.std.specs.Cmp.Lexicographic.{pointwise}
@@ -32,6 +32,10 @@ within_cut (Some bytes) n = min n bytes
 abbrev pub count_given : MemoryBytes → ℕ → ℕ
 count_given m room = within_cut m.allowed (within_piece m.pieces m.turn (min room (length m.left)))
 
+-- the place of one of the pieces, where there are any
+abbrev pub IsTurnOf : List ℕ → ℕ → Type 0
+IsTurnOf pieces turn = 0 < length pieces → turn < length pieces
+
 -- the next piece's place
 abbrev pub next_turn : List ℕ → ℕ → ℕ
 next_turn [] turn = turn
@@ -54,6 +58,14 @@ pub record MemoryText : Type 0 where
   pub text : List ℕ
   pub room : ℕ
   pub failures : ℕ
+
+-- it took the first n of these bytes
+abbrev pub after_taken : MemoryText → ℕ → List ℕ → MemoryText
+after_taken m n bytes = record m { text = m.text ++ take n bytes; room = m.room - n }
+
+-- it had no room
+abbrev pub after_refused : MemoryText → MemoryText
+after_refused m = record m { failures = one_more m.failures }
 
 -- a source under a name
 abbrev pub Named : Type 0
