@@ -1,3 +1,4 @@
 pub mod Networks
 pub mod Texts
-pub mod MemoryReads
+pub mod Parts
+pub mod FirstElements

@@ -1,5 +1,5 @@
 -- Sources, sinks and libraries over memory, as contracts see them.
-use Rattle.std.specs.Prelude.{◌≡◌, ℕ, ◌+◌, ◌-◌, ◌%◌, ◌<◌, min, max, List, [], ◌∷◌, ◌++◌, length, take, drop, map, slice_index, Option, None, Some, Bool, nat_eq}
+use Rattle.std.specs.Prelude.{◌≡◌, ℕ, ◌+◌, ◌-◌, ◌%◌, ◌<◌, min, max, List, [], ◌∷◌, ◌++◌, length, take, drop, map, slice_index, Option, None, Some, Bool, true, false, nat_eq, ◌⊎◌, IsSomeAnd, slice_index_or, remove}
 use Rattle.std.specs.Option.{option_map}
 use Rattle.std.specs.List.{list_any}
 use Rattle.std.specs.Cmp.Lexicographic.{pointwise}
@@ -78,6 +78,10 @@ pub record MemoryShelf : Type 0 where
   pub failures : ℕ
   pub last_refused : Option (List ℕ)
 
+-- no read of the source has failed
+abbrev pub IsFresh : Named → Type 0
+IsFresh source = source.1.failures ≡ 0
+
 -- the pairs that a library over memory tells
 abbrev pub pairs_of : List Named → List Pair
 pairs_of = map (λ source. (source.0, source.1.left))
@@ -89,3 +93,19 @@ take_source name = take_first (λ source. pointwise nat_eq source.0 name)
 -- the name is refused
 abbrev pub is_refused : List ℕ → List (List ℕ) → Bool
 is_refused name = list_any (λ other. pointwise nat_eq other name)
+
+-- the first source of the name is the one at this place
+abbrev pub IsFirstAt : List ℕ → List Named → ℕ → Type 0
+IsFirstAt name sources place = (place < length sources) × ((d : Named) → take_source name sources ≡ Some (slice_index_or sources place d, remove sources place))
+
+-- an opening handed out the first source of the name, which isn't refused
+abbrev pub Gives : MemoryShelf → MemoryShelf → List ℕ → MemoryBytes → Type 0
+Gives old new name reader = (is_refused name old.refusing ≡ false) × IsSomeAnd (take_source name old.sources) (λ found. (reader ≡ found.0.1) × (new ≡ record old { sources = found.1 }))
+
+-- the name is refused, or no source of it is left
+abbrev pub IsMissing : MemoryShelf → List ℕ → Type 0
+IsMissing shelf name = (is_refused name shelf.refusing ≡ true) ⊎ (take_source name shelf.sources ≡ None)
+
+-- an opening failed
+abbrev pub Refuses : MemoryShelf → MemoryShelf → List ℕ → Type 0
+Refuses old new name = IsMissing old name × (new ≡ record old { failures = one_more old.failures; last_refused = Some name })

@@ -3,10 +3,12 @@
 #![tactic(auto)]
 
 pub use address::Addr;
+pub use buffered::{BUFFER_BYTES, Buffered};
 pub use failure::{Failed, OutOfMemory};
 pub use gate::{FreeGate, Gate};
 pub use library::Library;
 pub use link::Link;
+pub use memory_library::MemoryLibrary;
 pub use memory_sink::MemorySink;
 pub use memory_source::MemorySource;
 pub use name::Name;
@@ -17,10 +19,12 @@ pub use sink::{Sink, write_text};
 pub use source::Source;
 
 mod address;
+mod buffered;
 mod failure;
 mod gate;
 mod library;
 mod link;
+mod memory_library;
 mod memory_sink;
 mod memory_source;
 mod name;
