@@ -1,0 +1,17 @@
+//! Reads the headers of a captured frame: the link header, the IPv4 header, and the fields of the TCP,
+//! UDP or ICMP header that packet filter rules test.
+#![tactic(auto)]
+
+pub use flows::Flow;
+pub use ip4::{Ip4, flow};
+pub use packet::Packet;
+pub use read::read_packet;
+
+mod defect;
+mod flows;
+mod ip4;
+mod octets;
+mod options;
+mod packet;
+mod protocols;
+mod read;
