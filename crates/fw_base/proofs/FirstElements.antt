@@ -14,7 +14,7 @@ take_first-at test (x ∷ xs) zero d within before here = rw here refl
 take_first-at test (x ∷ xs) (suc i) d within before here =
     let first : test x ≡ false = before 0 (omega arith) in
     let rest : take_first test xs ≡ Some (get_or xs i d, remove xs i) =
-        take_first-at test xs i d (omega arith) (λ k h. before (suc k) (omega arith)) here in
+    take_first-at test xs i d (omega arith) (λ k h. before (suc k) (omega arith)) here in
     rw (first, rest) refl
 
 pub take_first-none : {X : Type 0} (test : X → Bool) (xs : List X) → ((k : ℕ) (d : X) → k < length xs → test (get_or xs k d) ≡ false) → take_first test xs ≡ None
@@ -33,10 +33,13 @@ take_first-map {X = X} {Y = Y} f test (x ∷ xs) =
   where
     mapped : X × List X → Y × List Y
     mapped found = (f found.0, map f found.1)
+
     kept : X × List X → X × List X
     kept found = (found.0, x ∷ found.1)
+
     kept-mapped : Y × List Y → Y × List Y
     kept-mapped found = (found.0, f x ∷ found.1)
+
     cases : (b : Bool) → cond b (Some (f x, map f xs)) (option_map kept-mapped (option_map mapped (take_first (λ y. test (f y)) xs)))
         ≡ option_map mapped (cond b (Some (x, xs)) (option_map kept (take_first (λ y. test (f y)) xs)))
     cases true = refl
@@ -51,8 +54,10 @@ takes_out old new name reader gives =
   where
     as_pair : Named → Pair
     as_pair source = (source.0, source.1.left)
+
     as_pairs : Named × List Named → Pair × List Pair
     as_pairs found = (as_pair found.0, map as_pair found.1)
+
     given : (taken : Option (Named × List Named)) → IsSomeAnd taken (λ found. (reader ≡ found.0.1) × (new ≡ record old { sources = found.1 }))
         → MatchOption (option_map as_pairs taken) ⊥ (λ found. (◌≡◌ {A = Option (List ℕ)} (Some reader.left) (Some found.0.1)) × (◌≡◌ {A = Option (List Pair)} (Some (pairs_of new.sources)) (Some found.1)))
     given None h = absurd h

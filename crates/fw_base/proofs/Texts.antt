@@ -1,5 +1,5 @@
 -- How writes follow each other.
-use Rattle.std.proofs.Common.{◌≡◌, ℕ, ◌+◌, ◌-◌, ◌^◌, ◌≤◌, List, [], ◌++◌, Option, None, Some, Result, Ok, Err, OnOk, OnErr, length, take, drop, refl, sym, ap, ◌∙◌, subst, append_assoc, append-nil, take-append-drop, drop_of_length-le, arith}
+use Rattle.std.proofs.Common.{◌≡◌, ℕ, ◌+◌, ◌-◌, ◌^◌, ◌≤◌, List, [], ◌++◌, Option, None, Some, Result, Ok, Err, OnOk, OnErr, length, take, drop, refl, sym, ap, ◌∙◌, subst, append_assoc, append-nil, take-append-drop, drop_of_length-le, drop-cons, get_or, flat_map, suc, ◌<◌, arith}
 use Rattle.std.specs.Io.KnownBytes.{Appends, Keeps}
 use Rattle.std.proofs.KnownBytes.{Appends-nil, Appends-trans, Appends-kept}
 use Rattle.fw_base.specs.Faults.{Rose, HasCause}
@@ -40,3 +40,33 @@ breaks a b c before mid now text rest e way kept later rose = record {
   part = (way.done, rest, way.split, Appends-kept a b c way.done way.appended kept);
   cause = record { later = omega arith; failed = omega arith };
 }
+
+-- the first of some pieces, and those behind it
+pub flat_map-drop : {X : Type 0} (f : X → List ℕ) (xs : List X) (i : ℕ) (d : X) → i < length xs → flat_map f (drop i xs) ≡ f (get_or xs i d) ++ flat_map f (drop (i + 1) xs)
+flat_map-drop f xs i d within = let next : i + 1 ≡ suc i = omega arith in rw (drop-cons xs i d, next) refl
+
+-- a text that stands at the front of rest was written whole
+pub goes_on_with : {T E : Type 0} (a b c : Option (List ℕ)) (before mid now : ℕ) (text front rest : List ℕ) (x : T) → IsUnderWay a b before mid text (front ++ rest)
+    → WritesText {E = E} b c mid now front (Ok x) → IsUnderWay a c before now text rest
+goes_on_with a b c before mid now text front rest x way writes = record {
+  done = way.done ++ front;
+  split = way.split ∙ sym (append_assoc way.done front rest);
+  appended = Appends-trans a b c way.done front way.appended writes.whole;
+  later = omega (arith, writes.cause.later, way.later);
+}
+
+-- a text that stands at the front of rest was begun
+pub breaks_in : {T U E F : Type 0} (a b c : Option (List ℕ)) (before mid now : ℕ) (text front rest : List ℕ) (e : E) (f : F) → IsUnderWay a b before mid text (front ++ rest)
+    → WritesText {T = T} b c mid now front (Err e) → WritesText {T = U} a c before now text (Err f)
+breaks_in a b c before mid now text front rest e f way writes =
+    let (begun, others, split, appended) = writes.part in
+    record {
+      whole = tt;
+      part = (
+        way.done ++ begun,
+        others ++ rest,
+        way.split ∙ ap (λ l. way.done ++ (l ++ rest)) split ∙ ap (λ l. way.done ++ l) (append_assoc begun others rest) ∙ sym (append_assoc way.done begun (others ++ rest)),
+        Appends-trans a b c way.done begun way.appended appended,
+      );
+      cause = record { later = omega (arith, writes.cause.later, way.later); failed = omega (arith, writes.cause.failed, way.later) };
+    }

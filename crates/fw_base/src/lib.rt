@@ -15,7 +15,7 @@ pub use name::Name;
 pub use port::{Direction, Port};
 pub use port_range::PortRange;
 pub use prefix::Prefix;
-pub use sink::{Sink, write_text};
+pub use sink::{Sink, write_pieces, write_text};
 pub use source::Source;
 
 mod address;

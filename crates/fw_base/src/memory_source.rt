@@ -29,11 +29,11 @@ impl Model for MemorySource {
     ghost Value = { MemoryBytes };
 
     ghost view = { λ s. record {
-        left = drop s.taken s.bytes.items;
-        pieces = s.pieces.items;
-        turn = s.turn;
-        allowed = option_map (λ cut. cut - s.taken) s.cut;
-        failures = s.failures
+      left = drop s.taken s.bytes.items;
+      pieces = s.pieces.items;
+      turn = s.turn;
+      allowed = option_map (λ cut. cut - s.taken) s.cut;
+      failures = s.failures;
     } };
 
     ghost invariant = { λ s. (s.taken ≤ vec_len s.bytes) × IsTurnOf s.pieces.items s.turn × IfSome s.cut (λ cut. s.taken ≤ cut) };

@@ -1,4 +1,4 @@
-ghost use Rattle.std.specs.Prelude.{◌≡◌, ◌<◌, ℕ, List, Option, IfOk, length};
+ghost use Rattle.std.specs.Prelude.{◌≡◌, ◌<◌, ℕ, List, Option, IfOk, length, flat_map};
 ghost use Rattle.std.specs.Io.{WritesAtMost};
 ghost use Rattle.std.specs.Io.KnownBytes.{WriteAppends};
 ghost use Rattle.fw_base.specs.Faults.{HasCause};
@@ -32,6 +32,16 @@ pub fn write_text<K: Sink>(out: &mut K, text: &[u8]) -> Result<(), Failed>
     while !rest.is_empty() {
         let count = out.write(rest)?;
         rest = &rest[count..];
+    }
+    Ok(())
+}
+
+/// Writes the pieces one after the other. Where the sink fails, a front of them was written.
+pub fn write_pieces<K: Sink>(out: &mut K, pieces: &[&[u8]]) -> Result<(), Failed>
+    ensures { WritesText (K.written out.old) (K.written out.new) (K.faults out.old) (K.faults out.new) (flat_map (λ piece. piece.now) pieces.now) result }
+{
+    for piece in pieces {
+        write_text(out, piece)?;
     }
     Ok(())
 }

@@ -1,8 +1,8 @@
 -- The types of the options, one option at a time.
-use Rattle.std.proofs.Common.{◌≡◌, ◌≢◌, ℕ, ◌+◌, ◌-◌, ◌<◌, ◌≤◌, List, [], ◌∷◌, length, drop, zero, suc, refl, arith, ap, sym, ◌∙◌, sub-one, Bool, true, false, get_or}
+use Rattle.std.proofs.Common.{◌≡◌, ◌≢◌, ℕ, ◌+◌, ◌-◌, ◌<◌, ◌≤◌, List, [], ◌∷◌, length, drop, zero, suc, refl, arith, ap, sym, ◌∙◌, sub-one}
 use Rattle.std.proofs.lemmas.Grind.{common_steps}
 use Rattle.packet_headers.specs.Octets.{octet}
-use Rattle.packet_headers.specs.Options.{types_behind, option_types, is_length_sound}
+use Rattle.packet_headers.specs.Options.{types_behind, option_types}
 
 -- the bytes that belong to an option before are passed over
 pub types_behind-drop : (few : ℕ) (bytes : List ℕ) → types_behind few bytes ≡ types_behind 0 (drop few bytes)

@@ -3,10 +3,9 @@ ghost use Rattle.packet_headers.specs.Flows.{flow_of};
 ghost use Rattle.packet_headers.specs.Options.{has_option};
 ghost use Rattle.packet_headers.specs.Transport.{has_transport_header, ports_of, tcp_flags_of, icmp_type_of};
 
-use crate::Flow;
 use crate::octets::two_octets;
-use crate::options;
 use crate::protocols::{ICMP, TCP, UDP, header_size};
+use crate::{Flow, options};
 use fw_base::Addr;
 use std::marker::Model;
 
@@ -28,13 +27,13 @@ impl<'a> Model for Ip4<'a> {
     ghost Value = { Fields };
 
     ghost view = { λ p. record {
-        source = p.source.0;
-        destination = p.destination.0;
-        protocol = p.protocol;
-        total = p.total;
-        offset = p.offset;
-        options = p.options.now;
-        transport = p.transport.now;
+      source = p.source.0;
+      destination = p.destination.0;
+      protocol = p.protocol;
+      total = p.total;
+      offset = p.offset;
+      options = p.options.now;
+      transport = p.transport.now;
     } };
 }
 

@@ -15,3 +15,5 @@ mod options;
 mod packet;
 mod protocols;
 mod read;
+#[cfg(test)]
+mod tests;

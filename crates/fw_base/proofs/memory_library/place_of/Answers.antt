@@ -9,9 +9,9 @@ pub returns-then-eq : goal.returns-then-eq
 returns-then-eq c =
     let name = c.args.name.now in
     let here : (d : Named) → pointwise nat_eq (get_or c.args.sources.now c.loop-place.place d).0 name ≡ true =
-        λ d. subst (λ (source : Named). pointwise nat_eq source.0 name ≡ true)
-            (c.index-sources-place.is ∙ get_or_default c.args.sources.now c.loop-place.place c.index-sources-place.result d c.loop-place-test.true)
-            (sym c.eq.ensures ∙ c.if-eq.true) in
+    λ d. subst (λ (source : Named). pointwise nat_eq source.0 name ≡ true)
+    (c.index-sources-place.is ∙ get_or_default c.args.sources.now c.loop-place.place c.index-sources-place.result d c.loop-place-test.true)
+    (sym c.eq.ensures ∙ c.if-eq.true) in
     (c.loop-place-test.true, λ d. take_first-at (λ (source : Named). pointwise nat_eq source.0 name) c.args.sources.now c.loop-place.place d c.loop-place-test.true (λ k h. c.loop-place.invariant k d h) (here d))
 
 pub returns : goal.returns

@@ -1,0 +1,117 @@
+-- What going on to the next record does to a capture.
+use Rattle.std.proofs.Common.{◌≡◌, ℕ, ◌+◌, ◌≤◌, List, [], ◌∷◌, ◌++◌, length, take, drop, Option, None, Some, Bool, Result, Ok, Err, ◌==◌, cond, IfSome, MatchOption, MatchResult, refl, sym, ap, ◌∙◌, subst, arith, length-append}
+use Rattle.std.specs.Option.{option_map}
+use Rattle.std.specs.Io.KnownBytes.{IsAtEnd}
+use lib.Seq.{drop-append-le}
+use Rattle.fw_base.specs.Faults.{Rose}
+use Rattle.pcap_read.specs.declared.capture.Capture.{Capture}
+use Rattle.pcap_read.specs.declared.capture_fault.CaptureFault.{CaptureFault}
+use Rattle.pcap_read.specs.declared.format.Format.{Format}
+use Rattle.pcap_read.specs.declared.stop.Stop.{Stop}
+use Rattle.pcap_read.specs.Window.{Grows}
+use Rattle.pcap_read.specs.Finding.{IsNextRecord, HasOwnCause}
+use Rattle.pcap_read.specs.Reading.{Captured, header_of, next_of, record_of, Took, Gives, EndsAt, StopsBefore, StopsBehind}
+use Rattle.pcap_read.specs.Capture.{record_in, source_of, held_of, current_of, stop_of, stopped_with, answer_at, stop_by, IsReading, StopsWith, Advances}
+use Rattle.pcap_read.proofs.Fronts.{gives_grown, gives_more, header_grown, front_behind}
+
+-- the records so far, as more bytes come
+given_grown : (format : Format) (bytes got : List ℕ) (records : List Captured) (held : List ℕ) → 24 ≤ length bytes → Gives format 0 (drop 24 bytes) records held → Gives format 0 (drop 24 (bytes ++ got)) records (held ++ got)
+given_grown format bytes got records held h p =
+    subst (λ l. Gives format 0 l records (held ++ got)) (sym (drop-append-le 24 bytes got h)) (gives_grown format 0 (drop 24 bytes) got records held p)
+
+-- one more record
+given_more : (format : Format) (bytes got : List ℕ) (records : List Captured) (held after : List ℕ) (given : ℕ) (r : Captured) (more : List ℕ) → 24 ≤ length bytes → Gives format 0 (drop 24 bytes) records held
+    → given ≡ length records → after ≡ held ++ got → next_of format given after ≡ Took r more → Gives format 0 (drop 24 (bytes ++ got)) (records ++ r ∷ []) more
+given_more format bytes got records held after given r more h p count e t =
+    let zero : 0 + length records ≡ given = omega (arith, count) in
+    gives_more format 0 (drop 24 (bytes ++ got)) records (held ++ got) r more (given_grown format bytes got records held h p)
+    (ap (λ n. next_of format n (held ++ got)) zero ∙ ap (next_of format given) (sym e) ∙ t)
+
+-- no more records
+stops_behind : {A F : Type 0} (format : Format) (bytes got : List ℕ) (records : List Captured) (held after : List ℕ) (given : ℕ) (stop : Option CaptureFault) → 24 ≤ length bytes → header_of (take 24 bytes) ≡ Ok format
+    → Gives format 0 (drop 24 bytes) records held → given ≡ length records → after ≡ held ++ got → StopsBefore A F format given after stop → StopsBehind A F (bytes ++ got) records stop
+stops_behind format bytes got records held after given stop h header p count e s =
+    let longer : 24 ≤ length (bytes ++ got) = omega (arith, length-append bytes got, h) in (
+      s.0,
+      front_behind (bytes ++ got) records s.0 format longer (header_grown bytes got h ∙ header)
+          (held ++ got, given_grown format bytes got records held h p, ap (λ n. next_of format n (held ++ got)) (sym count) ∙ ap (next_of format given) (sym e) ∙ s.1),
+      s.2,
+    )
+
+-- a size that isn't 0
+sized : {X : Type 0} (size : ℕ) (x y : X) → 16 ≤ size → cond (size == 0) x y ≡ y
+sized size x y h = grind arith
+
+-- nothing is said of a capture that goes on
+if_running : (s : Option Stop) (P : Option CaptureFault → Type 0) → s ≡ None → IfSome (option_map stopped_with s) P
+if_running s P e = subst (λ x. IfSome (option_map stopped_with x) P) (sym e) tt
+
+-- the answer to a stop says how it was
+stop_by-answer_at : (stop : Option CaptureFault) → Some stop ≡ stop_by (answer_at stop)
+stop_by-answer_at None = refl
+stop_by-answer_at (Some fault) = refl
+
+record_in-answer_at : (stop : Option CaptureFault) → None ≡ record_in (answer_at stop)
+record_in-answer_at None = refl
+record_in-answer_at (Some fault) = refl
+
+-- nothing is said of a record
+if_no_record : (stop : Option CaptureFault) (P : Type 0) (Q : Captured → Type 0) → P → MatchOption (record_in (answer_at stop)) P Q
+if_no_record None P Q p = p
+if_no_record (Some fault) P Q p = p
+
+-- what is said of no more records
+if_stopped : (stop : Option CaptureFault) (P : Option CaptureFault → Type 0) (Q : Captured → Type 0) → P stop → MatchResult (answer_at stop) (λ found. MatchOption found (P None) Q) (λ fault. P (Some fault))
+if_stopped None P Q p = p
+if_stopped (Some fault) P Q p = p
+
+module _ {S : Type 0} (left : S → Option (List ℕ)) (faults : S → ℕ) where
+  pub advances_to_record : (old new : Capture S) → old.stop ≡ None → new.stop ≡ old.stop → new.format ≡ old.format → new.given ≡ old.given + 1
+      → Grows (left old.source) (left new.source) (held_of old) new.window → IsNextRecord old.format old.given new.window new.size → faults old.source ≤ faults new.source
+      → Advances left faults old new (Ok (current_of new))
+  advances_to_record old new running stop format given grows next later =
+      let r = record_of old.format (take new.size new.window) in
+      let is : current_of new ≡ Some r = sized new.size None (Some (record_of new.format (take new.size new.window))) next.header ∙ ap (λ f. Some (record_of f (take new.size new.window))) format in
+      let goes : stop_of new ≡ None = ap (option_map stopped_with) (stop ∙ running) in
+      let whole : Advances left faults old new (Ok (Some r)) = record {
+        continues = λ bytes records reading. (
+          grows.0,
+          grows.2,
+          record {
+            running = goes;
+            whole = omega (arith, length-append bytes grows.0, reading.whole);
+            header = header_grown bytes grows.0 reading.whole ∙ reading.header ∙ ap Ok (sym format);
+            gives = subst (λ f. Gives f 0 (drop 24 (bytes ++ grows.0)) (records ++ r ∷ []) (held_of new)) (sym format)
+                (given_more old.format bytes grows.0 records (held_of old) new.window old.given r (drop new.size new.window) reading.whole reading.gives reading.count grows.1 next.took);
+            count = given ∙ ap (λ n. n + 1) reading.count ∙ sym (length-append records (r ∷ []));
+          },
+        );
+        again = if_running old.stop _ running;
+        cause = λ _. record { failed_read = λ e. absurd (cc); has_memory = λ e. absurd (cc) };
+        stop = goes;
+        current = is;
+        link = ap (λ f. f.link) format;
+        counts = (given, omega (arith, given, next.few));
+        later = later;
+      } in
+      subst (λ found. Advances left faults old new (Ok found)) (sym is) whole
+
+  pub advances_to_stop : (old new : Capture S) (how : Stop) → old.stop ≡ None → new.stop ≡ Some how → new.size ≡ 0 → new.format ≡ old.format → new.given ≡ old.given
+      → Grows (left old.source) (left new.source) (held_of old) new.window
+      → StopsBefore (IsAtEnd (left new.source)) (Rose (faults old.source) (faults new.source)) old.format old.given new.window (stopped_with how) → HasOwnCause (Rose (faults old.source) (faults new.source)) (answer_at (stopped_with how)) → faults old.source ≤ faults new.source
+      → Advances left faults old new (answer_at (stopped_with how))
+  advances_to_stop old new how running stop size format given grows stops cause later = record {
+    continues = λ bytes records reading. (
+      grows.0,
+      grows.2,
+      if_stopped (stopped_with how) (StopsWith left faults (source_of old) (source_of new) (bytes ++ grows.0) records) (λ r. IsReading new (bytes ++ grows.0) (records ++ r ∷ []))
+          (stops_behind old.format bytes grows.0 records (held_of old) new.window old.given (stopped_with how) reading.whole reading.header reading.gives reading.count grows.1 stops),
+    );
+    again = if_running old.stop _ running;
+    cause = λ _. cause;
+    stop = ap (option_map stopped_with) stop ∙ stop_by-answer_at (stopped_with how);
+    current = ap (λ n. cond (n == 0) None (Some (record_of new.format (take n new.window)))) size ∙ record_in-answer_at (stopped_with how);
+    link = ap (λ f. f.link) format;
+    counts = if_no_record (stopped_with how) _ _ given;
+    later = later;
+  }

@@ -1,0 +1,26 @@
+-- What looking for the next record in a window answers.
+use Rattle.std.specs.Prelude.{◌≡◌, ◌≢◌, ℕ, ◌+◌, ◌<◌, ◌≤◌, List, length, take, drop, Option, None, Some, Result, Err, MatchOption, MatchResult}
+use Rattle.std.specs.Io.KnownBytes.{IsAtEnd}
+use Rattle.pcap_read.specs.declared.capture_fault.CaptureFault.{CaptureFault}
+use Rattle.pcap_read.specs.declared.capture_fault.CaptureFault.TheVariants.{ReadFault, OutOfMemory}
+use Rattle.pcap_read.specs.declared.format.Format.{Format}
+use Rattle.pcap_read.specs.Reading.{next_of, record_of, Took, StopsBefore}
+
+-- so many bytes at the front are the next record
+pub record IsNextRecord (format : Format) (given : ℕ) (held : List ℕ) (size : ℕ) : Type 0 where
+  pub took : next_of format given held ≡ Took (record_of format (take size held)) (drop size held)
+  pub header : 16 ≤ size
+  pub within : size ≤ length held
+  pub most : size ≤ 262160
+  pub few : given < 4194304
+
+-- the bytes behind so many records are the next record, or the reader stops there
+abbrev pub Finds : (atEnd failed : Type 0) → Format → ℕ → List ℕ → Result (Option ℕ) CaptureFault → Type 0
+Finds atEnd failed format given held result = MatchResult result
+    (λ found. MatchOption found (StopsBefore atEnd failed format given held None) (IsNextRecord format given held))
+    (λ fault. StopsBefore atEnd failed format given held (Some fault))
+
+-- A failing read is told only where it was one, and want of memory never.
+pub record HasOwnCause {T : Type 0} (failed : Type 0) (result : Result T CaptureFault) : Type 0 where
+  pub failed_read : result ≡ Err ReadFault → failed
+  pub has_memory : result ≢ Err OutOfMemory

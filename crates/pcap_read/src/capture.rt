@@ -1,0 +1,149 @@
+ghost use Rattle.std.specs.Prelude.{◌≡◌, ◌≤◌, ◌<◌, [], length, is_some, true, IfOk, IfSome, MatchResult};
+ghost use Rattle.std.specs.Option.{option_map};
+
+use crate::capture_fault::CaptureFault;
+use crate::finding::find_record;
+use crate::format::Format;
+use crate::open_fault::OpenFault;
+use crate::opening::take_header;
+use crate::record::Record;
+use crate::records::record_in;
+use crate::stop::Stop;
+use crate::window::Window;
+use fw_base::{Link, Source};
+use std::alloc::Global;
+
+/// A capture that is read from a source record by record (pcap 2.4).
+#[derive(Drop)]
+pub struct Capture<S> {
+    source: S,
+    format: Format,
+    /// The record that was given last, and the bytes behind it.
+    window: Window,
+    /// How many bytes the record that was given last takes; 0 where the last call gave none.
+    size: usize,
+    /// How many records were given.
+    given: u32,
+    stop: Option<Stop>,
+    ghost within: { size ≤ length window },
+    ghost most: { size ≤ 262160 },
+    ghost header: { 0 < size → 16 ≤ size },
+    ghost few: { given ≤ 4194304 },
+    ghost stopped: { is_some stop ≡ true → size ≡ 0 },
+}
+
+impl<S: Source> Capture<S> {
+    ghost use Rattle.std.specs.Borrow.{sem};
+    ghost use Rattle.std.specs.Io.BufRead.{Rests};
+    ghost use Rattle.pcap_read.specs.contracts.capture.Capture.{the_row};
+    ghost use Rattle.pcap_read.specs.Capture.{IsOpened, IsRefused, Advances, captured, told, answered, source_of, current_of, link_of};
+
+    /// Takes the one buffer and reads the header. On a fault the source is given back.
+    pub fn open(alloc: Global, source: S) -> Result<Capture<S>, OpenFault<S>>
+        ensures { MatchResult result (IsOpened S.left S.faults source) (IsRefused S.left S.faults source) }
+    {
+        match Window::new(alloc) {
+            Ok(window) => Capture::begin(window, source),
+            Err(error) => Err(OpenFault {
+                fault: CaptureFault::from(error),
+                source,
+            }),
+        }
+    }
+
+    /// Reads the header into an empty window.
+    fn begin(mut window: Window, mut source: S) -> Result<Capture<S>, OpenFault<S>>
+        requires { window ≡ [] }
+        ensures { MatchResult result (IsOpened S.left S.faults source) (IsRefused S.left S.faults source) }
+    {
+        match take_header(&mut window, &mut source) {
+            Ok(format) => Ok(Capture {
+                source,
+                format,
+                window,
+                size: 0,
+                given: 0,
+                stop: None,
+            }),
+            Err(fault) => Err(OpenFault { fault, source }),
+        }
+    }
+
+    /// The next record, or `None` at the end of the capture, behind a whole record or the header. It is
+    /// lent from the buffer. After a fault each further call answers the same fault, and after the end
+    /// each answers `None`.
+    ///
+    /// Faults: a byte behind the 4,194,304th record, an end in a record's header, a captured length above
+    /// 262,144, an end in a record, a source that failed. Records that were read whole before the source
+    /// failed are given first.
+    pub fn next(&mut self) -> Result<Option<Record<'_>>, CaptureFault>
+        ensures small { IfOk result (λ found. IfSome found (λ r. length r.bytes.now ≤ 262144)) }
+        ensures* advances { sem 𝓛 (Rests (the_row S.row) self.entry (λ new. Advances S.left S.faults self.old new (told result))) }
+    {
+        self.advance()?;
+        Ok(self.current())
+    }
+
+    /// The record that the last call of `next` gave, again; `None` exactly where it gave none, or there
+    /// was no call.
+    pub fn current(&self) -> Option<Record<'_>>
+        ensures value { option_map captured result ≡ current_of self.now }
+        ensures small { IfSome result (λ r. length r.bytes.now ≤ 262144) }
+    {
+        if self.size == 0 {
+            return None;
+        }
+        let bytes = self.window.bytes();
+        Some(record_in(self.format, &bytes[..self.size]))
+    }
+
+    /// Goes on to the next record.
+    fn advance(&mut self) -> Result<(), CaptureFault>
+        ensures { Advances S.left S.faults self.old self.new (answered result (current_of self.new)) }
+    {
+        match self.stop {
+            Some(Stop::End) => return Ok(()),
+            Some(Stop::Fault(fault)) => return Err(fault),
+            None => {}
+        }
+        self.window.skip(self.size);
+        self.size = 0;
+        match find_record(&mut self.window, &mut self.source, self.format, self.given) {
+            Ok(Some(size)) => {
+                self.size = size;
+                self.given += 1;
+                Ok(())
+            }
+            Ok(None) => {
+                self.stop = Some(Stop::End);
+                Ok(())
+            }
+            Err(fault) => {
+                self.stop = Some(Stop::Fault(fault));
+                Err(fault)
+            }
+        }
+    }
+
+    /// The link type of its packets.
+    pub fn link(&self) -> Link
+        ensures { result ≡ link_of self.now }
+    {
+        self.format.link
+    }
+
+    /// The source's count of faults.
+    pub fn faults(&self) -> u64
+        ensures { result ≡ S.faults (source_of self.now) }
+    {
+        self.source.faults()
+    }
+
+    /// Gives the source back.
+    pub fn close(self) -> S
+        ensures { result ≡ source_of self }
+    {
+        let Capture { source, .. } = self;
+        source
+    }
+}

@@ -1,0 +1,87 @@
+ghost use Rattle.std.specs.Prelude.{◌≡◌};
+ghost use Rattle.pcap_read.specs.Words.{word_of};
+ghost use Rattle.pcap_read.specs.declared.capture_fault.CaptureFault.TheVariants.{ReadFault, OutOfMemory};
+
+use fw_base::Failed;
+use std::error::Error;
+use std::fmt;
+
+/// Why a capture gives no further record (pcap 2.4).
+#[derive(Clone, Copy, Debug, PartialEq, Eq, Hash)]
+pub enum CaptureFault {
+    /// The capture ends before its header of 24 bytes does.
+    ShortHeader,
+    /// The magic number is neither 0xa1b2c3d4 nor 0xa1b23c4d, in either byte order.
+    BadMagic,
+    /// The version isn't 2.4.
+    BadVersion,
+    /// The link type is none of 0, 1, 101 and 113.
+    UnknownLink,
+    /// The capture ends 1 to 15 bytes into a record's header.
+    ShortRecordHeader,
+    /// A record's captured length is above 262,144.
+    RecordTooLong,
+    /// The capture ends before a record's captured bytes do.
+    ShortRecord,
+    /// A byte follows the 4,194,304th record.
+    TooManyPackets,
+    /// The source failed: its count of faults rose.
+    ReadFault,
+    /// Memory ran out, at the opening.
+    OutOfMemory,
+}
+
+impl CaptureFault {
+    /// Its own name, as a report prints it.
+    pub fn word(&self) -> &'static str
+        ensures { result.now ≡ word_of self.now }
+    {
+        match self {
+            CaptureFault::ShortHeader => "ShortHeader",
+            CaptureFault::BadMagic => "BadMagic",
+            CaptureFault::BadVersion => "BadVersion",
+            CaptureFault::UnknownLink => "UnknownLink",
+            CaptureFault::ShortRecordHeader => "ShortRecordHeader",
+            CaptureFault::RecordTooLong => "RecordTooLong",
+            CaptureFault::ShortRecord => "ShortRecord",
+            CaptureFault::TooManyPackets => "TooManyPackets",
+            CaptureFault::ReadFault => "ReadFault",
+            CaptureFault::OutOfMemory => "OutOfMemory",
+        }
+    }
+}
+
+impl fmt::Display for CaptureFault {
+    fn fmt<W: fmt::Write>(&self, f: &mut fmt::Formatter<W>) -> fmt::Result {
+        f.write_str(match self {
+            CaptureFault::ShortHeader => "the capture ends in its header",
+            CaptureFault::BadMagic => "the magic number is unknown",
+            CaptureFault::BadVersion => "the version is not 2.4",
+            CaptureFault::UnknownLink => "the link type is unknown",
+            CaptureFault::ShortRecordHeader => "the capture ends in a record's header",
+            CaptureFault::RecordTooLong => "a record is longer than 262,144 bytes",
+            CaptureFault::ShortRecord => "the capture ends in a record",
+            CaptureFault::TooManyPackets => "the capture has more than 4,194,304 records",
+            CaptureFault::ReadFault => "the capture could not be read",
+            CaptureFault::OutOfMemory => "out of memory",
+        })
+    }
+}
+
+impl Error for CaptureFault {}
+
+impl From<Failed> for CaptureFault {
+    ghost from_gives = { λ _ fault. fault ≡ ReadFault };
+
+    fn from(_error: Failed) -> CaptureFault {
+        CaptureFault::ReadFault
+    }
+}
+
+impl From<fw_base::OutOfMemory> for CaptureFault {
+    ghost from_gives = { λ _ fault. fault ≡ OutOfMemory };
+
+    fn from(_error: fw_base::OutOfMemory) -> CaptureFault {
+        CaptureFault::OutOfMemory
+    }
+}

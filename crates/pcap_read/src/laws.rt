@@ -1,0 +1,19 @@
+ghost use Rattle.std.specs.Prelude.{◌≡◌, ℕ, List, ◌++◌};
+ghost use Rattle.pcap_read.specs.declared.capture_fault.CaptureFault.{CaptureFault as Kind};
+ghost use Rattle.pcap_read.specs.Reading.{Captured, Place, Closed, HasFront};
+
+/// Laws of the front of a string of bytes: its records and the place where they end. It does nothing.
+pub fn one_front()
+    // Each string has a front, and no other.
+    ensures exists { (bytes : List ℕ) → (records : List Captured) × (place : Place) × HasFront bytes records place }
+    ensures unique { (bytes : List ℕ) (records others : List Captured) (place other : Place)
+        → HasFront bytes records place → HasFront bytes others other → (records ≡ others) × (place ≡ other) }
+
+    // As more bytes come, the records stay, and so does a fault that stands there at once.
+    ensures grows { (bytes more : List ℕ) (records others : List Captured) (place other : Place)
+        → HasFront bytes records place → HasFront (bytes ++ more) others other
+        → (behind : List Captured) × (others ≡ records ++ behind) }
+    ensures stays { (bytes more : List ℕ) (records : List Captured) (fault : Kind)
+        → HasFront bytes records (Closed fault) → HasFront (bytes ++ more) records (Closed fault) }
+{
+}
