@@ -1,0 +1,195 @@
+-- One processor of the core, and what a change of it leaves as it was.
+use Rattle.std.proofs.Common.{◌≡◌, ◌≢◌, ℕ, zero, suc, ◌+◌, ◌-◌, ◌<◌, ◌≤◌, inl, inr, true, Option, Some, None, List, [], ◌∷◌, ◌++◌, map, take, drop, length, length-set, refl, sym, ◌∙◌, ap, arith, subst}
+use Rattle.std.specs.Prelude.{All, IsSomeAnd, slice_get, slice_set, slice_index_or, replicate}
+use Rattle.std.specs.Option.{option_map_or}
+use Rattle.std.proofs.lemmas.List.Elements.{All-set}
+use Rattle.std.proofs.lemmas.Option.{slice_get_within, get_or_from_slice_get}
+use Rattle.std.proofs.lemmas.Bool.Decides.{nat_tests, eqb_tells}
+use Rattle.std.proofs.lemmas.List.{length-map, get_or_default}
+use Rattle.std.proofs.lemmas.List.Edits.{map_over_more}
+use Rattle.rm_core.specs.declared.phase.Phase.TheVariants.{Out, Raised}
+use Rattle.rm_core.specs.declared.token.Token.TheVariants.{Held, Revoked}
+use Rattle.rm_core.specs.declared.event.Event.{Event}
+use Rattle.rm_core.specs.declared.event.Event.TheVariants.{Raise, Check, Lower, TakeBack, GiveBack, Regain, Revoke, Drain, ReadNumber, Publish}
+use Rattle.rm_core.specs.declared.processor_state.ProcessorState.{ProcessorState}
+use Rattle.rm_core.specs.CoreState.{CoreState, processor_of, with_processor, IsProcessor, after, after_check, after_drain, after_publication, idle, opening}
+
+-- what holds of the processor that there is
+pub IsProcessor-some : (s : CoreState) (i : ℕ) (P : ProcessorState → Type 0) → IsProcessor s i P → (p : ProcessorState) × (processor_of s i ≡ Some p) × P p
+IsProcessor-some s i P = some_of P (processor_of s i)
+  where
+    some_of : (P : ProcessorState → Type 0) (o : Option ProcessorState) → IsSomeAnd o P → (p : ProcessorState) × (o ≡ Some p) × P p
+    some_of P (Some p) holds = (p, refl, holds)
+    some_of P None holds = absurd holds
+
+pub IsProcessor-from : (s : CoreState) (i : ℕ) (P : ProcessorState → Type 0) (p : ProcessorState) → processor_of s i ≡ Some p → P p → IsProcessor s i P
+IsProcessor-from s i P p is holds = subst (λ (o : Option ProcessorState). IsSomeAnd o P) (sym is) holds
+
+-- a processor's number is not 0, and it stands one place before it
+pub processor_of-some : (s : CoreState) (i : ℕ) (p : ProcessorState) → processor_of s i ≡ Some p → (0 < i) × (slice_get s.processors (i - 1) ≡ Some p)
+processor_of-some s i p is = grind (arith, nat_tests)
+
+pub processor_of-within : (s : CoreState) (i : ℕ) (p : ProcessorState) → processor_of s i ≡ Some p → (0 < i) × (i ≤ length s.processors)
+processor_of-within s i p is =
+    let at : (0 < i) × (slice_get s.processors (i - 1) ≡ Some p) = processor_of-some s i p is in
+    (at.0, omega (arith, slice_get_within s.processors (i - 1) p at.1))
+
+-- what holds of all holds of each
+pub All-slice_get : {A : Type 0} (P : A → Type 0) (xs : List A) (k : ℕ) (x : A) → slice_get xs k ≡ Some x → All P xs → P x
+All-slice_get {A} P xs k x is all = subst P (get_or_from_slice_get xs k x x is) (all k x (slice_get_within xs k x is))
+
+pub All-processor_of : (P : ProcessorState → Type 0) (s : CoreState) (i : ℕ) (p : ProcessorState) → All P s.processors → processor_of s i ≡ Some p → P p
+All-processor_of P s i p all is = All-slice_get P s.processors (i - 1) p (processor_of-some s i p is).1 all
+
+-- the state with that processor put in its place, where there is one
+pub with_processor-some : (s : CoreState) (i : ℕ) (change : ProcessorState → ProcessorState) (p : ProcessorState) → processor_of s i ≡ Some p → with_processor s i change ≡ record s { processors = slice_set s.processors (i - 1) (change p) }
+with_processor-some s i change p is = ap (λ (o : Option ProcessorState). option_map_or (λ p. record s { processors = slice_set s.processors (i - 1) (change p) }) o s) is
+
+-- a change of one processor keeps what holds of each, if it keeps it of that one
+pub All-with_processor : (P : ProcessorState → Type 0) (s : CoreState) (i : ℕ) (change : ProcessorState → ProcessorState) (p : ProcessorState) → processor_of s i ≡ Some p → P (change p) → All P s.processors → All P (with_processor s i change).processors
+All-with_processor P s i change p is changed all =
+    rw (with_processor-some s i change p is) (All-set P s.processors (i - 1) (change p) changed all)
+
+pub number-with_processor : (s : CoreState) (i : ℕ) (change : ProcessorState → ProcessorState) → (with_processor s i change).number ≡ s.number
+number-with_processor s i change =
+    elim (processor_of s i) as (λ o. (option_map_or (λ p. record s { processors = slice_set s.processors (i - 1) (change p) }) o s).number ≡ s.number) [ None ↦ refl | Some p ↦ refl ]
+
+pub holder-with_processor : (s : CoreState) (i : ℕ) (change : ProcessorState → ProcessorState) → (with_processor s i change).holder ≡ s.holder
+holder-with_processor s i change =
+    elim (processor_of s i) as (λ o. (option_map_or (λ p. record s { processors = slice_set s.processors (i - 1) (change p) }) o s).holder ≡ s.holder) [ None ↦ refl | Some p ↦ refl ]
+
+pub length-with_processor : (s : CoreState) (i : ℕ) (change : ProcessorState → ProcessorState) → length (with_processor s i change).processors ≡ length s.processors
+length-with_processor s i change =
+    elim (processor_of s i) as (λ o. length (option_map_or (λ p. record s { processors = slice_set s.processors (i - 1) (change p) }) o s).processors ≡ length s.processors) [ None ↦ refl | Some p ↦ length-set s.processors (i - 1) (change p) ]
+
+-- the processor as it is read
+pub processor_of-read : (s : CoreState) (i : ℕ) (P : ProcessorState → Type 0) (p : ProcessorState) → IsProcessor s i P → slice_index_or s.processors (i - 1) p ≡ p → processor_of s i ≡ Some p
+processor_of-read s i P p there read =
+    let found : (q : ProcessorState) × (processor_of s i ≡ Some q) × P q = IsProcessor-some s i P there in
+    let same : slice_index_or s.processors (i - 1) p ≡ found.0 = get_or_from_slice_get s.processors (i - 1) found.0 p (processor_of-some s i found.0 found.1).1 in
+    found.1 ∙ ap (λ (q : ProcessorState). Some q) (sym same ∙ read)
+
+-- a processor as it is read, written back changed
+pub with_processor-read : (s : CoreState) (i : ℕ) (P : ProcessorState → Type 0) (change : ProcessorState → ProcessorState) (p : ProcessorState) → IsProcessor s i P → slice_index_or s.processors (i - 1) p ≡ p → record s { processors = slice_set s.processors (i - 1) (change p) } ≡ with_processor s i change
+with_processor-read s i P change p there read = sym (with_processor-some s i change p (processor_of-read s i P p there read))
+
+pub IsProcessor-within : (s : CoreState) (i : ℕ) (P : ProcessorState → Type 0) → IsProcessor s i P → (0 < i) × (i ≤ length s.processors)
+IsProcessor-within s i P there =
+    let found : (q : ProcessorState) × (processor_of s i ≡ Some q) × P q = IsProcessor-some s i P there in
+    processor_of-within s i found.0 found.1
+
+-- each step keeps the processors' count
+pub length-after : (s : CoreState) (event : Event) → length (after s event).processors ≡ length s.processors
+length-after s (Raise i) = length-with_processor s i (λ p. record p { phase = Raised })
+length-after s (Check i) = length-with_processor s i after_check
+length-after s (Lower i) = length-with_processor s i (λ p. record p { phase = Out })
+length-after s (TakeBack h) = refl
+length-after s (GiveBack h) = refl
+length-after s (Regain i) = length-with_processor s i (λ p. record p { token = Held })
+length-after s (Revoke i) = length-with_processor s i (λ p. record p { token = Revoked (s.number + 1); revoked = true })
+length-after s (Drain i) = length-with_processor s i after_drain
+length-after s ReadNumber = refl
+length-after s Publish = length-map s.processors after_publication
+
+-- a loop that writes f of each element over it
+pub map-more_read : {A : Type 0} (f : A → A) (xs ys : List A) (i : ℕ) (y d : A) → i < length xs → ys ≡ map f (take i xs) ++ drop i xs → length ys ≡ length xs → y ≡ f (slice_index_or ys i d) → slice_set ys i y ≡ map f (take (i + 1) xs) ++ drop (i + 1) xs
+map-more_read {A} f xs ys i y d within so_far long is =
+    let inside : i < length ys = omega arith in
+    rw is (map_over_more f xs ys i (slice_index_or ys i d) within so_far (get_or_default ys i d (slice_index_or ys i d) inside))
+
+slice_get-set_same : {A : Type 0} (xs : List A) (k : ℕ) (x y : A) → slice_get xs k ≡ Some x → slice_get (slice_set xs k y) k ≡ Some y
+slice_get-set_same [] k x y is = absurd cc
+slice_get-set_same (z ∷ zs) zero x y is = refl
+slice_get-set_same (z ∷ zs) (suc k) x y is = slice_get-set_same zs k x y is
+
+slice_get-set_other : {A : Type 0} (xs : List A) (k j : ℕ) (y : A) → k ≢ j → slice_get (slice_set xs j y) k ≡ slice_get xs k
+slice_get-set_other [] k j y apart = refl
+slice_get-set_other (z ∷ zs) zero zero y apart = absurd (apart refl)
+slice_get-set_other (z ∷ zs) zero (suc j) y apart = refl
+slice_get-set_other (z ∷ zs) (suc k) zero y apart = refl
+slice_get-set_other (z ∷ zs) (suc k) (suc j) y apart = slice_get-set_other zs k j y (λ same. apart (ap (λ (n : ℕ). suc n) same))
+
+-- the processor that there is, by its place
+pub processor_of-at : (s : CoreState) (i : ℕ) → 0 < i → processor_of s i ≡ slice_get s.processors (i - 1)
+processor_of-at s i above = grind (arith, nat_tests)
+
+pub processor_of-none : (s : CoreState) → processor_of s 0 ≡ None
+processor_of-none s = refl
+
+-- after a change the processor is the changed one, and each other one is as it was
+pub processor_of-changed : (s : CoreState) (i : ℕ) (change : ProcessorState → ProcessorState) (p : ProcessorState) → processor_of s i ≡ Some p → processor_of (with_processor s i change) i ≡ Some (change p)
+processor_of-changed s i change p is =
+    let at : (0 < i) × (slice_get s.processors (i - 1) ≡ Some p) = processor_of-some s i p is in
+    rw (with_processor-some s i change p is)
+    (processor_of-at (record s { processors = slice_set s.processors (i - 1) (change p) }) i at.0
+    ∙ slice_get-set_same s.processors (i - 1) p (change p) at.1)
+
+unchanged_below : (s : CoreState) (i j : ℕ) (y : ProcessorState) → i ≢ j → 0 < j → processor_of (record s { processors = slice_set s.processors (j - 1) y }) i ≡ processor_of s i
+unchanged_below s zero j y apart above = refl
+unchanged_below s (suc k) j y apart above =
+    let places : suc k - 1 ≢ j - 1 = λ same. apart (omega arith) in
+    processor_of-at (record s { processors = slice_set s.processors (j - 1) y }) (suc k) (omega arith)
+    ∙ slice_get-set_other s.processors (suc k - 1) (j - 1) y places
+    ∙ sym (processor_of-at s (suc k) (omega arith))
+
+unchanged_at : (s : CoreState) (i j : ℕ) (change : ProcessorState → ProcessorState) (o : Option ProcessorState) → processor_of s j ≡ o → i ≢ j → processor_of (with_processor s j change) i ≡ processor_of s i
+unchanged_at s i j change None is apart =
+    let same : with_processor s j change ≡ s = ap (λ (o : Option ProcessorState). option_map_or (λ p. record s { processors = slice_set s.processors (j - 1) (change p) }) o s) is in
+    ap (λ (t : CoreState). processor_of t i) same
+unchanged_at s i j change (Some p) is apart =
+    ap (λ (t : CoreState). processor_of t i) (with_processor-some s j change p is)
+    ∙ unchanged_below s i j (change p) apart (processor_of-some s j p is).0
+
+pub processor_of-unchanged : (s : CoreState) (i j : ℕ) (change : ProcessorState → ProcessorState) → i ≢ j → processor_of (with_processor s j change) i ≡ processor_of s i
+processor_of-unchanged s i j change apart = unchanged_at s i j change (processor_of s j) refl apart
+
+-- what holds of a processor, if there is one
+abbrev pub Holds : (ProcessorState → Type 0) → CoreState → ℕ → Type 0
+Holds P s i = (p : ProcessorState) → processor_of s i ≡ Some p → P p
+
+-- it still holds after a change of a processor, if the change keeps it where it is this one
+pub Holds-with_processor : (P : ProcessorState → Type 0) (s : CoreState) (i j : ℕ) (change : ProcessorState → ProcessorState) (q : ProcessorState) → processor_of s j ≡ Some q → (i ≡ j → P q → P (change q)) → Holds P s i → Holds P (with_processor s j change) i
+Holds-with_processor P s i j change q there keeps holds p is =
+    elim (eqb_tells i j) as (λ _. P p) [
+      | inl same ↦
+          let here : processor_of s i ≡ Some q = subst (λ (n : ℕ). processor_of s n ≡ Some q) (sym same.1) there in
+          let now : processor_of (with_processor s j change) i ≡ Some (change q) = subst (λ (n : ℕ). processor_of (with_processor s j change) n ≡ Some (change q)) (sym same.1) (processor_of-changed s j change q there) in
+          let this : change q ≡ p = cc in
+          subst P this (keeps same.1 (holds q here))
+      | inr other ↦ holds p (sym (processor_of-unchanged s i j change other.1) ∙ is)
+    ]
+
+slice_get-map_back : {A : Type 0} (f : A → A) (xs : List A) (k : ℕ) (y : A) → slice_get (map f xs) k ≡ Some y → (x : A) × (slice_get xs k ≡ Some x) × (f x ≡ y)
+slice_get-map_back f [] k y is = absurd cc
+slice_get-map_back f (x ∷ xs) zero y is = (x, refl, cc)
+slice_get-map_back f (x ∷ xs) (suc k) y is = slice_get-map_back f xs k y is
+
+-- a processor after a change of all is the one before it, changed
+pub processor_of-map : (s : CoreState) (number : ℕ) (holder : Option ℕ) (i : ℕ) (f : ProcessorState → ProcessorState) (p : ProcessorState) → processor_of (record { number = number; holder = holder; processors = map f s.processors }) i ≡ Some p → (q : ProcessorState) × (processor_of s i ≡ Some q) × (f q ≡ p)
+processor_of-map s number holder i f p is =
+    let t : CoreState = record { number = number; holder = holder; processors = map f s.processors } in
+    let at : (0 < i) × (slice_get (map f s.processors) (i - 1) ≡ Some p) = processor_of-some t i p is in
+    let back : (q : ProcessorState) × (slice_get s.processors (i - 1) ≡ Some q) × (f q ≡ p) = slice_get-map_back f s.processors (i - 1) p at.1 in
+    (back.0, processor_of-at s i at.0 ∙ back.1, back.2)
+
+slice_get-replicate : {A : Type 0} (n k : ℕ) (x y : A) → slice_get (replicate n x) k ≡ Some y → x ≡ y
+slice_get-replicate zero k x y is = absurd cc
+slice_get-replicate (suc n) zero x y is = cc
+slice_get-replicate (suc n) (suc k) x y is = slice_get-replicate n k x y is
+
+-- at the opening each processor is out and holds its token
+pub processor_of-opening : (n number i : ℕ) (p : ProcessorState) → processor_of (opening n number) i ≡ Some p → idle ≡ p
+processor_of-opening n number i p is = slice_get-replicate n (i - 1) idle p (processor_of-some (opening n number) i p is).1
+
+-- the same, where there is that processor
+pub IsProcessor-with_processor : (P : ProcessorState → Type 0) (s : CoreState) (i j : ℕ) (change : ProcessorState → ProcessorState) (q : ProcessorState) → processor_of s j ≡ Some q → (i ≡ j → P q → P (change q)) → IsProcessor s i P → IsProcessor (with_processor s j change) i P
+IsProcessor-with_processor P s i j change q there keeps holds =
+    let found : (p : ProcessorState) × (processor_of s i ≡ Some p) × P p = IsProcessor-some s i P holds in
+    elim (eqb_tells i j) as (λ _. IsProcessor (with_processor s j change) i P) [
+      | inl same ↦
+          let here : processor_of s i ≡ Some q = subst (λ (n : ℕ). processor_of s n ≡ Some q) (sym same.1) there in
+          let now : processor_of (with_processor s j change) i ≡ Some (change q) = subst (λ (n : ℕ). processor_of (with_processor s j change) n ≡ Some (change q)) (sym same.1) (processor_of-changed s j change q there) in
+          let this : found.0 ≡ q = cc in
+          IsProcessor-from (with_processor s j change) i P (change q) now (keeps same.1 (subst P this found.2))
+      | inr other ↦ IsProcessor-from (with_processor s j change) i P found.0 (processor_of-unchanged s i j change other.1 ∙ found.1) found.2
+    ]
