@@ -1,1 +1,2 @@
 pub mod OptionWalk
+pub mod Spelled

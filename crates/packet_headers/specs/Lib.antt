@@ -5,3 +5,4 @@ pub mod Transport
 pub mod Flows
 pub mod Reading
 pub mod Packet
+pub mod Spelling

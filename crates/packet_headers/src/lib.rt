@@ -10,6 +10,7 @@ pub use read::read_packet;
 mod defect;
 mod flows;
 mod ip4;
+pub mod laws;
 mod octets;
 mod options;
 mod packet;

@@ -1,4 +1,4 @@
-ghost use Rattle.std.specs.Prelude.{◌≡◌, ◌<◌, [], ◌∷◌, length, MatchOption, IfSome};
+ghost use Rattle.std.specs.Prelude.{◌≡◌, [], ◌∷◌, MatchOption};
 ghost use Rattle.std.specs.Iterator.{YieldsFirst, item_count};
 ghost use Rattle.packet_headers.specs.Options.{option_types, has_option};
 
@@ -35,7 +35,7 @@ impl Iterator for OptionTypes<'_> {
     }
 }
 
-/// The first option's type and the bytes behind that option.
+/// The first option's type and the bytes behind that option; `None` where no option is there.
 fn first_option(options: &[u8]) -> Option<(u8, &[u8])>
     ensures { MatchOption result (option_types options.now ≡ []) (λ first. option_types options.now ≡ first.0 ∷ option_types first.1.now) }
 {

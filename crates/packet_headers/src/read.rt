@@ -8,8 +8,16 @@ use crate::octets::{four_octets, two_octets};
 use crate::{Ip4, Packet};
 use fw_base::{Addr, Link};
 
+/// The address family of IPv4.
+const INET: u32 = 2;
+
+/// The same, written by a machine of the other byte order.
+const INET_SWAPPED: u32 = 0x0200_0000;
+
+/// The Ethernet type of IPv4.
 const IPV4: u16 = 0x0800;
 
+/// The Ethernet type of a VLAN tag (IEEE 802.1Q).
 const VLAN: u16 = 0x8100;
 
 /// Reads the frame of a capture with that link type. What it answers is lent from the bytes.
@@ -34,7 +42,7 @@ fn read_null(bytes: &[u8]) -> Packet<'_>
         return Packet::Malformed(Defect::ShortLinkHeader as u8);
     }
     let family = four_octets(bytes, 0);
-    if family == 2 || family == 0x0200_0000 {
+    if family == INET || family == INET_SWAPPED {
         read_ipv4(&bytes[4..])
     } else {
         Packet::Other
@@ -64,7 +72,7 @@ fn read_raw(bytes: &[u8]) -> Packet<'_>
     requires { length bytes.now < 2 ^ 32 }
     ensures { reading_of result ≡ read Raw bytes.now }
 {
-    if bytes.len() > 0 && bytes[0] / 16 == 6 {
+    if !bytes.is_empty() && bytes[0] / 16 == 6 {
         return Packet::Other;
     }
     read_ipv4(bytes)

@@ -12,7 +12,7 @@ use Rattle.pcap_read.specs.Window.{Grows}
 use Rattle.pcap_read.specs.Finding.{IsNextRecord, HasOwnCause}
 use Rattle.pcap_read.specs.Reading.{Captured, header_of, next_of, record_of, Took, Gives, EndsAt, StopsBefore, StopsBehind}
 use Rattle.pcap_read.specs.Capture.{record_in, source_of, held_of, current_of, stop_of, stopped_with, answer_at, stop_by, IsReading, StopsWith, Advances}
-use Rattle.pcap_read.proofs.Fronts.{gives_grown, gives_more, header_grown, front_behind}
+use Rattle.pcap_read.proofs.Fronts.{gives_grown, gives_more, header_grown, front_behind, number_behind}
 
 -- the records so far, as more bytes come
 given_grown : (format : Format) (bytes got : List ℕ) (records : List Captured) (held : List ℕ) → 24 ≤ length bytes → Gives format 0 (drop 24 bytes) records held → Gives format 0 (drop 24 (bytes ++ got)) records (held ++ got)
@@ -29,13 +29,14 @@ given_more format bytes got records held after given r more h p count e t =
 
 -- no more records
 stops_behind : {A F : Type 0} (format : Format) (bytes got : List ℕ) (records : List Captured) (held after : List ℕ) (given : ℕ) (stop : Option CaptureFault) → 24 ≤ length bytes → header_of (take 24 bytes) ≡ Ok format
-    → Gives format 0 (drop 24 bytes) records held → given ≡ length records → after ≡ held ++ got → StopsBefore A F format given after stop → StopsBehind A F (bytes ++ got) records stop
+    → Gives format 0 (drop 24 bytes) records held → given ≡ length records → after ≡ held ++ got → StopsBefore A F format given after stop → StopsBehind A F (bytes ++ got) records (length records + 1) stop
 stops_behind format bytes got records held after given stop h header p count e s =
     let longer : 24 ≤ length (bytes ++ got) = omega (arith, length-append bytes got, h) in (
       s.0,
       front_behind (bytes ++ got) records s.0 format longer (header_grown bytes got h ∙ header)
           (held ++ got, given_grown format bytes got records held h p, ap (λ n. next_of format n (held ++ got)) (sym count) ∙ ap (next_of format given) (sym e) ∙ s.1),
       s.2,
+      number_behind (bytes ++ got) records format longer (header_grown bytes got h ∙ header),
     )
 
 -- a size that isn't 0
@@ -104,7 +105,7 @@ module _ {S : Type 0} (left : S → Option (List ℕ)) (faults : S → ℕ) wher
     continues = λ bytes records reading. (
       grows.0,
       grows.2,
-      if_stopped (stopped_with how) (StopsWith left faults (source_of old) (source_of new) (bytes ++ grows.0) records) (λ r. IsReading new (bytes ++ grows.0) (records ++ r ∷ []))
+      if_stopped (stopped_with how) (StopsWith left faults (source_of old) (source_of new) (bytes ++ grows.0) records (length records + 1)) (λ r. IsReading new (bytes ++ grows.0) (records ++ r ∷ []))
           (stops_behind old.format bytes grows.0 records (held_of old) new.window old.given (stopped_with how) reading.whole reading.header reading.gives reading.count grows.1 stops),
     );
     again = if_running old.stop _ running;

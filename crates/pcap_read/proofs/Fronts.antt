@@ -6,7 +6,7 @@ use lib.Seq.{drop-append-le}
 use Rattle.pcap_read.specs.declared.format.Format.{Format}
 use Rattle.pcap_read.specs.declared.capture_fault.CaptureFault.{CaptureFault}
 use Rattle.pcap_read.specs.declared.capture_fault.CaptureFault.TheVariants.{RecordTooLong, TooManyPackets}
-use Rattle.pcap_read.specs.Reading.{captured_length, record_of, header_of, Captured, Next, Place, next_of, Open, InHeader, Closed, Took, Stands, Gives, EndsAt, HasFront}
+use Rattle.pcap_read.specs.Reading.{captured_length, record_of, header_of, Captured, Next, Place, next_of, Open, InHeader, Closed, Took, Stands, Gives, EndsAt, HasFront, place_number}
 use Rattle.pcap_read.proofs.Steps.{at_boundary, too_many, in_record_header, too_long, in_record, took, captured_length-grown}
 
 -- what stands there where the next record was taken
@@ -93,3 +93,16 @@ front_within bytes h = at_true _ _ (nat_lt (length bytes) 24) (grind arith) (ref
 -- the front where the header has a fault
 pub front_fault : (bytes : List ℕ) (fault : CaptureFault) → 24 ≤ length bytes → header_of (take 24 bytes) ≡ Err fault → HasFront bytes [] (Closed fault)
 front_fault bytes fault h e = at_false _ _ (nat_lt (length bytes) 24) (grind arith) (at_err _ _ _ fault e (refl, refl))
+
+-- the number of the place, in the header and behind it
+pub number_within : (bytes : List ℕ) (records : List Captured) → length bytes < 24 → place_number bytes records ≡ 0
+unfolding place_number
+number_within bytes records h = grind arith
+
+pub number_fault : (bytes : List ℕ) (records : List Captured) (fault : CaptureFault) → 24 ≤ length bytes → header_of (take 24 bytes) ≡ Err fault → place_number bytes records ≡ 0
+unfolding place_number
+number_fault bytes records fault h e = rw e (grind arith)
+
+pub number_behind : (bytes : List ℕ) (records : List Captured) (format : Format) → 24 ≤ length bytes → header_of (take 24 bytes) ≡ Ok format → place_number bytes records ≡ length records + 1
+unfolding place_number
+number_behind bytes records format h e = rw e (grind arith)

@@ -84,9 +84,9 @@ closed_stays format given bytes more fault e =
           elim (cases_lt 262144 (captured_length format bytes)) [
             | inl long ↦ too_long format given (bytes ++ more) few (omega (arith, longer, header)) (omega (arith, same, long)) ∙ sym (too_long format given bytes few header long) ∙ e
             | inr fits ↦ elim (cases_lt (length bytes) (16 + captured_length format bytes)) [
-                | inl short ↦ open_or_closed _ _ _ (in_record format given bytes few header fits short) e
-                | inr whole ↦ not_both _ _ _ _ (took format given bytes (16 + captured_length format bytes) few fits refl whole) e
-              ]
+              | inl short ↦ open_or_closed _ _ _ (in_record format given bytes few header fits short) e
+              | inr whole ↦ not_both _ _ _ _ (took format given bytes (16 + captured_length format bytes) few fits refl whole) e
+            ]
           ]
     ]
   where
@@ -107,8 +107,10 @@ front_cases bytes records place h = elim (cases_lt (length bytes) 24) [
   where
     when_true : (P Q : Type 0) (b : Bool) → b ≡ true → MatchBool b P Q → P
     when_true P Q b e p = subst (λ x. MatchBool x P Q) e p
+
     when_false : (P Q : Type 0) (b : Bool) → b ≡ false → MatchBool b P Q → Q
     when_false P Q b e q = subst (λ x. MatchBool x P Q) e q
+
     headed : (bytes : List ℕ) (records : List Captured) (place : Place) → 24 ≤ length bytes → (r : Result Format CaptureFault) → header_of (take 24 bytes) ≡ r
         → MatchResult (header_of (take 24 bytes)) (λ format. EndsAt format (drop 24 bytes) records place) (λ fault. (records ≡ []) × (place ≡ Closed fault)) → FrontIs bytes records place
     headed bytes records place whole (Err fault) e p =
@@ -130,7 +132,7 @@ ends_one format bytes rs ss p q a b =
     let count : 0 + length rs ≡ length rs = omega arith in
     let all = begins format 0 bytes [] rs ss a.0 b.0 q a.1 (subst (λ l. Gives format 0 l ss b.0) (sym (append-nil bytes)) b.1) (ap (λ n. next_of format n b.0) (sym zero) ∙ b.2) in
     let none = none_behind format (length rs) a.0 all.0 b.0 p a.2
-        (subst (λ l. Gives format (length rs) l all.0 b.0) (append-nil a.0) (subst (λ n. Gives format n (a.0 ++ []) all.0 b.0) count all.2)) in
+    (subst (λ l. Gives format (length rs) l all.0 b.0) (append-nil a.0) (subst (λ n. Gives format n (a.0 ++ []) all.0 b.0) count all.2)) in
     let same : ss ≡ rs = all.1 ∙ ap (λ l. rs ++ l) none.0 ∙ append-nil rs in
     (sym same, stands_one (next_of format (length rs) a.0) p q a.2 (ap (next_of format (length rs)) (sym none.1) ∙ ap (λ l. next_of format (length l) b.0) (sym same) ∙ b.2))
 
@@ -186,4 +188,4 @@ front_stays bytes more rs fault h = stays bytes more rs (Closed fault) fault ref
     stays bytes more rs p fault is (good format whole e a) =
         front_behind (bytes ++ more) rs (Closed fault) format (omega (arith, whole, length-append bytes more)) (header_grown bytes more whole ∙ e)
         (subst (λ l. EndsAt format l rs (Closed fault)) (sym (drop-append-le 24 bytes more whole))
-            (a.0 ++ more, gives_grown format 0 (drop 24 bytes) more rs a.0 a.1, closed_stays format (length rs) a.0 more fault (a.2 ∙ ap Stands is)))
+        (a.0 ++ more, gives_grown format 0 (drop 24 bytes) more rs a.0 a.1, closed_stays format (length rs) a.0 more fault (a.2 ∙ ap Stands is)))

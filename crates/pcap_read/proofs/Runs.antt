@@ -5,7 +5,7 @@ use Rattle.std.proofs.KnownBytes.{Consumes-nil, Consumes-trans}
 use Rattle.fw_base.specs.Faults.{Rose}
 use Rattle.pcap_read.specs.declared.capture.Capture.{Capture}
 use Rattle.pcap_read.specs.declared.capture_fault.CaptureFault.{CaptureFault}
-use Rattle.pcap_read.specs.Reading.{Captured, Place, Open, Closed, HasFront, Stops}
+use Rattle.pcap_read.specs.Reading.{Captured, Place, Open, Closed, HasFront, Stops, place_number}
 use Rattle.pcap_read.specs.Capture.{source_of, IsReading, StopsWith, Finishes, Advances}
 
 -- a stop that is one after an earlier count is one after a count before that
@@ -26,8 +26,7 @@ module _ {S : Type 0} (left : S → Option (List ℕ)) (faults : S → ℕ) wher
   pub goes_further : (old mid new : Capture S) (count : ℕ) (r : Captured) → GoesOn old mid count → Advances left faults mid new (Ok (Some r)) → GoesOn old new (count + 1)
   goes_further old mid new count r goes step bytes records reading =
       let p = goes bytes records reading in
-      let q = step.continues (bytes ++ p.0) (records ++ p.2) p.4 in
-      (
+      let q = step.continues (bytes ++ p.0) (records ++ p.2) p.4 in (
         p.0 ++ q.0,
         Consumes-trans _ _ _ p.0 q.0 p.1 q.1,
         p.2 ++ r ∷ [],
@@ -38,8 +37,7 @@ module _ {S : Type 0} (left : S → Option (List ℕ)) (faults : S → ℕ) wher
   pub goes_to_end : (old mid new : Capture S) (count : ℕ) → GoesOn old mid count → faults (source_of old) ≤ faults (source_of mid) → Advances left faults mid new (Ok None) → Finishes left faults old new count None
   goes_to_end old mid new count goes later step bytes records reading =
       let p = goes bytes records reading in
-      let q = step.continues (bytes ++ p.0) (records ++ p.2) p.4 in
-      (
+      let q = step.continues (bytes ++ p.0) (records ++ p.2) p.4 in (
         p.0 ++ q.0,
         Consumes-trans _ _ _ p.0 q.0 p.1 q.1,
         p.2,
@@ -48,6 +46,7 @@ module _ {S : Type 0} (left : S → Option (List ℕ)) (faults : S → ℕ) wher
           q.2.0,
           subst (λ b. HasFront b (records ++ p.2) q.2.0) (append_assoc bytes p.0 q.0) q.2.1,
           stops_earlier _ _ _ _ q.2.0 None later q.2.2,
+          ap (λ b. place_number b (records ++ p.2)) (sym (append_assoc bytes p.0 q.0)) ∙ q.2.3,
         ),
       )
 
@@ -55,8 +54,7 @@ module _ {S : Type 0} (left : S → Option (List ℕ)) (faults : S → ℕ) wher
       → Finishes left faults old new count (Some fault)
   goes_to_fault old mid new count fault goes later step bytes records reading =
       let p = goes bytes records reading in
-      let q = step.continues (bytes ++ p.0) (records ++ p.2) p.4 in
-      (
+      let q = step.continues (bytes ++ p.0) (records ++ p.2) p.4 in (
         p.0 ++ q.0,
         Consumes-trans _ _ _ p.0 q.0 p.1 q.1,
         p.2,
@@ -65,5 +63,6 @@ module _ {S : Type 0} (left : S → Option (List ℕ)) (faults : S → ℕ) wher
           q.2.0,
           subst (λ b. HasFront b (records ++ p.2) q.2.0) (append_assoc bytes p.0 q.0) q.2.1,
           stops_earlier _ _ _ _ q.2.0 (Some fault) later q.2.2,
+          ap (λ b. place_number b (records ++ p.2)) (sym (append_assoc bytes p.0 q.0)) ∙ q.2.3,
         ),
       )

@@ -88,8 +88,8 @@ module _ {S : Type 0} where
 
   module _ (left : S → Option (List ℕ)) (faults : S → ℕ) where
     -- a reader with a source stops so, behind these bytes and records; the source was this one at its last call
-    abbrev pub StopsWith : S → S → List ℕ → List Captured → Option CaptureFault → Type 0
-    StopsWith before now bytes records stop = StopsBehind (IsAtEnd (left now)) (Rose (faults before) (faults now)) bytes records stop
+    abbrev pub StopsWith : S → S → List ℕ → List Captured → ℕ → Option CaptureFault → Type 0
+    StopsWith before now bytes records number stop = StopsBehind (IsAtEnd (left now)) (Rose (faults before) (faults now)) bytes records number stop
 
     -- a capture was opened: it took a header from the source and gave no record
     pub record IsOpened (source : S) (c : Capture S) : Type 0 where
@@ -100,7 +100,7 @@ module _ {S : Type 0} where
     -- a source is no capture, for the fault that stands in its header; or there was no memory, and then nothing was read
     pub record IsRefused (source : S) (refused : OpenFault S) : Type 0 where
       pub cause : ((refused.fault ≡ OutOfMemory) × (refused.source ≡ source))
-          ⊎ ((bytes : List ℕ) × Consumes (left source) (left refused.source) bytes × StopsWith source refused.source bytes [] (Some refused.fault))
+          ⊎ ((bytes : List ℕ) × Consumes (left source) (left refused.source) bytes × StopsWith source refused.source bytes [] 0 (Some refused.fault))
       pub failed_read : refused.fault ≡ ReadFault → Rose (faults source) (faults refused.source)
       pub no_memory : refused.fault ≡ OutOfMemory → refused.source ≡ source
       pub later : faults source ≤ faults refused.source
@@ -110,15 +110,15 @@ module _ {S : Type 0} where
     Continues old new answer = (bytes : List ℕ) (records : List Captured) → IsReading old bytes records
         → (got : List ℕ) × Consumes (left (source_of old)) (left (source_of new)) got × MatchResult answer
         (λ found. MatchOption found
-        (StopsWith (source_of old) (source_of new) (bytes ++ got) records None)
+        (StopsWith (source_of old) (source_of new) (bytes ++ got) records (length records + 1) None)
         (λ r. IsReading new (bytes ++ got) (records ++ r ∷ [])))
-        (λ fault. StopsWith (source_of old) (source_of new) (bytes ++ got) records (Some fault))
+        (λ fault. StopsWith (source_of old) (source_of new) (bytes ++ got) records (length records + 1) (Some fault))
 
     -- The bytes behind those of a capture that goes on were read to the place where they end, and gave so many more records.
     abbrev pub Finishes : Capture S → Capture S → ℕ → Option CaptureFault → Type 0
     Finishes old new count stop = (bytes : List ℕ) (records : List Captured) → IsReading old bytes records
         → (got : List ℕ) × Consumes (left (source_of old)) (left (source_of new)) got × (more : List Captured) × (length more ≡ count)
-        × StopsWith (source_of old) (source_of new) (bytes ++ got) (records ++ more) stop
+        × StopsWith (source_of old) (source_of new) (bytes ++ got) (records ++ more) (length (records ++ more) + 1) stop
 
     -- what `next` does
     pub record Advances (old new : Capture S) (answer : Result (Option Captured) CaptureFault) : Type 0 where

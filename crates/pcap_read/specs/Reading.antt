@@ -142,6 +142,14 @@ Stops atEnd failed (Open place) stop = (atEnd × (stop ≡ at_end place)) ⊎ (f
 abbrev pub StopsBefore : (atEnd failed : Type 0) → Format → ℕ → List ℕ → Option CaptureFault → Type 0
 StopsBefore atEnd failed format given bytes stop = (place : Place) × (next_of format given bytes ≡ Stands place) × Stops atEnd failed place stop
 
--- a reader that took these bytes and gave these records stops so
-abbrev pub StopsBehind : (atEnd failed : Type 0) → List ℕ → List Captured → Option CaptureFault → Type 0
-StopsBehind atEnd failed bytes records stop = (place : Place) × HasFront bytes records place × Stops atEnd failed place stop
+-- the number of the record at whose place they end: 0 in the header, else one more than there are records
+unfoldable pub place_number : List ℕ → List Captured → ℕ
+place_number bytes records = if nat_lt (length bytes) 24 then 0 else behind (header_of (take 24 bytes))
+  where
+    behind : Result Format CaptureFault → ℕ
+    behind (Err fault) = 0
+    behind (Ok format) = length records + 1
+
+-- a reader that took these bytes and gave these records stops so, at the record of that number
+abbrev pub StopsBehind : (atEnd failed : Type 0) → List ℕ → List Captured → ℕ → Option CaptureFault → Type 0
+StopsBehind atEnd failed bytes records number stop = (place : Place) × HasFront bytes records place × Stops atEnd failed place stop × (place_number bytes records ≡ number)

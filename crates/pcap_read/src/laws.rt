@@ -15,5 +15,4 @@ pub fn one_front()
         → (behind : List Captured) × (others ≡ records ++ behind) }
     ensures stays { (bytes more : List ℕ) (records : List Captured) (fault : Kind)
         → HasFront bytes records (Closed fault) → HasFront (bytes ++ more) records (Closed fault) }
-{
-}
+{}

@@ -24,4 +24,6 @@ mod opening;
 mod record;
 mod records;
 mod stop;
+#[cfg(test)]
+mod tests;
 mod window;
