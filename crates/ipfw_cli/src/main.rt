@@ -1,0 +1,52 @@
+//! `ipfw_replay`: replays captures beside an operator's script of rules.
+#![tactic(auto)]
+
+use file_library::FileLibrary;
+use fw_base::{Buffered, FreeGate};
+use replay_driver::run;
+use standard_output::StandardOutput;
+use std::env;
+use std::io;
+use std::process::ExitCode;
+use std::rt::Env;
+
+mod file_library;
+mod file_source;
+mod standard_output;
+
+/// The status of want of memory.
+const OUT_OF_MEMORY: u8 = 6;
+
+/// The status of a sink that failed.
+const SINK_FAILED: u8 = 5;
+
+/// The words behind the program's name; none where one of them is no text.
+fn words<R: Env + AllocGlobal>(rt: &R) -> io::Result<Vec<String>> {
+    let mut words = Vec::new(rt.alloc());
+    match env::args(rt) {
+        Ok(arguments) => {
+            for word in arguments.skip(1) {
+                words.push(word)?;
+            }
+            Ok(words)
+        }
+        Err(error) if error.kind() == io::ErrorKind::InvalidData => Ok(words),
+        Err(error) => Err(error),
+    }
+}
+
+fn main(rt: HostRuntime) -> ExitCode {
+    let alloc = rt.alloc();
+    let Ok(words) = words(&rt) else {
+        return ExitCode::from(OUT_OF_MEMORY);
+    };
+    let Ok(mut out) = Buffered::new(alloc, StandardOutput::new(&rt)) else {
+        return ExitCode::from(OUT_OF_MEMORY);
+    };
+    let mut library = FileLibrary::new(&rt);
+    let outcome = run(&rt, alloc, &words, &mut library, &mut out, &FreeGate);
+    match out.flush() {
+        Ok(()) => ExitCode::from(outcome.status),
+        Err(_) => ExitCode::from(SINK_FAILED),
+    }
+}

@@ -1,0 +1,16 @@
+pub mod Chain
+pub mod Bytes
+pub mod Numbers
+pub mod Rules
+pub mod PlainRules
+pub mod PlainScript
+pub mod ScriptErrors
+pub mod ScriptSteps
+pub mod Docket
+pub mod Report
+pub mod Words
+pub mod Invocation
+pub mod WholeSource
+pub mod Replay
+pub mod Finding
+pub mod Run

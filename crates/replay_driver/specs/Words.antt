@@ -1,0 +1,48 @@
+-- Which words are a command: `serial SCRIPT in|out:IF:CAPTURE`.
+use Rattle.std.specs.Prelude.{ℕ, Bool, ◌&&◌, ◌||◌, not, List, [], ◌∷◌, length, codes, Option, None, Some, ◌==◌, nat_le, slice_index, if◌then◌else◌}
+use Rattle.std.specs.List.{list_all}
+use Rattle.std.specs.Char.{is_ascii_alphanumeric}
+use Rattle.fw_base.specs.declared.port.Direction.{Direction}
+use Rattle.fw_base.specs.declared.port.Direction.TheVariants.{In, Out}
+use Rattle.replay_driver.specs.Chain.{◌>>=◌}
+use Rattle.replay_driver.specs.Bytes.{is_same, is_empty, cut_at}
+
+-- what the words of a command name
+pub record Named : Type 0 where
+  pub script : List ℕ
+  pub direction : Direction
+  pub interface : List ℕ
+  pub capture : List ℕ
+
+-- a byte of an interface's name: a letter, a digit, `_`, `.` or `-`
+abbrev pub is_name_byte : ℕ → Bool
+is_name_byte b = is_ascii_alphanumeric b || (b == 95 || (b == 46 || b == 45))
+
+-- an interface's name has one to fifteen such bytes
+unfoldable pub is_interface : List ℕ → Bool
+is_interface name = (nat_le 1 (length name) && nat_le (length name) 15) && list_all is_name_byte name
+
+-- the name of a script isn't empty, and begins with `-` only where it is that one byte
+unfoldable pub is_script : List ℕ → Bool
+is_script name = not (is_empty name) && (not (slice_index name 0 == 45) || length name == 1)
+
+unfoldable pub direction_of : List ℕ → Option Direction
+direction_of word =
+    if is_same word (codes "in") then Some In
+    else if is_same word (codes "out") then Some Out
+    else None
+
+-- a capture's word has the direction, the interface and the name, which may hold colons and isn't empty
+unfoldable pub capture_of : List ℕ → List ℕ → Option Named
+capture_of script word = do
+  first ← cut_at 58 word
+  direction ← direction_of first.0
+  second ← cut_at 58 first.1
+  if is_interface second.0 && not (is_empty second.1)
+    then Some (record { script = script; direction = direction; interface = second.0; capture = second.1 })
+    else None
+
+-- what the words name, where they are a command
+unfoldable pub command_of : List (List ℕ) → Option Named
+command_of (mode ∷ script ∷ capture ∷ []) = if is_same mode (codes "serial") && is_script script then capture_of script capture else None
+command_of _ = None

@@ -1,0 +1,99 @@
+ghost use Rattle.std.specs.Prelude.{◌≡◌, None, IfSome, IfOk, map, string_bytes, []};
+ghost use Rattle.replay_driver.specs.Finding as findings;
+ghost use Rattle.replay_driver.specs.Run.{IsUsage, IsRun, Reports, status_of};
+ghost use Rattle.replay_driver.specs.Words.{command_of};
+
+use crate::finding::{Finding, write_usage};
+use crate::prepare::{Prepared, prepare};
+use crate::words::read_words;
+use crate::{Ends, Outcome};
+use fw_base::{Failed, Gate, Library, Sink};
+use std::alloc::{AllocError, Global};
+use std::sync::Wait;
+use std::thread::Threads;
+
+/// The status of a text that was to be written with this one: 5 where the sink failed.
+fn status_written(wanted: u8, written: Result<(), Failed>) -> u8
+    ensures { result ≡ status_of wanted written }
+{
+    match written {
+        Ok(()) => wanted,
+        Err(Failed) => 5,
+    }
+}
+
+/// How the captures ended, by what was found.
+fn ends_of(alloc: Global, finding: &Finding) -> Result<Ends, AllocError>
+    ensures { IfOk result (λ ends. ends ≡ findings.finding_ends finding.now) }
+{
+    match finding {
+        Finding::Unread(_) | Finding::NotYet(_) => Ok(Ends::none(alloc)),
+        Finding::Replayed(_, end) => Ends::one(alloc, *end),
+    }
+}
+
+/// The answer where memory ran out.
+fn without_memory<S>(alloc: Global) -> Outcome<S>
+    ensures status { result.status ≡ 6 }
+    ensures ends { result.ends ≡ [] }
+    ensures kept { result.kept ≡ None }
+    ensures nothing { result.sources.items ≡ [] }
+{
+    Outcome {
+        status: 6,
+        ends: Ends::none(alloc),
+        kept: None,
+        sources: Vec::new(alloc),
+    }
+}
+
+/// Writes what was found. All that is handed back is there before the first byte.
+fn report<S: Drop, K: Sink>(alloc: Global, prepared: Prepared<S>, out: &mut K) -> Outcome<S>
+    ensures { Reports K.written K.faults out.old out.new prepared result }
+{
+    let Ok(ends) = ends_of(alloc, &prepared.finding) else {
+        return without_memory(alloc);
+    };
+    let Prepared { finding, sources } = prepared;
+    let status = status_written(finding.status(), finding.write(out));
+    Outcome {
+        status,
+        ends,
+        kept: finding.kept(),
+        sources,
+    }
+}
+
+/// Replays the capture that the words name beside the script that they name, and writes the verdicts.
+///
+/// The words are `serial SCRIPT in|out:IF:CAPTURE`. The status is 0; 1 where the words are no command; 2
+/// where a script line isn't read; 3 where the capture has a fault; 4 where a name could not be opened or
+/// read, or the capture's source failed; 5 where the sink failed; 6 where memory ran out.
+pub fn run<R: Threads + Wait, L: Library, K: Sink, G: Gate + Sync>(
+    _rt: &R,
+    alloc: Global,
+    words: &[String],
+    library: &mut L,
+    out: &mut K,
+    _gate: &G,
+) -> Outcome<L::Reader>
+where
+    L::Reader: Send + Sync,
+    ensures usage { command_of (map string_bytes words.now) ≡ None
+        → IsUsage K.written K.faults library.old library.new out.old out.new result }
+    ensures found { IfSome (command_of (map string_bytes words.now)) (λ names.
+        IsRun K.written K.faults L.pairs L.faults L.refused L.Reader.left L.Reader.faults names library.old library.new out.old out.new result) }
+{
+    let Some(names) = read_words(words) else {
+        return Outcome {
+            status: status_written(1, write_usage(out)),
+            ends: Ends::none(alloc),
+            kept: None,
+            sources: Vec::new(alloc),
+        };
+    };
+    let Ok(prepared) = prepare(alloc, names, library) else {
+        return without_memory(alloc);
+    };
+    report(alloc, prepared, out)
+}
