@@ -70,3 +70,15 @@ breaks_in a b c before mid now text front rest e f way writes =
       );
       cause = record { later = omega (arith, writes.cause.later, way.later); failed = omega (arith, writes.cause.failed, way.later) };
     }
+
+-- all that was left was written, or a front of it
+pub ends_with : {T E : Type 0} (a b c : Option (List ℕ)) (before mid now : ℕ) (text rest : List ℕ) (r : Result T E) → IsUnderWay a b before mid text rest
+    → WritesText b c mid now rest r → WritesText a c before now text r
+ends_with a b c before mid now text rest (Ok x) way writes = record {
+  whole = rw way.split (Appends-trans a b c way.done rest way.appended writes.whole);
+  part = tt;
+  cause = record { later = omega (arith, writes.cause.later, way.later); failed = tt };
+}
+ends_with a b c before mid now text rest (Err e) way writes =
+    let same : rest ≡ rest ++ [] = sym (append-nil rest) in
+    breaks_in a b c before mid now text rest [] e e (rw same at way) writes
