@@ -1,5 +1,5 @@
 -- What going on to the next record does to a capture.
-use Rattle.std.proofs.Common.{◌≡◌, ℕ, ◌+◌, ◌≤◌, List, [], ◌∷◌, ◌++◌, length, take, drop, Option, None, Some, Bool, Result, Ok, Err, ◌==◌, cond, IfSome, MatchOption, MatchResult, refl, sym, ap, ◌∙◌, subst, arith, length-append}
+use Rattle.std.proofs.Common.{◌≡◌, ℕ, ◌+◌, ◌≤◌, List, [], ◌∷◌, ◌++◌, length, take, drop, Option, None, Some, Ok, ◌==◌, cond, IfSome, MatchOption, MatchResult, refl, sym, ap, ◌∙◌, subst, arith, length-append}
 use Rattle.std.specs.Option.{option_map}
 use Rattle.std.specs.Io.KnownBytes.{IsAtEnd}
 use lib.Seq.{drop-append-le}
@@ -9,8 +9,9 @@ use Rattle.pcap_read.specs.declared.capture_fault.CaptureFault.{CaptureFault}
 use Rattle.pcap_read.specs.declared.format.Format.{Format}
 use Rattle.pcap_read.specs.declared.stop.Stop.{Stop}
 use Rattle.pcap_read.specs.Window.{Grows}
-use Rattle.pcap_read.specs.Finding.{IsNextRecord, HasOwnCause}
-use Rattle.pcap_read.specs.Reading.{Captured, header_of, next_of, record_of, Took, Gives, EndsAt, StopsBefore, StopsBehind}
+use Rattle.pcap_read.specs.Causes.{HasOwnCause}
+use Rattle.pcap_read.specs.Finding.{IsNextRecord}
+use Rattle.pcap_read.specs.Reading.{Captured, header_of, next_of, record_of, Took, Gives, StopsBefore, StopsBehind}
 use Rattle.pcap_read.specs.Capture.{record_in, source_of, held_of, current_of, stop_of, stopped_with, answer_at, stop_by, IsReading, StopsWith, Advances}
 use Rattle.pcap_read.proofs.Fronts.{gives_grown, gives_more, header_grown, front_behind, number_behind}
 

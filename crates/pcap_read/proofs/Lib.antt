@@ -5,3 +5,4 @@ pub mod Fronts
 pub mod Advancing
 pub mod Runs
 pub mod OneFront
+pub mod Exact

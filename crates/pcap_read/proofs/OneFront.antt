@@ -1,12 +1,13 @@
 -- Each string of bytes has one front, and a fault that stands stays.
-use Rattle.std.proofs.Common.{◌≡◌, ℕ, ◌+◌, ◌<◌, ◌≤◌, zero, suc, List, [], ◌∷◌, ◌++◌, length, take, drop, Bool, true, false, ◌⊎◌, inl, inr, Result, Ok, Err, MatchBool, MatchResult, nat_lt, refl, sym, ap, ◌∙◌, subst, arith, length-append, length-drop, append-nil}
+use Rattle.std.proofs.Common.{◌≡◌, ℕ, ◌+◌, ◌<◌, ◌≤◌, zero, suc, List, [], ◌∷◌, ◌++◌, length, take, drop, Bool, true, false, ◌⊎◌, inl, inr, Result, Ok, Err, MatchBool, MatchResult, nat_lt, refl, sym, ap, ◌∙◌, subst, arith, length-append, length-drop, append-nil, map}
+use Rattle.std.specs.List.{AllByRecursion, concat}
 use Rattle.std.proofs.lemmas.Bool.{cases_lt}
-use lib.Seq.{drop-append-le}
+use lib.Seq.{drop-append-le, take-append_seam, drop-append_seam}
 use Rattle.pcap_read.specs.declared.format.Format.{Format}
 use Rattle.pcap_read.specs.declared.capture_fault.CaptureFault.{CaptureFault}
-use Rattle.pcap_read.specs.Reading.{captured_length, header_of, Captured, Next, Place, OpenPlace, next_of, Open, InHeader, Closed, Took, Stands, Gives, EndsAt, HasFront}
+use Rattle.pcap_read.specs.Reading.{captured_length, header_of, record_of, IsRecord, AtBoundary, Captured, Next, Place, OpenPlace, next_of, Open, InHeader, Closed, Took, Stands, Gives, EndsAt, HasFront}
 use Rattle.pcap_read.proofs.Steps.{at_boundary, too_many, in_record_header, too_long, in_record, took, captured_length-grown}
-use Rattle.pcap_read.proofs.Fronts.{IsTaken, taken, took_grown, gives_grown, header_grown, front_behind, front_within, front_fault}
+use Rattle.pcap_read.proofs.Fronts.{taken, took_grown, gives_grown, header_grown, front_behind, front_within, front_fault}
 
 -- what stands there
 whichever : (n : Next) → ((r : Captured) × (more : List ℕ) × (n ≡ Took r more)) ⊎ ((place : Place) × (n ≡ Stands place))
@@ -189,3 +190,27 @@ front_stays bytes more rs fault h = stays bytes more rs (Closed fault) fault ref
         front_behind (bytes ++ more) rs (Closed fault) format (omega (arith, whole, length-append bytes more)) (header_grown bytes more whole ∙ e)
         (subst (λ l. EndsAt format l rs (Closed fault)) (sym (drop-append-le 24 bytes more whole))
         (a.0 ++ more, gives_grown format 0 (drop 24 bytes) more rs a.0 a.1, closed_stays format (length rs) a.0 more fault (a.2 ∙ ap Stands is)))
+
+-- ---- whole records
+
+pieces_give : (format : Format) (given : ℕ) (pieces : List (List ℕ)) → AllByRecursion (IsRecord format) pieces → given + length pieces ≤ 4194304 → Gives format given (concat pieces) (map (record_of format) pieces) []
+pieces_give format given [] all few = refl
+pieces_give format given (p ∷ ps) all few =
+    let size = length p in
+    let header : 16 ≤ size = omega (arith, all.0.0) in
+    let same : captured_length format (p ++ concat ps) ≡ captured_length format p = captured_length-grown format p (p ++ concat ps) (concat ps) header refl in
+    let within : size ≤ length (p ++ concat ps) = omega (arith, length-append p (concat ps)) in
+    let is = took format given (p ++ concat ps) size (omega arith) (omega (arith, same, all.0.1)) (omega (arith, same, all.0.0)) within in (
+      concat ps,
+      is ∙ ap (λ l. Took (record_of format l) (drop size (p ++ concat ps))) (take-append_seam p (concat ps)) ∙ ap (Took (record_of format p)) (drop-append_seam p (concat ps)),
+      pieces_give format (given + 1) ps all.1 (omega arith),
+    )
+
+pub front_whole : (header : List ℕ) (format : Format) (pieces : List (List ℕ)) → length header ≡ 24 → header_of header ≡ Ok format → AllByRecursion (IsRecord format) pieces → length pieces ≤ 4194304
+    → HasFront (header ++ concat pieces) (map (record_of format) pieces) (Open AtBoundary)
+front_whole header format pieces size is all few =
+    let bytes = header ++ concat pieces in
+    let front : take 24 bytes ≡ header = ap (λ n. take n bytes) (sym size) ∙ take-append_seam header (concat pieces) in
+    let rest : drop 24 bytes ≡ concat pieces = ap (λ n. drop n bytes) (sym size) ∙ drop-append_seam header (concat pieces) in
+    front_behind bytes (map (record_of format) pieces) (Open AtBoundary) format (omega (arith, size, length-append header (concat pieces))) (ap header_of front ∙ is)
+    ([], subst (λ l. Gives format 0 l (map (record_of format) pieces) []) (sym rest) (pieces_give format 0 pieces all (omega arith)), at_boundary format _ [] refl)

@@ -1,5 +1,5 @@
 -- Ranges of a list.
-use Rattle.std.proofs.Common.{◌≡◌, ℕ, ◌+◌, ◌-◌, ◌≤◌, min, List, ◌++◌, length, take, drop, slice_range, sym, ap, ◌∙◌, arith, drop-drop, length-take, length-drop}
+use Rattle.std.proofs.Common.{◌≡◌, ℕ, ◌+◌, ◌-◌, ◌≤◌, List, ◌++◌, length, take, drop, slice_range, sym, ap, ◌∙◌, arith, drop-drop, length-take, length-drop}
 use Rattle.std.proofs.lemmas.List.{drop-take}
 use lib.Seq.{take-add}
 

@@ -1,15 +1,15 @@
 -- Many records, one after another.
-use Rattle.std.proofs.Common.{◌≡◌, ℕ, ◌+◌, ◌-◌, ◌^◌, ◌≤◌, min, List, [], ◌∷◌, ◌++◌, length, Option, None, Some, Result, Ok, Err, sym, ap, ◌∙◌, subst, arith, length-append, append_assoc, append-nil, inl, inr}
-use Rattle.std.specs.Io.KnownBytes.{Consumes, IsAtEnd}
+use Rattle.std.proofs.Common.{◌≡◌, ℕ, ◌+◌, ◌≤◌, List, [], ◌∷◌, ◌++◌, length, Option, None, Some, Ok, Err, sym, ap, ◌∙◌, subst, arith, length-append, append_assoc, append-nil, inl, inr}
+use Rattle.std.specs.Io.KnownBytes.{Consumes}
 use Rattle.std.proofs.KnownBytes.{Consumes-nil, Consumes-trans}
 use Rattle.fw_base.specs.Faults.{Rose}
 use Rattle.pcap_read.specs.declared.capture.Capture.{Capture}
 use Rattle.pcap_read.specs.declared.capture_fault.CaptureFault.{CaptureFault}
 use Rattle.pcap_read.specs.Reading.{Captured, Place, Open, Closed, HasFront, Stops, place_number}
-use Rattle.pcap_read.specs.Capture.{source_of, IsReading, StopsWith, Finishes, Advances}
+use Rattle.pcap_read.specs.Capture.{source_of, IsReading, Finishes, Advances}
 
 -- a stop that is one after an earlier count is one after a count before that
-stops_earlier : (A : Type 0) (first before now : ℕ) (place : Place) (stop : Option CaptureFault) → first ≤ before → Stops A (Rose before now) place stop → Stops A (Rose first now) place stop
+pub stops_earlier : (A : Type 0) (first before now : ℕ) (place : Place) (stop : Option CaptureFault) → first ≤ before → Stops A (Rose before now) place stop → Stops A (Rose first now) place stop
 stops_earlier A first before now (Open place) stop h (inl p) = inl p
 stops_earlier A first before now (Open place) stop h (inr p) = inr (omega (arith, p.0), p.1)
 stops_earlier A first before now (Closed fault) stop h p = p

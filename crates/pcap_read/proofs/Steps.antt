@@ -1,9 +1,9 @@
 -- What stands at a record's place, case by case.
-use Rattle.std.proofs.Common.{◌≡◌, ℕ, ◌+◌, ◌<◌, ◌≤◌, List, ◌++◌, length, take, drop, Option, None, Some, Bool, true, false, MatchBool, inl, inr, refl, sym, ap, ◌∙◌, arith, length-drop}
+use Rattle.std.proofs.Common.{◌≡◌, ℕ, ◌+◌, ◌<◌, ◌≤◌, List, ◌++◌, length, take, drop, Some, Bool, true, false, MatchBool, inl, inr, refl, ap, ◌∙◌, arith, length-drop}
 use Rattle.std.proofs.lemmas.List.{take-append-le}
 use lib.Seq.{drop-append-le}
 use Rattle.std.proofs.lemmas.Grind.{common_steps}
-use Rattle.std.specs.Int.{w16, w32, byte_len}
+use Rattle.std.specs.Int.{w32}
 use Rattle.pcap_read.specs.declared.byte_order.ByteOrder.{ByteOrder}
 use Rattle.pcap_read.specs.declared.format.Format.{Format}
 use Rattle.pcap_read.specs.declared.capture_fault.CaptureFault.TheVariants.{RecordTooLong, TooManyPackets, ReadFault}

@@ -12,7 +12,7 @@ use Rattle.pcap_read.specs.declared.open_fault.OpenFault.{OpenFault}
 use Rattle.pcap_read.specs.declared.record.Record.{Record}
 use Rattle.pcap_read.specs.declared.stop.Stop.{Stop}
 use Rattle.pcap_read.specs.declared.stop.Stop.TheVariants.{End, Fault}
-use Rattle.pcap_read.specs.Finding.{HasOwnCause}
+use Rattle.pcap_read.specs.Causes.{HasOwnCause}
 use Rattle.pcap_read.specs.Reading.{Captured, header_of, record_of, Gives, StopsBehind}
 
 -- a record that was lent, as its bytes told it
@@ -114,12 +114,6 @@ module _ {S : Type 0} where
         (λ r. IsReading new (bytes ++ got) (records ++ r ∷ [])))
         (λ fault. StopsWith (source_of old) (source_of new) (bytes ++ got) records (length records + 1) (Some fault))
 
-    -- The bytes behind those of a capture that goes on were read to the place where they end, and gave so many more records.
-    abbrev pub Finishes : Capture S → Capture S → ℕ → Option CaptureFault → Type 0
-    Finishes old new count stop = (bytes : List ℕ) (records : List Captured) → IsReading old bytes records
-        → (got : List ℕ) × Consumes (left (source_of old)) (left (source_of new)) got × (more : List Captured) × (length more ≡ count)
-        × StopsWith (source_of old) (source_of new) (bytes ++ got) (records ++ more) (length (records ++ more) + 1) stop
-
     -- what `next` does
     pub record Advances (old new : Capture S) (answer : Result (Option Captured) CaptureFault) : Type 0 where
       pub continues : Continues old new answer
@@ -132,3 +126,9 @@ module _ {S : Type 0} where
       pub link : link_of new ≡ link_of old
       pub counts : MatchOption (record_in answer) (given_of new ≡ given_of old) (λ _. (given_of new ≡ given_of old + 1) × (given_of new ≤ 4194304))
       pub later : faults (source_of old) ≤ faults (source_of new)
+
+    -- The bytes behind those of a capture that goes on were read to the place where they end, and gave so many more records.
+    abbrev pub Finishes : Capture S → Capture S → ℕ → Option CaptureFault → Type 0
+    Finishes old new count stop = (bytes : List ℕ) (records : List Captured) → IsReading old bytes records
+        → (got : List ℕ) × Consumes (left (source_of old)) (left (source_of new)) got × (more : List Captured) × (length more ≡ count)
+        × StopsWith (source_of old) (source_of new) (bytes ++ got) (records ++ more) (length (records ++ more) + 1) stop

@@ -1,8 +1,6 @@
 -- What looking for the next record in a window answers.
-use Rattle.std.specs.Prelude.{◌≡◌, ◌≢◌, ℕ, ◌+◌, ◌<◌, ◌≤◌, List, length, take, drop, Option, None, Some, Result, Err, MatchOption, MatchResult}
-use Rattle.std.specs.Io.KnownBytes.{IsAtEnd}
+use Rattle.std.specs.Prelude.{◌≡◌, ℕ, ◌<◌, ◌≤◌, List, length, take, drop, Option, None, Some, Result, MatchOption, MatchResult}
 use Rattle.pcap_read.specs.declared.capture_fault.CaptureFault.{CaptureFault}
-use Rattle.pcap_read.specs.declared.capture_fault.CaptureFault.TheVariants.{ReadFault, OutOfMemory}
 use Rattle.pcap_read.specs.declared.format.Format.{Format}
 use Rattle.pcap_read.specs.Reading.{next_of, record_of, Took, StopsBefore}
 
@@ -19,8 +17,3 @@ abbrev pub Finds : (atEnd failed : Type 0) → Format → ℕ → List ℕ → R
 Finds atEnd failed format given held result = MatchResult result
     (λ found. MatchOption found (StopsBefore atEnd failed format given held None) (IsNextRecord format given held))
     (λ fault. StopsBefore atEnd failed format given held (Some fault))
-
--- A failing read is told only where it was one, and want of memory never.
-pub record HasOwnCause {T : Type 0} (failed : Type 0) (result : Result T CaptureFault) : Type 0 where
-  pub failed_read : result ≡ Err ReadFault → failed
-  pub has_memory : result ≢ Err OutOfMemory

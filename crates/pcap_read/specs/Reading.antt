@@ -1,5 +1,5 @@
 -- The classic pcap format, version 2.4: what a whole string of bytes says.
-use Rattle.std.specs.Prelude.{◌≡◌, ℕ, ◌+◌, ◌*◌, Bool, ◌&&◌, List, [], ◌∷◌, length, take, drop, Option, None, Some, Result, Ok, Err, ◌==◌, nat_lt, nat_le, if◌then◌else◌, MatchBool, MatchResult, ◌⊎◌}
+use Rattle.std.specs.Prelude.{◌≡◌, ℕ, ◌+◌, ◌*◌, ◌≤◌, Bool, ◌&&◌, List, [], ◌∷◌, length, take, drop, Option, None, Some, Result, Ok, Err, ◌==◌, nat_lt, nat_le, if◌then◌else◌, MatchBool, MatchResult, ◌⊎◌}
 use Rattle.std.specs.Int.{Width, w16, w32, byte_len, from_le_bytes, from_be_bytes}
 use Rattle.fw_base.specs.declared.link.Link.{Link}
 use Rattle.fw_base.specs.declared.link.Link.TheVariants.{Null, Ethernet, Raw, Cooked}
@@ -80,6 +80,10 @@ record_of format bytes = record {
 -- a record's captured length
 abbrev pub captured_length : Format → List ℕ → ℕ
 captured_length format bytes = number_at format.order w32 8 bytes
+
+-- the bytes of one whole record, its header and what was captured
+abbrev pub IsRecord : Format → List ℕ → Type 0
+IsRecord format bytes = (length bytes ≡ 16 + captured_length format bytes) × (captured_length format bytes ≤ 262144)
 
 -- where a string of bytes ends that could go on
 pub data OpenPlace : Type 0 where

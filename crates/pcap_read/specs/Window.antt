@@ -1,8 +1,9 @@
 -- Bytes that were taken from a source and are not used yet.
-use Rattle.std.specs.Prelude.{◌≡◌, ℕ, ◌+◌, ◌<◌, ◌≤◌, List, ◌++◌, length, Option, Bool, Result, MatchBool, MatchOption, MatchResult}
+use Rattle.std.specs.Prelude.{◌≡◌, ℕ, ◌+◌, ◌<◌, ◌≤◌, List, ◌++◌, length, Option, Bool, Result, MatchBool, MatchResult}
 use Rattle.std.specs.Io.KnownBytes.{Keeps, Consumes, IsAtEnd}
 
--- a buffer of that size, of which a part is in use
+-- A buffer of that size, of which a part is in use. The size is that of the longest record, 262,160 bytes
+-- with its header, and 131,072 more.
 pub record IsWindow (size start end : ℕ) : Type 0 where
   pub ordered : start ≤ end
   pub within : end ≤ size

@@ -14,6 +14,9 @@ use fw_base::{Link, Source};
 use std::alloc::Global;
 
 /// A capture that is read from a source record by record (pcap 2.4).
+///
+/// It has one buffer of 393,232 bytes, which it takes at the opening: no later call takes memory. Each
+/// read asks the source for 131,072 bytes or more, and a record's bytes are moved at most once.
 #[derive(Drop)]
 pub struct Capture<S> {
     source: S,
@@ -38,7 +41,11 @@ impl<S: Source> Capture<S> {
     ghost use Rattle.pcap_read.specs.contracts.capture.Capture.{the_row};
     ghost use Rattle.pcap_read.specs.Capture.{IsOpened, IsRefused, Advances, captured, told, answered, source_of, current_of, link_of};
 
-    /// Takes the one buffer and reads the header. On a fault the source is given back.
+    /// Takes the buffer and reads the header. On a fault the source is given back.
+    ///
+    /// Faults, tested in this order: fewer than 24 bytes, an unknown magic number, a version other than
+    /// 2.4, an unknown link type. Besides, the source may fail, and memory may run out before anything
+    /// is read.
     pub fn open(alloc: Global, source: S) -> Result<Capture<S>, OpenFault<S>>
         ensures { MatchResult result (IsOpened S.left S.faults source) (IsRefused S.left S.faults source) }
     {
@@ -73,9 +80,9 @@ impl<S: Source> Capture<S> {
     /// lent from the buffer. After a fault each further call answers the same fault, and after the end
     /// each answers `None`.
     ///
-    /// Faults: a byte behind the 4,194,304th record, an end in a record's header, a captured length above
-    /// 262,144, an end in a record, a source that failed. Records that were read whole before the source
-    /// failed are given first.
+    /// Faults, tested in this order: a byte behind the 4,194,304th record, an end 1 to 15 bytes into a
+    /// record's header, a captured length above 262,144, an end in a record's bytes. Besides, the source
+    /// may fail: records that were read whole before are given first.
     pub fn next(&mut self) -> Result<Option<Record<'_>>, CaptureFault>
         ensures small { IfOk result (λ found. IfSome found (λ r. length r.bytes.now ≤ 262144)) }
         ensures* advances { sem 𝓛 (Rests (the_row S.row) self.entry (λ new. Advances S.left S.faults self.old new (told result))) }

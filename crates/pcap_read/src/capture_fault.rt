@@ -1,5 +1,5 @@
-ghost use Rattle.std.specs.Prelude.{◌≡◌};
-ghost use Rattle.pcap_read.specs.Words.{word_of};
+ghost use Rattle.std.specs.Prelude.{◌≡◌, Some};
+ghost use Rattle.pcap_read.specs.Words.{word_of, sentence_of};
 ghost use Rattle.pcap_read.specs.declared.capture_fault.CaptureFault.TheVariants.{ReadFault, OutOfMemory};
 
 use fw_base::Failed;
@@ -52,19 +52,23 @@ impl CaptureFault {
 }
 
 impl fmt::Display for CaptureFault {
+    ghost output = { λ fault. Some (sentence_of fault) };
+
     fn fmt<W: fmt::Write>(&self, f: &mut fmt::Formatter<W>) -> fmt::Result {
-        f.write_str(match self {
-            CaptureFault::ShortHeader => "the capture ends in its header",
-            CaptureFault::BadMagic => "the magic number is unknown",
-            CaptureFault::BadVersion => "the version is not 2.4",
-            CaptureFault::UnknownLink => "the link type is unknown",
-            CaptureFault::ShortRecordHeader => "the capture ends in a record's header",
-            CaptureFault::RecordTooLong => "a record is longer than 262,144 bytes",
-            CaptureFault::ShortRecord => "the capture ends in a record",
-            CaptureFault::TooManyPackets => "the capture has more than 4,194,304 records",
-            CaptureFault::ReadFault => "the capture could not be read",
-            CaptureFault::OutOfMemory => "out of memory",
-        })
+        match self {
+            CaptureFault::ShortHeader => f.write_str("the capture ends in its header"),
+            CaptureFault::BadMagic => f.write_str("the magic number is unknown"),
+            CaptureFault::BadVersion => f.write_str("the version is not 2.4"),
+            CaptureFault::UnknownLink => f.write_str("the link type is unknown"),
+            CaptureFault::ShortRecordHeader => f.write_str("the capture ends in a record's header"),
+            CaptureFault::RecordTooLong => f.write_str("a record is longer than 262,144 bytes"),
+            CaptureFault::ShortRecord => f.write_str("the capture ends in a record"),
+            CaptureFault::TooManyPackets => {
+                f.write_str("the capture has more than 4,194,304 records")
+            }
+            CaptureFault::ReadFault => f.write_str("the capture could not be read"),
+            CaptureFault::OutOfMemory => f.write_str("out of memory"),
+        }
     }
 }
 

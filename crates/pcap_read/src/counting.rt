@@ -1,12 +1,40 @@
-ghost use Rattle.pcap_read.specs.Capture.{Finishes};
+ghost use Rattle.std.specs.Prelude.{◌≡◌, ℕ, List, Some, IfOk, IfErr};
+ghost use Rattle.pcap_read.specs.Capture.{Finishes, IsRefused};
+ghost use Rattle.pcap_read.specs.Counting.{IsCounted, IsExact, IsExactFault};
 
 use crate::capture::Capture;
 use crate::capture_fault::CaptureFault;
+use crate::counted::Counted;
+use crate::open_fault::OpenFault;
 use fw_base::Source;
+use std::alloc::Global;
+
+/// Reads a source as a capture to the place where its records end, and counts them.
+pub fn count_records<S: Source>(alloc: Global, source: S) -> Result<Counted<S>, OpenFault<S>>
+    // The bytes that it took have so many records, and a reader stops so behind them.
+    ensures counted { IfOk result (IsCounted S.left S.faults source) }
+    ensures refused { IfErr result (IsRefused S.left S.faults source) }
+
+    // Where the source tells its bytes and didn't fail, the count and the fault are those of all of them.
+    ensures exact { (whole : List ℕ) → S.left source ≡ Some whole → IfOk result (IsExact whole) }
+    ensures exact_fault { (whole : List ℕ) → S.left source ≡ Some whole → IfErr result (IsExactFault whole) }
+{
+    match Capture::open(alloc, source) {
+        Ok(mut capture) => {
+            let (records, fault) = count_rest(&mut capture);
+            Ok(Counted {
+                records,
+                fault,
+                source: capture.close(),
+            })
+        }
+        Err(refused) => Err(refused),
+    }
+}
 
 /// Reads a capture to the place where its records end. Answers how many more records it gave, and the
 /// fault that it stopped with, or `None` at its end.
-pub fn count_records<S: Source>(capture: &mut Capture<S>) -> (u32, Option<CaptureFault>)
+fn count_rest<S: Source>(capture: &mut Capture<S>) -> (u32, Option<CaptureFault>)
     ensures { Finishes S.left S.faults capture.old capture.new result.0 result.1 }
 {
     let mut count = 0u32;

@@ -2,7 +2,8 @@ ghost use Rattle.std.specs.Prelude.{◌≡◌, ◌≤◌};
 ghost use Rattle.std.specs.Io.KnownBytes.{IsAtEnd};
 ghost use Rattle.fw_base.specs.Faults.{Rose};
 ghost use Rattle.pcap_read.specs.Window.{Grows};
-ghost use Rattle.pcap_read.specs.Finding.{Finds, HasOwnCause};
+ghost use Rattle.pcap_read.specs.Causes.{HasOwnCause};
+ghost use Rattle.pcap_read.specs.Finding.{Finds};
 
 use crate::capture_fault::CaptureFault;
 use crate::filling::fill;
@@ -15,7 +16,7 @@ use fw_base::Source;
 pub(crate) const RECORD_HEADER_LENGTH: usize = 16;
 
 /// How many records a capture has at most.
-pub(crate) const MOST_RECORDS: u32 = 4_194_304;
+const MOST_RECORDS: u32 = 4_194_304;
 
 /// How many captured bytes a record has at most.
 const MOST_CAPTURED: u32 = 262_144;

@@ -1,5 +1,5 @@
 ghost use Rattle.std.specs.Prelude.{◌≡◌, ◌≤◌, length, take};
-ghost use Rattle.pcap_read.specs.Finding.{HasOwnCause};
+ghost use Rattle.pcap_read.specs.Causes.{HasOwnCause};
 ghost use Rattle.pcap_read.specs.Reading as spec;
 
 use crate::byte_order::ByteOrder;

@@ -1,6 +1,8 @@
-ghost use Rattle.std.specs.Prelude.{◌≡◌, ℕ, List, ◌++◌};
+ghost use Rattle.std.specs.Prelude.{◌≡◌, ℕ, ◌≤◌, List, ◌++◌, length, map, Ok};
+ghost use Rattle.std.specs.List.{AllByRecursion, concat};
+ghost use Rattle.pcap_read.specs.declared.format.Format.{Format as Header};
 ghost use Rattle.pcap_read.specs.declared.capture_fault.CaptureFault.{CaptureFault as Kind};
-ghost use Rattle.pcap_read.specs.Reading.{Captured, Place, Closed, HasFront};
+ghost use Rattle.pcap_read.specs.Reading.{Captured, Place, Open, AtBoundary, Closed, header_of, IsRecord, record_of, HasFront};
 
 /// Laws of the front of a string of bytes: its records and the place where they end. It does nothing.
 pub fn one_front()
@@ -8,6 +10,11 @@ pub fn one_front()
     ensures exists { (bytes : List ℕ) → (records : List Captured) × (place : Place) × HasFront bytes records place }
     ensures unique { (bytes : List ℕ) (records others : List Captured) (place other : Place)
         → HasFront bytes records place → HasFront bytes others other → (records ≡ others) × (place ≡ other) }
+
+    // A header and whole records behind it are a capture of these records, which ends there.
+    ensures whole { (header : List ℕ) (format : Header) (pieces : List (List ℕ))
+        → length header ≡ 24 → header_of header ≡ Ok format → AllByRecursion (IsRecord format) pieces → length pieces ≤ 4194304
+        → HasFront (header ++ concat pieces) (map (record_of format) pieces) (Open AtBoundary) }
 
     // As more bytes come, the records stay, and so does a fault that stands there at once.
     ensures grows { (bytes more : List ℕ) (records others : List Captured) (place other : Place)

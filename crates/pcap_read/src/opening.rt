@@ -1,7 +1,7 @@
 ghost use Rattle.std.specs.Prelude.{◌≡◌, ◌≤◌, []};
 ghost use Rattle.fw_base.specs.Faults.{Rose};
 ghost use Rattle.std.specs.Io.KnownBytes.{IsAtEnd};
-ghost use Rattle.pcap_read.specs.Finding.{HasOwnCause};
+ghost use Rattle.pcap_read.specs.Causes.{HasOwnCause};
 ghost use Rattle.pcap_read.specs.Opening.{TakesHeader};
 
 use crate::capture_fault::CaptureFault;

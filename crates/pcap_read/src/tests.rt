@@ -95,11 +95,8 @@ fn stop_of(
     pieces: &[usize],
     cut: Option<u64>,
 ) -> Result<Stopped, AllocError> {
-    match Capture::open(alloc, source_of(alloc, bytes, pieces, cut)?) {
-        Ok(mut capture) => {
-            let (count, fault) = count_records(&mut capture);
-            Ok((count.saturating_add(1), fault))
-        }
+    match count_records(alloc, source_of(alloc, bytes, pieces, cut)?) {
+        Ok(counted) => Ok((counted.records.saturating_add(1), counted.fault)),
         Err(refused) => Ok((0, Some(refused.fault))),
     }
 }

@@ -8,7 +8,7 @@ use std::alloc::Global;
 use std::marker::Model;
 
 /// The bytes that one record takes at most: its header and 262,144 captured bytes.
-pub(crate) const MOST_OF_A_RECORD: usize = 262_160;
+const MOST_OF_A_RECORD: usize = 262_160;
 
 /// How many bytes a read asks for at least.
 const READ_AHEAD: usize = 131_072;

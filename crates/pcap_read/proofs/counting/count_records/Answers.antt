@@ -1,29 +1,13 @@
-use Rattle.std.proofs.Common.{◌≡◌, ◌+◌, ◌≤◌, refl, arith, Ok, Err, Some, None}
-use Rattle.pcap_read.proofs.Runs.{goes_nowhere, goes_further, goes_to_end, goes_to_fault}
+use Rattle.pcap_read.proofs.Exact.{whole_run, exact_run, exact_refusal}
 use Rattle.pcap_read.proofs.counting.count_records.Goals as goal
 
-pub loop-count-init : goal.loop-count-init
-loop-count-init g c = record {
-  goes = goes_nowhere g.S.Source.left g.S.Source.faults c.args.capture.now;
-  later = omega arith;
-  few = omega arith;
-}
+pub returns-in-Ok-clause-counted : goal.returns-in-Ok-clause-counted
+returns-in-Ok-clause-counted g c = whole_run g.S.Source.left g.S.Source.faults c.args.source c.in-Ok.capture c.count_rest-records.new.capture c.close.result _ _ c.in-Ok.ensures c.count_rest-records.ensures c.close.ensures
 
-pub loop-count-preserved : goal.loop-count-preserved
-loop-count-preserved g c =
-    let step = rw (c.in-Ok-Some.is, c.in-Ok-Some.field-0-is) at c.next.follows.holds-at-none in
-    record {
-      goes = goes_further g.S.Source.left g.S.Source.faults c.args.capture.now c.loop-count.capture _ c.loop-count.count _ c.loop-count.invariant.goes step;
-      later = omega (arith, c.loop-count.invariant.later, step.later);
-      few = omega (arith, c.loop-count.invariant.few, step.counts.0);
-    }
+pub returns-in-Ok-clause-exact : goal.returns-in-Ok-clause-exact
+returns-in-Ok-clause-exact g c = λ whole told.
+    exact_run g.S.Source.left g.S.Source.faults c.args.source c.close.result _ _ whole
+    (whole_run g.S.Source.left g.S.Source.faults c.args.source c.in-Ok.capture c.count_rest-records.new.capture c.close.result _ _ c.in-Ok.ensures c.count_rest-records.ensures c.close.ensures) told
 
-pub returns-in-Ok-None : goal.returns-in-Ok-None
-returns-in-Ok-None g c =
-    let step = rw (c.in-Ok-None.is, c.in-Ok-None.field-0-is) at c.next.follows.holds-at-none in
-    goes_to_end g.S.Source.left g.S.Source.faults c.args.capture.now c.loop-count.capture _ c.loop-count.count c.loop-count.invariant.goes c.loop-count.invariant.later step
-
-pub returns-in-Err : goal.returns-in-Err
-returns-in-Err g c =
-    let step = rw c.in-Err.is at c.next.follows.holds-at-none in
-    goes_to_fault g.S.Source.left g.S.Source.faults c.args.capture.now c.loop-count.capture _ c.loop-count.count _ c.loop-count.invariant.goes c.loop-count.invariant.later step
+pub returns-in-Err-clause-exact_fault : goal.returns-in-Err-clause-exact_fault
+returns-in-Err-clause-exact_fault g c = λ whole told. exact_refusal g.S.Source.left g.S.Source.faults c.args.source c.in-Err.refused whole c.in-Err.ensures told

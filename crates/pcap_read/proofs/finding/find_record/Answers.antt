@@ -1,7 +1,6 @@
-use Rattle.std.proofs.Common.{◌≡◌, ◌≤◌, ◌+◌, ◌<◌, ℕ, length, sym, ◌∙◌, ap, refl, subst, arith, true, false, length-append}
+use Rattle.std.proofs.Common.{◌+◌, length, sym, ◌∙◌, ap, refl, arith, length-append}
 use Rattle.std.proofs.lemmas.Result.{err_from_is_err_and}
-use Rattle.std.specs.Int.{w32}
-use Rattle.pcap_read.specs.Reading.{number_at, AtBoundary, InRecordHeader, InRecord, Closed, captured_length}
+use Rattle.pcap_read.specs.Reading.{AtBoundary, InRecordHeader, InRecord, Closed, captured_length}
 use Rattle.pcap_read.proofs.Growing.{grows_more}
 use Rattle.pcap_read.proofs.Steps.{captured_length-grown, at_boundary, too_many, in_record_header, too_long, in_record, took, stops_failed, stops_at_end, granted, refused}
 use Rattle.pcap_read.proofs.finding.find_record.Goals as goal

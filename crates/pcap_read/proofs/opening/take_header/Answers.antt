@@ -1,4 +1,4 @@
-use Rattle.std.proofs.Common.{[], ◌≡◌, ◌≤◌, ◌<◌, ◌+◌, ◌++◌, length, sym, ◌∙◌, ap, refl, arith, length-append, inl, inr, take, Err}
+use Rattle.std.proofs.Common.{[], ◌≡◌, ◌≤◌, ◌<◌, ◌++◌, length, sym, ◌∙◌, ap, refl, arith, length-append, inl, inr, take, Err}
 use Rattle.std.proofs.lemmas.Result.{err_from_is_err_and}
 use Rattle.pcap_read.specs.Reading.{Open, InHeader, Closed, header_of}
 use Rattle.pcap_read.proofs.Steps.{granted, refused}

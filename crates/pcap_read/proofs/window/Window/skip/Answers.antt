@@ -1,4 +1,4 @@
-use Rattle.std.proofs.Common.{◌≡◌, ◌+◌, ◌-◌, ◌≤◌, drop, length, slice_range, ap, ◌∙◌, arith}
+use Rattle.std.proofs.Common.{◌+◌, ◌≤◌, drop, length, ap, ◌∙◌, arith}
 use Rattle.pcap_read.proofs.Ranges.{slice_range-later, length-slice_range}
 use Rattle.pcap_read.proofs.window.Window.skip.Goals as goal
 
