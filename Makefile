@@ -1,0 +1,61 @@
+# Builds, checks and installs ipfw_replay. 'make help' lists what can be made.
+
+RT = rt
+PREFIX = /usr/local
+DESTDIR =
+
+PROGRAM = bin/ipfw_replay
+
+# Fails with one line where the toolchain's command is missing.
+need_rt = @command -v $(RT) >/dev/null || { \
+	echo "make: the Rattle toolchain's command '$(RT)' is needed to prove and build the crates; it was looked for in PATH ($$PATH)" >&2; exit 1; }
+
+all: $(PROGRAM)
+
+# rt proves every crate below the program, links it and runs it once, on the capture of one packet that lies
+# beside it. It prints each function as it is proved.
+$(PROGRAM): bin/sources
+	$(need_rt)
+	@echo "proving the crates and linking $@: a first build takes minutes, and each proved function has its line"
+	cd crates/ipfw_cli && $(RT) run -- serial data/s in:em0:data/c >/dev/null
+	@cp crates/ipfw_cli/out/ipfw_cli $@.new && mv $@.new $@
+	@echo "built $@"
+
+# The checksum of each source. The file is replaced only where one of them changed, so that nothing is built
+# anew else.
+bin/sources: FORCE
+	@mkdir -p bin
+	@find crates crates.txt HANDLES -name out -prune -o -type f -exec sha256sum {} + | LC_ALL=C sort >$@.new
+	@if cmp -s $@.new $@; then rm $@.new; else mv $@.new $@; fi
+
+example: $(PROGRAM)
+	$(PROGRAM) serial examples/first/rules out:em0:examples/first/session.pcap
+
+# rt ci proves the sources as they stand, so nothing may change them before it ends.
+test:
+	$(need_rt)
+	$(RT) ci
+	@$(MAKE) --no-print-directory $(PROGRAM)
+	tests/run $(PROGRAM)
+
+bench: $(PROGRAM)
+	bench/run $(PROGRAM)
+
+install: $(PROGRAM)
+	install -d $(DESTDIR)$(PREFIX)/bin
+	install -m 755 $(PROGRAM) $(DESTDIR)$(PREFIX)/bin/ipfw_replay
+
+clean:
+	rm -rf bin crates/*/out
+
+help:
+	@echo "make            proves the crates and builds bin/ipfw_replay, where something changed"
+	@echo "make example    builds, and replays examples/first: a real capture beside a script of rules"
+	@echo "make test       proves and tests every crate (rt ci), then runs the program's own checks (tests/run)"
+	@echo "make bench      builds, and times the program on large captures, beside tcpdump where it is installed (needs python3)"
+	@echo "make install    builds, and copies the program to DESTDIR/PREFIX/bin (PREFIX is $(PREFIX))"
+	@echo "make clean      removes all that was built and what the proofs keep"
+	@echo
+	@echo "RT=COMMAND names another command than rt for the Rattle toolchain."
+
+.PHONY: all example test bench install clean help FORCE

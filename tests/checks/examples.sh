@@ -1,0 +1,9 @@
+# The examples print what stands beside them, which is what their packets' fields say.
+# shellcheck shell=bash disable=SC2154,SC2238
+
+first=$top/examples/first
+check example_first 0 serial "$first/rules" "out:em0:$first/session.pcap" <"$first/expected"
+
+cp "$first/expected" "$work/wanted"
+awk -v script="$first/rules" -f "$tests/verdicts.awk" "$tests/captures/day_c0_out.tsv" >"$work/got"
+same example_first_is_as_its_fields_say

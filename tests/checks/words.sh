@@ -1,0 +1,49 @@
+# Words that are a command and words that are none.
+# shellcheck shell=bash disable=SC2154,SC2238
+
+check no_words 1 <<<"$usage"
+check one_word 1 serial <<<"$usage"
+check missing_capture_is_usage 1 serial empty <<<"$usage"
+check word_too_many 1 serial empty in:em0:syn.pcap more <<<"$usage"
+
+# none_of_these NAME WORD..: `serial empty WORD` is no command for each of the words.
+none_of_these() {
+    local name=$1 word
+    shift
+    : >"$work/wanted"
+    : >"$work/got"
+    for word in "$@"; do
+        printf '%s\n%s\nstatus 1\n' "$word" "$usage" >>"$work/wanted"
+        { echo "$word" && replay serial empty "$word"; } >>"$work/got"
+    done
+    same "$name"
+}
+
+none_of_these words_that_are_no_capture syn.pcap em0:syn.pcap in:syn.pcap IN:em0:syn.pcap both:em0:syn.pcap \
+    :em0:syn.pcap in:em0 in:em0: in::syn.pcap '' :: ' in:em0:syn.pcap'
+none_of_these words_that_name_no_interface in:abcdefghijklmnop:syn.pcap 'in:em*:syn.pcap' 'in:e m:syn.pcap' \
+    in:em/0:syn.pcap in:ém0:syn.pcap
+
+check script_that_looks_like_an_option 1 serial -s in:em0:syn.pcap <<<"$usage"
+check script_without_a_name 1 serial '' in:em0:syn.pcap <<<"$usage"
+check mode_in_capitals 1 Serial empty in:em0:syn.pcap <<<"$usage"
+check words_in_another_order 1 serial in:em0:syn.pcap empty <<<"$usage"
+check script_that_is_no_text 1 serial $'empty\xff' in:em0:syn.pcap <<<"$usage"
+check capture_that_is_no_text 1 serial empty $'in:em0:syn\xc3' <<<"$usage"
+check mode_that_is_no_text 1 $'serial\x80' empty in:em0:syn.pcap <<<"$usage"
+
+# Modes that a later version reads.
+check mode_live 1 live empty in:em0:syn.pcap <<<"$usage"
+check mode_load 1 load 1 <<<"$usage"
+check journal 1 serial --journal empty in:em0:syn.pcap <<<"$usage"
+check two_captures 1 serial empty in:em0:syn.pcap in:em0:syn.pcap <<<"$usage"
+
+one_syn_denied='1.1 deny 65535 at 1
+end 1 records 1'
+
+check capture_of_what_went_out 0 serial empty out:em0:syn.pcap <<<"$one_syn_denied"
+check interface_of_fifteen_bytes 0 serial empty in:aB3_.-ghijklmno:syn.pcap <<<"$one_syn_denied"
+cp empty ./-
+check script_named_by_a_dash 0 serial - in:em0:syn.pcap <<<"$one_syn_denied"
+cp syn.pcap a:b
+check capture_with_a_colon_in_its_name 0 serial empty in:em0:a:b <<<"$one_syn_denied"
