@@ -7,6 +7,7 @@ ghost use Rattle.std.specs.Prelude.{◌≡◌, ◌≢◌, ℕ, ◌+◌, Bool, tr
 /// Facts have a number and an item.
 pub trait Kept: Drop {
     type Facts;
+
     type Item;
 
     ghost number: { Self → ℕ };

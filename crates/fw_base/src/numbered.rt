@@ -10,6 +10,7 @@ use std::sync::Arc;
 /// what the value is.
 pub trait Numbered: Drop {
     type Tag;
+
     type Label;
 
     ghost number: { Self → ℕ };
@@ -25,6 +26,7 @@ pub trait Numbered: Drop {
 
 impl<E: Numbered, A: Allocator> Numbered for Arc<E, A> {
     type Tag = E::Tag;
+
     type Label = E::Label;
 
     ghost number = { λ shared. E.number (arc_value shared) };
