@@ -1,6 +1,6 @@
 -- Records that are judged one after another.
-use Rattle.std.proofs.Common.{◌≡◌, ℕ, ◌+◌, ◌-◌, ◌^◌, ◌≤◌, min, List, [], ◌∷◌, ◌++◌, map, length, Option, None, Some, Result, Ok, Err, refl, sym, ap, ◌∙◌, subst, arith, append_assoc, append-nil, inl, inr}
-use Rattle.std.specs.Io.KnownBytes.{Consumes, IsAtEnd}
+use Rattle.std.proofs.Common.{◌≡◌, ℕ, ◌+◌, ◌≤◌, List, [], ◌∷◌, ◌++◌, map, length, Option, None, Some, Ok, Err, sym, ap, ◌∙◌, subst, arith, append_assoc, append-nil, inl, inr}
+use Rattle.std.specs.Io.KnownBytes.{Consumes}
 use Rattle.std.proofs.KnownBytes.{Consumes-nil, Consumes-trans}
 use Rattle.std.proofs.lemmas.List.{map-append}
 use Rattle.fw_base.specs.Faults.{Rose}
@@ -28,7 +28,10 @@ module _ {S : Type 0} (left : S → Option (List ℕ)) (faults : S → ℕ) (rul
 
   pub enters_nothing : (c : Capture S) (docket : List DocketEntry) → Enters c c docket docket
   enters_nothing c docket bytes records reading = (
-    [], Consumes-nil (left (source_of c)), [], sym (append-nil docket),
+    [],
+    Consumes-nil (left (source_of c)),
+    [],
+    sym (append-nil docket),
     subst (λ b. IsReading c b (records ++ [])) (sym (append-nil bytes)) (subst (IsReading c bytes) (sym (append-nil records)) reading),
   )
 
@@ -47,7 +50,7 @@ module _ {S : Type 0} (left : S → Option (List ℕ)) (faults : S → ℕ) (rul
 
   stops_behind : (old mid new : Capture S) (docket docketAfter : List DocketEntry) (stop : Option CaptureFault) → Enters old mid docket docketAfter → faults (source_of old) ≤ faults (source_of mid)
       → ((bytes : List ℕ) (records : List Captured) → IsReading mid bytes records
-          → (got : List ℕ) × Consumes (left (source_of mid)) (left (source_of new)) got × StopsWith left faults (source_of mid) (source_of new) (bytes ++ got) records (length records + 1) stop)
+      → (got : List ℕ) × Consumes (left (source_of mid)) (left (source_of new)) got × StopsWith left faults (source_of mid) (source_of new) (bytes ++ got) records (length records + 1) stop)
       → Judges left faults rules old new docket docketAfter stop
   stops_behind old mid new docket docketAfter stop enters later stops bytes records reading =
       let p = enters bytes records reading in

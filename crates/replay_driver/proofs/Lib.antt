@@ -4,3 +4,5 @@ pub mod Scripts
 pub mod ReportLines
 pub mod Judging
 pub mod Replays
+pub mod Promised
+pub mod Complete

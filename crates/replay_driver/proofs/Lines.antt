@@ -1,5 +1,5 @@
 -- The first line and those behind it.
-use Rattle.std.proofs.Common.{◌≡◌, ℕ, zero, suc, ◌+◌, ◌<◌, ◌≤◌, Bool, true, false, not, cond, List, [], ◌∷◌, ◌++◌, Option, None, Some, length, take, drop, refl, sym, ap, ◌∙◌, subst, arith, nat_lt, ◌==◌, inl, inr}
+use Rattle.std.proofs.Common.{◌≡◌, ℕ, suc, ◌+◌, ◌<◌, ◌≤◌, Bool, true, false, cond, List, [], ◌∷◌, None, Some, length, take, drop, refl, sym, ap, subst, arith, nat_lt, ◌==◌, inl, inr}
 use Rattle.std.specs.Prelude.{position}
 use Rattle.std.specs.List.{position_or_len, onto_first}
 use Rattle.std.proofs.lemmas.Bool.{cases_Bool, ltb-true, ltb-false}
@@ -17,31 +17,31 @@ line_ends : (bytes : List ℕ) → first_end bytes < length bytes
 unfolding lines_of
 line_ends [] within = absurd (omega arith)
 line_ends (b ∷ bytes) within = elim (cases_Bool (b == 10)) [
-    | inl is ↦ rw is refl
-    | inr isn't ↦
+  | inl is ↦ rw is refl
+  | inr isn't ↦
       let shifted : 1 + first_end bytes ≡ suc (first_end bytes) = omega arith in
       let inside = rw isn't at within in
       let inner : first_end bytes < length bytes = omega arith in
       rw (isn't, shifted, line_ends bytes inner) refl
-  ]
+]
 
 -- a string without a byte 10 is one line
 one_line : (bytes : List ℕ) → 0 < length bytes → length bytes ≤ first_end bytes → lines_of bytes ≡ bytes ∷ []
 unfolding lines_of
 one_line [] some none = absurd (omega arith)
 one_line (b ∷ []) some none = elim (cases_Bool (b == 10)) [
-    | inl is ↦ let no = rw is at none in absurd (omega arith)
-    | inr isn't ↦ rw isn't refl
-  ]
+  | inl is ↦ let no = rw is at none in absurd (omega arith)
+  | inr isn't ↦ rw isn't refl
+]
 one_line (b ∷ c ∷ bytes) some none = elim (cases_Bool (b == 10)) [
-    | inl is ↦ let no = rw is at none in absurd (omega arith)
-    | inr isn't ↦
+  | inl is ↦ let no = rw is at none in absurd (omega arith)
+  | inr isn't ↦
       let rest = rw isn't at none in
       let here : 0 < length (c ∷ bytes) = omega arith in
       let still : length (c ∷ bytes) ≤ first_end (c ∷ bytes) = omega arith in
       let rec = one_line (c ∷ bytes) here still in
       rw isn't (ap (onto_first b) rec)
-  ]
+]
 
 found_within : (bytes : List ℕ) (at : ℕ) → Some at ≡ position (λ b. b == 10) bytes → (first_end bytes < length bytes) × (first_end bytes ≡ at)
 found_within bytes at found =

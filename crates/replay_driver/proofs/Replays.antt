@@ -1,24 +1,21 @@
 -- A capture from its opening to the place where its records end.
-use Rattle.std.proofs.Common.{◌≡◌, ℕ, ◌+◌, ◌≤◌, List, [], ◌∷◌, ◌++◌, map, length, Option, None, Some, Result, Ok, Err, refl, sym, ap, ◌∙◌, subst, arith, append_assoc, append-nil, length-append, inl, inr, take}
+use Rattle.std.proofs.Common.{◌≡◌, ℕ, ◌+◌, List, [], ◌++◌, map, length, Option, None, Some, Result, Ok, Err, refl, ap, ◌∙◌, inl, inr, take}
 use Rattle.std.specs.Prelude.{MatchResult}
-use Rattle.std.specs.Io.KnownBytes.{Consumes, IsAtEnd}
 use Rattle.std.proofs.lemmas.List.{take-append-le, length-map}
 use Rattle.std.proofs.KnownBytes.{Consumes-trans}
-use Rattle.fw_base.specs.Faults.{Rose}
 use Rattle.pcap_read.specs.declared.capture.Capture.{Capture}
 use Rattle.pcap_read.specs.declared.capture_fault.CaptureFault.{CaptureFault}
-use Rattle.pcap_read.specs.Reading.{Captured, Place, Open, Closed, HasFront, Stops, StopsBehind, header_of}
-use Rattle.pcap_read.specs.Capture.{source_of, link_of, format_of, IsReading, IsOpened, IsRefused, StopsWith}
+use Rattle.pcap_read.specs.Reading.{Captured, header_of}
+use Rattle.pcap_read.specs.Capture.{source_of, link_of, format_of, IsOpened, IsRefused}
 use Rattle.pcap_read.specs.declared.format.Format.{Format}
 use Rattle.pcap_read.specs.declared.open_fault.OpenFault.{OpenFault}
 use Rattle.pcap_read.specs.declared.capture_fault.CaptureFault.TheVariants.{OutOfMemory}
-use Rattle.replay_driver.specs.Docket.{entry_of, IsDocket}
+use Rattle.replay_driver.specs.Docket.{entry_of}
 use Rattle.replay_driver.specs.Replay.{IsEnd, IsReplay, Judges, end_behind}
 use Rattle.replay_driver.proofs.Judging.{stops_earlier}
 use Rattle.replay_driver.specs.declared.plain_rule.PlainRule.{PlainRule}
 use Rattle.replay_driver.specs.declared.docket_entry.DocketEntry.{DocketEntry}
-use Rattle.replay_driver.specs.declared.capture_end.CaptureEnd.{CaptureEnd}
-use Rattle.replay_driver.specs.declared.capture_end.CaptureEnd.TheVariants.{Read, Stopped}
+use Rattle.replay_driver.specs.declared.capture_end.CaptureEnd.TheVariants.{Stopped}
 
 module _ {S : Type 0} (left : S → Option (List ℕ)) (faults : S → ℕ) (rules : List PlainRule) where
   -- what is entered behind an opening, with the end that tells it, is a replay
@@ -50,18 +47,18 @@ module _ {S : Type 0} (left : S → Option (List ℕ)) (faults : S → ℕ) (rul
   pub refusal : (source : S) (refused : OpenFault S) → IsRefused left faults source refused → (refused.fault ≡ OutOfMemory → ⊥)
       → IsReplay left faults rules source refused.source [] (Stopped 0 refused.fault (faults refused.source))
   refusal source refused is other = elim is.cause [
-      | inl h ↦ absurd (other h.0)
-      | inr h ↦ record {
-        bytes = h.0;
-        taken = h.1;
-        records = [];
-        number = 0;
-        stop = Some refused.fault;
-        stopped = h.2;
-        entered = none (header_of (take 24 h.0));
-        told = (refl, refl, refl);
-      }
-    ]
+    | inl h ↦ absurd (other h.0)
+    | inr h ↦ record {
+      bytes = h.0;
+      taken = h.1;
+      records = [];
+      number = 0;
+      stop = Some refused.fault;
+      stopped = h.2;
+      entered = none (header_of (take 24 h.0));
+      told = (refl, refl, refl);
+    }
+  ]
     where
       none : (header : Result Format CaptureFault) → MatchResult header (λ format. ◌≡◌ {A = List DocketEntry} [] (map (entry_of format.link rules) [])) (λ _. ◌≡◌ {A = List DocketEntry} [] [])
       none (Ok format) = refl

@@ -1,8 +1,8 @@
 -- The lines of a report one after another.
-use Rattle.std.proofs.Common.{◌≡◌, ℕ, suc, ◌+◌, ◌<◌, ◌≤◌, List, [], ◌∷◌, ◌++◌, get_or, length, drop, drop-cons, drop_of_length-le, refl, sym, ap, ◌∙◌, append_assoc, arith}
+use Rattle.std.proofs.Common.{◌≡◌, ℕ, suc, ◌+◌, ◌<◌, ◌≤◌, List, ◌++◌, get_or, length, drop, drop-cons, drop_of_length-le, refl, append_assoc, arith}
 use Rattle.replay_driver.specs.declared.docket_entry.DocketEntry.{DocketEntry}
 use Rattle.replay_driver.specs.declared.capture_end.CaptureEnd.{CaptureEnd}
-use Rattle.replay_driver.specs.Report.{entry_line, entry_lines, end_line, capture_text}
+use Rattle.replay_driver.specs.Report.{entry_line, entry_lines, end_line}
 
 -- the first of the lines that are left
 pub next_line : (capture at i : ℕ) (docket : List DocketEntry) (end : CaptureEnd) (d : DocketEntry) → i < length docket

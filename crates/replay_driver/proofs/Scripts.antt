@@ -1,10 +1,10 @@
 -- How a script's rules are read line by line.
-use Rattle.std.proofs.Common.{◌≡◌, ℕ, ◌+◌, ◌-◌, ◌<◌, ◌≤◌, Bool, true, false, ◌||◌, List, [], ◌∷◌, ◌++◌, Option, None, Some, Result, Ok, Err, length, refl, sym, ap, ◌∙◌, arith, append_assoc, append-nil, length-append, nat_lt, cond}
+use Rattle.std.proofs.Common.{◌≡◌, ℕ, ◌+◌, ◌<◌, ◌≤◌, Bool, true, false, ◌||◌, List, [], ◌∷◌, ◌++◌, None, Some, Result, Ok, Err, length, refl, sym, ap, ◌∙◌, arith, append_assoc, append-nil, length-append, nat_lt, cond}
 use Rattle.std.proofs.lemmas.Bool.{le-ltb}
 use Rattle.replay_driver.specs.declared.plain_rule.PlainRule.{PlainRule}
 use Rattle.replay_driver.specs.Bytes.{lines_of}
-use Rattle.replay_driver.specs.PlainScript.{line_of, rules_on, rules_from, script_rules, is_past_limit, is_one_rule_more, joined, with_rule}
-use Rattle.replay_driver.specs.ScriptSteps.{with_rules, TakesLine, StopsAt}
+use Rattle.replay_driver.specs.PlainScript.{line_of, rules_from, script_rules, is_past_limit, is_one_rule_more, with_rule}
+use Rattle.replay_driver.specs.ScriptSteps.{with_rules, TakesLine}
 
 pub with_rules-with_rule : (front : List PlainRule) (rule : PlainRule) (rest : Result (List PlainRule) ℕ) → with_rules front (with_rule rule rest) ≡ with_rules (front ++ rule ∷ []) rest
 with_rules-with_rule front rule (Ok rules) = ap Ok (sym (append_assoc front (rule ∷ []) rules))

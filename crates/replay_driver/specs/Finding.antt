@@ -1,6 +1,5 @@
 -- What the words, the script and the capture come to: its status and its text.
 use Rattle.std.specs.Prelude.{ℕ, List, [], ◌∷◌, ◌++◌, codes, decimal, Option, None, Some}
-use Rattle.pcap_read.specs.declared.capture_fault.CaptureFault.{CaptureFault}
 use Rattle.pcap_read.specs.declared.capture_fault.CaptureFault.TheVariants.{ReadFault}
 use Rattle.replay_driver.specs.Report.{capture_text}
 use Rattle.replay_driver.specs.declared.capture_end.CaptureEnd.{CaptureEnd}

@@ -14,3 +14,4 @@ pub mod WholeSource
 pub mod Replay
 pub mod Finding
 pub mod Run
+pub mod Promises

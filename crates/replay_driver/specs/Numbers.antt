@@ -1,10 +1,8 @@
 -- Decimal numbers and IPv4 addresses in text.
-use Rattle.std.specs.Prelude.{ℕ, ◌+◌, ◌-◌, ◌*◌, Bool, ◌&&◌, List, [], ◌∷◌, length, Option, None, Some, nat_le, if◌then◌else◌}
+use Rattle.std.specs.Prelude.{ℕ, ◌+◌, ◌-◌, ◌*◌, ◌&&◌, List, [], ◌∷◌, length, Option, None, Some, nat_le, if◌then◌else◌}
 use Rattle.std.specs.List.{list_all}
 use Rattle.std.specs.Char.{is_ascii_digit}
-use Rattle.fw_base.specs.Prefix.{Network, network}
 use Rattle.replay_driver.specs.Chain.{◌>>=◌}
-use Rattle.replay_driver.specs.Bytes.{is_same, cut_at}
 
 -- the number that the digits write, behind those that write `high`
 abbrev pub value_from : ℕ → List ℕ → ℕ

@@ -1,6 +1,6 @@
 -- The rules that are read so far: `add N allow|deny PROTO from A to B`, its words between spaces
 -- (ipfw(8), RULE FORMAT).
-use Rattle.std.specs.Prelude.{ℕ, ◌+◌, ◌*◌, Bool, List, [], ◌∷◌, codes, Option, None, Some, if◌then◌else◌}
+use Rattle.std.specs.Prelude.{ℕ, ◌+◌, ◌*◌, List, codes, Option, None, Some, if◌then◌else◌}
 use Rattle.fw_base.specs.Prefix.{Network, network}
 use Rattle.replay_driver.specs.Chain.{◌>>=◌}
 use Rattle.replay_driver.specs.Bytes.{is_same, cut_at, word_then, expected}

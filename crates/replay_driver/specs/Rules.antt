@@ -1,12 +1,11 @@
 -- Rules and what they hold of (ipfw(8), RULE FORMAT and RULE BODY).
-use Rattle.std.specs.Prelude.{◌≡◌, ℕ, ◌/◌, ◌^◌, ◌-◌, Bool, ◌&&◌, ◌||◌, ◌==◌, List, [], ◌∷◌, ◌++◌, find, unwrap_or}
+use Rattle.std.specs.Prelude.{◌≡◌, ℕ, ◌/◌, Bool, ◌&&◌, ◌||◌, ◌==◌, List, [], ◌∷◌, ◌++◌, find, unwrap_or}
 use Rattle.std.specs.List.Sorted.{IsPermutation, IsSortedByKey, IsStableByKey}
 use Rattle.std.specs.Ordering.{nat_cmp}
 use Rattle.fw_base.specs.Prefix.{Network, network, size_of}
 use Rattle.packet_headers.specs.Fields.{Fields}
 use Rattle.replay_driver.specs.declared.plain_rule.PlainRule.{PlainRule}
-use Rattle.replay_driver.specs.declared.verdict.Verdict.{Verdict}
-use Rattle.replay_driver.specs.declared.verdict.Verdict.TheVariants.{Allow, Deny}
+use Rattle.replay_driver.specs.declared.verdict.Verdict.TheVariants.{Deny}
 
 -- the prefix holds the address
 abbrev pub holds_address : Network → ℕ → Bool

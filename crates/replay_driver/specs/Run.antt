@@ -1,6 +1,6 @@
 -- What a run of a command finds, and what it leaves.
-use Rattle.std.specs.Prelude.{◌≡◌, ℕ, ◌<◌, ◌≤◌, List, [], ◌∷◌, length, Option, None, Some, Result, Ok, Err, OnOk, OnErr, ⊤, ◌⊎◌}
-use Rattle.std.specs.Io.KnownBytes.{Consumes, Appends, IsAtEnd}
+use Rattle.std.specs.Prelude.{◌≡◌, ℕ, ◌<◌, ◌≤◌, List, [], ◌∷◌, length, Option, None, Some, Result, Ok, Err, ◌⊎◌}
+use Rattle.std.specs.Io.KnownBytes.{Consumes, Appends}
 use Rattle.fw_base.specs.Faults.{Rose}
 use Rattle.fw_base.specs.Pairs.{Pair, TakesOut}
 use Rattle.fw_base.specs.Texts.{AppendsPart}

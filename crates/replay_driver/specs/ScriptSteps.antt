@@ -1,5 +1,5 @@
 -- One line of a script after another.
-use Rattle.std.specs.Prelude.{◌≡◌, ℕ, ◌+◌, List, [], ◌∷◌, ◌++◌, length, Result, Ok, Err}
+use Rattle.std.specs.Prelude.{◌≡◌, ℕ, ◌+◌, List, ◌∷◌, ◌++◌, length, Result, Ok, Err}
 use Rattle.replay_driver.specs.declared.plain_rule.PlainRule.{PlainRule}
 use Rattle.replay_driver.specs.PlainScript.{rules_from}
 

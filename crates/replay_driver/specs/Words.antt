@@ -39,8 +39,8 @@ capture_of script word = do
   direction ← direction_of first.0
   second ← cut_at 58 first.1
   if is_interface second.0 && not (is_empty second.1)
-    then Some (record { script = script; direction = direction; interface = second.0; capture = second.1 })
-    else None
+      then Some (record { script = script; direction = direction; interface = second.0; capture = second.1 })
+      else None
 
 -- what the words name, where they are a command
 unfoldable pub command_of : List (List ℕ) → Option Named

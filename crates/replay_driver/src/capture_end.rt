@@ -4,7 +4,9 @@ use pcap_read::CaptureFault;
 #[derive(Clone, Copy, Debug, PartialEq, Eq)]
 pub enum CaptureEnd {
     /// At its end, behind so many records.
-    Read { records: u64 },
+    Read {
+        records: u64,
+    },
     /// With a fault at a record, from 1; in the capture's header it is record 0. `count` is its source's
     /// count of faults.
     Stopped {

@@ -30,6 +30,8 @@ mod rule_list;
 mod rule_words;
 mod run_command;
 mod script_source;
+#[cfg(test)]
+mod tests;
 mod trace;
 mod verdict;
 mod whole_source;

@@ -4,12 +4,10 @@ ghost use Rattle.replay_driver.specs.PlainScript as spec;
 ghost use Rattle.replay_driver.specs.ScriptErrors.{OnNotYet};
 ghost use Rattle.replay_driver.specs.declared.plain_script.ScriptError.TheVariants as errors;
 
-use crate::PlainRule;
 use crate::bytes::{line_text, split_line};
-use crate::rule_words;
+use crate::{PlainRule, rule_words};
 use fw_base::OutOfMemory;
-use std::alloc::AllocFailed;
-use std::alloc::Global;
+use std::alloc::{AllocFailed, Global};
 
 /// How many bytes a script has at most.
 pub const SCRIPT_BYTES: usize = 1_048_576;

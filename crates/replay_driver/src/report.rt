@@ -13,9 +13,7 @@ fn five_digits(number: u16) -> [u8; 5]
     let digit = |power: u16| -> u8
         requires { 0 < power }
         ensures { result ≡ 48 + number / power % 10 }
-    {
-        b'0' + (number / power % 10) as u8
-    };
+    { b'0' + (number / power % 10) as u8 };
     [
         digit(10000),
         digit(1000),
@@ -37,7 +35,12 @@ fn verdict_word(verdict: Verdict) -> &'static [u8]
 
 /// Writes the line of a record.
 #[tactic(auto, unfolding(crate::specs::Report::entry_line))]
-fn write_entry<K: Sink>(out: &mut K, capture: u32, at: u64, entry: DocketEntry) -> Result<(), Failed>
+fn write_entry<K: Sink>(
+    out: &mut K,
+    capture: u32,
+    at: u64,
+    entry: DocketEntry,
+) -> Result<(), Failed>
     ensures { WritesText (K.written out.old) (K.written out.new) (K.faults out.old) (K.faults out.new) (spec.entry_line capture at entry) result }
 {
     let mut capture_digits = Buffer::new();

@@ -1,7 +1,9 @@
-ghost use Rattle.std.specs.Prelude.{◌≡◌, None, IfSome, IfOk, map, string_bytes, []};
+ghost use Rattle.std.specs.Prelude.{◌≡◌, None, IfSome, ◌≢◌, ◌⊎◌, IsSome, IfNone, IfOk, map, string_bytes, take, length, []};
 ghost use Rattle.replay_driver.specs.Finding as findings;
 ghost use Rattle.replay_driver.specs.Run.{IsUsage, IsRun, Reports, status_of};
 ghost use Rattle.replay_driver.specs.Words.{command_of};
+ghost use Rattle.replay_driver.specs.Promises.{IsReported, IsNotYet, IsUnread, IsComplete, without, in_order};
+ghost use Rattle.fw_base.specs.Faults.{Rose};
 
 use crate::finding::{Finding, write_usage};
 use crate::prepare::{Prepared, prepare};
@@ -64,21 +66,13 @@ fn report<S: Drop, K: Sink>(alloc: Global, prepared: Prepared<S>, out: &mut K) -
     }
 }
 
-/// Replays the capture that the words name beside the script that they name, and writes the verdicts.
-///
-/// The words are `serial SCRIPT in|out:IF:CAPTURE`. The status is 0; 1 where the words are no command; 2
-/// where a script line isn't read; 3 where the capture has a fault; 4 where a name could not be opened or
-/// read, or the capture's source failed; 5 where the sink failed; 6 where memory ran out.
-pub fn run<R: Threads + Wait, L: Library, K: Sink, G: Gate + Sync>(
-    _rt: &R,
+/// Runs the command that the words are, or writes the usage line.
+fn run_words<L: Library, K: Sink>(
     alloc: Global,
     words: &[String],
     library: &mut L,
     out: &mut K,
-    _gate: &G,
 ) -> Outcome<L::Reader>
-where
-    L::Reader: Send + Sync,
     ensures usage { command_of (map string_bytes words.now) ≡ None
         → IsUsage K.written K.faults library.old library.new out.old out.new result }
     ensures found { IfSome (command_of (map string_bytes words.now)) (λ names.
@@ -96,4 +90,51 @@ where
         return without_memory(alloc);
     };
     report(alloc, prepared, out)
+}
+
+/// Replays the capture that the words name beside the script that they name, and writes the verdicts.
+///
+/// The words are `serial SCRIPT in|out:IF:CAPTURE`. The status is 0; 1 where the words are no command; 2
+/// where a script line isn't read; 3 where the capture has a fault; 4 where a name could not be opened or
+/// read, or the capture's source failed; 5 where the sink failed; 6 where memory ran out.
+pub fn run<R: Threads + Wait, L: Library, K: Sink, G: Gate + Sync>(
+    _rt: &R,
+    alloc: Global,
+    words: &[String],
+    library: &mut L,
+    out: &mut K,
+    _gate: &G,
+) -> Outcome<L::Reader>
+where
+    L::Reader: Send + Sync,
+    // Which words, script and capture come to what: exactly.
+    ensures usage { command_of (map string_bytes words.now) ≡ None
+        → IsUsage K.written K.faults library.old library.new out.old out.new result }
+    ensures found { IfSome (command_of (map string_bytes words.now)) (λ names.
+        IsRun K.written K.faults L.pairs L.faults L.refused L.Reader.left L.Reader.faults names library.old library.new out.old out.new result) }
+
+    // The headline: where a report was begun, it is that of the script and the capture that the words name.
+    ensures report { IfSome result.kept (λ trace. IfSome (command_of (map string_bytes words.now)) (λ names.
+        IsReported K.written K.faults L.pairs L.faults L.refused L.Reader.left L.Reader.faults names library.old library.new out.old out.new result trace)) }
+
+    // Each status only where its cause is.
+    ensures status_1_cause { result.status ≡ 1 → command_of (map string_bytes words.now) ≡ None }
+    ensures status_2_cause { result.status ≡ 2 → IfSome (command_of (map string_bytes words.now)) (λ names.
+        IsNotYet K.written K.faults L.pairs L.faults L.refused L.Reader.left L.Reader.faults names library.old library.new out.old out.new result) }
+    ensures status_3_cause { result.status ≡ 3 → IsSome result.kept }
+    ensures status_4_cause { result.status ≡ 4 → IfNone result.kept (IfSome (command_of (map string_bytes words.now)) (λ names.
+        IsUnread K.written K.faults L.pairs L.faults L.refused L.Reader.left L.Reader.faults names library.old library.new out.old out.new result)) }
+    ensures status_5_cause { result.status ≡ 5 → Rose (K.faults out.old) (K.faults out.new) }
+    ensures status_6_silent { result.status ≡ 6 → out.new ≡ out.old }
+
+    // The names are opened in their order, once each, and no other is.
+    ensures openings { IfSome (L.pairs library.old) (λ pairs. IfSome (command_of (map string_bytes words.now)) (λ names. result.status ≢ 6
+        → L.pairs library.new ≡ without (take (length result.sources.items) (in_order names)) pairs)) }
+
+    // Where all is as it should be, and memory is there, the status is 0.
+    ensures complete { IfSome (command_of (map string_bytes words.now)) (λ names.
+        IsComplete K.written K.faults L.pairs L.faults L.refused L.Reader.left L.Reader.faults names library.old library.new out.old out.new result
+        → (result.status ≡ 0) ⊎ (result.status ≡ 6)) }
+{
+    run_words(alloc, words, library, out)
 }

@@ -19,8 +19,7 @@ pub(crate) struct Invocation<'a> {
 fn are_name_bytes(name: &[u8]) -> bool
     ensures { result ≡ list_all spec.is_name_byte name.now }
 {
-    name.iter()
-        .all(|b| b.is_ascii_alphanumeric() || *b == b'_' || *b == b'.' || *b == b'-')
+    name.iter().all(|b| b.is_ascii_alphanumeric() || *b == b'_' || *b == b'.' || *b == b'-')
 }
 
 #[tactic(auto, unfolding(crate::specs::Words::is_interface))]

@@ -1,4 +1,4 @@
-use Rattle.std.proofs.Common.{◌≡◌, ℕ, ◌<◌, ◌≤◌, refl, sym, ap, ◌∙◌, arith, rules, length, Some}
+use Rattle.std.proofs.Common.{◌<◌, refl, sym, ap, ◌∙◌, arith, rules, length, Some}
 use Rattle.replay_driver.proofs.Scripts.{past_limit, no_rule, one_rule_more, takes_blank, takes_rule}
 use Rattle.replay_driver.proofs.plain_script.take_line.Goals as goal
 

@@ -1,4 +1,4 @@
-use Rattle.std.proofs.Common.{◌≡◌, ◌+◌, ◌≤◌, refl, arith, Ok, Err, Some, None, ◌∙◌, ◌++◌, ◌∷◌, [], ap}
+use Rattle.std.proofs.Common.{arith, ◌∙◌, ◌++◌, ◌∷◌, [], ap}
 use Rattle.fw_base.specs.declared.link.Link.{Link}
 use Rattle.packet_headers.specs.Reading.{read}
 use Rattle.replay_driver.specs.Docket.{entry_for}
@@ -16,8 +16,8 @@ loop-record-init g c = record {
 pub loop-record-preserved : goal.loop-record-preserved
 loop-record-preserved g c =
     let entered = c.in_ok-push-in-Ok-Some.ensures.ok
-        ∙ ap (λ (entry : DocketEntry). c.loop-record.docket ++ entry ∷ [])
-        (c.entry_of.ensures ∙ ap (λ (link : Link). entry_for c.args.rules.now (read link c.in-Ok-Some.record.bytes.now)) c.loop-record.invariant.link) in
+    ∙ ap (λ (entry : DocketEntry). c.loop-record.docket ++ entry ∷ [])
+    (c.entry_of.ensures ∙ ap (λ (link : Link). entry_for c.args.rules.now (read link c.in-Ok-Some.record.bytes.now)) c.loop-record.invariant.link) in
     let step = rw (c.in-Ok-Some.is, c.in-Ok-Some.field-0-is) at c.next.follows.holds-at-none in
     record {
       enters = enters_one g.S.Source.left g.S.Source.faults c.args.rules.now c.args.capture.now c.loop-record.capture _ c.args.docket.now c.loop-record.docket _ _ c.loop-record.invariant.enters step entered;

@@ -1,4 +1,3 @@
-use Rattle.std.proofs.Common.{◌≡◌, ℕ, [], length, ap, ◌∙◌, rules, subst, sym}
 use Rattle.replay_driver.proofs.Replays.{replays}
 use Rattle.replay_driver.proofs.replay.replay_records.Goals as goal
 

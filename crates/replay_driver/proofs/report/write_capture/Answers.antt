@@ -1,4 +1,4 @@
-use Rattle.std.proofs.Common.{◌≡◌, ◌+◌, ◌≤◌, length, arith}
+use Rattle.std.proofs.Common.{arith}
 use Rattle.std.proofs.lemmas.Result.{err_from_is_err_and}
 use Rattle.fw_base.proofs.Texts.{goes_on_with, breaks_in, ends_with}
 use Rattle.replay_driver.specs.declared.docket_entry.DocketEntry.TheVariants.{Other}

@@ -1,5 +1,5 @@
 -- The lines of the records so far were written.
-use Rattle.std.proofs.Common.{◌≡◌, ◌+◌, ◌≤◌, ◌++◌, drop}
+use Rattle.std.proofs.Common.{◌≡◌, ◌+◌, ◌++◌, drop}
 use Rattle.fw_base.proofs.Texts.{IsUnderWay}
 use Rattle.replay_driver.specs.Report.{entry_lines, end_line, capture_text}
 use Rattle.replay_driver.proofs.report.write_capture.Given as goal

@@ -1,4 +1,4 @@
-use Rattle.std.proofs.Common.{◌≡◌, ◌∙◌}
+use Rattle.std.proofs.Common.{◌∙◌}
 use Rattle.replay_driver.specs.Report.{entry_line}
 use Rattle.replay_driver.proofs.report.write_entry.Goals as goal
 

@@ -1,5 +1,5 @@
 -- These bytes were taken so far.
-use Rattle.std.proofs.Common.{◌≡◌, ◌-◌, ◌<◌, ◌≤◌, vec_len}
+use Rattle.std.proofs.Common.{◌-◌, ◌<◌, ◌≤◌, vec_len}
 use Rattle.std.specs.Io.KnownBytes.{Consumes}
 use Rattle.replay_driver.proofs.whole_source.read_up_to.Given as goal
 

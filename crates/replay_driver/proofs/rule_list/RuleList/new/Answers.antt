@@ -1,7 +1,6 @@
-use Rattle.std.proofs.Common.{◌≡◌, rules, ℕ, ap, ◌∙◌, ◌++◌, ◌∷◌, []}
+use Rattle.std.proofs.Common.{rules, ap, ◌∙◌, ◌++◌, ◌∷◌, []}
 use Rattle.std.proofs.lemmas.List.Sorted.{answers_always}
 use Rattle.replay_driver.specs.declared.plain_rule.PlainRule.{PlainRule}
-use Rattle.replay_driver.specs.Rules.{IsRuleList}
 use Rattle.replay_driver.proofs.rule_list.RuleList.new.Goals as goal
 
 pub returns : goal.returns

@@ -1,0 +1,83 @@
+-- What a run promises, one fact each.
+use Rattle.std.specs.Prelude.{◌≡◌, ℕ, ◌≤◌, List, [], ◌∷◌, length, Option, Some, Ok, Err, All}
+use Rattle.std.specs.Io.KnownBytes.{Appends}
+use Rattle.fw_base.specs.Faults.{Rose}
+use Rattle.fw_base.specs.Pairs.{Pair, take_named}
+use Rattle.pcap_read.specs.Reading.{Captured, HasFront, Open, AtBoundary}
+use Rattle.replay_driver.specs.Chain.{◌>>=◌}
+use Rattle.replay_driver.specs.Words.{Named}
+use Rattle.replay_driver.specs.Rules.{IsRuleList}
+use Rattle.replay_driver.specs.Replay.{IsReplay}
+use Rattle.replay_driver.specs.Report.{capture_text}
+use Rattle.replay_driver.specs.PlainScript.{script_rules}
+use Rattle.replay_driver.specs.Finding.{unread_text, not_yet_text, end_status}
+use Rattle.replay_driver.specs.Run.{Writes, Finds, ReadsBoth}
+use Rattle.replay_driver.specs.declared.plain_rule.PlainRule.{PlainRule}
+use Rattle.replay_driver.specs.declared.capture_end.CaptureEnd.{CaptureEnd}
+use Rattle.replay_driver.specs.declared.finding.Finding.TheVariants.{Unread}
+use Rattle.replay_driver.specs.declared.outcome.Outcome.{Outcome}
+use Rattle.replay_driver.specs.declared.trace.Trace.{Trace}
+
+-- the told list without the pairs that these names take out, opened in their order
+abbrev pub without : List (List ℕ) → List Pair → Option (List Pair)
+without [] pairs = Some pairs
+without (name ∷ names) pairs = take_named name pairs >>= (λ found. without names found.1)
+
+-- the names of a command in the order in which they are opened
+abbrev pub in_order : Named → List (List ℕ)
+in_order names = names.script ∷ names.capture ∷ []
+
+module _ {K S L : Type 0} (written : K → Option (List ℕ)) (sink_faults : K → ℕ) (pairs : L → Option (List Pair)) (faults : L → ℕ) (refused : L → Option (List ℕ)) (left : S → Option (List ℕ)) (failures : S → ℕ) where
+  -- A report was begun. The docket has an entry for each record of the capture, by the script's rules in
+  -- their order; the text is the lines of the docket and of the capture's end.
+  pub record IsReported (names : Named) (library libraryAfter : L) (sink sinkAfter : K) (outcome : Outcome S) (trace : Trace) : Type 0 where
+    pub script : S
+    pub opened : S
+    pub capture : S
+    pub sources : outcome.sources.items ≡ script ∷ capture ∷ []
+    pub bytes : List ℕ
+    pub reads : ReadsBoth pairs faults refused left failures names library libraryAfter script opened bytes
+    pub rules : List PlainRule
+    pub script_read : script_rules bytes ≡ Ok rules
+    pub listed : IsRuleList rules trace.rules
+    pub end : CaptureEnd
+    pub replayed : IsReplay left failures trace.rules opened capture trace.docket end
+    pub ends : outcome.ends ≡ end ∷ []
+    pub writes : Writes written sink_faults sink sinkAfter (end_status end) outcome.status (capture_text 1 trace.docket end)
+
+  -- Both names were opened, and this is the first line of the script that isn't read yet.
+  pub record IsNotYet (names : Named) (library libraryAfter : L) (sink sinkAfter : K) (outcome : Outcome S) : Type 0 where
+    pub script : S
+    pub capture : S
+    pub sources : outcome.sources.items ≡ script ∷ capture ∷ []
+    pub bytes : List ℕ
+    pub reads : ReadsBoth pairs faults refused left failures names library libraryAfter script capture bytes
+    pub line : ℕ
+    pub first : script_rules bytes ≡ Err line
+    pub text : Appends (written sink) (written sinkAfter) (not_yet_text line)
+
+  -- A name could not be opened or, for the script, read; the text names it.
+  pub record IsUnread (names : Named) (library libraryAfter : L) (sink sinkAfter : K) (outcome : Outcome S) : Type 0 where
+    pub name : List ℕ
+    pub cause : Finds pairs faults refused left failures names library libraryAfter (Unread name) outcome.sources.items
+    pub text : Appends (written sink) (written sinkAfter) (unread_text name)
+
+  -- The library tells its list, in which both names stand; the script has rules alone, the capture ends
+  -- behind a whole record, and no count rose.
+  pub record IsComplete (names : Named) (library libraryAfter : L) (sink sinkAfter : K) (outcome : Outcome S) : Type 0 where
+    pub before : List Pair
+    pub told : pairs library ≡ Some before
+    pub script : List ℕ
+    pub behind : List Pair
+    pub script_stands : take_named names.script before ≡ Some ((names.script, script), behind)
+    pub script_short : length script ≤ 1048576
+    pub rules : List PlainRule
+    pub script_read : script_rules script ≡ Ok rules
+    pub capture : List ℕ
+    pub rest : List Pair
+    pub capture_stands : take_named names.capture behind ≡ Some ((names.capture, capture), rest)
+    pub records : List Captured
+    pub capture_whole : HasFront capture records (Open AtBoundary)
+    pub library_quiet : Rose (faults library) (faults libraryAfter) → ⊥
+    pub sources_quiet : All (λ source. failures source ≡ 0) outcome.sources.items
+    pub sink_quiet : Rose (sink_faults sink) (sink_faults sinkAfter) → ⊥
