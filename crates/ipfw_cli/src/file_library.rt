@@ -2,9 +2,8 @@ ghost use Rattle.std.specs.Prelude.{None, Some, ◌≡◌};
 
 use crate::file_source::FileSource;
 use fw_base::{Failed, Library, Name};
-use std::fs;
 use std::rt::Files;
-use std::str;
+use std::{fs, str};
 
 /// The files of the system, opened by their paths. It tells no list.
 #[derive(Drop)]

@@ -5,14 +5,15 @@ use file_library::FileLibrary;
 use fw_base::{Buffered, FreeGate};
 use replay_driver::run;
 use standard_output::StandardOutput;
-use std::env;
-use std::io;
 use std::process::ExitCode;
 use std::rt::Env;
+use std::{env, io};
 
 mod file_library;
 mod file_source;
 mod standard_output;
+#[cfg(test)]
+mod tests;
 
 /// The status of want of memory.
 const OUT_OF_MEMORY: u8 = 6;

@@ -1,0 +1,8 @@
+//! Words of a line of a rule script: the longest runs of bytes that aren't blank, before a comment.
+#![tactic(auto)]
+
+pub use lexer::{before_comment, is_blank, tokens};
+pub use token::{LexFault, Token};
+
+mod lexer;
+mod token;

@@ -1,0 +1,4 @@
+pub mod DigitSteps
+pub mod ElementTexts
+pub mod Lists
+pub mod WriteSteps

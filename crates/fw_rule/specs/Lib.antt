@@ -1,0 +1,4 @@
+pub mod Canonical
+pub mod Pieces
+pub mod Settings
+pub mod WellFormed

@@ -1,0 +1,13 @@
+-- The pieces that a text is written in.
+use Rattle.std.specs.Prelude.{ℕ, List}
+use Rattle.std.specs.List.{flat_map}
+use Rattle.std.specs.Fmt.{decimal}
+use Rattle.fw_rule.specs.declared.piece.Piece.{Piece}
+use Rattle.fw_rule.specs.declared.piece.Piece.TheVariants.{Text, Number}
+
+abbrev pub piece_text : Piece → List ℕ
+piece_text (Text bytes) = bytes.now
+piece_text (Number n) = decimal n
+
+abbrev pub pieces_text : List Piece → List ℕ
+pieces_text pieces = flat_map piece_text pieces

@@ -1,0 +1,55 @@
+//! Rules of the packet filter and the commands that change them (ipfw(8)), and the canonical text of
+//! a rule.
+#![tactic(auto)]
+
+pub use action::Action;
+pub use addr_item::AddrItem;
+pub use addr_spec::AddrSpec;
+pub use body::Body;
+pub use command::Command;
+pub use field::Field;
+pub use iface::Iface;
+pub use items::Items;
+pub use key::Key;
+pub use limit_mask::LimitMask;
+pub use opt::Opt;
+pub use options::{FLAG_NAMES, OPTION_NAMES};
+pub use port_list::PortList;
+pub use rule::Rule;
+pub use rule_draft::RuleDraft;
+pub use rule_text::{UNREACH_NAMES, WriteFault, write_rule, write_rule_rest};
+pub use setting::Setting;
+pub use settings::{LONGEST_LIFETIME, MOST_STATES, Settings};
+pub use state_opt::StateOpt;
+pub use table_command::TableCommand;
+pub use table_type::TableType;
+pub use test::Test;
+
+mod action;
+mod addr_item;
+mod addr_spec;
+mod body;
+mod command;
+mod digits;
+mod elements;
+mod field;
+mod iface;
+mod items;
+mod key;
+mod limit_mask;
+mod opt;
+mod options;
+mod piece;
+mod port_list;
+mod rule;
+mod rule_draft;
+mod rule_text;
+mod setting;
+mod settings;
+mod state_opt;
+mod table_command;
+mod table_type;
+mod test;
+#[cfg(test)]
+mod tests;
+mod writing;

@@ -1,0 +1,10 @@
+pub mod DigitSteps
+pub mod Spans
+pub mod Cuts
+pub mod Listing
+pub mod MaskSteps
+pub mod Placing
+pub mod NumbersAgain
+pub mod WordsAgain
+pub mod DigitTexts
+pub mod PortsAgain

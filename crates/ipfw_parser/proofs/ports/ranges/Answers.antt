@@ -1,0 +1,23 @@
+use Rattle.std.proofs.Common.{sym, ◌∙◌, ap}
+use Rattle.std.proofs.lemmas.Result.{err_from_is_err_and}
+use Rattle.ipfw_parser.specs.Ports.{ranges, range}
+use Rattle.ipfw_parser.proofs.Listing.{starts, goes, breaks, ends, fails_on, opened, smaller}
+use Rattle.ipfw_parser.proofs.ports.ranges.Goals as goal
+
+pub returns-in_err-range : goal.returns-in_err-range
+unfolding ranges
+returns-in_err-range c =
+    let p = err_from_is_err_and c.from_residual.result c.from_residual.ensures.1 in
+    rw (p.1, p.2)
+    (fails_on _ _ _ (λ f failed. breaks _ _ _ _ _ _ f (opened _ _ _ _ _ _ _ _ c.in-Some.is c.first_element.ensures.elements c.loop-rest.invariant) failed) c.in_err-range.ensures)
+
+pub loop-rest-smaller : goal.loop-rest-smaller
+loop-rest-smaller c = smaller c.loop-rest.rest c.first_element.result.1 c.in-Some.text c.in-Some.is c.first_element.ensures.shorter
+
+pub loop-rest-preserved : goal.loop-rest-preserved
+loop-rest-preserved c =
+    rw c.in_ok-push.ensures.items (goes _ _ _ _ _ _ _ (opened _ _ _ _ _ _ _ _ c.in-Some.is c.first_element.ensures.elements c.loop-rest.invariant) c.in_ok-range.ensures)
+
+pub returns : goal.returns
+unfolding ranges
+returns c = rw c.from_vec.ensures (ends _ _ _ _ (rw c.in_default.is at c.loop-rest.invariant))

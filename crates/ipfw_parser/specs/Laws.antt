@@ -1,0 +1,35 @@
+-- What is written in canonical form is read again.
+use Rattle.std.specs.Prelude.{◌≡◌, ℕ, ◌^◌, ◌<◌, ◌≤◌, false, ◌==◌, Ok, List, [], ◌∷◌, length, map}
+use Rattle.std.specs.List.{AllByRecursion, join_with_byte}
+use Rattle.std.specs.Fmt.{decimal}
+use Rattle.fw_lex.specs.Words.{is_blank, words_of}
+use Rattle.ipfw_parser.specs.Reading.{Word, word_of}
+use Rattle.ipfw_parser.specs.Numbers.{number}
+use Rattle.ipfw_parser.specs.Ports.{ranges}
+use Rattle.fw_base.specs.PortRange.{Ports}
+use Rattle.fw_rule.specs.Canonical.{range_text}
+use Rattle.fw_rule.specs.WellFormed.{IsRange}
+
+-- a number in its range, written in decimal digits, is read as that number
+abbrev pub NumbersAreReadAgain : Type 0
+NumbersAreReadAgain = (least most n column : ℕ) → least ≤ n → n ≤ most → n < 2 ^ 32 → number least most (record { column = column; text = decimal n }) ≡ Ok n
+
+-- a byte of a word: not blank, and no comment begins there
+pub record IsSolid (byte : ℕ) : Type 0 where
+  pub solid : is_blank byte ≡ false
+  pub plain : byte == 35 ≡ false
+
+-- the text of a word
+pub record IsWordText (text : List ℕ) : Type 0 where
+  pub some : 0 < length text
+  pub bytes : AllByRecursion IsSolid text
+
+-- texts of words, written with one space between them, are read as these words
+abbrev pub WordsAreReadAgain : Type 0
+WordsAreReadAgain = (texts : List (List ℕ)) → AllByRecursion IsWordText texts
+    → map (λ token. (word_of (join_with_byte 32 texts) token).text) (words_of (join_with_byte 32 texts)) ≡ texts
+
+-- a list of port ranges in its canonical text is read as these ranges
+abbrev pub PortListsAreReadAgain : Type 0
+PortListsAreReadAgain = (first : Ports) (others : List Ports) (column : ℕ) → AllByRecursion IsRange (first ∷ others)
+    → ranges (record { column = column; text = join_with_byte 44 (map range_text (first ∷ others)) }) ≡ Ok (first ∷ others)

@@ -1,0 +1,12 @@
+pub mod Addresses
+pub mod Lists
+pub mod Names
+pub mod Numbers
+pub mod Options
+pub mod Ports
+pub mod Reading
+pub mod Rules
+pub mod Views
+pub mod SignViews
+pub mod PlacedViews
+pub mod Laws

@@ -1,0 +1,87 @@
+-- Lists in one word, their elements with commas between them.
+use Rattle.std.specs.Prelude.{ℕ, suc, ◌+◌, ◌^◌, Bool, true, false, not, ◌&&◌, ◌==◌, if◌then◌else◌, Result, Ok, Option, Some, None, List, [], ◌∷◌, drop, bit_or, bit_and, slice_index}
+use Rattle.std.specs.List.{slice_split, onto_first}
+use Rattle.fw_rule.specs.Canonical.{flag_names, option_names}
+use Rattle.ipfw_parser.specs.declared.kind.Kind.{Kind}
+use Rattle.ipfw_parser.specs.declared.kind.Kind.TheVariants.{BadFlag}
+use Rattle.ipfw_parser.specs.Reading.{Word, Fault, fault_at, ◌>>=◌}
+use Rattle.ipfw_parser.specs.Numbers.{number}
+use Rattle.ipfw_parser.specs.Names.{place}
+
+-- the elements
+unfoldable pub elements : List ℕ → List (List ℕ)
+elements text = slice_split (λ byte. byte == 44) text
+
+-- inside parentheses behind this byte
+abbrev pub inside_after : Bool → ℕ → Bool
+inside_after inside byte = if byte == 40 then true else if byte == 41 then false else inside
+
+-- a comma in parentheses parts no elements
+unfoldable pub elements_outside : Bool → List ℕ → List (List ℕ)
+elements_outside inside [] = [] ∷ []
+elements_outside inside (byte ∷ bytes) =
+    if byte == 44 && not inside then [] ∷ elements_outside false bytes else onto_first byte (elements_outside (inside_after inside byte) bytes)
+
+-- where the first element ends
+unfoldable pub element_end : Bool → List ℕ → ℕ
+element_end inside [] = 0
+element_end inside (byte ∷ bytes) = if byte == 44 && not inside then 0 else suc (element_end (inside_after inside byte) bytes)
+
+-- the elements of what is left of a list
+abbrev pub elements_left : Option (List ℕ) → List (List ℕ)
+elements_left None = []
+elements_left (Some text) = elements text
+
+abbrev pub elements_outside_left : Option (List ℕ) → List (List ℕ)
+elements_outside_left None = []
+elements_outside_left (Some text) = elements_outside false text
+
+-- each element read, up to the first fault
+unfoldable pub each : {X : Type 0} → (Word → Result X Fault) → ℕ → List (List ℕ) → Result (List X) Fault
+each read column [] = Ok []
+each read column (text ∷ texts) = do
+  x ← read (record { column = column; text = text })
+  xs ← each read column texts
+  Ok (x ∷ xs)
+
+-- ICMP types, 0 to 31, as the bits of a mask (RFC 792)
+unfoldable pub type_mask : ℕ → ℕ → List (List ℕ) → Result ℕ Fault
+type_mask mask column [] = Ok mask
+type_mask mask column (text ∷ texts) = do
+  n ← number 0 31 (record { column = column; text = text })
+  type_mask (bit_or mask (2 ^ n)) column texts
+
+unfoldable pub types : Word → Result ℕ Fault
+types word = type_mask 0 word.column (elements word.text)
+
+-- two masks, of what is named as it is and behind a !
+pub record Masks : Type 0 where
+  pub set : ℕ
+  pub clear : ℕ
+
+unfoldable pub is_negated : List ℕ → Bool
+is_negated [] = false
+is_negated (byte ∷ bytes) = byte == 33
+
+-- the name of an element without its !
+unfoldable pub bare : List ℕ → List ℕ
+bare text = if is_negated text then drop 1 text else text
+
+abbrev pub with_name : Masks → Bool → ℕ → Masks
+with_name masks negated k = if negated then record masks { clear = bit_or masks.clear (2 ^ k) } else record masks { set = bit_or masks.set (2 ^ k) }
+
+abbrev pub flag_found : ℕ → Option ℕ → Result ℕ Fault
+flag_found column (Some k) = Ok k
+flag_found column None = fault_at column BadFlag
+
+unfoldable pub sign_masks : List (List ℕ) → Masks → ℕ → List (List ℕ) → Result Masks Fault
+sign_masks names masks column [] = Ok masks
+sign_masks names masks column (text ∷ texts) = do
+  k ← flag_found column (place names (bare text))
+  sign_masks names (with_name masks (is_negated text) k) column texts
+
+-- no name stands both with and without a !
+unfoldable pub signs : List (List ℕ) → Word → Result Masks Fault
+signs names word = do
+  masks ← sign_masks names (record { set = 0; clear = 0 }) word.column (elements word.text)
+  if bit_and masks.set masks.clear == 0 then Ok masks else fault_at word.column BadFlag

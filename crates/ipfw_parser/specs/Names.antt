@@ -1,0 +1,61 @@
+-- Names of tables and interfaces, and words that stand for numbers (services: RFC 6335).
+use Rattle.std.specs.Prelude.{ℕ, ◌-◌, Bool, true, false, ◌&&◌, ◌||◌, ◌==◌, nat_le, if◌then◌else◌, Option, Some, None, Result, Ok, List, [], ◌∷◌, length, position, slice_get, slice_index, take, drop, codes, option_and_then}
+use Rattle.std.specs.List.{list_all}
+use Rattle.fw_rule.specs.Canonical.{unreach_names}
+use Rattle.fw_rule.specs.declared.iface.Iface.{Iface}
+use Rattle.fw_rule.specs.declared.iface.Iface.TheVariants.{AnyIface, Exact, Begins}
+use Rattle.ipfw_parser.specs.declared.kind.Kind.{Kind}
+use Rattle.ipfw_parser.specs.declared.kind.Kind.TheVariants.{BadName, UnknownWord}
+use Rattle.ipfw_parser.specs.Reading.{Word, Fault, fault_at, same}
+use Rattle.ipfw_parser.specs.Numbers.{number, starts_with_digit}
+
+-- an ASCII letter, a digit, _ . or -
+unfoldable pub is_name_byte : ℕ → Bool
+is_name_byte b = (nat_le 97 b && nat_le b 122) || (nat_le 65 b && nat_le b 90) || (nat_le 48 b && nat_le b 57) || b == 95 || b == 46 || b == 45
+
+-- a name of one to so many bytes
+unfoldable pub is_name : ℕ → List ℕ → Bool
+is_name most text = list_all is_name_byte text && (nat_le 1 (length text) && nat_le (length text) most)
+
+unfoldable pub table_name : Word → Result (List ℕ) Fault
+table_name word = if is_name 63 word.text then Ok word.text else fault_at word.column BadName
+
+unfoldable pub ends_with_star : List ℕ → Bool
+ends_with_star text = nat_le 1 (length text) && slice_index text (length text - 1) == 42
+
+-- every interface, one by its name, or those whose names begin so
+unfoldable pub iface : Word → Result Iface Fault
+iface word =
+    if same word.text (codes "any") then Ok AnyIface
+    else if ends_with_star word.text then
+    (if is_name 15 (take (length word.text - 1) word.text) then Ok (Begins (take (length word.text - 1) word.text)) else fault_at word.column BadName)
+    else if is_name 15 word.text then Ok (Exact word.text)
+    else fault_at word.column BadName
+
+-- where the text stands in a table of words
+unfoldable pub place : List (List ℕ) → List ℕ → Option ℕ
+place table text = position (λ name. same text name) table
+
+unfoldable pub service_names : List (List ℕ)
+service_names =
+    codes "ftp" ∷ codes "ssh" ∷ codes "telnet" ∷ codes "smtp" ∷ codes "domain" ∷ codes "bootps" ∷ codes "bootpc" ∷ codes "tftp" ∷ codes "http" ∷ codes "pop3" ∷ codes "ntp" ∷ codes "imap" ∷ codes "snmp"
+    ∷ codes "https" ∷ codes "imaps" ∷ codes "pop3s" ∷ []
+
+unfoldable pub service_ports : List ℕ
+service_ports = 21 ∷ 22 ∷ 23 ∷ 25 ∷ 53 ∷ 67 ∷ 68 ∷ 69 ∷ 80 ∷ 110 ∷ 123 ∷ 143 ∷ 161 ∷ 443 ∷ 993 ∷ 995 ∷ []
+
+-- a service's port
+unfoldable pub service : List ℕ → Option ℕ
+service text = option_and_then (λ k. slice_get service_ports k) (place service_names text)
+
+abbrev pub found : Word → Option ℕ → Result ℕ Fault
+found word (Some k) = Ok k
+found word None = fault_at word.column UnknownWord
+
+-- a word of a table, as its place there
+unfoldable pub word_in : List (List ℕ) → Word → Result ℕ Fault
+word_in table word = found word (place table word.text)
+
+-- a code of `unreach`, by number or by name
+unfoldable pub code : Word → Result ℕ Fault
+code word = if starts_with_digit word.text then number 0 255 word else word_in unreach_names word

@@ -1,0 +1,78 @@
+-- Reading words from left to right: a value and the words behind it, or the first fault.
+use Rattle.std.specs.Prelude.{◌≡◌, ℕ, ◌+◌, ◌-◌, ◌<◌, ◌≤◌, Bool, true, false, if◌then◌else◌, Result, Ok, Err, Option, Some, None, List, [], ◌∷◌, length, slice_index_or, take, drop, map, nat_eq, codes}
+use Rattle.std.specs.Cmp.Lexicographic.{pointwise}
+use Rattle.fw_lex.specs.declared.token.Token.{Token}
+use Rattle.ipfw_parser.specs.declared.kind.Kind.{Kind}
+use Rattle.ipfw_parser.specs.declared.kind.Kind.TheVariants.{MissingWord, UnknownWord}
+use Rattle.ipfw_parser.specs.declared.parse_fault.ParseFault.{ParseFault}
+use Rattle.ipfw_parser.specs.declared.parse_fault.ParseFault.TheVariants.{At, OutOfMemory}
+
+-- a word, and the column where it begins, from 1; of an element of a list the column of the whole word
+pub record Word : Type 0 where
+  pub column : ℕ
+  pub text : List ℕ
+
+-- what is wrong, and in which column
+pub record Fault : Type 0 where
+  pub column : ℕ
+  pub kind : Kind
+
+abbrev pub fault_at : {X : Type 0} → ℕ → Kind → Result X Fault
+fault_at column kind = Err (record { column = column; kind = kind })
+
+infixl 10 ◌>>=◌
+abbrev pub ◌>>=◌ : {X Y : Type 0} → Result X Fault → (X → Result Y Fault) → Result Y Fault
+(Ok x) >>= f = f x
+(Err e) >>= f = Err e
+
+-- a value, and the words that are left
+abbrev pub Reading : Type 0 → Type 0
+Reading X = Result (X × List Word) Fault
+
+-- What a call answered is what reading gives, unless memory ran out.
+abbrev pub Fails : {Y : Type 0} → ParseFault → Result Y Fault → Type 0
+Fails OutOfMemory reading = Unit {0}
+Fails (At column kind) reading = reading ≡ fault_at column kind
+
+abbrev pub Gives : {X Y : Type 0} → (X → Y) → Result X ParseFault → Result Y Fault → Type 0
+Gives view (Ok x) reading = reading ≡ Ok (view x)
+Gives view (Err e) reading = Fails e reading
+
+-- the word of a line that a token spans
+abbrev pub word_of : List ℕ → Token → Word
+word_of line token = record { column = token.start + 1; text = take (token.end - token.start) (drop token.start line) }
+
+-- the token lies in the line
+pub record IsWithin (line : List ℕ) (token : Token) : Type 0 where
+  pub some : token.start < token.end
+  pub inside : token.end ≤ length line
+
+-- the tokens lie in the line
+abbrev pub AreWithin : List ℕ → List Token → Type 0
+AreWithin line tokens = (k : ℕ) → (d : Token) → k < length tokens → IsWithin line (slice_index_or tokens k d)
+
+-- the text is this word
+unfoldable pub same : List ℕ → List ℕ → Bool
+same text word = pointwise nat_eq text word
+
+-- the next word; end is the column one past the line's last word
+unfoldable pub first : ℕ → List Word → Reading Word
+first end [] = fault_at end MissingWord
+first end (word ∷ words) = Ok (word, words)
+
+-- the next word is this one
+unfoldable pub expected : List ℕ → ℕ → List Word → Result (List Word) Fault
+expected name end words = do
+  next ← first end words
+  if same next.0.text name then Ok next.1 else fault_at next.0.column UnknownWord
+
+-- whether `not` stands before the next words
+unfoldable pub negation : ℕ → List Word → Reading Bool
+negation end words = do
+  next ← first end words
+  if same next.0.text (codes "not") then Ok (true, next.1) else Ok (false, words)
+
+-- the words, where there are any
+abbrev pub some_words : List Word → Option (List Word)
+some_words [] = None
+some_words (word ∷ words) = Some (word ∷ words)

@@ -1,0 +1,6 @@
+-- Signs as contracts see them.
+use Rattle.ipfw_parser.specs.Lists.{Masks}
+use Rattle.ipfw_parser.specs.declared.masks.Signs.{Signs}
+
+abbrev pub signs_view : Signs → Masks
+signs_view signs = record { set = signs.set; clear = signs.clear }

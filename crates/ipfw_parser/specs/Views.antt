@@ -1,0 +1,11 @@
+-- What the parser's words mean.
+use Rattle.std.specs.Prelude.{ℕ, List, map}
+use Rattle.ipfw_parser.specs.Reading.{Word, word_of}
+use Rattle.ipfw_parser.specs.declared.word.Word.{Word as TextWord}
+use Rattle.ipfw_parser.specs.declared.words.Words.{Words}
+
+abbrev pub view : TextWord → Word
+view word = record { column = word.column; text = word.text.now }
+
+abbrev pub list_of : Words → List Word
+list_of words = map (word_of words.line.now) words.tokens.now

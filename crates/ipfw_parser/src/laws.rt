@@ -1,0 +1,16 @@
+ghost use Rattle.ipfw_parser.specs.Laws.{NumbersAreReadAgain, PortListsAreReadAgain, WordsAreReadAgain};
+
+/// A number in its range, written in decimal digits, is read as that number.
+pub fn numbers_are_read_again()
+    ensures { NumbersAreReadAgain }
+{}
+
+/// Texts of words, written with one space between them, are read as these words.
+pub fn words_are_read_again()
+    ensures { WordsAreReadAgain }
+{}
+
+/// A list of port ranges in its canonical text is read as these ranges.
+pub fn port_lists_are_read_again()
+    ensures { PortListsAreReadAgain }
+{}

@@ -1,0 +1,4 @@
+pub mod Faults
+pub mod Longest
+pub mod Networks
+pub mod Places

@@ -1,0 +1,4 @@
+pub mod AddrTable
+pub mod Entries
+pub mod NumberTable
+pub mod Tables

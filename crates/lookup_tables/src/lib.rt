@@ -1,0 +1,18 @@
+//! The lookup tables of the packet filter: prefixes with values, of which the longest that has an
+//! address answers, and numbers with values, of which the equal one answers.
+#![tactic(auto)]
+
+pub use addr_table::AddrTable;
+pub use insert_fault::InsertFault;
+pub use number_table::NumberTable;
+pub use table::Table;
+pub use tables::Tables;
+
+mod addr_table;
+mod insert_fault;
+mod number_table;
+mod place;
+mod table;
+mod tables;
+#[cfg(test)]
+mod tests;
