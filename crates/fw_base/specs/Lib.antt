@@ -1,3 +1,4 @@
+pub mod Addr
 pub mod Buffered
 pub mod Faults
 pub mod Memory

@@ -57,10 +57,11 @@ impl Prefix {
         self.address
     }
 
-    /// How many bits are fixed, 0 to 32.
+    /// How many bits are fixed, 0 to 32. No bit of the address behind them is set.
     pub fn length(&self) -> u8
         ensures value { result ≡ self.now.bits }
         ensures within { result ≤ 32 }
+        ensures cleared { IsNetwork self.now }
     {
         self.bits
     }

@@ -4,7 +4,8 @@ use Rattle.std.proofs.lemmas.Bool.Decides.{eqb_tells}
 use Rattle.std.proofs.lemmas.List.{append-nil}
 use Rattle.std.specs.Fmt.{decimal}
 use Rattle.fw_base.specs.Prefix.{Network}
-use Rattle.fw_rule.specs.Canonical.{network_text, address_text}
+use Rattle.fw_base.specs.Addr.{address_text}
+use Rattle.fw_rule.specs.Canonical.{network_text}
 
 pub network_text-split : (n : Network) (address : ℕ) → address ≡ n.address → network_text n ≡ address_text address ++ (if n.bits == 32 then [] else 47 ∷ decimal n.bits)
 unfolding network_text

@@ -2,7 +2,7 @@
 use Rattle.std.specs.Prelude.{ℕ, ◌+◌, ◌-◌, ◌/◌, ◌%◌, ◌^◌, Bool, ◌==◌, if◌then◌else◌, Option, Some, None, unwrap_or, List, [], ◌∷◌, ◌++◌, length, take, drop, map, replicate, slice_get, codes, zero, suc}
 use Rattle.std.specs.List.{join_with_byte, flat_map}
 use Rattle.std.specs.Fmt.{decimal}
-use Rattle.std.specs.Int.{w32, to_be_bytes}
+use Rattle.fw_base.specs.Addr.{address_text}
 use Rattle.fw_base.specs.Prefix.{Network}
 use Rattle.fw_base.specs.PortRange.{Ports}
 use Rattle.fw_rule.specs.declared.action.Action.{Action}
@@ -81,10 +81,6 @@ protocol_word number =
     else if number == 6 then codes "tcp"
     else if number == 17 then codes "udp"
     else decimal number
-
--- the four bytes as numbers with dots between them (RFC 791 section 3.1)
-unfoldable pub address_text : ℕ → List ℕ
-address_text a = join_with_byte 46 (map decimal (to_be_bytes w32 a))
 
 -- a prefix of 32 without its length
 unfoldable pub network_text : Network → List ℕ

@@ -1,6 +1,7 @@
 ghost use Rattle.std.specs.Prelude.{◌≡◌, ℕ, List, map};
 ghost use Rattle.fw_base.specs.Texts.{WritesText};
-ghost use Rattle.fw_rule.specs.Canonical.{item_text, network_text, address_text, range_text};
+ghost use Rattle.fw_rule.specs.Canonical.{item_text, network_text, range_text};
+ghost use Rattle.fw_base.specs.Addr.{address_text};
 
 use crate::AddrItem;
 use crate::piece::Piece;
@@ -8,7 +9,7 @@ use crate::writing::{Element, write_pieces};
 use fw_base::{Addr, Failed, PortRange, Prefix, Sink};
 
 /// Writes an address as four numbers.
-#[tactic(auto, unfolding(crate::specs::Canonical::address_text))]
+#[tactic(auto, unfolding(fw_base::specs::Addr::address_text))]
 fn write_address<K: Sink>(out: &mut K, address: Addr) -> Result<(), Failed>
     ensures { WritesText (K.written out.old) (K.written out.new) (K.faults out.old) (K.faults out.new) (address_text address.0) result }
 {
