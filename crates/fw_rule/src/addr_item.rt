@@ -1,4 +1,6 @@
-use fw_base::{Name, Prefix};
+ghost use Rattle.std.specs.Prelude.{◌≡◌, IfOk};
+
+use fw_base::{Name, OutOfMemory, Prefix};
 
 /// One element of a list of addresses.
 #[derive(Debug, Drop)]
@@ -13,4 +15,19 @@ pub enum AddrItem {
     InTable(Name),
     /// The addresses for which the table has this value.
     TableValue(Name, u32),
+}
+
+impl AddrItem {
+    /// The same element, a second time.
+    pub fn copy(&self) -> Result<AddrItem, OutOfMemory>
+        ensures { IfOk result (λ item. item ≡ self.now) }
+    {
+        Ok(match self {
+            AddrItem::Any => AddrItem::Any,
+            AddrItem::Me => AddrItem::Me,
+            AddrItem::Net(prefix) => AddrItem::Net(*prefix),
+            AddrItem::InTable(table) => AddrItem::InTable(table.copy()?),
+            AddrItem::TableValue(table, value) => AddrItem::TableValue(table.copy()?, *value),
+        })
+    }
 }

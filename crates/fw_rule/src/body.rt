@@ -1,4 +1,8 @@
+ghost use Rattle.std.specs.Prelude.{◌≡◌, IfOk};
+
 use crate::{AddrSpec, Items, Opt, PortList, StateOpt};
+use fw_base::OutOfMemory;
+use std::alloc::Global;
 
 /// What a rule asks of a packet (ipfw(8), "RULE BODY").
 #[derive(Debug, Drop)]
@@ -15,4 +19,41 @@ pub struct Body {
     /// Before which of the options `state` stands, for printing: at most their number, and 0 where
     /// there is no `state`.
     pub state_at: usize,
+}
+
+impl Body {
+    /// The same body, a second time.
+    pub fn copy(&self, alloc: Global) -> Result<Body, OutOfMemory>
+        ensures { IfOk result (λ body. body ≡ self.now) }
+    {
+        Ok(Body {
+            protocol: self.protocol,
+            source: self.source.copy(alloc)?,
+            source_ports: copy_ports(alloc, &self.source_ports)?,
+            destination: self.destination.copy(alloc)?,
+            destination_ports: copy_ports(alloc, &self.destination_ports)?,
+            options: copy_options(alloc, &self.options)?,
+            state: self.state,
+            state_at: self.state_at,
+        })
+    }
+}
+
+fn copy_ports(alloc: Global, ports: &Option<PortList>) -> Result<Option<PortList>, OutOfMemory>
+    ensures { IfOk result (λ copied. copied ≡ ports.now) }
+{
+    match ports {
+        Some(list) => Ok(Some(list.copy(alloc)?)),
+        None => Ok(None),
+    }
+}
+
+fn copy_options(alloc: Global, options: &Items<Opt>) -> Result<Items<Opt>, OutOfMemory>
+    ensures { IfOk result (λ copied. copied ≡ options.now) }
+{
+    let mut copied = Vec::new(alloc);
+    for option in options.as_slice() {
+        copied.push(option.copy()?)?;
+    }
+    Ok(Items::from_vec(copied))
 }

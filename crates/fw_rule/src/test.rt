@@ -1,5 +1,7 @@
+ghost use Rattle.std.specs.Prelude.{◌≡◌, IfOk};
+
 use crate::{Field, Iface};
-use fw_base::Name;
+use fw_base::{Name, OutOfMemory};
 
 /// What an option of a rule's body asks of a packet (ipfw(8), "RULE OPTIONS").
 #[derive(Debug, Drop)]
@@ -30,4 +32,32 @@ pub enum Test {
     IpOptions { present: u8, absent: u8 },
     /// `lookup`: the table has a value for the field.
     Lookup(Field, Name),
+}
+
+impl Test {
+    /// The same test, a second time.
+    pub fn copy(&self) -> Result<Test, OutOfMemory>
+        ensures { IfOk result (λ test. test ≡ self.now) }
+    {
+        Ok(match self {
+            Test::Inward => Test::Inward,
+            Test::Outward => Test::Outward,
+            Test::Established => Test::Established,
+            Test::Setup => Test::Setup,
+            Test::Frag => Test::Frag,
+            Test::Recv(iface) => Test::Recv(iface.copy()?),
+            Test::Xmit(iface) => Test::Xmit(iface.copy()?),
+            Test::Via(iface) => Test::Via(iface.copy()?),
+            Test::TcpFlags { set, clear } => Test::TcpFlags {
+                set: *set,
+                clear: *clear,
+            },
+            Test::IcmpTypes(types) => Test::IcmpTypes(*types),
+            Test::IpOptions { present, absent } => Test::IpOptions {
+                present: *present,
+                absent: *absent,
+            },
+            Test::Lookup(field, table) => Test::Lookup(*field, table.copy()?),
+        })
+    }
 }
