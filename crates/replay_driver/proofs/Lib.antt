@@ -6,3 +6,4 @@ pub mod Judging
 pub mod Replays
 pub mod Promised
 pub mod Complete
+pub mod Operands

@@ -118,6 +118,11 @@ module _ {K S : Type 0} (written : K → Option (List ℕ)) (sink_faults : K →
     pub no_end : outcome.ends ≡ []
     pub writes : Writes written sink_faults sink sinkAfter 1 outcome.status usage_text
 
+  -- the words are no command, or memory ran out before that was known
+  abbrev pub IsNoCommand : {L : Type 0} → L → L → K → K → Outcome S → Type 0
+  IsNoCommand library libraryAfter sink sinkAfter outcome =
+      IsWithoutMemory sink sinkAfter outcome ⊎ IsUsage library libraryAfter sink sinkAfter outcome
+
   module _ {L : Type 0} (pairs : L → Option (List Pair)) (faults : L → ℕ) (refused : L → Option (List ℕ)) (left : S → Option (List ℕ)) (failures : S → ℕ) where
     -- What was found of the names is written with its status, and kept.
     pub record IsAnswered (names : Named) (library libraryAfter : L) (sink sinkAfter : K) (outcome : Outcome S) : Type 0 where

@@ -1,6 +1,7 @@
--- Which words are a command: `serial SCRIPT in|out:IF:CAPTURE`.
-use Rattle.std.specs.Prelude.{ℕ, Bool, ◌&&◌, ◌||◌, not, List, [], ◌∷◌, length, codes, Option, None, Some, ◌==◌, nat_le, slice_index, if◌then◌else◌}
+-- Which words are a command: `serial [--] SCRIPT in|out:IF:CAPTURE`.
+use Rattle.std.specs.Prelude.{ℕ, Bool, ◌&&◌, ◌||◌, not, List, [], ◌∷◌, length, codes, Option, None, Some, ◌==◌, nat_le, false, if◌then◌else◌}
 use Rattle.std.specs.List.{list_all}
+use Rattle.std.specs.Option.{option_map}
 use Rattle.std.specs.Char.{is_ascii_alphanumeric}
 use Rattle.fw_base.specs.declared.port.Direction.{Direction}
 use Rattle.fw_base.specs.declared.port.Direction.TheVariants.{In, Out}
@@ -22,10 +23,6 @@ is_name_byte b = is_ascii_alphanumeric b || (b == 95 || (b == 46 || b == 45))
 unfoldable pub is_interface : List ℕ → Bool
 is_interface name = (nat_le 1 (length name) && nat_le (length name) 15) && list_all is_name_byte name
 
--- the name of a script isn't empty, and begins with `-` only where it is that one byte
-unfoldable pub is_script : List ℕ → Bool
-is_script name = not (is_empty name) && (not (slice_index name 0 == 45) || length name == 1)
-
 unfoldable pub direction_of : List ℕ → Option Direction
 direction_of word =
     if is_same word (codes "in") then Some In
@@ -42,7 +39,26 @@ capture_of script word = do
       then Some (record { script = script; direction = direction; interface = second.0; capture = second.1 })
       else None
 
+-- a word that begins with `-` and is longer than that byte
+unfoldable pub is_option : List ℕ → Bool
+is_option (byte ∷ other ∷ rest) = byte == 45
+is_option _ = false
+
+-- The words that are operands: the first `--` is dropped, and all words behind it are operands. No option
+-- stands before it.
+unfoldable pub operands_of : List (List ℕ) → Option (List (List ℕ))
+operands_of [] = Some []
+operands_of (word ∷ words) =
+    if is_same word (codes "--") then Some words
+    else if is_option word then None
+    else option_map (λ rest. word ∷ rest) (operands_of words)
+
+-- the operands are a script's name, which isn't empty, and a capture
+unfoldable pub named_by : List (List ℕ) → Option Named
+named_by (script ∷ capture ∷ []) = if is_empty script then None else capture_of script capture
+named_by _ = None
+
 -- what the words name, where they are a command
 unfoldable pub command_of : List (List ℕ) → Option Named
-command_of (mode ∷ script ∷ capture ∷ []) = if is_same mode (codes "serial") && is_script script then capture_of script capture else None
-command_of _ = None
+command_of [] = None
+command_of (mode ∷ words) = if is_same mode (codes "serial") then operands_of words >>= named_by else None

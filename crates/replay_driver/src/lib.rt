@@ -15,6 +15,7 @@ pub use verdict::Verdict;
 
 mod bytes;
 mod capture_end;
+mod capture_word;
 mod docket;
 mod docket_entry;
 mod ends;

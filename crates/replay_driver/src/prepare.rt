@@ -2,11 +2,11 @@ ghost use Rattle.std.specs.Prelude.{IfOk};
 ghost use Rattle.replay_driver.specs.Invocation.{named};
 ghost use Rattle.replay_driver.specs.Run.{Finds, Judges};
 
+use crate::capture_word::Invocation;
 use crate::finding::Finding;
 use crate::plain_script::{ScriptError, read_script};
 use crate::replay::replay;
 use crate::script_source::{ScriptSource, read_script_source};
-use crate::words::Invocation;
 use crate::{RuleList, Trace};
 use fw_base::{Library, Name, OutOfMemory, Source};
 use std::alloc::Global;

@@ -1,6 +1,7 @@
 ghost use Rattle.std.specs.Prelude.{◌≡◌, None, IfSome, ◌≢◌, ◌⊎◌, IsSome, IfNone, IfOk, map, string_bytes, take, length, []};
 ghost use Rattle.replay_driver.specs.Finding as findings;
-ghost use Rattle.replay_driver.specs.Run.{IsUsage, IsRun, Reports, status_of};
+ghost use Rattle.replay_driver.specs.Finding.{usage_text};
+ghost use Rattle.replay_driver.specs.Run.{IsNoCommand, IsRun, Reports, Writes, status_of};
 ghost use Rattle.replay_driver.specs.Words.{command_of};
 ghost use Rattle.replay_driver.specs.Promises.{IsReported, IsNotYet, IsUnread, IsComplete, without, in_order};
 ghost use Rattle.fw_base.specs.Faults.{Rose};
@@ -9,7 +10,7 @@ use crate::finding::{Finding, write_usage};
 use crate::prepare::{Prepared, prepare};
 use crate::words::read_words;
 use crate::{Ends, Outcome};
-use fw_base::{Failed, Gate, Library, Sink};
+use fw_base::{Failed, Gate, Library, OutOfMemory, Sink};
 use std::alloc::{AllocError, Global};
 use std::sync::Wait;
 use std::thread::Threads;
@@ -66,6 +67,21 @@ fn report<S: Drop, K: Sink>(alloc: Global, prepared: Prepared<S>, out: &mut K) -
     }
 }
 
+/// Writes the usage line.
+fn usage<S: Drop, K: Sink>(alloc: Global, out: &mut K) -> Outcome<S>
+    ensures writes { Writes K.written K.faults out.old out.new 1 result.status usage_text }
+    ensures ends { result.ends ≡ [] }
+    ensures kept { result.kept ≡ None }
+    ensures nothing { result.sources.items ≡ [] }
+{
+    Outcome {
+        status: status_written(1, write_usage(out)),
+        ends: Ends::none(alloc),
+        kept: None,
+        sources: Vec::new(alloc),
+    }
+}
+
 /// Runs the command that the words are, or writes the usage line.
 fn run_words<L: Library, K: Sink>(
     alloc: Global,
@@ -74,22 +90,18 @@ fn run_words<L: Library, K: Sink>(
     out: &mut K,
 ) -> Outcome<L::Reader>
     ensures usage { command_of (map string_bytes words.now) ≡ None
-        → IsUsage K.written K.faults library.old library.new out.old out.new result }
+        → IsNoCommand K.written K.faults library.old library.new out.old out.new result }
     ensures found { IfSome (command_of (map string_bytes words.now)) (λ names.
         IsRun K.written K.faults L.pairs L.faults L.refused L.Reader.left L.Reader.faults names library.old library.new out.old out.new result) }
 {
-    let Some(names) = read_words(words) else {
-        return Outcome {
-            status: status_written(1, write_usage(out)),
-            ends: Ends::none(alloc),
-            kept: None,
-            sources: Vec::new(alloc),
-        };
-    };
-    let Ok(prepared) = prepare(alloc, names, library) else {
-        return without_memory(alloc);
-    };
-    report(alloc, prepared, out)
+    match read_words(alloc, words) {
+        Err(OutOfMemory) => without_memory(alloc),
+        Ok(None) => usage(alloc, out),
+        Ok(Some(names)) => match prepare(alloc, names, library) {
+            Err(OutOfMemory) => without_memory(alloc),
+            Ok(prepared) => report(alloc, prepared, out),
+        },
+    }
 }
 
 /// Replays the capture that the words name beside the script that they name, and writes the verdicts.
@@ -109,7 +121,7 @@ where
     L::Reader: Send + Sync,
     // Which words, script and capture come to what: exactly.
     ensures usage { command_of (map string_bytes words.now) ≡ None
-        → IsUsage K.written K.faults library.old library.new out.old out.new result }
+        → IsNoCommand K.written K.faults library.old library.new out.old out.new result }
     ensures found { IfSome (command_of (map string_bytes words.now)) (λ names.
         IsRun K.written K.faults L.pairs L.faults L.refused L.Reader.left L.Reader.faults names library.old library.new out.old out.new result) }
 

@@ -1,84 +1,73 @@
-ghost use Rattle.std.specs.Prelude.{◌≡◌, map, string_bytes};
+ghost use Rattle.std.specs.Prelude.{◌≡◌, IfOk, drop, map, string_bytes};
 ghost use Rattle.std.specs.Option.{option_map};
-ghost use Rattle.std.specs.List.{list_all};
-ghost use Rattle.replay_driver.specs.Invocation.{named};
+ghost use Rattle.clap.specs.Simple.{app_of};
+ghost use Rattle.replay_driver.specs.CommandLine.{operands_app};
+ghost use Rattle.replay_driver.specs.Invocation.{named, word_texts};
 ghost use Rattle.replay_driver.specs.Words as spec;
 
-use crate::bytes::cut_at;
-use fw_base::Direction;
+use crate::capture_word::{Invocation, capture_of};
+use clap::error::ErrorKind;
+use clap::{Arg, Command};
+use fw_base::OutOfMemory;
+use std::alloc::{AllocError, Global};
 
-/// What the words of a command name.
-#[derive(Clone, Copy, Debug)]
-pub(crate) struct Invocation<'a> {
-    pub(crate) script: &'a [u8],
-    pub(crate) direction: Direction,
-    pub(crate) interface: &'a [u8],
-    pub(crate) capture: &'a [u8],
+/// The command line of a mode: operands, and no option.
+fn operands_command<'a>(alloc: Global) -> Result<Command<'a>, AllocError>
+    ensures { IfOk result (λ command. app_of command ≡ operands_app) }
+{
+    let operands = Arg::new(alloc, "operands").num_args(0..);
+    Command::new(alloc, "serial")
+        .disable_help_flag(true)
+        .arg(operands)
 }
 
-fn are_name_bytes(name: &[u8]) -> bool
-    ensures { result ≡ list_all spec.is_name_byte name.now }
+/// The operands behind the first word; `None` where an option stands among them.
+fn operands<'a>(alloc: Global, words: &'a [String]) -> Result<Option<Vec<&'a str>>, OutOfMemory>
+    ensures { IfOk result (λ found. option_map (λ operands. word_texts operands.items) found ≡ spec.operands_of (drop 1 (map string_bytes words.now))) }
 {
-    name.iter().all(|b| b.is_ascii_alphanumeric() || *b == b'_' || *b == b'.' || *b == b'-')
-}
-
-#[tactic(auto, unfolding(crate::specs::Words::is_interface))]
-fn is_interface(name: &[u8]) -> bool
-    ensures { result ≡ spec.is_interface name.now }
-{
-    !name.is_empty() && name.len() <= 15 && are_name_bytes(name)
-}
-
-#[tactic(auto, unfolding(crate::specs::Words::is_script))]
-fn is_script(name: &[u8]) -> bool
-    ensures { result ≡ spec.is_script name.now }
-{
-    !name.is_empty() && (name[0] != b'-' || name.len() == 1)
-}
-
-#[tactic(auto, unfolding(crate::specs::Words::direction_of))]
-fn direction_of(word: &[u8]) -> Option<Direction>
-    ensures { result ≡ spec.direction_of word.now }
-{
-    if word == b"in".as_slice() {
-        Some(Direction::In)
-    } else if word == b"out".as_slice() {
-        Some(Direction::Out)
-    } else {
-        None
+    let matches = match operands_command(alloc)?.try_get_matches_from(words) {
+        Ok(matches) => matches,
+        Err(error) => match error.kind() {
+            ErrorKind::OutOfMemory => return Err(OutOfMemory),
+            _ => return Ok(None),
+        },
+    };
+    match matches.get_strs("operands") {
+        Some(operands) => Ok(Some(Vec::from_slice(alloc, operands)?)),
+        None => Ok(Some(Vec::new(alloc))),
     }
 }
 
-#[tactic(auto, unfolding(crate::specs::Words::capture_of))]
-fn capture_of<'a>(script: &'a [u8], word: &'a [u8]) -> Option<Invocation<'a>>
-    ensures { option_map named result ≡ spec.capture_of script.now word.now }
+/// What the operands name: a script and a capture.
+#[tactic(auto, unfolding(crate::specs::Words::named_by))]
+fn invocation_of<'a>(operands: &[&'a str]) -> Option<Invocation<'a>>
+    ensures { option_map named result ≡ spec.named_by (word_texts operands.now) }
 {
-    let (direction, rest) = cut_at(word, b':')?;
-    let direction = direction_of(direction)?;
-    let (interface, capture) = cut_at(rest, b':')?;
-    if is_interface(interface) && !capture.is_empty() {
-        Some(Invocation {
-            script,
-            direction,
-            interface,
-            capture,
-        })
-    } else {
-        None
-    }
-}
-
-/// What the words name, where they are a command: `serial SCRIPT in|out:IF:CAPTURE`.
-#[tactic(auto, unfolding(crate::specs::Words::command_of))]
-pub(crate) fn read_words(words: &[String]) -> Option<Invocation<'_>>
-    ensures { option_map named result ≡ spec.command_of (map string_bytes words.now) }
-{
-    let [mode, script, capture] = words else {
+    let [script, capture] = operands else {
         return None;
     };
-    if mode.as_bytes() == b"serial".as_slice() && is_script(script.as_bytes()) {
-        capture_of(script.as_bytes(), capture.as_bytes())
-    } else {
+    if script.is_empty() {
         None
+    } else {
+        capture_of(script.as_bytes(), capture.as_bytes())
+    }
+}
+
+/// What the words name, where they are a command: `serial [--] SCRIPT in|out:IF:CAPTURE`.
+#[tactic(auto, unfolding(crate::specs::Words::command_of))]
+pub(crate) fn read_words(
+    alloc: Global,
+    words: &[String],
+) -> Result<Option<Invocation<'_>>, OutOfMemory>
+    ensures { IfOk result (λ invocation. option_map named invocation ≡ spec.command_of (map string_bytes words.now)) }
+{
+    match words.first() {
+        Some(mode) if mode.as_bytes() == b"serial".as_slice() => {
+            match operands(alloc, words)? {
+                Some(operands) => Ok(invocation_of(&operands)),
+                None => Ok(None),
+            }
+        }
+        _ => Ok(None),
     }
 }
