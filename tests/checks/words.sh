@@ -32,6 +32,9 @@ check script_that_is_no_text 1 serial $'empty\xff' in:em0:syn.pcap <<<"$usage"
 check capture_that_is_no_text 1 serial empty $'in:em0:syn\xc3' <<<"$usage"
 check mode_that_is_no_text 1 $'serial\x80' empty in:em0:syn.pcap <<<"$usage"
 
+check help_is_no_command 1 serial --help <<<"$usage"
+check divider_twice 1 serial -- empty -- in:em0:syn.pcap <<<"$usage"
+
 # Modes that a later version reads.
 check mode_live 1 live empty in:em0:syn.pcap <<<"$usage"
 check mode_load 1 load 1 <<<"$usage"
@@ -47,3 +50,7 @@ cp empty ./-
 check script_named_by_a_dash 0 serial - in:em0:syn.pcap <<<"$one_syn_denied"
 cp syn.pcap a:b
 check capture_with_a_colon_in_its_name 0 serial empty in:em0:a:b <<<"$one_syn_denied"
+check divider_before_the_script 0 serial -- empty in:em0:syn.pcap <<<"$one_syn_denied"
+check divider_behind_the_capture 0 serial empty in:em0:syn.pcap -- <<<"$one_syn_denied"
+cp empty ./--script
+check script_that_looks_like_an_option_behind_the_divider 0 serial -- --script in:em0:syn.pcap <<<"$one_syn_denied"

@@ -146,10 +146,10 @@ fault_operand : (vs : List Text) (word : Text) → is_same word (codes "--") ≡
     → turn_fault shape [] (walk_at false vs) word ≡ []
 fault_operand vs word other no_long no_short =
     ap₂ or_else
-      (flag_fault vs word false other
-        ∙ ap (λ o. flag_word_fault rules shape.args_override_self o word (held_at vs)) no_long
-        ∙ ap (λ o. option_map_or (λ flags. bundle_fault rules shape.args_override_self flags (held_at vs)) o []) no_short)
-      (ap (λ met. step_fault shape 1 met.0 met.1) (met_operand vs word other no_long no_short) ∙ no_step_fault vs)
+    (flag_fault vs word false other
+    ∙ ap (λ o. flag_word_fault rules shape.args_override_self o word (held_at vs)) no_long
+    ∙ ap (λ o. option_map_or (λ flags. bundle_fault rules shape.args_override_self flags (held_at vs)) o []) no_short)
+    (ap (λ met. step_fault shape 1 met.0 met.1) (met_operand vs word other no_long no_short) ∙ no_step_fault vs)
 
 -- an option is a fault
 abbrev IsFaulty : Kinds → Type 0
@@ -179,10 +179,10 @@ unfolding encode_utf8
 fault_short vs word f flags utf8 other no_long is word_is =
     let (x, first) = first_char (f ∷ flags) f flags refl (IsUtf8-past_char word (f ∷ flags) 45 utf8 word_is) in
     faulty_front _ _ UnknownArgument []
-      (flag_fault vs word false other
-        ∙ ap (λ o. flag_word_fault rules shape.args_override_self o word (held_at vs)) no_long
-        ∙ ap (λ o. option_map_or (λ fs. bundle_fault rules shape.args_override_self fs (held_at vs)) o []) is
-        ∙ bundle_is_faulty vs f flags x first)
+    (flag_fault vs word false other
+    ∙ ap (λ o. flag_word_fault rules shape.args_override_self o word (held_at vs)) no_long
+    ∙ ap (λ o. option_map_or (λ fs. bundle_fault rules shape.args_override_self fs (held_at vs)) o []) is
+    ∙ bundle_is_faulty vs f flags x first)
 
 -- the words behind `--`
 fault_behind : (vs words : List Text) → walk_fault shape [] (walk_at true vs) words ≡ []
@@ -207,7 +207,7 @@ option_refused : (vs : List Text) (word : Text) (words : List Text) → is_same 
 unfolding operands_of walk_fault
 option_refused vs word words other option (k, ks, e) = refused
     (ap (λ t. let o : Option (List Text) = if t then Some words else if is_option word then None else option_map (λ rest. word ∷ rest) (operands_of words) in o) other
-      ∙ ap (λ t. let o : Option (List Text) = if t then None else option_map (λ rest. word ∷ rest) (operands_of words) in o) option)
+    ∙ ap (λ t. let o : Option (List Text) = if t then None else option_map (λ rest. word ∷ rest) (operands_of words) in o) option)
     (faulty_front _ _ k ks e)
 
 one_less : (word : Text) (words : List Text) → length words ≤ length (word ∷ words)
@@ -221,10 +221,10 @@ one_more : (vs : List Text) (word : Text) (words : List Text) → is_same word (
 unfolding operands_of walk_fault
 one_more vs word words other plain no_long no_short later =
     let named : operands_of (word ∷ words) ≡ option_map (λ rest. word ∷ rest) (operands_of words) =
-        ap (λ t. let o : Option (List Text) = if t then Some words else if is_option word then None else option_map (λ rest. word ∷ rest) (operands_of words) in o) other
-          ∙ ap (λ t. let o : Option (List Text) = if t then None else option_map (λ rest. word ∷ rest) (operands_of words) in o) plain in
+    ap (λ t. let o : Option (List Text) = if t then Some words else if is_option word then None else option_map (λ rest. word ∷ rest) (operands_of words) in o) other
+    ∙ ap (λ t. let o : Option (List Text) = if t then None else option_map (λ rest. word ∷ rest) (operands_of words) in o) plain in
     let faults : walk_fault shape [] (walk_at false vs) (word ∷ words) ≡ walk_fault shape [] (walk_at false (vs ++ word ∷ [])) words =
-        ap₂ or_else (fault_operand vs word other no_long no_short) (ap (λ w. walk_fault shape [] w words) (walked_operand vs word other no_long no_short)) in
+    ap₂ or_else (fault_operand vs word other no_long no_short) (ap (λ w. walk_fault shape [] w words) (walked_operand vs word other no_long no_short)) in
     elim later [
       | refused none fault ↦ refused (named ∙ ap (option_map (λ rest. word ∷ rest)) none) (fault.0, fault.1, faults ∙ fault.2)
       | landed ps behind some few no_fault lands ↦ landed (word ∷ ps) behind
@@ -298,8 +298,9 @@ module _ {Z : Type 0} where
       ⊎ ((fault_of operands_app (first ∷ texts words) ≡ []) × IsTaken (first ∷ texts words))
   came first words few (refused none fault) = inl (faulty_front _ _ fault.0 fault.1 fault.2, none)
   came first words few (landed ps behind some fewer no_fault lands) = inr (
-      ap₂ or_else no_fault (ap end_faults lands ∙ no_end_fault behind ps (let fewer_words : length ps ≤ length words = few_texts words fewer in omega arith)),
-      (ps, some, ap (λ (end : Walk). all_of (codes "operands") (finished rules end.held)) lands ∙ end_rows behind ps))
+    ap₂ or_else no_fault (ap end_faults lands ∙ no_end_fault behind ps (let fewer_words : length ps ≤ length words = few_texts words fewer in omega arith)),
+    (ps, some, ap (λ (end : Walk). all_of (codes "operands") (finished rules end.held)) lands ∙ end_rows behind ps),
+  )
 
   came_to : (words : List (String Z)) → length words ≤ usize_max
       → (IsFaulty (fault_of operands_app (texts words)) × (operands_of (drop 1 (texts words)) ≡ None))

@@ -6,7 +6,6 @@ ghost use Rattle.replay_driver.specs.declared.plain_script.ScriptError.TheVarian
 
 use crate::bytes::{line_text, split_line};
 use crate::{PlainRule, rule_words};
-use fw_base::OutOfMemory;
 use std::alloc::{AllocFailed, Global};
 
 /// How many bytes a script has at most.
@@ -30,12 +29,6 @@ pub struct NotYet {
 pub enum ScriptError {
     NotYet(NotYet),
     OutOfMemory,
-}
-
-impl From<OutOfMemory> for ScriptError {
-    fn from(_error: OutOfMemory) -> ScriptError {
-        ScriptError::OutOfMemory
-    }
 }
 
 impl<T: Drop> From<AllocFailed<T>> for ScriptError {

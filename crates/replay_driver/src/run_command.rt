@@ -106,7 +106,7 @@ fn run_words<L: Library, K: Sink>(
 
 /// Replays the capture that the words name beside the script that they name, and writes the verdicts.
 ///
-/// The words are `serial SCRIPT in|out:IF:CAPTURE`. The status is 0; 1 where the words are no command; 2
+/// The words are `serial [--] SCRIPT in|out:IF:CAPTURE`. The status is 0; 1 where the words are no command; 2
 /// where a script line isn't read; 3 where the capture has a fault; 4 where a name could not be opened or
 /// read, or the capture's source failed; 5 where the sink failed; 6 where memory ran out.
 pub fn run<R: Threads + Wait, L: Library, K: Sink, G: Gate + Sync>(

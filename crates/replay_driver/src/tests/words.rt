@@ -20,7 +20,7 @@ fn texts(alloc: Global, words: &[&str]) -> Result<Vec<String>, Fail> {
 #[test]
 fn missing_capture_is_usage(rt: HostRuntime) -> Result<(), Fail> {
     let alloc = rt.alloc();
-    let lists: [&[&str]; 14] = [
+    let lists: [&[&str]; 26] = [
         &[],
         &["serial"],
         &["serial", "s"],
@@ -34,7 +34,22 @@ fn missing_capture_is_usage(rt: HostRuntime) -> Result<(), Fail> {
         &["serial", "s", "em0:c"],
         &["Serial", "s", "in:em0:c"],
         &["serial", "s", "in:em0:c", "in:em1:d"],
+        &[
+            "serial", "s", "in:em0:c", "in:em1:c", "in:em2:c", "in:em3:c", "in:em4:c", "in:em5:c",
+            "in:em6:c", "in:em7:c", "in:em8:c",
+        ],
         &["--help"],
+        &["serial", "--help"],
+        &["serial", "-h"],
+        &["serial", "help"],
+        &["help"],
+        &["serial", "-V", "s", "in:em0:c"],
+        &["serial", "s", "in:em0:c", "--journal=x"],
+        &["--", "serial", "s", "in:em0:c"],
+        &["serial", "--", "s", "--", "in:em0:c"],
+        &["serial", "--", "", "in:em0:c"],
+        &["serial", "s", "--", "in:em0:c", "--"],
+        &["serial", "s", "-", "in:em0:c"],
     ];
     for words in lists {
         let mut library = MemoryLibrary::new(alloc);
@@ -50,15 +65,21 @@ fn missing_capture_is_usage(rt: HostRuntime) -> Result<(), Fail> {
 #[test]
 fn words_that_are_a_command(rt: HostRuntime) -> Result<(), Fail> {
     let alloc = rt.alloc();
-    let lists: [&[&str]; 4] = [
+    let lists: [&[&str]; 10] = [
         &["serial", "s", "in:em0:c"],
         &["serial", "s", "out:abc.def-ghi_jkl:c"],
         &["serial", "-", "in:em0:c"],
         &["serial", "s", "in:em0:c:d"],
+        &["serial", "--", "s", "in:em0:c"],
+        &["serial", "s", "--", "in:em0:c"],
+        &["serial", "s", "in:em0:c", "--"],
+        &["serial", "--", "-s", "in:em0:c"],
+        &["serial", "--", "--", "in:em0:c"],
+        &["serial", "--", "--help", "in:em0:c"],
     ];
     for words in lists {
         let mut library = MemoryLibrary::new(alloc);
-        for name in [b"s".as_slice(), b"-".as_slice()] {
+        for name in [b"s".as_slice(), b"-", b"-s", b"--", b"--help"] {
             add(alloc, &mut library, name, b"", &[], None)?;
         }
         for name in [b"c".as_slice(), b"c:d".as_slice()] {

@@ -29,9 +29,9 @@ returns-in-Some c =
     let few : length c.args.words.now ≤ usize_max = search rules in
     let (ps, named, all) = taken_words c.args.words.now few (ap (λ (a : App). fault_of a words) (sym app_is) ∙ c.in-Ok.ensures.kinds (ap is_simple_and_free app_is)) in
     let strs : option_map (λ s. word_texts s.now) c.get_strs.result ≡ shown ps =
-        c.get_strs.ensures ∙ raw_values-rows (found_of c.in-Ok.matches) (codes "operands")
-        ∙ ap (all_of (codes "operands")) (c.in-Ok.ensures.matches (ap is_simple app_is)).0
-        ∙ ap (λ (a : App). all_of (codes "operands") (matches_of a words)) app_is ∙ all in
+    c.get_strs.ensures ∙ raw_values-rows (found_of c.in-Ok.matches) (codes "operands")
+    ∙ ap (all_of (codes "operands")) (c.in-Ok.ensures.matches (ap is_simple app_is)).0
+    ∙ ap (λ (a : App). all_of (codes "operands") (matches_of a words)) app_is ∙ all in
     let texts_are = shown_some (word_texts c.in-Some.operands.now) ps (ap (option_map (λ s. word_texts s.now)) (sym c.in-Some.is) ∙ strs) in
     ap (λ (xs : List (Bor (List ℕ))). Some (word_texts xs)) c.in_ok-from_slice-in-Some.ensures.items ∙ ap Some texts_are ∙ sym named
 
@@ -42,8 +42,8 @@ returns c =
     let few : length c.args.words.now ≤ usize_max = search rules in
     let (ps, named, all) = taken_words c.args.words.now few (ap (λ (a : App). fault_of a words) (sym app_is) ∙ c.in-Ok.ensures.kinds (ap is_simple_and_free app_is)) in
     let strs : option_map (λ s. word_texts s.now) c.get_strs.result ≡ shown ps =
-        c.get_strs.ensures ∙ raw_values-rows (found_of c.in-Ok.matches) (codes "operands")
-        ∙ ap (all_of (codes "operands")) (c.in-Ok.ensures.matches (ap is_simple app_is)).0
-        ∙ ap (λ (a : App). all_of (codes "operands") (matches_of a words)) app_is ∙ all in
+    c.get_strs.ensures ∙ raw_values-rows (found_of c.in-Ok.matches) (codes "operands")
+    ∙ ap (all_of (codes "operands")) (c.in-Ok.ensures.matches (ap is_simple app_is)).0
+    ∙ ap (λ (a : App). all_of (codes "operands") (matches_of a words)) app_is ∙ all in
     let none_are = shown_none ps (ap (option_map (λ s. word_texts s.now)) (sym c.in-None.is) ∙ strs) in
     ap (λ (xs : List (Bor (List ℕ))). Some (word_texts xs)) c.new.ensures.items ∙ ap Some (sym none_are) ∙ sym named

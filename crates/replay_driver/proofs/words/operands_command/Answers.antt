@@ -18,8 +18,8 @@ pub returns : goal.returns
 returns c =
     let name_is : c.new.result.id.now ≡ codes "operands" = search rules in
     let rule_is : rule_of c.num_args-operands.result ≡ operands_rule =
-        ap rule_of c.num_args-operands.ensures.0
-        ∙ ap (λ (r : Rule). record r { range = c.num_args-operands.result.num_vals }) c.new.ensures.rule
-        ∙ ap (λ v. record (new_rule (codes "operands")) { range = v }) (range_is _ c.num_args-operands.ensures.1) in
+    ap rule_of c.num_args-operands.ensures.0
+    ∙ ap (λ (r : Rule). record r { range = c.num_args-operands.result.num_vals }) c.new.ensures.rule
+    ∙ ap (λ v. record (new_rule (codes "operands")) { range = v }) (range_is _ c.num_args-operands.ensures.1) in
     let top_is : app_of c.disable_help_flag.result ≡ on_top (λ s. record s { disable_help_flag = true }) (new_app (codes "serial")) = search rules in
     IfOk-weaker c.arg.result _ _ (λ command adds. adds.shape (search rules) ∙ ap₂ with_rule top_is rule_is) c.arg.ensures
