@@ -17,7 +17,7 @@ pub use options::{FLAG_NAMES, OPTION_NAMES};
 pub use port_list::PortList;
 pub use rule::Rule;
 pub use rule_draft::RuleDraft;
-pub use rule_text::{UNREACH_NAMES, WriteFault, write_rule, write_rule_rest};
+pub use rule_text::{UNREACH_NAMES, WriteFault, write_rule, write_rule_rest, write_unreach_code};
 pub use setting::Setting;
 pub use settings::{LONGEST_LIFETIME, MOST_STATES, Settings};
 pub use state_opt::StateOpt;

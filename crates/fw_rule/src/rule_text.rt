@@ -6,7 +6,7 @@ ghost use Rattle.fw_rule.specs.Canonical.{spaced, rule_text, rest_text};
 
 use crate::options::{write_options, write_state};
 use crate::piece::Piece;
-use crate::writing::{write_five_digits, write_list_words, write_pieces};
+use crate::writing::{write_five_digits, write_list_words, write_piece, write_pieces};
 use crate::{Action, AddrSpec, Body, Opt, PortList, Rule, StateOpt};
 use fw_base::{Failed, Sink, write_text};
 use std::error::Error;
@@ -237,4 +237,12 @@ pub fn write_rule_rest<K: Sink>(rule: &Rule, out: &mut K) -> Result<(), WriteFau
     ensures { WritesText (K.written out.old) (K.written out.new) (K.faults out.old) (K.faults out.new) (rest_text rule.now) result }
 {
     write_words(out, rule).map_err(|_| WriteFault)
+}
+
+/// Writes a code of `unreach`, by name where it has one, else as a number. It takes no memory. Where the
+/// sink fails, a front of that was written.
+pub fn write_unreach_code<K: Sink>(code: u8, out: &mut K) -> Result<(), WriteFault>
+    ensures { WritesText (K.written out.old) (K.written out.new) (K.faults out.old) (K.faults out.new) (text.code_word code) result }
+{
+    write_piece(out, unreach_piece(code)).map_err(|_| WriteFault)
 }
