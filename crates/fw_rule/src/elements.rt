@@ -8,9 +8,10 @@ use crate::piece::Piece;
 use crate::writing::{Element, write_pieces};
 use fw_base::{Addr, Failed, PortRange, Prefix, Sink};
 
-/// Writes an address as four numbers.
+/// Writes an address as four numbers with dots between them. Where the sink fails, a front of that was
+/// written.
 #[tactic(auto, unfolding(fw_base::specs::Addr::address_text))]
-fn write_address<K: Sink>(out: &mut K, address: Addr) -> Result<(), Failed>
+pub fn write_address<K: Sink>(out: &mut K, address: Addr) -> Result<(), Failed>
     ensures { WritesText (K.written out.old) (K.written out.new) (K.faults out.old) (K.faults out.new) (address_text address.0) result }
 {
     let [first, second, third, fourth] = address.0.to_be_bytes();

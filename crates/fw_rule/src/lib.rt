@@ -7,6 +7,7 @@ pub use addr_item::AddrItem;
 pub use addr_spec::AddrSpec;
 pub use body::Body;
 pub use command::Command;
+pub use elements::write_address;
 pub use field::Field;
 pub use iface::Iface;
 pub use items::Items;
