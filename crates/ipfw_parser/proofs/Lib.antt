@@ -8,3 +8,4 @@ pub mod NumbersAgain
 pub mod WordsAgain
 pub mod DigitTexts
 pub mod PortsAgain
+pub mod AddressesAgain

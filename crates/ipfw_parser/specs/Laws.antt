@@ -7,7 +7,9 @@ use Rattle.ipfw_parser.specs.Reading.{Word, word_of}
 use Rattle.ipfw_parser.specs.Numbers.{number}
 use Rattle.ipfw_parser.specs.Ports.{ranges}
 use Rattle.fw_base.specs.PortRange.{Ports}
-use Rattle.fw_rule.specs.Canonical.{range_text}
+use Rattle.fw_rule.specs.Canonical.{range_text, network_text}
+use Rattle.fw_base.specs.Prefix.{Network, IsNetwork}
+use Rattle.ipfw_parser.specs.Addresses.{prefix}
 use Rattle.fw_rule.specs.WellFormed.{IsRange}
 
 -- a number in its range, written in decimal digits, is read as that number
@@ -33,3 +35,7 @@ WordsAreReadAgain = (texts : List (List ℕ)) → AllByRecursion IsWordText text
 abbrev pub PortListsAreReadAgain : Type 0
 PortListsAreReadAgain = (first : Ports) (others : List Ports) (column : ℕ) → AllByRecursion IsRange (first ∷ others)
     → ranges (record { column = column; text = join_with_byte 44 (map range_text (first ∷ others)) }) ≡ Ok (first ∷ others)
+
+-- a prefix in its canonical text is read as this prefix
+abbrev pub PrefixesAreReadAgain : Type 0
+PrefixesAreReadAgain = (n : Network) (column : ℕ) → IsNetwork n → n.address < 2 ^ 32 → prefix (record { column = column; text = network_text n }) ≡ Ok n

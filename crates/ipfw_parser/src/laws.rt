@@ -1,4 +1,4 @@
-ghost use Rattle.ipfw_parser.specs.Laws.{NumbersAreReadAgain, PortListsAreReadAgain, WordsAreReadAgain};
+ghost use Rattle.ipfw_parser.specs.Laws.{NumbersAreReadAgain, PortListsAreReadAgain, PrefixesAreReadAgain, WordsAreReadAgain};
 
 /// A number in its range, written in decimal digits, is read as that number.
 pub fn numbers_are_read_again()
@@ -13,4 +13,9 @@ pub fn words_are_read_again()
 /// A list of port ranges in its canonical text is read as these ranges.
 pub fn port_lists_are_read_again()
     ensures { PortListsAreReadAgain }
+{}
+
+/// A prefix in its canonical text is read as this prefix.
+pub fn prefixes_are_read_again()
+    ensures { PrefixesAreReadAgain }
 {}
