@@ -26,7 +26,7 @@ octet_again : (n : ℕ) → n < 256 → octet (decimal n) ≡ Some n
 unfolding octet
 octet_again n small = ap (up_to 255) (small_decimal n small) ∙ ap (λ b. if b then Some n else None) (le-leb n 255 (omega arith))
 
-free_decimal : (byte n : ℕ) → is_digit byte ≡ false → n < 2 ^ 32 → IsFree byte (decimal n)
+pub free_decimal : (byte n : ℕ) → is_digit byte ≡ false → n < 2 ^ 32 → IsFree byte (decimal n)
 free_decimal byte n other small = free_digits byte (decimal n) other (all_digits n small)
 
 dotted_again : (n : ℕ) (rest : List ℕ) → n < 256 → octet_and_dot (decimal n ++ 46 ∷ rest) ≡ Some (n, rest)
@@ -37,15 +37,15 @@ dotted_again n rest small =
     ∙ ap (with_rest (Some n)) (behind_there 46 (decimal n) rest (free_decimal 46 n refl (omega arith)))
 
 -- four octets with dots between them
-dots : ℕ → ℕ → ℕ → ℕ → List ℕ
+unfoldable pub dots : ℕ → ℕ → ℕ → ℕ → List ℕ
 dots a b c d = decimal a ++ (46 ∷ (decimal b ++ (46 ∷ (decimal c ++ (46 ∷ decimal d)))))
 
-dots_again : (a b c d : ℕ) → a < 256 → b < 256 → c < 256 → d < 256 → address_in (dots a b c d) ≡ Some (from_be_bytes w32 (a ∷ b ∷ c ∷ d ∷ []))
+pub dots_again : (a b c d : ℕ) → a < 256 → b < 256 → c < 256 → d < 256 → address_in (dots a b c d) ≡ Some (from_be_bytes w32 (a ∷ b ∷ c ∷ d ∷ []))
 unfolding address_in dots
 dots_again a b c d sa sb sc sd =
     rw (dotted_again a (decimal b ++ (46 ∷ (decimal c ++ (46 ∷ decimal d)))) sa, dotted_again b (decimal c ++ (46 ∷ decimal d)) sb, dotted_again c (decimal d) sc, octet_again d sd) refl
 
-text_is : (a : ℕ) → address_text a ≡ dots (a / 2 ^ 24 % 256) (a / 2 ^ 16 % 256) (a / 2 ^ 8 % 256) (a % 256)
+pub text_is : (a : ℕ) → address_text a ≡ dots (a / 2 ^ 24 % 256) (a / 2 ^ 16 % 256) (a / 2 ^ 8 % 256) (a % 256)
 unfolding address_text dots
 text_is a = refl
 
@@ -55,7 +55,7 @@ address_again a small =
     ∙ dots_again (a / 2 ^ 24 % 256) (a / 2 ^ 16 % 256) (a / 2 ^ 8 % 256) (a % 256) (omega arith) (omega arith) (omega arith) (omega arith)
     ∙ ap (λ n. let found : Option ℕ = Some n in found) (from_be_bytes-to_be_bytes_4 a small)
 
-free_dots : (byte a b c d : ℕ) → is_digit byte ≡ false → 46 == byte ≡ false → a < 256 → b < 256 → c < 256 → d < 256 → IsFree byte (dots a b c d)
+pub free_dots : (byte a b c d : ℕ) → is_digit byte ≡ false → 46 == byte ≡ false → a < 256 → b < 256 → c < 256 → d < 256 → IsFree byte (dots a b c d)
 unfolding dots
 free_dots byte a b c d other dot sa sb sc sd =
     free_append byte (decimal a) (46 ∷ (decimal b ++ (46 ∷ (decimal c ++ (46 ∷ decimal d))))) (free_decimal byte a other (omega arith)) (

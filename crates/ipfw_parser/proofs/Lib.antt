@@ -9,3 +9,9 @@ pub mod WordsAgain
 pub mod DigitTexts
 pub mod PortsAgain
 pub mod AddressesAgain
+pub mod Following
+pub mod NumbersRead
+pub mod TypesAgain
+pub mod ItemsAgain
+pub mod Bits
+pub mod MasksAgain

@@ -1,5 +1,5 @@
 -- What is written in canonical form is read again.
-use Rattle.std.specs.Prelude.{◌≡◌, ℕ, ◌^◌, ◌<◌, ◌≤◌, false, ◌==◌, Ok, List, [], ◌∷◌, length, map}
+use Rattle.std.specs.Prelude.{◌≡◌, ℕ, ◌^◌, ◌<◌, ◌≤◌, false, ◌==◌, Ok, Some, List, [], ◌∷◌, ◌++◌, length, map, codes}
 use Rattle.std.specs.List.{AllByRecursion, join_with_byte}
 use Rattle.std.specs.Fmt.{decimal}
 use Rattle.fw_lex.specs.Words.{is_blank, words_of}
@@ -11,6 +11,16 @@ use Rattle.fw_rule.specs.Canonical.{range_text, network_text}
 use Rattle.fw_base.specs.Prefix.{Network, IsNetwork}
 use Rattle.ipfw_parser.specs.Addresses.{prefix}
 use Rattle.fw_rule.specs.WellFormed.{IsRange}
+use Rattle.fw_rule.specs.declared.addr_item.AddrItem.{AddrItem}
+use Rattle.fw_rule.specs.Canonical.{item_text, signed_names, bit_numbers, flag_names, option_names}
+use Rattle.ipfw_parser.specs.Lists.{signs, types}
+use Rattle.ipfw_parser.specs.Addresses.{items}
+use Rattle.ipfw_parser.specs.Forms.{IsItemForm, AreSigns}
+use Rattle.fw_rule.specs.Canonical.{rule_text}
+use Rattle.fw_rule.specs.declared.rule.Rule.{Rule}
+use Rattle.fw_rule.specs.declared.rule_draft.RuleDraft.{RuleDraft}
+use Rattle.fw_lex.specs.declared.token.Token.{Token}
+use Rattle.ipfw_parser.specs.Rules.{rule_in}
 
 -- a number in its range, written in decimal digits, is read as that number
 abbrev pub NumbersAreReadAgain : Type 0
@@ -39,3 +49,14 @@ PortListsAreReadAgain = (first : Ports) (others : List Ports) (column : ℕ) →
 -- a prefix in its canonical text is read as this prefix
 abbrev pub PrefixesAreReadAgain : Type 0
 PrefixesAreReadAgain = (n : Network) (column : ℕ) → IsNetwork n → n.address < 2 ^ 32 → prefix (record { column = column; text = network_text n }) ≡ Ok n
+
+-- a list of addresses, tables among them, in its canonical text is read as this list
+abbrev pub AddressListsAreReadAgain : Type 0
+AddressListsAreReadAgain = (first : AddrItem) (others : List AddrItem) (column : ℕ) → AllByRecursion IsItemForm (first ∷ others)
+    → items (record { column = column; text = join_with_byte 44 (map item_text (first ∷ others)) }) ≡ Ok (first ∷ others)
+
+-- TCP flags, IP options and ICMP types in their canonical text are read as the same masks
+pub record MasksAreReadAgain : Type 0 where
+  pub flags : (set clear column : ℕ) → AreSigns 6 set clear → signs flag_names (record { column = column; text = join_with_byte 44 (signed_names flag_names 0 set clear) }) ≡ Ok (record { set = set; clear = clear })
+  pub options : (set clear column : ℕ) → AreSigns 4 set clear → signs option_names (record { column = column; text = join_with_byte 44 (signed_names option_names 0 set clear) }) ≡ Ok (record { set = set; clear = clear })
+  pub icmp_types : (mask column : ℕ) → 0 < mask → mask < 2 ^ 32 → types (record { column = column; text = join_with_byte 44 (bit_numbers 32 0 mask) }) ≡ Ok mask

@@ -10,3 +10,4 @@ pub mod Views
 pub mod SignViews
 pub mod PlacedViews
 pub mod Laws
+pub mod Forms

@@ -1,4 +1,4 @@
-ghost use Rattle.ipfw_parser.specs.Laws.{NumbersAreReadAgain, PortListsAreReadAgain, PrefixesAreReadAgain, WordsAreReadAgain};
+ghost use Rattle.ipfw_parser.specs.Laws.{AddressListsAreReadAgain, MasksAreReadAgain, NumbersAreReadAgain, PortListsAreReadAgain, PrefixesAreReadAgain, WordsAreReadAgain};
 
 /// A number in its range, written in decimal digits, is read as that number.
 pub fn numbers_are_read_again()
@@ -18,4 +18,14 @@ pub fn port_lists_are_read_again()
 /// A prefix in its canonical text is read as this prefix.
 pub fn prefixes_are_read_again()
     ensures { PrefixesAreReadAgain }
+{}
+
+/// A list of addresses, tables among them, in its canonical text is read as this list.
+pub fn address_lists_are_read_again()
+    ensures { AddressListsAreReadAgain }
+{}
+
+/// TCP flags, IP options and ICMP types in their canonical text are read as the same masks.
+pub fn masks_are_read_again()
+    ensures { MasksAreReadAgain }
 {}
