@@ -13,5 +13,12 @@ pub mod Following
 pub mod NumbersRead
 pub mod TypesAgain
 pub mod ItemsAgain
+pub mod ItemsRead
+pub mod RulesRead
+pub mod Columns
+pub mod OptionsAgain
+pub mod RuleAgain
+pub mod SolidWords
+pub mod Again
 pub mod Bits
 pub mod MasksAgain

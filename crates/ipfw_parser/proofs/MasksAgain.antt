@@ -183,7 +183,7 @@ record IsGrown (n : ℕ) (masks out : Masks) : Type 0 where
 none_some : {A : Type 0} {P : Type 0} (x : A) → None ≡ Some x → P
 none_some x e = cc
 
-place_below : (names : List (List ℕ)) (text : List ℕ) (k : ℕ) → place names text ≡ Some k → k < length names
+pub place_below : (names : List (List ℕ)) (text : List ℕ) (k : ℕ) → place names text ≡ Some k → k < length names
 unfolding place
 place_below names text k e = elim (cases_lt (position_or_len (λ name. same text name) names) (length names)) [
   | inl h ↦

@@ -60,3 +60,24 @@ pub record MasksAreReadAgain : Type 0 where
   pub flags : (set clear column : ℕ) → AreSigns 6 set clear → signs flag_names (record { column = column; text = join_with_byte 44 (signed_names flag_names 0 set clear) }) ≡ Ok (record { set = set; clear = clear })
   pub options : (set clear column : ℕ) → AreSigns 4 set clear → signs option_names (record { column = column; text = join_with_byte 44 (signed_names option_names 0 set clear) }) ≡ Ok (record { set = set; clear = clear })
   pub icmp_types : (mask column : ℕ) → 0 < mask → mask < 2 ^ 32 → types (record { column = column; text = join_with_byte 44 (bit_numbers 32 0 mask) }) ≡ Ok mask
+
+-- the rule is the draft's, with a number, identity and counter of its own
+pub record IsRuleOf (draft : RuleDraft) (rule : Rule) : Type 0 where
+  pub number : rule.number ≤ 65535
+  pub set : rule.set ≡ draft.set
+  pub action : rule.action ≡ draft.action
+  pub log : rule.log ≡ draft.log
+  pub body : rule.body ≡ draft.body
+
+-- the draft that names the rule, identity and counter aside
+abbrev pub draft_of : Rule → RuleDraft
+draft_of rule = record { number = Some rule.number; set = rule.set; action = rule.action; log = rule.log; body = rule.body }
+
+-- a rule's canonical text as a command
+abbrev pub add_line : Rule → List ℕ
+add_line rule = codes "add " ++ rule_text rule
+
+-- each rule that the grammar yields, whatever its line, is read again from its canonical text behind `add`
+abbrev pub RulesAreReadAgain : Type 0
+RulesAreReadAgain = (line : List ℕ) (tokens : List Token) (skipped : ℕ) (draft : RuleDraft) (rule : Rule)
+    → rule_in line tokens skipped ≡ Ok draft → IsRuleOf draft rule → rule_in (add_line rule) (words_of (add_line rule)) 1 ≡ Ok (draft_of rule)
