@@ -19,6 +19,7 @@ pub mod Columns
 pub mod OptionsAgain
 pub mod RuleAgain
 pub mod SolidWords
+pub mod DraftsInRange
 pub mod Again
 pub mod Bits
 pub mod MasksAgain

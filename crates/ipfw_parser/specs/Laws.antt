@@ -1,5 +1,5 @@
 -- What is written in canonical form is read again.
-use Rattle.std.specs.Prelude.{◌≡◌, ℕ, ◌^◌, ◌<◌, ◌≤◌, false, ◌==◌, Ok, Some, List, [], ◌∷◌, ◌++◌, length, map, codes}
+use Rattle.std.specs.Prelude.{◌≡◌, ℕ, ◌^◌, ◌<◌, ◌≤◌, false, ◌==◌, Ok, Some, List, [], ◌∷◌, ◌++◌, length, map, codes, IfOk}
 use Rattle.std.specs.List.{AllByRecursion, join_with_byte}
 use Rattle.std.specs.Fmt.{decimal}
 use Rattle.fw_lex.specs.Words.{is_blank, words_of}
@@ -10,7 +10,7 @@ use Rattle.fw_base.specs.PortRange.{Ports}
 use Rattle.fw_rule.specs.Canonical.{range_text, network_text}
 use Rattle.fw_base.specs.Prefix.{Network, IsNetwork}
 use Rattle.ipfw_parser.specs.Addresses.{prefix}
-use Rattle.fw_rule.specs.WellFormed.{IsRange}
+use Rattle.fw_rule.specs.WellFormed.{IsRange, IsDraft}
 use Rattle.fw_rule.specs.declared.addr_item.AddrItem.{AddrItem}
 use Rattle.fw_rule.specs.Canonical.{item_text, signed_names, bit_numbers, flag_names, option_names}
 use Rattle.ipfw_parser.specs.Lists.{signs, types}
@@ -60,6 +60,10 @@ pub record MasksAreReadAgain : Type 0 where
   pub flags : (set clear column : ℕ) → AreSigns 6 set clear → signs flag_names (record { column = column; text = join_with_byte 44 (signed_names flag_names 0 set clear) }) ≡ Ok (record { set = set; clear = clear })
   pub options : (set clear column : ℕ) → AreSigns 4 set clear → signs option_names (record { column = column; text = join_with_byte 44 (signed_names option_names 0 set clear) }) ≡ Ok (record { set = set; clear = clear })
   pub icmp_types : (mask column : ℕ) → 0 < mask → mask < 2 ^ 32 → types (record { column = column; text = join_with_byte 44 (bit_numbers 32 0 mask) }) ≡ Ok mask
+
+-- each draft that the grammar yields is well formed
+abbrev pub DraftsAreWellFormed : Type 0
+DraftsAreWellFormed = (line : List ℕ) (tokens : List Token) (skipped : ℕ) → IfOk (rule_in line tokens skipped) IsDraft
 
 -- the rule is the draft's, with a number, identity and counter of its own
 pub record IsRuleOf (draft : RuleDraft) (rule : Rule) : Type 0 where

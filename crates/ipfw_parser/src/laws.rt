@@ -1,4 +1,4 @@
-ghost use Rattle.ipfw_parser.specs.Laws.{AddressListsAreReadAgain, MasksAreReadAgain, NumbersAreReadAgain, PortListsAreReadAgain, PrefixesAreReadAgain, RulesAreReadAgain, WordsAreReadAgain};
+ghost use Rattle.ipfw_parser.specs.Laws.{AddressListsAreReadAgain, DraftsAreWellFormed, MasksAreReadAgain, NumbersAreReadAgain, PortListsAreReadAgain, PrefixesAreReadAgain, RulesAreReadAgain, WordsAreReadAgain};
 
 /// A number in its range, written in decimal digits, is read as that number.
 pub fn numbers_are_read_again()
@@ -28,6 +28,11 @@ pub fn address_lists_are_read_again()
 /// TCP flags, IP options and ICMP types in their canonical text are read as the same masks.
 pub fn masks_are_read_again()
     ensures { MasksAreReadAgain }
+{}
+
+/// Each draft that the grammar yields is well formed.
+pub fn drafts_are_well_formed()
+    ensures { DraftsAreWellFormed }
 {}
 
 /// For every rule that the grammar yields, its canonical text behind `add` is read as the same rule.
