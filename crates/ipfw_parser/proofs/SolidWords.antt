@@ -214,7 +214,7 @@ ranges_word r rs form = record {
   bytes = all_joined IsSolid (map range_text (r ∷ rs)) comma (ranges_solid (r ∷ rs) form);
 }
 
-are_append : (front rest : Words) → AreWords front → AreWords rest → AreWords (front ++ rest)
+pub are_append : (front rest : Words) → AreWords front → AreWords rest → AreWords (front ++ rest)
 are_append [] rest p q = q
 are_append (word ∷ front) rest p q = (p.0, are_append front rest p.1 q)
 

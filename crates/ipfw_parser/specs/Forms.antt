@@ -18,6 +18,7 @@ use Rattle.fw_rule.specs.declared.opt.Opt.{Opt}
 use Rattle.fw_rule.specs.declared.state_opt.StateOpt.{StateOpt}
 use Rattle.fw_rule.specs.declared.body.Body.{Body}
 use Rattle.fw_rule.specs.declared.rule_draft.RuleDraft.{RuleDraft}
+use Rattle.fw_rule.specs.declared.rule.Rule.{Rule}
 use Rattle.ipfw_parser.specs.Reading.{same}
 use Rattle.ipfw_parser.specs.Names.{is_name}
 
@@ -83,3 +84,10 @@ pub record IsDraftForm (draft : RuleDraft) : Type 0 where
   pub set : IsSet draft.set
   pub action : IsAction draft.action
   pub rest : HasForm draft.action draft.log draft.body
+
+-- a rule that a draft in its form makes
+pub record IsRuleForm (rule : Rule) : Type 0 where
+  pub number : rule.number ≤ 65535
+  pub set : IsSet rule.set
+  pub action : IsAction rule.action
+  pub rest : HasForm rule.action rule.log rule.body

@@ -15,8 +15,8 @@ use Rattle.fw_rule.specs.declared.addr_item.AddrItem.{AddrItem}
 use Rattle.fw_rule.specs.Canonical.{item_text, signed_names, bit_numbers, flag_names, option_names}
 use Rattle.ipfw_parser.specs.Lists.{signs, types}
 use Rattle.ipfw_parser.specs.Addresses.{items}
-use Rattle.ipfw_parser.specs.Forms.{IsItemForm, AreSigns}
-use Rattle.fw_rule.specs.Canonical.{rule_text}
+use Rattle.ipfw_parser.specs.Forms.{IsItemForm, AreSigns, IsDraftForm, IsRuleForm}
+use Rattle.fw_rule.specs.Canonical.{rule_text, rule_words}
 use Rattle.fw_rule.specs.declared.rule.Rule.{Rule}
 use Rattle.fw_rule.specs.declared.rule_draft.RuleDraft.{RuleDraft}
 use Rattle.fw_lex.specs.declared.token.Token.{Token}
@@ -65,6 +65,28 @@ pub record MasksAreReadAgain : Type 0 where
 abbrev pub DraftsAreWellFormed : Type 0
 DraftsAreWellFormed = (line : List ℕ) (tokens : List Token) (skipped : ℕ) → IfOk (rule_in line tokens skipped) IsDraft
 
+-- each draft that the grammar yields is in its form: lists aren't empty, names have allowed bytes, masks no
+-- bit in common, networks no host bits
+abbrev pub DraftsAreInForm : Type 0
+DraftsAreInForm = (line : List ℕ) (tokens : List Token) (skipped : ℕ) → IfOk (rule_in line tokens skipped) IsDraftForm
+
+-- the draft that names the rule, identity and counter aside
+abbrev pub draft_of : Rule → RuleDraft
+draft_of rule = record { number = Some rule.number; set = rule.set; action = rule.action; log = rule.log; body = rule.body }
+
+-- a rule's canonical words behind other words
+abbrev pub line_behind : List (List ℕ) → Rule → List ℕ
+line_behind front rule = join_with_byte 32 (front ++ rule_words rule)
+
+-- a rule in its form is read again from its canonical words, whatever words stand before them
+abbrev pub RulesInFormAreReadAgain : Type 0
+RulesInFormAreReadAgain = (rule : Rule) (front : List (List ℕ)) → IsRuleForm rule → AllByRecursion IsWordText front
+    → rule_in (line_behind front rule) (words_of (line_behind front rule)) (length front) ≡ Ok (draft_of rule)
+
+-- two rules in their form with one canonical text are one rule, identity and counter aside
+abbrev pub TextsTellRulesApart : Type 0
+TextsTellRulesApart = (rule other : Rule) → IsRuleForm rule → IsRuleForm other → rule_text rule ≡ rule_text other → draft_of rule ≡ draft_of other
+
 -- the rule is the draft's, with a number, identity and counter of its own
 pub record IsRuleOf (draft : RuleDraft) (rule : Rule) : Type 0 where
   pub number : rule.number ≤ 65535
@@ -72,10 +94,6 @@ pub record IsRuleOf (draft : RuleDraft) (rule : Rule) : Type 0 where
   pub action : rule.action ≡ draft.action
   pub log : rule.log ≡ draft.log
   pub body : rule.body ≡ draft.body
-
--- the draft that names the rule, identity and counter aside
-abbrev pub draft_of : Rule → RuleDraft
-draft_of rule = record { number = Some rule.number; set = rule.set; action = rule.action; log = rule.log; body = rule.body }
 
 -- a rule's canonical text as a command
 abbrev pub add_line : Rule → List ℕ

@@ -1,4 +1,4 @@
-ghost use Rattle.ipfw_parser.specs.Laws.{AddressListsAreReadAgain, DraftsAreWellFormed, MasksAreReadAgain, NumbersAreReadAgain, PortListsAreReadAgain, PrefixesAreReadAgain, RulesAreReadAgain, WordsAreReadAgain};
+ghost use Rattle.ipfw_parser.specs.Laws.{AddressListsAreReadAgain, DraftsAreInForm, DraftsAreWellFormed, MasksAreReadAgain, NumbersAreReadAgain, PortListsAreReadAgain, PrefixesAreReadAgain, RulesAreReadAgain, RulesInFormAreReadAgain, TextsTellRulesApart, WordsAreReadAgain};
 
 /// A number in its range, written in decimal digits, is read as that number.
 pub fn numbers_are_read_again()
@@ -33,6 +33,22 @@ pub fn masks_are_read_again()
 /// Each draft that the grammar yields is well formed.
 pub fn drafts_are_well_formed()
     ensures { DraftsAreWellFormed }
+{}
+
+/// Each draft that the grammar yields is in its form: lists aren't empty, names have allowed bytes, masks
+/// have no bit in common, networks have no host bits.
+pub fn drafts_are_in_form()
+    ensures { DraftsAreInForm }
+{}
+
+/// A rule in its form is read again from its canonical words, whatever words stand before them.
+pub fn rules_in_form_are_read_again()
+    ensures { RulesInFormAreReadAgain }
+{}
+
+/// Two rules in their form with one canonical text are one rule, identity and counter aside.
+pub fn texts_tell_rules_apart()
+    ensures { TextsTellRulesApart }
 {}
 
 /// For every rule that the grammar yields, its canonical text behind `add` is read as the same rule.
