@@ -1,8 +1,9 @@
 -- Each rule that the grammar yields is read again.
-use Rattle.std.proofs.Common.{◌≡◌, ℕ, ◌≤◌, suc, Some, Ok, Result, List, [], ◌∷◌, ◌++◌, length, map, drop, codes, refl, sym, ap, ◌∙◌, subst}
-use Rattle.std.specs.List.{AllByRecursion, join_with_byte}
+use Rattle.std.proofs.Common.{◌≡◌, ℕ, ◌+◌, ◌≤◌, zero, suc, true, not, ◌==◌, if◌then◌else◌, position, unwrap_or, take, arith, Some, None, Ok, Result, List, [], ◌∷◌, ◌++◌, length, map, drop, codes, refl, sym, ap, ◌∙◌, subst}
+use Rattle.std.specs.List.{AllByRecursion, join_with_byte, position_or_len}
+use Rattle.std.proofs.lemmas.Bool.{le-ltb}
 use Rattle.fw_lex.specs.declared.token.Token.{Token}
-use Rattle.fw_lex.specs.Words.{words_of, before_comment}
+use Rattle.fw_lex.specs.Words.{words_of, before_comment, first_bad, is_readable}
 use Rattle.fw_rule.specs.Canonical.{rule_text, rule_words}
 use Rattle.fw_rule.specs.WellFormed.{IsAction}
 use Rattle.fw_rule.specs.declared.rule.Rule.{Rule}
@@ -10,11 +11,11 @@ use Rattle.fw_rule.specs.declared.rule_draft.RuleDraft.{RuleDraft}
 use Rattle.ipfw_parser.specs.Reading.{Word, Fault, word_of}
 use Rattle.ipfw_parser.specs.Rules.{rule, rule_in, end_column}
 use Rattle.ipfw_parser.specs.Forms.{HasForm, IsDraftForm, IsRuleForm}
-use Rattle.ipfw_parser.specs.Laws.{IsWordText, IsRuleOf, draft_of, add_line, line_behind, RulesAreReadAgain, RulesInFormAreReadAgain, TextsTellRulesApart}
+use Rattle.ipfw_parser.specs.Laws.{CanonicalTextsAreReadable, IsWordText, IsRuleOf, draft_of, add_line, line_behind, RulesAreReadAgain, RulesInFormAreReadAgain, TextsTellRulesApart}
 use Rattle.ipfw_parser.proofs.Following.{of_ok}
 use Rattle.ipfw_parser.proofs.WordsAgain.{words_again}
 use Rattle.ipfw_parser.proofs.Columns.{at_columns, columns_of, words_are}
-use Rattle.ipfw_parser.proofs.SolidWords.{are_append, rule_are, add_word}
+use Rattle.ipfw_parser.proofs.SolidWords.{words_append, words_of_good, readable_joined, rule_are, add_word}
 use Rattle.ipfw_parser.proofs.RuleAgain.{rule_again}
 use Rattle.ipfw_parser.proofs.RulesRead.{rule_in_on}
 
@@ -45,7 +46,7 @@ read_behind front texts words =
 pub form_again : RulesInFormAreReadAgain
 form_again r front form words =
     let line : List ℕ = line_behind front r in
-    read_behind front (rule_words r) (are_append front (rule_words r) words (rule_are r form.number form.set form.action form.rest))
+    read_behind front (rule_words r) (words_append front (rule_words r) words (words_of_good (rule_words r) (rule_are r form.number form.set form.action form.rest)))
     ∙ rule_again r (columns_of (map (word_of line) (words_of line))) (end_column (length (before_comment line)) (words_of line)) form.number form.set form.action form.rest
 
 add_is : (r : Rule) → add_line r ≡ line_behind (codes "add" ∷ []) r
@@ -54,7 +55,34 @@ add_is r = refl
 
 -- a rule in its form is read again from its canonical text behind `add`
 line_again : (r : Rule) → IsRuleForm r → rule_in (add_line r) (words_of (add_line r)) 1 ≡ Ok (draft_of r)
-line_again r form = ap (λ l. rule_in l (words_of l) 1) (add_is r) ∙ form_again r (codes "add" ∷ []) form (add_word, tt)
+line_again r form = ap (λ l. rule_in l (words_of l) 1) (add_is r) ∙ form_again r (codes "add" ∷ []) form (words_of_good (codes "add" ∷ []) (add_word, tt))
+
+all_take : (P : ℕ → Type 0) (n : ℕ) (text : List ℕ) → AllByRecursion P text → AllByRecursion P (take n text)
+all_take P zero text all = tt
+all_take P (suc n) [] all = tt
+all_take P (suc n) (b ∷ text) all = (all.0, all_take P n text all.1)
+
+one_plus : (n : ℕ) → 1 + n ≡ suc n
+one_plus n = omega arith
+
+bad_place : (text : List ℕ) → AllByRecursion (λ b. is_readable b ≡ true) text → position_or_len (λ b. not (is_readable b)) text ≡ length text
+bad_place [] all = refl
+bad_place (b ∷ text) all =
+    ap (λ t. if not (not t) then 1 + position_or_len (λ x. not (is_readable x)) text else 0) all.0 ∙ ap (λ n. 1 + n) (bad_place text all.1) ∙ one_plus (length text)
+
+none_bad : (text : List ℕ) → AllByRecursion (λ b. is_readable b ≡ true) text → first_bad text ≡ None
+unfolding first_bad
+none_bad text all =
+    ap (λ t. if t then Some (position_or_len (λ (b : ℕ). not (is_readable b)) text) else None) (le-ltb (position_or_len (λ b. not (is_readable b)) text) (length text) (omega (arith, bad_place text all)))
+
+read_part : (line : List ℕ) → AllByRecursion (λ b. is_readable b ≡ true) line → first_bad (before_comment line) ≡ None
+unfolding before_comment
+read_part line all = none_bad (take (unwrap_or (position (λ byte. byte == 35) line) (length line)) line) (all_take (λ b. is_readable b ≡ true) (unwrap_or (position (λ byte. byte == 35) line) (length line)) line all)
+
+pub readable : CanonicalTextsAreReadable
+readable r form =
+    ap (λ line. first_bad (before_comment line)) (add_is r)
+    ∙ read_part (line_behind (codes "add" ∷ []) r) (readable_joined (codes "add" ∷ rule_words r) (add_word, rule_are r form.number form.set form.action form.rest))
 
 one_value : (d e : RuleDraft) → (let r : Result RuleDraft Fault = Ok d in r) ≡ Ok e → d ≡ e
 one_value d e same = cc

@@ -3,9 +3,10 @@ use Rattle.std.proofs.Common.{◌≡◌, ℕ, ◌+◌, ◌/◌, ◌%◌, ◌^◌
 use Rattle.std.specs.Prelude.{IfSome, ⊤, slice_get}
 use Rattle.std.specs.List.{AllByRecursion, join_with_byte, list_all, flat_map}
 use Rattle.std.specs.Fmt.{decimal}
-use Rattle.std.proofs.lemmas.Bool.Decides.{eqb_tells}
+use Rattle.std.proofs.lemmas.Bool.Decides.{eqb_tells, nat_tests}
+use Rattle.std.proofs.lemmas.Bool.{le-leb}
 use Rattle.std.proofs.lemmas.Fmt.{decimal_nonempty}
-use Rattle.fw_lex.specs.Words.{is_blank}
+use Rattle.fw_lex.specs.Words.{is_blank, is_readable}
 use Rattle.fw_base.specs.Prefix.{Network}
 use Rattle.fw_base.specs.Addr.{address_text}
 use Rattle.fw_base.specs.PortRange.{Ports}
@@ -52,30 +53,65 @@ use Rattle.ipfw_parser.proofs.OptionsAgain.{name_some}
 clash : {A : Type 0} (b : Bool) → b ≡ true → b ≡ false → A
 clash b told other = cc
 
+-- a byte of a word that may stand in a script
+pub record IsGood (byte : ℕ) : Type 0 where
+  pub solid : IsSolid byte
+  pub readable : is_readable byte ≡ true
+
+pub record IsGoodWord (text : List ℕ) : Type 0 where
+  pub some : 0 < length text
+  pub bytes : AllByRecursion IsGood text
+
+solid_all : (text : List ℕ) → AllByRecursion IsGood text → AllByRecursion IsSolid text
+solid_all [] good = tt
+solid_all (b ∷ text) good = (good.0.solid, solid_all text good.1)
+
+readable_all : (text : List ℕ) → AllByRecursion IsGood text → AllByRecursion (λ b. is_readable b ≡ true) text
+readable_all [] good = tt
+readable_all (b ∷ text) good = (good.0.readable, readable_all text good.1)
+
+pub words_of_good : (texts : Words) → AllByRecursion IsGoodWord texts → AllByRecursion IsWordText texts
+words_of_good [] good = tt
+words_of_good (text ∷ texts) good = (record { some = good.0.some; bytes = solid_all text good.0.bytes }, words_of_good texts good.1)
+
+pub readable_joined : (texts : Words) → AllByRecursion IsGoodWord texts → AllByRecursion (λ b. is_readable b ≡ true) (join_with_byte 32 texts)
+readable_joined [] good = tt
+readable_joined (text ∷ []) good = readable_all text good.0.bytes
+readable_joined (text ∷ next ∷ texts) good = all_append (λ b. is_readable b ≡ true) text (32 ∷ join_with_byte 32 (next ∷ texts)) (readable_all text good.0.bytes) (refl, readable_joined (next ∷ texts) good.1)
+
+pub words_append : (front rest : Words) → AllByRecursion IsWordText front → AllByRecursion IsWordText rest → AllByRecursion IsWordText (front ++ rest)
+words_append [] rest p q = q
+words_append (word ∷ front) rest p q = (p.0, words_append front rest p.1 q)
+
+le_of : (a b : ℕ) → nat_le a b ≡ true → a ≤ b
+le_of a b told = grind (arith, nat_tests)
+
 abbrev IsSolidText : List ℕ → Type 0
-IsSolidText text = AllByRecursion IsSolid text
+IsSolidText text = AllByRecursion IsGood text
 
 abbrev AreWords : Words → Type 0
-AreWords words = AllByRecursion IsWordText words
+AreWords words = AllByRecursion IsGoodWord words
 
 is_solid : ℕ → Bool
-is_solid b = not (is_blank b || b == 35)
+is_solid b = not (is_blank b || b == 35) && is_readable b
 
 neither : (x y : Bool) → not (x || y) ≡ true → (x ≡ false) × (y ≡ false)
 neither true y e = clash false e refl
 neither false true e = clash false e refl
 neither false false e = (refl, refl)
 
-solid_byte : (b : ℕ) → is_solid b ≡ true → IsSolid b
+solid_byte : (b : ℕ) → is_solid b ≡ true → IsGood b
 unfolding is_solid
-solid_byte b told = let both = neither (is_blank b) (b == 35) told in record { solid = both.0; plain = both.1 }
+solid_byte b told =
+    let both = both_true (not (is_blank b || b == 35)) (is_readable b) told in let parts = neither (is_blank b) (b == 35) both.0 in
+    record { solid = record { solid = parts.0; plain = parts.1 }; readable = both.1 }
 
 solid_text : (text : List ℕ) → list_all is_solid text ≡ true → IsSolidText text
 solid_text [] told = tt
 solid_text (b ∷ text) told = let both = both_true (is_solid b) (list_all is_solid text) told in (solid_byte b both.0, solid_text text both.1)
 
 -- a fixed word
-fixed : (b : ℕ) (text : List ℕ) → list_all is_solid (b ∷ text) ≡ true → IsWordText (b ∷ text)
+fixed : (b : ℕ) (text : List ℕ) → list_all is_solid (b ∷ text) ≡ true → IsGoodWord (b ∷ text)
 fixed b text told = record { some = omega arith; bytes = solid_text (b ∷ text) told }
 
 apart : (test : ℕ → Bool) (b byte : ℕ) → test b ≡ true → test byte ≡ false → b == byte ≡ false
@@ -84,56 +120,76 @@ apart test b byte told other = elim (eqb_tells b byte) [
   | inr h ↦ h.0
 ]
 
-solid_by : (test : ℕ → Bool) (b : ℕ) → test b ≡ true → test 32 ≡ false → test 9 ≡ false → test 13 ≡ false → test 35 ≡ false → IsSolid b
-solid_by test b told space tab return mark = record {
-  solid = rw (apart test b 32 told space, apart test b 9 told tab, apart test b 13 told return) refl;
-  plain = apart test b 35 told mark;
+solid_by : (test : ℕ → Bool) (b : ℕ) → test b ≡ true → ((n : ℕ) → test n ≡ true → is_readable n ≡ true) → test 32 ≡ false → test 9 ≡ false → test 13 ≡ false → test 35 ≡ false → IsGood b
+solid_by test b told readable space tab return hash = record {
+  solid = record {
+    solid = rw (apart test b 32 told space, apart test b 9 told tab, apart test b 13 told return) refl;
+    plain = apart test b 35 told hash;
+  };
+  readable = readable b told;
 }
 
-all_by : (test : ℕ → Bool) (text : List ℕ) → list_all test text ≡ true → test 32 ≡ false → test 9 ≡ false → test 13 ≡ false → test 35 ≡ false → IsSolidText text
-all_by test [] told space tab return mark = tt
-all_by test (b ∷ text) told space tab return mark =
-    let both = both_true (test b) (list_all test text) told in (solid_by test b both.0 space tab return mark, all_by test text both.1 space tab return mark)
+all_by : (test : ℕ → Bool) (text : List ℕ) → list_all test text ≡ true → ((n : ℕ) → test n ≡ true → is_readable n ≡ true) → test 32 ≡ false → test 9 ≡ false → test 13 ≡ false → test 35 ≡ false → IsSolidText text
+all_by test [] told readable space tab return hash = tt
+all_by test (b ∷ text) told readable space tab return hash =
+    let both = both_true (test b) (list_all test text) told in (solid_by test b both.0 readable space tab return hash, all_by test text both.1 readable space tab return hash)
+
+readable_of : (b : ℕ) → 32 ≤ b → b ≤ 126 → is_readable b ≡ true
+readable_of b low high = rw (le-leb 32 b low, le-leb b 126 high) refl
+
+digit_readable : (b : ℕ) → is_digit b ≡ true → is_readable b ≡ true
+digit_readable b told = let both = both_true (nat_le 48 b) (nat_le b 57) told in readable_of b (omega (arith, le_of 48 b both.0)) (omega (arith, le_of b 57 both.1))
+
+name_readable : (b : ℕ) → is_name_byte b ≡ true → is_readable b ≡ true
+unfolding is_name_byte
+name_readable b told = let low : 32 ≤ b = grind (arith, nat_tests) in let high : b ≤ 126 = grind (arith, nat_tests) in readable_of b low high
 
 solid_digits : (text : List ℕ) → list_all is_digit text ≡ true → IsSolidText text
-solid_digits text told = all_by is_digit text told refl refl refl refl
+solid_digits text told = all_by is_digit text told digit_readable refl refl refl refl
 
 solid_decimal : (n : ℕ) → n < 2 ^ 32 → IsSolidText (decimal n)
 solid_decimal n small = solid_digits (decimal n) (all_digits n small)
 
-decimal_word : (n : ℕ) → n < 2 ^ 32 → IsWordText (decimal n)
+decimal_word : (n : ℕ) → n < 2 ^ 32 → IsGoodWord (decimal n)
 decimal_word n small = record { some = decimal_nonempty n (omega arith); bytes = solid_decimal n small }
 
 solid_name : (most : ℕ) (name : List ℕ) → is_name most name ≡ true → IsSolidText name
 unfolding is_name_byte
-solid_name most name told = all_by is_name_byte name (name_bytes most name told) refl refl refl refl
+solid_name most name told = all_by is_name_byte name (name_bytes most name told) name_readable refl refl refl refl
 
-name_word : (most : ℕ) (name : List ℕ) → is_name most name ≡ true → IsWordText name
+name_word : (most : ℕ) (name : List ℕ) → is_name most name ≡ true → IsGoodWord name
 name_word most name told = record { some = name_some most name told; bytes = solid_name most name told }
 
-five_word : (n : ℕ) → n ≤ 65535 → IsWordText (five_digits n)
+five_word : (n : ℕ) → n ≤ 65535 → IsGoodWord (five_digits n)
 five_word n small = record { some = five_some n small; bytes = solid_digits (five_digits n) (five_all n small) }
 
-comma : IsSolid 44
-comma = record { solid = refl; plain = refl }
+comma : IsGood 44
+unfolding is_solid
+comma = solid_byte 44 refl
 
-dot : IsSolid 46
-dot = record { solid = refl; plain = refl }
+dot : IsGood 46
+unfolding is_solid
+dot = solid_byte 46 refl
 
-slash : IsSolid 47
-slash = record { solid = refl; plain = refl }
+slash : IsGood 47
+unfolding is_solid
+slash = solid_byte 47 refl
 
-dash : IsSolid 45
-dash = record { solid = refl; plain = refl }
+dash : IsGood 45
+unfolding is_solid
+dash = solid_byte 45 refl
 
-close : IsSolid 41
-close = record { solid = refl; plain = refl }
+close : IsGood 41
+unfolding is_solid
+close = solid_byte 41 refl
 
-mark : IsSolid 33
-mark = record { solid = refl; plain = refl }
+mark : IsGood 33
+unfolding is_solid
+mark = solid_byte 33 refl
 
-star : IsSolid 42
-star = record { solid = refl; plain = refl }
+star : IsGood 42
+unfolding is_solid
+star = solid_byte 42 refl
 
 apart_results : {X A : Type 0} (r : Result X Fault) (x : X) (e : Fault) → r ≡ Err e → r ≡ Ok x → A
 apart_results r x e failed ok = cc
@@ -146,15 +202,15 @@ some_text read column (b ∷ text) x e failed ok = omega arith
 four : (a b c d : ℕ) → a < 256 → b < 256 → c < 256 → d < 256 → IsSolidText (dots a b c d)
 unfolding dots
 four a b c d sa sb sc sd =
-    all_append IsSolid (decimal a) (46 ∷ (decimal b ++ (46 ∷ (decimal c ++ (46 ∷ decimal d))))) (solid_decimal a (omega arith)) (
+    all_append IsGood (decimal a) (46 ∷ (decimal b ++ (46 ∷ (decimal c ++ (46 ∷ decimal d))))) (solid_decimal a (omega arith)) (
       dot,
-      all_append IsSolid (decimal b) (46 ∷ (decimal c ++ (46 ∷ decimal d))) (solid_decimal b (omega arith)) (dot, all_append IsSolid (decimal c) (46 ∷ decimal d) (solid_decimal c (omega arith)) (dot, solid_decimal d (omega arith))),
+      all_append IsGood (decimal b) (46 ∷ (decimal c ++ (46 ∷ decimal d))) (solid_decimal b (omega arith)) (dot, all_append IsGood (decimal c) (46 ∷ decimal d) (solid_decimal c (omega arith)) (dot, solid_decimal d (omega arith))),
     )
 
 network_solid : (n : Network) → n.bits ≤ 32 → IsSolidText (network_text n)
 unfolding network_text
 network_solid n small =
-    all_append IsSolid (address_text n.address) (if n.bits == 32 then [] else 47 ∷ decimal n.bits)
+    all_append IsGood (address_text n.address) (if n.bits == 32 then [] else 47 ∷ decimal n.bits)
     (subst IsSolidText (sym (text_is n.address)) (four (n.address / 2 ^ 24 % 256) (n.address / 2 ^ 16 % 256) (n.address / 2 ^ 8 % 256) (n.address % 256) (omega arith) (omega arith) (omega arith) (omega arith)))
     (elim (n.bits == 32) as (λ b. IsSolidText (if b then [] else 47 ∷ decimal n.bits)) [ true ↦ tt | false ↦ (slash, solid_decimal n.bits (omega arith)) ])
 
@@ -163,12 +219,12 @@ unfolding is_solid
 item_solid Any form = solid_text (codes "any") refl
 item_solid Me form = solid_text (codes "me") refl
 item_solid (Net n) form = network_solid n form.0.within
-item_solid (InTable name) form = all_append IsSolid (codes "table(") (name ++ codes ")") (solid_text (codes "table(") refl) (all_append IsSolid name (codes ")") (solid_name 63 name form) (close, tt))
+item_solid (InTable name) form = all_append IsGood (codes "table(") (name ++ codes ")") (solid_text (codes "table(") refl) (all_append IsGood name (codes ")") (solid_name 63 name form) (close, tt))
 item_solid (TableValue name value) form =
-    all_append IsSolid (codes "table(") (name ++ (codes "," ++ (decimal value ++ codes ")"))) (solid_text (codes "table(") refl)
-    (all_append IsSolid name (codes "," ++ (decimal value ++ codes ")")) (solid_name 63 name form.0) (comma, all_append IsSolid (decimal value) (codes ")") (solid_decimal value (omega (arith, form.1))) (close, tt)))
+    all_append IsGood (codes "table(") (name ++ (codes "," ++ (decimal value ++ codes ")"))) (solid_text (codes "table(") refl)
+    (all_append IsGood name (codes "," ++ (decimal value ++ codes ")")) (solid_name 63 name form.0) (comma, all_append IsGood (decimal value) (codes ")") (solid_decimal value (omega (arith, form.1))) (close, tt)))
 
-items_solid : (xs : List AddrItem) → AllByRecursion IsItemForm xs → AllOver IsSolid (map item_text xs)
+items_solid : (xs : List AddrItem) → AllByRecursion IsItemForm xs → AllOver IsGood (map item_text xs)
 items_solid [] form = tt
 items_solid (x ∷ xs) form = (item_solid x form.0, items_solid xs form.1)
 
@@ -192,29 +248,29 @@ no_types : (column : ℕ) → types (record { column = column; text = [] }) ≡ 
 unfolding types type_mask elements number decimal_of
 no_types column = refl
 
-items_word : (x : AddrItem) (xs : List AddrItem) → AllByRecursion IsItemForm (x ∷ xs) → IsWordText (join_with_byte 44 (map item_text (x ∷ xs)))
+items_word : (x : AddrItem) (xs : List AddrItem) → AllByRecursion IsItemForm (x ∷ xs) → IsGoodWord (join_with_byte 44 (map item_text (x ∷ xs)))
 items_word x xs form = record {
   some = some_text items 0 (join_with_byte 44 (map item_text (x ∷ xs))) (x ∷ xs) _ (no_items 0) (items_again x xs 0 form);
-  bytes = all_joined IsSolid (map item_text (x ∷ xs)) comma (items_solid (x ∷ xs) form);
+  bytes = all_joined IsGood (map item_text (x ∷ xs)) comma (items_solid (x ∷ xs) form);
 }
 
 range_solid : (r : Ports) → IsRange r → IsSolidText (range_text r)
 unfolding range_text
 range_solid r form =
-    all_append IsSolid (decimal r.low) (if r.low == r.high then [] else 45 ∷ decimal r.high) (solid_decimal r.low (omega (arith, form.0, form.1)))
+    all_append IsGood (decimal r.low) (if r.low == r.high then [] else 45 ∷ decimal r.high) (solid_decimal r.low (omega (arith, form.0, form.1)))
     (elim (r.low == r.high) as (λ b. IsSolidText (if b then [] else 45 ∷ decimal r.high)) [ true ↦ tt | false ↦ (dash, solid_decimal r.high (omega (arith, form.1))) ])
 
-ranges_solid : (rs : List Ports) → AllByRecursion IsRange rs → AllOver IsSolid (map range_text rs)
+ranges_solid : (rs : List Ports) → AllByRecursion IsRange rs → AllOver IsGood (map range_text rs)
 ranges_solid [] form = tt
 ranges_solid (r ∷ rs) form = (range_solid r form.0, ranges_solid rs form.1)
 
-ranges_word : (r : Ports) (rs : List Ports) → AllByRecursion IsRange (r ∷ rs) → IsWordText (join_with_byte 44 (map range_text (r ∷ rs)))
+ranges_word : (r : Ports) (rs : List Ports) → AllByRecursion IsRange (r ∷ rs) → IsGoodWord (join_with_byte 44 (map range_text (r ∷ rs)))
 ranges_word r rs form = record {
   some = some_text ranges 0 (join_with_byte 44 (map range_text (r ∷ rs))) (r ∷ rs) _ (no_ranges 0) (ranges_again r rs 0 form);
-  bytes = all_joined IsSolid (map range_text (r ∷ rs)) comma (ranges_solid (r ∷ rs) form);
+  bytes = all_joined IsGood (map range_text (r ∷ rs)) comma (ranges_solid (r ∷ rs) form);
 }
 
-pub are_append : (front rest : Words) → AreWords front → AreWords rest → AreWords (front ++ rest)
+are_append : (front rest : Words) → AreWords front → AreWords rest → AreWords (front ++ rest)
 are_append [] rest p q = q
 are_append (word ∷ front) rest p q = (p.0, are_append front rest p.1 q)
 
@@ -235,46 +291,46 @@ ports_are : (ports : Option PortList) → ArePorts ports → AreWords (port_word
 ports_are None form = tt
 ports_are (Some ports) form = ranges_are ports.negated ports.ranges form
 
-flags_solid : AllOver IsSolid flag_names
+flags_solid : AllOver IsGood flag_names
 unfolding flag_names is_solid
 flags_solid = (solid_text (codes "fin") refl, (solid_text (codes "syn") refl, (solid_text (codes "rst") refl, (solid_text (codes "psh") refl, (solid_text (codes "ack") refl, (solid_text (codes "urg") refl, tt))))))
 
-options_solid : AllOver IsSolid option_names
+options_solid : AllOver IsGood option_names
 unfolding option_names is_solid
 options_solid = (solid_text (codes "ssrr") refl, (solid_text (codes "lsrr") refl, (solid_text (codes "rr") refl, (solid_text (codes "ts") refl, tt))))
 
-flags_word : (set clear : ℕ) → AreSigns 6 set clear → IsWordText (join_with_byte 44 (signed_names flag_names 0 set clear))
+flags_word : (set clear : ℕ) → AreSigns 6 set clear → IsGoodWord (join_with_byte 44 (signed_names flag_names 0 set clear))
 flags_word set clear form = record {
   some = some_text (signs flag_names) 0 (join_with_byte 44 (signed_names flag_names 0 set clear)) (record { set = set; clear = clear }) _ (no_flags 0) (flags_again set clear 0 form);
-  bytes = all_joined IsSolid (signed_names flag_names 0 set clear) comma (names_all IsSolid flag_names 0 set clear mark flags_solid);
+  bytes = all_joined IsGood (signed_names flag_names 0 set clear) comma (names_all IsGood flag_names 0 set clear mark flags_solid);
 }
 
-ip_options_word : (set clear : ℕ) → AreSigns 4 set clear → IsWordText (join_with_byte 44 (signed_names option_names 0 set clear))
+ip_options_word : (set clear : ℕ) → AreSigns 4 set clear → IsGoodWord (join_with_byte 44 (signed_names option_names 0 set clear))
 ip_options_word set clear form = record {
   some = some_text (signs option_names) 0 (join_with_byte 44 (signed_names option_names 0 set clear)) (record { set = set; clear = clear }) _ (no_options 0) (ip_options_again set clear 0 form);
-  bytes = all_joined IsSolid (signed_names option_names 0 set clear) comma (names_all IsSolid option_names 0 set clear mark options_solid);
+  bytes = all_joined IsGood (signed_names option_names 0 set clear) comma (names_all IsGood option_names 0 set clear mark options_solid);
 }
 
-types_word : (mask : ℕ) → 0 < mask → mask < 2 ^ 32 → IsWordText (join_with_byte 44 (bit_numbers 32 0 mask))
+types_word : (mask : ℕ) → 0 < mask → mask < 2 ^ 32 → IsGoodWord (join_with_byte 44 (bit_numbers 32 0 mask))
 types_word mask some small = record {
   some = some_text types 0 (join_with_byte 44 (bit_numbers 32 0 mask)) mask _ (no_types 0) (types_again mask 0 some small);
-  bytes = all_joined IsSolid (bit_numbers 32 0 mask) comma (bits_all IsSolid 32 0 mask (λ i less. solid_decimal i (omega (arith, less))));
+  bytes = all_joined IsGood (bit_numbers 32 0 mask) comma (bits_all IsGood 32 0 mask (λ i less. solid_decimal i (omega (arith, less))));
 }
 
-iface_word : (i : Iface) → IsIfaceForm i → IsWordText (iface_text i)
+iface_word : (i : Iface) → IsIfaceForm i → IsGoodWord (iface_text i)
 unfolding is_solid
 iface_word AnyIface form = fixed _ _ refl
 iface_word (Exact name) form = name_word 15 name form.0
-iface_word (Begins name) form = record { some = omega (arith, length-append name (42 ∷ [])); bytes = all_append IsSolid name (codes "*") (solid_name 15 name form) (star, tt) }
+iface_word (Begins name) form = record { some = omega (arith, length-append name (42 ∷ [])); bytes = all_append IsGood name (codes "*") (solid_name 15 name form) (star, tt) }
 
-field_is : (f : Field) → IsWordText (field_word f)
+field_is : (f : Field) → IsGoodWord (field_word f)
 unfolding is_solid
 field_is SrcIp = fixed _ _ refl
 field_is DstIp = fixed _ _ refl
 field_is SrcPortField = fixed _ _ refl
 field_is DstPortField = fixed _ _ refl
 
-mask_is : (m : LimitMask) → IsWordText (mask_word m)
+mask_is : (m : LimitMask) → IsGoodWord (mask_word m)
 unfolding is_solid
 mask_is SrcAddr = fixed _ _ refl
 mask_is SrcPort = fixed _ _ refl
@@ -322,20 +378,20 @@ placed_are os made at form =
     are_append (flat_map option_words (take at os)) (state_words made ++ flat_map option_words (drop at os)) (options_are (take at os) (all_take at os form.each))
     (are_append (state_words made) (flat_map option_words (drop at os)) (state_are made form.state) (options_are (drop at os) (all_drop at os form.each)))
 
-choose : (b : Bool) (text other : List ℕ) → IsWordText text → IsWordText other → IsWordText (if b then text else other)
+choose : (b : Bool) (text other : List ℕ) → IsGoodWord text → IsGoodWord other → IsGoodWord (if b then text else other)
 choose true text other p q = p
 choose false text other p q = q
 
-protocol_is : (n : ℕ) → n ≤ 255 → IsWordText (protocol_word n)
+protocol_is : (n : ℕ) → n ≤ 255 → IsGoodWord (protocol_word n)
 unfolding protocol_word is_solid
 protocol_is n small =
     choose (n == 0) (codes "ip") _ (fixed _ _ refl) (choose (n == 1) (codes "icmp") _ (fixed _ _ refl) (choose (n == 6) (codes "tcp") _ (fixed _ _ refl) (choose (n == 17) (codes "udp") (decimal n) (fixed _ _ refl) (decimal_word n (omega arith)))))
 
-from_word : IsWordText (codes "from")
+from_word : IsGoodWord (codes "from")
 unfolding is_solid
 from_word = fixed _ _ refl
 
-to_word : IsWordText (codes "to")
+to_word : IsGoodWord (codes "to")
 unfolding is_solid
 to_word = fixed _ _ refl
 
@@ -356,12 +412,12 @@ names_are = (
   (fixed _ _ refl, (fixed _ _ refl, (fixed _ _ refl, (fixed _ _ refl, (fixed _ _ refl, (fixed _ _ refl, (fixed _ _ refl, (fixed _ _ refl, (fixed _ _ refl, (fixed _ _ refl, (fixed _ _ refl, (fixed _ _ refl, (fixed _ _ refl, (fixed _ _ refl, (fixed _ _ refl, tt))))))))))))))),
 )
 
-entry_is : (names : Words) (k : ℕ) (other : List ℕ) → AreWords names → IsWordText other → IsWordText (unwrap_or (slice_get names k) other)
+entry_is : (names : Words) (k : ℕ) (other : List ℕ) → AreWords names → IsGoodWord other → IsGoodWord (unwrap_or (slice_get names k) other)
 entry_is [] k other all last = last
 entry_is (name ∷ names) zero other all last = all.0
 entry_is (name ∷ names) (suc k) other all last = entry_is names k other all.1 last
 
-code_is : (n : ℕ) → n ≤ 255 → IsWordText (code_word n)
+code_is : (n : ℕ) → n ≤ 255 → IsGoodWord (code_word n)
 unfolding code_word
 code_is n small = entry_is unreach_names n (decimal n) names_are (decimal_word n (omega arith))
 
@@ -414,13 +470,13 @@ rest_are Return logged None form = absurd form
 rest_are Return logged (Some b) form = behind_are logged b form
 
 -- the words of a rule are words
-pub rule_are : (r : Rule) → r.number ≤ 65535 → r.set ≤ 31 → IsAction r.action → HasForm r.action r.log r.body → AllByRecursion IsWordText (rule_words r)
+pub rule_are : (r : Rule) → r.number ≤ 65535 → r.set ≤ 31 → IsAction r.action → HasForm r.action r.log r.body → AllByRecursion IsGoodWord (rule_words r)
 rule_are r small in_set good form = (
   five_word r.number small,
   are_append (set_words r.set) (action_words r.action ++ (log_words r.log ++ optional_body r.body)) (set_are r.set in_set)
       (are_append (action_words r.action) (log_words r.log ++ optional_body r.body) (action_are r.action good) (rest_are r.action r.log r.body form)),
 )
 
-pub add_word : IsWordText (codes "add")
+pub add_word : IsGoodWord (codes "add")
 unfolding is_solid
 add_word = fixed _ _ refl

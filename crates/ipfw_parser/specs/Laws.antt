@@ -1,8 +1,8 @@
 -- What is written in canonical form is read again.
-use Rattle.std.specs.Prelude.{◌≡◌, ℕ, ◌^◌, ◌<◌, ◌≤◌, false, ◌==◌, Ok, Some, List, [], ◌∷◌, ◌++◌, length, map, codes, IfOk}
+use Rattle.std.specs.Prelude.{◌≡◌, ℕ, ◌^◌, ◌<◌, ◌≤◌, false, ◌==◌, Ok, Some, None, List, [], ◌∷◌, ◌++◌, length, map, codes, IfOk}
 use Rattle.std.specs.List.{AllByRecursion, join_with_byte}
 use Rattle.std.specs.Fmt.{decimal}
-use Rattle.fw_lex.specs.Words.{is_blank, words_of}
+use Rattle.fw_lex.specs.Words.{is_blank, words_of, before_comment, first_bad}
 use Rattle.ipfw_parser.specs.Reading.{Word, word_of}
 use Rattle.ipfw_parser.specs.Numbers.{number}
 use Rattle.ipfw_parser.specs.Ports.{ranges}
@@ -103,3 +103,7 @@ add_line rule = codes "add " ++ rule_text rule
 abbrev pub RulesAreReadAgain : Type 0
 RulesAreReadAgain = (line : List ℕ) (tokens : List Token) (skipped : ℕ) (draft : RuleDraft) (rule : Rule)
     → rule_in line tokens skipped ≡ Ok draft → IsRuleOf draft rule → rule_in (add_line rule) (words_of (add_line rule)) 1 ≡ Ok (draft_of rule)
+
+-- no byte of it is one that may not stand in a script
+abbrev pub CanonicalTextsAreReadable : Type 0
+CanonicalTextsAreReadable = (rule : Rule) → IsRuleForm rule → first_bad (before_comment (add_line rule)) ≡ None

@@ -1,4 +1,4 @@
-ghost use Rattle.ipfw_parser.specs.Laws.{AddressListsAreReadAgain, DraftsAreInForm, DraftsAreWellFormed, MasksAreReadAgain, NumbersAreReadAgain, PortListsAreReadAgain, PrefixesAreReadAgain, RulesAreReadAgain, RulesInFormAreReadAgain, TextsTellRulesApart, WordsAreReadAgain};
+ghost use Rattle.ipfw_parser.specs.Laws.{AddressListsAreReadAgain, CanonicalTextsAreReadable, DraftsAreInForm, DraftsAreWellFormed, MasksAreReadAgain, NumbersAreReadAgain, PortListsAreReadAgain, PrefixesAreReadAgain, RulesAreReadAgain, RulesInFormAreReadAgain, TextsTellRulesApart, WordsAreReadAgain};
 
 /// A number in its range, written in decimal digits, is read as that number.
 pub fn numbers_are_read_again()
@@ -49,6 +49,11 @@ pub fn rules_in_form_are_read_again()
 /// Two rules in their form with one canonical text are one rule, identity and counter aside.
 pub fn texts_tell_rules_apart()
     ensures { TextsTellRulesApart }
+{}
+
+/// The canonical text of a rule in its form, behind `add`, holds no byte that may not stand in a script.
+pub fn canonical_texts_are_readable()
+    ensures { CanonicalTextsAreReadable }
 {}
 
 /// For every rule that the grammar yields, its canonical text behind `add` is read as the same rule.
