@@ -1,8 +1,7 @@
 -- Addresses and prefixes in their canonical text are read again.
-use Rattle.std.proofs.Common.{◌≡◌, ◌≢◌, ℕ, ◌+◌, ◌/◌, ◌%◌, ◌^◌, ◌<◌, ◌≤◌, Bool, true, false, ◌&&◌, ◌==◌, nat_le, nat_eq, if◌then◌else◌, Some, None, Option, Result, Ok, Err, List, [], ◌∷◌, ◌++◌, length, take, map, codes, refl, sym, ap, ◌∙◌, arith, inl, inr, subst}
-use Rattle.std.specs.List.{list_all, AllByRecursion, join_with_byte}
+use Rattle.std.proofs.Common.{◌≡◌, ℕ, ◌/◌, ◌%◌, ◌^◌, ◌<◌, ◌≤◌, false, ◌==◌, if◌then◌else◌, Some, None, Option, Result, Ok, List, [], ◌∷◌, ◌++◌, length, refl, sym, ap, ◌∙◌, arith, inl, inr, subst}
 use Rattle.std.specs.Fmt.{decimal}
-use Rattle.std.specs.Int.{w32, to_be_bytes, from_be_bytes}
+use Rattle.std.specs.Int.{w32, from_be_bytes}
 use Rattle.std.proofs.lemmas.Nat.{from_be_bytes-to_be_bytes_4}
 use Rattle.std.proofs.lemmas.Bool.{le-leb}
 use Rattle.std.proofs.lemmas.Bool.Decides.{eqb_tells}
@@ -11,9 +10,9 @@ use Rattle.std.proofs.lemmas.List.{append-nil}
 use Rattle.fw_base.specs.Prefix.{Network, network, IsNetwork}
 use Rattle.fw_base.specs.Addr.{address_text}
 use Rattle.fw_rule.specs.Canonical.{network_text}
-use Rattle.ipfw_parser.specs.Reading.{Word, Fault, fault_at, ◌>>=◌}
-use Rattle.ipfw_parser.specs.Numbers.{is_digit, starts_with_digit, up_to, decimal as decimal_of}
-use Rattle.ipfw_parser.specs.Addresses.{before, behind, octet, with_rest, octet_and_dot, then_some, address_in, found_address, address, found_length, prefix_length, prefix}
+use Rattle.ipfw_parser.specs.Reading.{Fault, ◌>>=◌}
+use Rattle.ipfw_parser.specs.Numbers.{is_digit, up_to, decimal as decimal_of}
+use Rattle.ipfw_parser.specs.Addresses.{before, behind, octet, with_rest, octet_and_dot, address_in, found_address, address, found_length, prefix_length, prefix}
 use Rattle.ipfw_parser.proofs.NumbersAgain.{digits_again, decimal_again, all_digits}
 use Rattle.ipfw_parser.proofs.DigitTexts.{IsFree, free_digits, free_append, before_free, behind_free, before_there, behind_there}
 

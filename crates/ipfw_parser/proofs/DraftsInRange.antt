@@ -1,9 +1,8 @@
 -- The drafts that the grammar yields are well formed.
-use Rattle.std.proofs.Common.{◌≡◌, ℕ, ◌≤◌, Some, None, Option, Result, Ok, Err, List, [], ◌∷◌, length, arith}
-use Rattle.std.specs.Prelude.{IfOk, IfSome, ⊤}
+use Rattle.std.proofs.Common.{ℕ, Some, None, Option, Result, Ok, Err, List, [], ◌∷◌, arith}
+use Rattle.std.specs.Prelude.{IfOk, IfSome}
 use Rattle.std.specs.List.{AllByRecursion}
-use Rattle.fw_base.specs.PortRange.{Ports}
-use Rattle.fw_rule.specs.WellFormed.{IsItem, IsAddrSpec, IsPortList, IsRange, IsTest, IsState, IsBody, HasBody, IsDraft, IsValue}
+use Rattle.fw_rule.specs.WellFormed.{IsItem, IsPortList, IsTest, IsBody, HasBody, IsDraft, IsValue}
 use Rattle.fw_rule.specs.declared.action.Action.{Action}
 use Rattle.fw_rule.specs.declared.action.Action.TheVariants.{Allow, Deny, Reset, Unreach, Count, SkipTo, Call, Return, CheckState}
 use Rattle.fw_rule.specs.declared.addr_item.AddrItem.{AddrItem}
@@ -18,7 +17,7 @@ use Rattle.fw_lex.specs.declared.token.Token.{Token}
 use Rattle.ipfw_parser.specs.declared.parse_fault.ParseFault.{ParseFault}
 use Rattle.ipfw_parser.specs.Reading.{Fault, Gives}
 use Rattle.ipfw_parser.specs.Rules.{rule_in}
-use Rattle.ipfw_parser.specs.Forms.{IsItemForm, IsListForm, IsTestForm, IsPlacedForm, IsBodyForm, HasForm, IsDraftForm}
+use Rattle.ipfw_parser.specs.Forms.{IsItemForm, IsTestForm, IsBodyForm, HasForm, IsDraftForm}
 use Rattle.ipfw_parser.proofs.Following.{weaker, of_ok}
 use Rattle.ipfw_parser.proofs.ItemsRead.{ArePorts}
 use Rattle.ipfw_parser.proofs.RulesRead.{rule_in_on}

@@ -1,7 +1,7 @@
 -- What holds of a reading's value, step by step.
 use Rattle.std.proofs.Common.{◌≡◌, Bool, true, false, if◌then◌else◌, Option, Some, None, Result, Ok, Err, refl, subst}
 use Rattle.std.specs.Prelude.{IfOk, IfSome, ⊤}
-use Rattle.ipfw_parser.specs.Reading.{Word, Fault, ◌>>=◌}
+use Rattle.ipfw_parser.specs.Reading.{Fault, ◌>>=◌}
 
 pub on_bind : {X Y : Type 0} (r : Result X Fault) (f : X → Result Y Fault) (P : X → Type 0) (Q : Y → Type 0) → IfOk r P → ((x : X) → P x → IfOk (f x) Q) → IfOk (r >>= f) Q
 on_bind (Ok x) f P Q p step = step x p

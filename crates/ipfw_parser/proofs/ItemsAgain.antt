@@ -1,27 +1,24 @@
 -- Lists of addresses in their canonical text are read again.
-use Rattle.std.proofs.Common.{◌≡◌, ℕ, ◌+◌, ◌/◌, ◌%◌, ◌^◌, ◌<◌, ◌≤◌, Bool, true, false, not, ◌&&◌, ◌||◌, ◌==◌, nat_le, nat_lt, nat_eq, if◌then◌else◌, Some, None, Option, unwrap_or, position, Result, Ok, Err, suc, List, [], ◌∷◌, ◌++◌, length, take, drop, map, codes, refl, sym, ap, ◌∙◌, arith, inl, inr, subst, length-append}
-use Rattle.std.specs.Prelude.{⊤}
+use Rattle.std.proofs.Common.{◌≡◌, ℕ, ◌+◌, ◌/◌, ◌%◌, ◌^◌, ◌≤◌, Bool, true, false, not, ◌&&◌, ◌||◌, ◌==◌, nat_le, nat_eq, if◌then◌else◌, Some, None, unwrap_or, Result, Ok, List, [], ◌∷◌, ◌++◌, length, take, drop, map, codes, refl, sym, ap, ◌∙◌, arith, inl, inr, subst, length-append}
 use Rattle.std.specs.List.{list_all, AllByRecursion, join_with_byte, onto_first, starts_with, position_or_len}
 use Rattle.std.specs.Fmt.{decimal}
 use Rattle.std.proofs.lemmas.Bool.{lt-ltb}
 use Rattle.std.proofs.lemmas.Bool.Decides.{eqb_tells}
-use Rattle.std.proofs.lemmas.Fmt.{decimal_nonempty}
-use Rattle.std.proofs.lemmas.List.{append-nil, take_at, drop_at}
+use Rattle.std.proofs.lemmas.List.{take_at, drop_at}
 use Rattle.fw_base.specs.Prefix.{Network}
 use Rattle.fw_base.specs.Addr.{address_text}
 use Rattle.fw_rule.specs.Canonical.{network_text, item_text}
 use Rattle.fw_rule.specs.declared.addr_item.AddrItem.{AddrItem}
 use Rattle.fw_rule.specs.declared.addr_item.AddrItem.TheVariants.{Any, Me, Net, InTable, TableValue}
-use Rattle.ipfw_parser.specs.declared.kind.Kind.{Kind}
 use Rattle.ipfw_parser.specs.declared.kind.Kind.TheVariants.{BadName, BadAddress}
-use Rattle.ipfw_parser.specs.Reading.{Word, Fault, fault_at, ◌>>=◌, same}
+use Rattle.ipfw_parser.specs.Reading.{Fault, fault_at, ◌>>=◌, same}
 use Rattle.ipfw_parser.specs.Numbers.{is_digit, starts_with_digit, number}
 use Rattle.ipfw_parser.specs.Names.{is_name_byte, is_name, table_name}
 use Rattle.ipfw_parser.specs.Lists.{elements_outside, inside_after, each}
 use Rattle.ipfw_parser.specs.Addresses.{part_len, closes, starts_with_comma, table_value, table_end, table_item, net_item, item, items, prefix}
-use Rattle.ipfw_parser.proofs.NumbersAgain.{number_again, all_digits}
+use Rattle.ipfw_parser.proofs.NumbersAgain.{number_again}
 use Rattle.ipfw_parser.proofs.NumbersRead.{decimal_starts}
-use Rattle.ipfw_parser.proofs.DigitTexts.{IsFree, free_digits, free_append, both_true, starts_digits, starts_plain, not_same, one_plus}
+use Rattle.ipfw_parser.proofs.DigitTexts.{IsFree, free_append, both_true, not_same, one_plus}
 use Rattle.ipfw_parser.proofs.AddressesAgain.{dots, text_is, free_dots, free_decimal, prefix_again}
 use Rattle.ipfw_parser.specs.Forms.{IsItemForm}
 

@@ -1,30 +1,25 @@
 -- The addresses, tables and ports that are read.
-use Rattle.std.proofs.Common.{◌≡◌, ℕ, ◌+◌, ◌-◌, ◌*◌, ◌/◌, ◌^◌, ◌<◌, ◌≤◌, zero, suc, Bool, true, false, ◌&&◌, ◌||◌, nat_le, nat_eq, if◌then◌else◌, Some, None, Option, Result, Ok, Err, List, [], ◌∷◌, length, take, drop, codes, refl, sym, ap, ◌∙◌, arith, subst}
+use Rattle.std.proofs.Common.{◌≡◌, ℕ, ◌-◌, ◌^◌, ◌<◌, ◌≤◌, zero, suc, true, false, nat_le, nat_eq, Some, None, Option, Result, Ok, Err, List, [], ◌∷◌, length, take, drop, codes, refl, sym, ap, arith, subst}
 use Rattle.std.specs.Prelude.{IfOk, IfSome, ⊤, slice_get, option_and_then}
 use Rattle.std.specs.List.{AllByRecursion, starts_with}
 use Rattle.std.specs.Int.{w32, from_be_bytes}
 use Rattle.std.proofs.Math.Nat.{div-mul-le_self}
 use Rattle.std.proofs.lemmas.Bool.Decides.{nat_tests}
-use Rattle.fw_base.specs.Prefix.{Network, network, size_of, IsNetwork}
-use Rattle.fw_base.specs.PortRange.{Ports}
+use Rattle.fw_base.specs.Prefix.{network, size_of, IsNetwork}
 use Rattle.fw_base.proofs.Networks.{IsNetwork-network}
 use Rattle.fw_rule.specs.WellFormed.{IsFromTo, IsRange}
-use Rattle.fw_rule.specs.declared.addr_item.AddrItem.{AddrItem}
 use Rattle.fw_rule.specs.declared.addr_item.AddrItem.TheVariants.{Any, Me, Net, InTable, TableValue}
-use Rattle.fw_rule.specs.declared.addr_spec.AddrSpec.{AddrSpec}
 use Rattle.fw_rule.specs.declared.port_list.PortList.{PortList}
-use Rattle.fw_rule.specs.declared.iface.Iface.{Iface}
 use Rattle.fw_rule.specs.declared.iface.Iface.TheVariants.{AnyIface, Exact, Begins}
-use Rattle.ipfw_parser.specs.declared.kind.Kind.{Kind}
-use Rattle.ipfw_parser.specs.declared.kind.Kind.TheVariants.{BadName, BadAddress, BadRange, UnknownWord}
-use Rattle.ipfw_parser.specs.Reading.{Word, Fault, Reading, fault_at, ◌>>=◌, same, first, negation}
-use Rattle.ipfw_parser.specs.Numbers.{number, up_to, starts_with_digit, decimal}
-use Rattle.ipfw_parser.specs.Names.{is_name, table_name, ends_with_star, iface, place, service, service_names, service_ports, word_in, found, code}
-use Rattle.ipfw_parser.specs.Lists.{each, elements, elements_left, elements_outside, elements_outside_left, element_end}
+use Rattle.ipfw_parser.specs.declared.kind.Kind.TheVariants.{BadName, BadAddress, BadRange}
+use Rattle.ipfw_parser.specs.Reading.{Word, Fault, Reading, fault_at, same, first, negation}
+use Rattle.ipfw_parser.specs.Numbers.{number, up_to, decimal}
+use Rattle.ipfw_parser.specs.Names.{is_name, table_name, ends_with_star, iface, place, service, service_names, service_ports, found}
+use Rattle.ipfw_parser.specs.Lists.{each}
 use Rattle.ipfw_parser.specs.Addresses.{before, behind, octet, with_rest, octet_and_dot, then_some, address_in, found_address, address, found_length, prefix_length, prefix, part_len, closes, starts_with_comma, table_value, table_end, table_item, net_item, item, items, addr_spec}
 use Rattle.ipfw_parser.specs.Ports.{found_port, port_by, port, range_to, range, ranges, port_list, some_ports, source_ports, destination_ports, begin_with_ports}
 use Rattle.ipfw_parser.specs.Forms.{IsItemForm, IsListForm, IsIfaceForm}
-use Rattle.ipfw_parser.proofs.Cuts.{elements_first, outside_first, left_at}
+use Rattle.ipfw_parser.proofs.Cuts.{elements_first, outside_first}
 use Rattle.ipfw_parser.proofs.NumbersRead.{number_on, up_to_on}
 use Rattle.ipfw_parser.proofs.Following.{on_bind, on_if, weaker, any_on}
 

@@ -1,24 +1,19 @@
 -- Flags, IP options and ICMP types as masks: what is read, and that it is read again.
-use Rattle.std.proofs.Common.{◌≡◌, ◌≢◌, ℕ, ◌+◌, ◌*◌, ◌/◌, ◌%◌, ◌^◌, ◌<◌, ◌≤◌, zero, suc, Bool, true, false, not, ◌&&◌, ◌==◌, nat_le, nat_lt, if◌then◌else◌, Some, None, Option, Result, Ok, Err, List, [], ◌∷◌, ◌++◌, length, take, drop, position, refl, sym, ap, ◌∙◌, arith, inl, inr, subst, eq-eqb, cond}
+use Rattle.std.proofs.Common.{◌≡◌, ℕ, ◌+◌, ◌%◌, ◌^◌, ◌<◌, ◌≤◌, suc, Bool, true, false, ◌==◌, if◌then◌else◌, Some, None, Option, Result, Ok, List, [], ◌∷◌, ◌++◌, length, take, drop, refl, sym, ap, ◌∙◌, arith, inl, inr, subst}
 use Rattle.std.specs.Prelude.{bit_or, bit_and, IfOk, ⊤}
-use Rattle.std.specs.List.{AllByRecursion, join_with_byte, list_all, position_or_len}
-use Rattle.std.specs.Fmt.{decimal}
+use Rattle.std.specs.List.{AllByRecursion, join_with_byte, position_or_len}
 use Rattle.std.proofs.Math.Nat.{mod-eq_of_lt}
-use Rattle.std.proofs.Math.Pow.{pow_mono}
 use Rattle.std.proofs.lemmas.Nat.{pow_pos, or_lt, le_or_l, le_or_r, pow_below}
 use Rattle.std.proofs.lemmas.Bool.{cases_lt, lt-ltb, le-ltb}
 use Rattle.std.proofs.lemmas.Bool.Decides.{eqb_tells}
-use Rattle.fw_rule.specs.Canonical.{has_bit, signed_names, sign_of, signed, bit_numbers, flag_names, option_names, Words}
-use Rattle.ipfw_parser.specs.declared.kind.Kind.{Kind}
+use Rattle.fw_rule.specs.Canonical.{has_bit, signed_names, sign_of, signed, flag_names, option_names, Words}
 use Rattle.ipfw_parser.specs.declared.kind.Kind.TheVariants.{BadFlag}
 use Rattle.ipfw_parser.specs.Reading.{Word, Fault, fault_at, ◌>>=◌, same}
-use Rattle.ipfw_parser.specs.Numbers.{number, is_digit}
 use Rattle.ipfw_parser.specs.Names.{place}
-use Rattle.ipfw_parser.specs.Lists.{Masks, elements, elements_left, sign_masks, signs, bare, is_negated, with_name, flag_found, type_mask, types}
+use Rattle.ipfw_parser.specs.Lists.{Masks, elements, elements_left, sign_masks, signs, bare, is_negated, with_name, flag_found}
 use Rattle.ipfw_parser.proofs.Cuts.{elements_first, left_at}
-use Rattle.ipfw_parser.proofs.DigitTexts.{IsFree, elements_again, free_digits}
+use Rattle.ipfw_parser.proofs.DigitTexts.{elements_again}
 use Rattle.ipfw_parser.proofs.MaskSteps.{tested_ok}
-use Rattle.ipfw_parser.proofs.NumbersAgain.{number_again, all_digits}
 use Rattle.ipfw_parser.proofs.Bits.{low_set, low_clear, bits_apart}
 use Rattle.ipfw_parser.specs.Forms.{AreSigns}
 use Rattle.ipfw_parser.proofs.Following.{on_bind, on_if, weaker}

@@ -1,6 +1,6 @@
 -- The numbers that are read, and five digits read again.
-use Rattle.std.proofs.Common.{◌≡◌, ℕ, ◌+◌, ◌-◌, ◌*◌, ◌^◌, ◌<◌, ◌≤◌, zero, suc, Bool, true, false, ◌&&◌, nat_le, if◌then◌else◌, Some, None, Option, Result, Ok, Err, List, [], ◌∷◌, ◌++◌, length, refl, sym, ap, ◌∙◌, arith, replicate, length-append}
-use Rattle.std.specs.Prelude.{IfOk, IfSome, ⊤}
+use Rattle.std.proofs.Common.{◌≡◌, ℕ, ◌-◌, ◌^◌, ◌<◌, ◌≤◌, zero, suc, true, false, ◌&&◌, nat_le, if◌then◌else◌, Some, None, Option, Result, Ok, Err, List, ◌++◌, length, refl, ap, ◌∙◌, arith, replicate, length-append}
+use Rattle.std.specs.Prelude.{IfOk, IfSome}
 use Rattle.std.specs.List.{list_all}
 use Rattle.std.specs.Fmt.{decimal}
 use Rattle.std.proofs.lemmas.Bool.{le-leb}
@@ -8,9 +8,8 @@ use Rattle.std.proofs.lemmas.Bool.Decides.{nat_tests}
 use Rattle.std.proofs.lemmas.Fmt.{decimal_nonempty, length-decimal-le}
 use Rattle.fw_rule.specs.Canonical.{five_digits}
 use Rattle.fw_rule.specs.WellFormed.{IsFromTo}
-use Rattle.ipfw_parser.specs.declared.kind.Kind.{Kind}
 use Rattle.ipfw_parser.specs.declared.kind.Kind.TheVariants.{NumberRange, UnknownWord}
-use Rattle.ipfw_parser.specs.Reading.{Word, Fault, fault_at, ◌>>=◌}
+use Rattle.ipfw_parser.specs.Reading.{Word, Fault, fault_at}
 use Rattle.ipfw_parser.specs.Numbers.{number, number_by, up_to, is_digit, value_after, digits_value, starts_with_digit, set_number, decimal as decimal_of}
 use Rattle.ipfw_parser.proofs.DigitTexts.{both_true, starts_digits}
 use Rattle.ipfw_parser.proofs.NumbersAgain.{digits_again, all_digits, number_again}

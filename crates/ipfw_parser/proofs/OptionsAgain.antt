@@ -1,14 +1,13 @@
 -- Options in their canonical words are read again.
-use Rattle.std.proofs.Common.{◌≡◌, ◌≢◌, ℕ, ◌+◌, ◌-◌, ◌^◌, ◌<◌, ◌≤◌, zero, suc, Bool, true, false, ◌&&◌, ◌||◌, ◌==◌, nat_le, if◌then◌else◌, Some, None, is_some, Option, Result, Ok, Err, List, [], ◌∷◌, ◌++◌, length, take, drop, codes, refl, sym, ap, ◌∙◌, arith, subst, inl, inr, length-append, append_assoc}
-use Rattle.std.specs.Prelude.{IfSome, ⊤, slice_index}
+use Rattle.std.proofs.Common.{◌≡◌, ℕ, ◌+◌, ◌-◌, ◌<◌, ◌≤◌, zero, suc, Bool, true, false, ◌&&◌, ◌==◌, nat_le, if◌then◌else◌, Some, None, Option, Result, Ok, List, [], ◌∷◌, ◌++◌, length, take, drop, codes, refl, sym, ap, ◌∙◌, arith, subst, inl, inr, length-append, append_assoc}
+use Rattle.std.specs.Prelude.{slice_index}
 use Rattle.std.specs.List.{AllByRecursion, join_with_byte, flat_map, list_all}
 use Rattle.std.specs.Fmt.{decimal}
-use Rattle.std.specs.Cmp.Lexicographic.{pointwise}
 use Rattle.std.proofs.lemmas.Bool.Decides.{eqb_tells, nat_tests}
 use Rattle.std.proofs.lemmas.Bool.{le-leb}
-use Rattle.std.proofs.lemmas.List.{take_at, append-nil, take-append-drop, length-take-le}
+use Rattle.std.proofs.lemmas.List.{take_at, take-append-drop, length-take-le}
 use Rattle.fw_rule.specs.Canonical.{Words, negation as negation_words, test_words, option_words, state_words, placed_words, iface_text, field_word, mask_word, signed_names, bit_numbers, flag_names, option_names}
-use Rattle.fw_rule.specs.WellFormed.{IsFromTo, IsState}
+use Rattle.fw_rule.specs.WellFormed.{IsState}
 use Rattle.fw_rule.specs.declared.iface.Iface.{Iface}
 use Rattle.fw_rule.specs.declared.iface.Iface.TheVariants.{AnyIface, Exact, Begins}
 use Rattle.fw_rule.specs.declared.field.Field.{Field}
@@ -20,15 +19,12 @@ use Rattle.fw_rule.specs.declared.limit_mask.LimitMask.{LimitMask}
 use Rattle.fw_rule.specs.declared.limit_mask.LimitMask.TheVariants.{SrcAddr, SrcPort, DstAddr, DstPort}
 use Rattle.fw_rule.specs.declared.state_opt.StateOpt.{StateOpt}
 use Rattle.fw_rule.specs.declared.state_opt.StateOpt.TheVariants.{Keep, Limit}
-use Rattle.ipfw_parser.specs.declared.kind.Kind.{Kind}
-use Rattle.ipfw_parser.specs.declared.kind.Kind.TheVariants.{BadName, UnknownWord, Misplaced, SecondState}
-use Rattle.ipfw_parser.specs.Reading.{Word, Fault, Reading, fault_at, ◌>>=◌, same, first}
-use Rattle.ipfw_parser.specs.Numbers.{number, starts_with_digit, is_digit}
-use Rattle.ipfw_parser.specs.Names.{is_name, is_name_byte, ends_with_star, iface, table_name, service, place, service_names}
-use Rattle.ipfw_parser.specs.Lists.{types, signs, Masks}
-use Rattle.ipfw_parser.specs.Addresses.{before, behind}
+use Rattle.ipfw_parser.specs.Reading.{Fault, ◌>>=◌, same, first}
+use Rattle.ipfw_parser.specs.Numbers.{starts_with_digit}
+use Rattle.ipfw_parser.specs.Names.{is_name, is_name_byte, ends_with_star, iface, service, place, service_names}
+use Rattle.ipfw_parser.specs.Addresses.{before}
 use Rattle.ipfw_parser.specs.Ports.{looks_like_ports, begin_with_ports}
-use Rattle.ipfw_parser.specs.Options.{field, limit_mask, plain_test, lookup, tcp_flags, ip_options, test_of, has_argument, test_by, test, is_state, option, state, Placed, with_option, with_state, options}
+use Rattle.ipfw_parser.specs.Options.{field, limit_mask, plain_test, lookup, test_of, has_argument, test, is_state, option, state, Placed, with_option, with_state, options}
 use Rattle.ipfw_parser.specs.Forms.{IsIfaceForm, IsTestForm, IsPlacedForm}
 use Rattle.ipfw_parser.proofs.NumbersAgain.{number_again}
 use Rattle.ipfw_parser.proofs.ItemsAgain.{name_again, name_bytes}

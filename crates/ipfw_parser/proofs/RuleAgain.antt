@@ -1,14 +1,13 @@
 -- A rule in its canonical words is read again.
-use Rattle.std.proofs.Common.{◌≡◌, ◌≢◌, ℕ, ◌+◌, ◌^◌, ◌<◌, ◌≤◌, zero, suc, Bool, true, false, not, ◌&&◌, ◌||◌, ◌==◌, nat_eq, if◌then◌else◌, Some, None, Option, unwrap_or, Result, Ok, Err, List, [], ◌∷◌, ◌++◌, length, map, codes, refl, sym, ap, ◌∙◌, arith, subst, inl, inr}
+use Rattle.std.proofs.Common.{◌≡◌, ℕ, ◌+◌, ◌≤◌, zero, suc, Bool, true, false, ◌==◌, if◌then◌else◌, Some, None, Option, unwrap_or, Result, Ok, List, [], ◌∷◌, ◌++◌, map, codes, refl, sym, ap, ◌∙◌, arith, inl, inr}
 use Rattle.std.specs.Prelude.{IfSome, ⊤, slice_get}
-use Rattle.std.specs.List.{AllByRecursion, join_with_byte, list_all}
+use Rattle.std.specs.List.{AllByRecursion, join_with_byte}
 use Rattle.std.specs.Fmt.{decimal}
-use Rattle.std.specs.Cmp.Lexicographic.{pointwise}
 use Rattle.std.proofs.lemmas.Bool.Decides.{eqb_tells}
 use Rattle.std.proofs.lemmas.List.{append-nil}
 use Rattle.fw_base.specs.PortRange.{Ports}
-use Rattle.fw_rule.specs.Canonical.{Words, five_digits, unreach_names, code_word, action_words, amount_words, log_words, set_words, protocol_word, item_text, list_words, addr_words, range_text, port_words, negation as negation_words, options_words, placed_words, body_words, optional_body, rest_words, rule_words}
-use Rattle.fw_rule.specs.WellFormed.{IsFromTo, IsAction, IsValue, IsRange}
+use Rattle.fw_rule.specs.Canonical.{Words, five_digits, unreach_names, code_word, action_words, amount_words, log_words, set_words, protocol_word, item_text, list_words, addr_words, range_text, port_words, options_words, body_words, optional_body, rule_words}
+use Rattle.fw_rule.specs.WellFormed.{IsAction, IsValue, IsRange}
 use Rattle.fw_rule.specs.declared.action.Action.{Action}
 use Rattle.fw_rule.specs.declared.action.Action.TheVariants.{Allow, Deny, Reset, Unreach, Count, SkipTo, Call, Return, CheckState}
 use Rattle.fw_rule.specs.declared.addr_item.AddrItem.{AddrItem}
@@ -18,15 +17,12 @@ use Rattle.fw_rule.specs.declared.port_list.PortList.{PortList}
 use Rattle.fw_rule.specs.declared.body.Body.{Body}
 use Rattle.fw_rule.specs.declared.rule.Rule.{Rule}
 use Rattle.fw_rule.specs.declared.rule_draft.RuleDraft.{RuleDraft}
-use Rattle.ipfw_parser.specs.declared.kind.Kind.{Kind}
-use Rattle.ipfw_parser.specs.declared.kind.Kind.TheVariants.{UnknownWord, ExtraWord}
-use Rattle.ipfw_parser.specs.Reading.{Word, Fault, Reading, fault_at, ◌>>=◌, same, first, expected, negation}
-use Rattle.ipfw_parser.specs.Numbers.{number, starts_with_digit, set_number}
-use Rattle.ipfw_parser.specs.Names.{place, word_in, found, code, service}
-use Rattle.ipfw_parser.specs.Addresses.{items, addr_spec}
-use Rattle.ipfw_parser.specs.Ports.{ranges, port_list, some_ports, source_ports, looks_like_ports, begin_with_ports, destination_ports}
-use Rattle.ipfw_parser.specs.Options.{Placed, options}
-use Rattle.ipfw_parser.specs.Rules.{rule_number, set_behind, rule_set, plain_action, action_by, action, amount_behind, amount, log, protocol, body, check_state, matching, rule}
+use Rattle.ipfw_parser.specs.Reading.{Word, Fault, Reading, same, first, expected, negation}
+use Rattle.ipfw_parser.specs.Numbers.{starts_with_digit}
+use Rattle.ipfw_parser.specs.Names.{place, word_in, code}
+use Rattle.ipfw_parser.specs.Addresses.{addr_spec}
+use Rattle.ipfw_parser.specs.Ports.{port_list, some_ports, source_ports, looks_like_ports, begin_with_ports, destination_ports}
+use Rattle.ipfw_parser.specs.Rules.{rule_number, set_behind, rule_set, plain_action, action, amount_behind, amount, log, protocol, body, check_state, matching, rule}
 use Rattle.ipfw_parser.specs.Forms.{IsItemForm, IsListForm, IsBodyForm, HasForm}
 use Rattle.ipfw_parser.proofs.NumbersAgain.{number_again}
 use Rattle.ipfw_parser.proofs.NumbersRead.{decimal_starts, set_again, five_again, five_starts}

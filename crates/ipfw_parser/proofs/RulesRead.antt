@@ -1,28 +1,25 @@
 -- The options and the rule that are read.
-use Rattle.std.proofs.Common.{◌≡◌, ℕ, ◌+◌, ◌^◌, ◌<◌, ◌≤◌, zero, suc, Bool, true, false, ◌||◌, if◌then◌else◌, Some, None, is_some, Option, Result, Ok, Err, List, [], ◌∷◌, length, map, drop, codes, refl, sym, arith, subst}
+use Rattle.std.proofs.Common.{◌≡◌, ℕ, ◌+◌, ◌^◌, ◌<◌, ◌≤◌, zero, suc, Bool, true, false, ◌||◌, if◌then◌else◌, Some, None, is_some, Option, Ok, List, [], ◌∷◌, length, map, drop, codes, refl, sym, arith, subst}
 use Rattle.std.specs.Prelude.{IfOk, IfSome, ⊤}
-use Rattle.std.specs.List.{AllByRecursion}
 use Rattle.fw_rule.specs.Canonical.{unreach_names, flag_names, option_names}
-use Rattle.fw_rule.specs.WellFormed.{IsFromTo, IsAction, IsState, IsValue, IsNumber}
+use Rattle.fw_rule.specs.WellFormed.{IsFromTo, IsAction, IsState, IsValue}
 use Rattle.fw_rule.specs.declared.action.Action.{Action}
 use Rattle.fw_rule.specs.declared.action.Action.TheVariants.{Allow, Deny, Reset, Unreach, Count, SkipTo, Call, Return, CheckState}
 use Rattle.fw_rule.specs.declared.test.Test.{Test}
-use Rattle.fw_rule.specs.declared.test.Test.TheVariants.{Inward, Outward, Established, Setup, Frag, Recv, Xmit, Via, TcpFlags, IcmpTypes, IpOptions, Lookup}
+use Rattle.fw_rule.specs.declared.test.Test.TheVariants.{Inward, Outward, Established, Setup, Frag, Recv, Xmit, Via, TcpFlags, IcmpTypes, IpOptions}
 use Rattle.fw_rule.specs.declared.opt.Opt.{Opt}
 use Rattle.fw_rule.specs.declared.state_opt.StateOpt.{StateOpt}
-use Rattle.fw_rule.specs.declared.state_opt.StateOpt.TheVariants.{Keep, Limit}
+use Rattle.fw_rule.specs.declared.state_opt.StateOpt.TheVariants.{Keep}
 use Rattle.fw_rule.specs.declared.body.Body.{Body}
-use Rattle.fw_rule.specs.declared.rule_draft.RuleDraft.{RuleDraft}
 use Rattle.fw_lex.specs.declared.token.Token.{Token}
-use Rattle.ipfw_parser.specs.declared.kind.Kind.{Kind}
-use Rattle.ipfw_parser.specs.declared.kind.Kind.TheVariants.{UnknownWord, Misplaced, SecondState, ExtraWord}
-use Rattle.ipfw_parser.specs.Reading.{Word, Fault, Reading, fault_at, ◌>>=◌, same, first, expected, word_of}
+use Rattle.ipfw_parser.specs.declared.kind.Kind.TheVariants.{UnknownWord, Misplaced, SecondState}
+use Rattle.ipfw_parser.specs.Reading.{Word, fault_at, same, first, expected, word_of}
 use Rattle.ipfw_parser.specs.Numbers.{number, starts_with_digit, set_number}
 use Rattle.ipfw_parser.specs.Names.{is_name, table_name, iface, place, word_in, found, code}
 use Rattle.ipfw_parser.specs.Lists.{types, signs}
 use Rattle.ipfw_parser.specs.Addresses.{addr_spec}
 use Rattle.ipfw_parser.specs.Ports.{source_ports, destination_ports}
-use Rattle.ipfw_parser.specs.Options.{field, limit_mask, plain_test, lookup, tcp_flags, ip_options, test_of, has_argument, test_by, test, is_state, option, state, Placed, with_option, with_state, options}
+use Rattle.ipfw_parser.specs.Options.{field, limit_mask, plain_test, lookup, test_of, has_argument, test_by, test, is_state, option, state, Placed, options}
 use Rattle.ipfw_parser.specs.Rules.{rule_number, set_behind, rule_set, plain_action, action_by, action, amount_behind, amount, log, protocol, body, check_state, matching, rule, end_column, rule_in}
 use Rattle.fw_lex.specs.Words.{before_comment}
 use Rattle.ipfw_parser.specs.Forms.{IsItemForm, IsListForm, IsIfaceForm, IsTestForm, IsPlacedForm, IsBodyForm, HasForm, IsDraftForm, AreSigns}

@@ -1,6 +1,6 @@
 -- The canonical words of a rule are words of a line: no blank and no comment in them, none empty.
-use Rattle.std.proofs.Common.{◌≡◌, ℕ, ◌+◌, ◌/◌, ◌%◌, ◌^◌, ◌<◌, ◌≤◌, zero, suc, Bool, true, false, not, ◌&&◌, ◌||◌, ◌==◌, nat_le, if◌then◌else◌, Some, None, Option, unwrap_or, Result, Ok, Err, List, [], ◌∷◌, ◌++◌, length, map, take, drop, codes, refl, sym, ap, ◌∙◌, arith, subst, inl, inr, length-append}
-use Rattle.std.specs.Prelude.{IfSome, ⊤, slice_get}
+use Rattle.std.proofs.Common.{◌≡◌, ℕ, ◌/◌, ◌%◌, ◌^◌, ◌<◌, ◌≤◌, zero, suc, Bool, true, false, not, ◌&&◌, ◌||◌, ◌==◌, nat_le, if◌then◌else◌, Some, None, Option, unwrap_or, Result, Ok, Err, List, [], ◌∷◌, ◌++◌, length, map, take, drop, codes, refl, sym, ap, ◌∙◌, arith, subst, inl, inr, length-append}
+use Rattle.std.specs.Prelude.{IfSome, slice_get}
 use Rattle.std.specs.List.{AllByRecursion, join_with_byte, list_all, flat_map}
 use Rattle.std.specs.Fmt.{decimal}
 use Rattle.std.proofs.lemmas.Bool.Decides.{eqb_tells, nat_tests}
@@ -10,8 +10,8 @@ use Rattle.fw_lex.specs.Words.{is_blank, is_readable}
 use Rattle.fw_base.specs.Prefix.{Network}
 use Rattle.fw_base.specs.Addr.{address_text}
 use Rattle.fw_base.specs.PortRange.{Ports}
-use Rattle.fw_rule.specs.Canonical.{Words, five_digits, unreach_names, code_word, action_words, amount_words, log_words, set_words, protocol_word, network_text, item_text, list_words, addr_words, range_text, port_words, negation as negation_words, test_words, option_words, iface_text, field_word, mask_word, state_words, options_words, placed_words, body_words, optional_body, rule_words, signed_names, bit_numbers, flag_names, option_names}
-use Rattle.fw_rule.specs.WellFormed.{IsFromTo, IsAction, IsValue, IsRange, IsState}
+use Rattle.fw_rule.specs.Canonical.{Words, five_digits, unreach_names, code_word, action_words, log_words, set_words, protocol_word, network_text, item_text, list_words, addr_words, range_text, port_words, negation as negation_words, test_words, option_words, iface_text, field_word, mask_word, state_words, options_words, placed_words, body_words, optional_body, rule_words, signed_names, bit_numbers, flag_names, option_names}
+use Rattle.fw_rule.specs.WellFormed.{IsAction, IsValue, IsRange, IsState}
 use Rattle.fw_rule.specs.declared.action.Action.{Action}
 use Rattle.fw_rule.specs.declared.action.Action.TheVariants.{Allow, Deny, Reset, Unreach, Count, SkipTo, Call, Return, CheckState}
 use Rattle.fw_rule.specs.declared.addr_item.AddrItem.{AddrItem}
@@ -31,10 +31,10 @@ use Rattle.fw_rule.specs.declared.state_opt.StateOpt.TheVariants.{Keep, Limit}
 use Rattle.fw_rule.specs.declared.body.Body.{Body}
 use Rattle.fw_rule.specs.declared.rule.Rule.{Rule}
 use Rattle.ipfw_parser.specs.declared.kind.Kind.TheVariants.{BadFlag, BadNumber, BadAddress, BadPort}
-use Rattle.ipfw_parser.specs.Reading.{Word, Fault, fault_at, ◌>>=◌, same}
-use Rattle.ipfw_parser.specs.Numbers.{is_digit, number, decimal as decimal_of, starts_with_digit}
+use Rattle.ipfw_parser.specs.Reading.{Word, Fault, same}
+use Rattle.ipfw_parser.specs.Numbers.{is_digit, number, decimal as decimal_of}
 use Rattle.ipfw_parser.specs.Names.{is_name, is_name_byte, place, service, service_names}
-use Rattle.ipfw_parser.specs.Lists.{elements, elements_outside, each, signs, sign_masks, bare, is_negated, types, type_mask, Masks}
+use Rattle.ipfw_parser.specs.Lists.{elements, elements_outside, each, signs, sign_masks, bare, is_negated, types, type_mask}
 use Rattle.ipfw_parser.specs.Addresses.{before, behind, octet, octet_and_dot, address_in, address, prefix, item, items}
 use Rattle.ipfw_parser.specs.Ports.{ranges, range, port}
 use Rattle.ipfw_parser.specs.Forms.{IsItemForm, IsListForm, IsIfaceForm, IsTestForm, AreSigns, IsPlacedForm, IsBodyForm, HasForm}

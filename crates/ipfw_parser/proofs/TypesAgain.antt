@@ -1,15 +1,15 @@
 -- ICMP types as a mask: what is read, and that it is read again.
-use Rattle.std.proofs.Common.{◌≡◌, ◌≢◌, ℕ, ◌+◌, ◌*◌, ◌/◌, ◌%◌, ◌^◌, ◌<◌, ◌≤◌, zero, suc, Bool, true, false, not, ◌&&◌, ◌==◌, nat_le, nat_lt, if◌then◌else◌, Some, None, Option, Result, Ok, Err, List, [], ◌∷◌, ◌++◌, length, take, position, refl, sym, ap, ◌∙◌, arith, inl, inr, subst}
+use Rattle.std.proofs.Common.{◌≡◌, ℕ, ◌+◌, ◌%◌, ◌^◌, ◌<◌, ◌≤◌, zero, suc, Bool, true, false, ◌==◌, if◌then◌else◌, Result, Ok, List, [], ◌∷◌, ◌++◌, take, refl, sym, ap, ◌∙◌, arith, subst}
 use Rattle.std.specs.Prelude.{bit_or, IfOk}
-use Rattle.std.specs.List.{AllByRecursion, join_with_byte, list_all, position_or_len}
+use Rattle.std.specs.List.{AllByRecursion, join_with_byte, position_or_len}
 use Rattle.std.specs.Fmt.{decimal}
 use Rattle.std.proofs.Math.Nat.{mod-eq_of_lt}
 use Rattle.std.proofs.lemmas.Nat.{pow_pos, or_lt, le_or_l, le_or_r, pow_below}
 use Rattle.fw_rule.specs.Canonical.{has_bit, bit_numbers, Words}
 use Rattle.fw_rule.specs.WellFormed.{IsFromTo}
-use Rattle.ipfw_parser.specs.Reading.{Word, Fault, fault_at, ◌>>=◌}
-use Rattle.ipfw_parser.specs.Numbers.{number, is_digit}
-use Rattle.ipfw_parser.specs.Lists.{elements, elements_left, type_mask, types}
+use Rattle.ipfw_parser.specs.Reading.{Word, Fault, ◌>>=◌}
+use Rattle.ipfw_parser.specs.Numbers.{number}
+use Rattle.ipfw_parser.specs.Lists.{elements_left, type_mask, types}
 use Rattle.ipfw_parser.proofs.Cuts.{elements_first, left_at}
 use Rattle.ipfw_parser.proofs.DigitTexts.{IsFree, elements_again, free_digits}
 use Rattle.ipfw_parser.proofs.NumbersAgain.{number_again, all_digits}

@@ -2,14 +2,12 @@
 -- empty, masks with no bit in common.
 use Rattle.std.specs.Prelude.{◌≡◌, ℕ, ◌+◌, ◌^◌, ◌<◌, ◌≤◌, true, false, Option, Some, None, List, length, codes, IfSome, ⊤, bit_and}
 use Rattle.std.specs.List.{AllByRecursion}
-use Rattle.fw_base.specs.Prefix.{Network, IsNetwork}
+use Rattle.fw_base.specs.Prefix.{IsNetwork}
 use Rattle.fw_rule.specs.WellFormed.{IsRange, IsState, IsAction, IsSet, IsValue}
 use Rattle.fw_rule.specs.declared.action.Action.{Action}
 use Rattle.fw_rule.specs.declared.action.Action.TheVariants.{CheckState}
 use Rattle.fw_rule.specs.declared.addr_item.AddrItem.{AddrItem}
 use Rattle.fw_rule.specs.declared.addr_item.AddrItem.TheVariants.{Net, InTable, TableValue}
-use Rattle.fw_rule.specs.declared.addr_spec.AddrSpec.{AddrSpec}
-use Rattle.fw_rule.specs.declared.port_list.PortList.{PortList}
 use Rattle.fw_rule.specs.declared.iface.Iface.{Iface}
 use Rattle.fw_rule.specs.declared.iface.Iface.TheVariants.{AnyIface, Exact, Begins}
 use Rattle.fw_rule.specs.declared.test.Test.{Test}

@@ -1,9 +1,9 @@
 -- What is written in canonical form is read again.
-use Rattle.std.specs.Prelude.{◌≡◌, ℕ, ◌^◌, ◌<◌, ◌≤◌, false, ◌==◌, Ok, Some, None, List, [], ◌∷◌, ◌++◌, length, map, codes, IfOk}
+use Rattle.std.specs.Prelude.{◌≡◌, ℕ, ◌^◌, ◌<◌, ◌≤◌, false, ◌==◌, Ok, Some, None, List, ◌∷◌, ◌++◌, length, map, codes, IfOk}
 use Rattle.std.specs.List.{AllByRecursion, join_with_byte}
 use Rattle.std.specs.Fmt.{decimal}
 use Rattle.fw_lex.specs.Words.{is_blank, words_of, before_comment, first_bad}
-use Rattle.ipfw_parser.specs.Reading.{Word, word_of}
+use Rattle.ipfw_parser.specs.Reading.{word_of}
 use Rattle.ipfw_parser.specs.Numbers.{number}
 use Rattle.ipfw_parser.specs.Ports.{ranges}
 use Rattle.fw_base.specs.PortRange.{Ports}
