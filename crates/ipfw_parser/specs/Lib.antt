@@ -11,3 +11,4 @@ pub mod SignViews
 pub mod PlacedViews
 pub mod Laws
 pub mod Forms
+pub mod Sentences
