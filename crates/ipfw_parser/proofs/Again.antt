@@ -11,7 +11,7 @@ use Rattle.fw_rule.specs.declared.rule_draft.RuleDraft.{RuleDraft}
 use Rattle.ipfw_parser.specs.Reading.{Word, Fault, word_of}
 use Rattle.ipfw_parser.specs.Rules.{rule, rule_in, end_column}
 use Rattle.ipfw_parser.specs.Forms.{HasForm, IsDraftForm, IsRuleForm}
-use Rattle.ipfw_parser.specs.Laws.{CanonicalTextsAreReadable, IsWordText, IsRuleOf, draft_of, add_line, line_behind, RulesAreReadAgain, RulesInFormAreReadAgain, TextsTellRulesApart}
+use Rattle.ipfw_parser.specs.Laws.{CanonicalTextsAreReadable, CanonicalTextsKeepTheirWords, IsWordText, IsRuleOf, draft_of, add_line, line_behind, RulesAreReadAgain, RulesInFormAreReadAgain, TextsTellRulesApart}
 use Rattle.ipfw_parser.proofs.Following.{of_ok}
 use Rattle.ipfw_parser.proofs.WordsAgain.{words_again}
 use Rattle.ipfw_parser.proofs.Columns.{at_columns, columns_of, words_are}
@@ -83,6 +83,11 @@ pub readable : CanonicalTextsAreReadable
 readable r form =
     ap (λ line. first_bad (before_comment line)) (add_is r)
     ∙ read_part (line_behind (codes "add" ∷ []) r) (readable_joined (codes "add" ∷ rule_words r) (add_word, rule_are r form.number form.set form.action form.rest))
+
+pub words_kept : CanonicalTextsKeepTheirWords
+words_kept r form =
+    ap (λ line. map (λ token. (word_of line token).text) (words_of line)) (add_is r)
+    ∙ words_again (codes "add" ∷ rule_words r) (words_of_good (codes "add" ∷ rule_words r) (add_word, rule_are r form.number form.set form.action form.rest))
 
 one_value : (d e : RuleDraft) → (let r : Result RuleDraft Fault = Ok d in r) ≡ Ok e → d ≡ e
 one_value d e same = cc

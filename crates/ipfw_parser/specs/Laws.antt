@@ -107,3 +107,8 @@ RulesAreReadAgain = (line : List ℕ) (tokens : List Token) (skipped : ℕ) (dra
 -- no byte of it is one that may not stand in a script
 abbrev pub CanonicalTextsAreReadable : Type 0
 CanonicalTextsAreReadable = (rule : Rule) → IsRuleForm rule → first_bad (before_comment (add_line rule)) ≡ None
+
+-- the words of it are `add` and the rule's canonical words
+abbrev pub CanonicalTextsKeepTheirWords : Type 0
+CanonicalTextsKeepTheirWords = (rule : Rule) → IsRuleForm rule
+    → map (λ token. (word_of (add_line rule) token).text) (words_of (add_line rule)) ≡ codes "add" ∷ rule_words rule

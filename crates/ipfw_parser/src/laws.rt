@@ -1,4 +1,4 @@
-ghost use Rattle.ipfw_parser.specs.Laws.{AddressListsAreReadAgain, CanonicalTextsAreReadable, DraftsAreInForm, DraftsAreWellFormed, MasksAreReadAgain, NumbersAreReadAgain, PortListsAreReadAgain, PrefixesAreReadAgain, RulesAreReadAgain, RulesInFormAreReadAgain, TextsTellRulesApart, WordsAreReadAgain};
+ghost use Rattle.ipfw_parser.specs.Laws.{AddressListsAreReadAgain, CanonicalTextsAreReadable, CanonicalTextsKeepTheirWords, DraftsAreInForm, DraftsAreWellFormed, MasksAreReadAgain, NumbersAreReadAgain, PortListsAreReadAgain, PrefixesAreReadAgain, RulesAreReadAgain, RulesInFormAreReadAgain, TextsTellRulesApart, WordsAreReadAgain};
 
 /// A number in its range, written in decimal digits, is read as that number.
 pub fn numbers_are_read_again()
@@ -54,6 +54,12 @@ pub fn texts_tell_rules_apart()
 /// The canonical text of a rule in its form, behind `add`, holds no byte that may not stand in a script.
 pub fn canonical_texts_are_readable()
     ensures { CanonicalTextsAreReadable }
+{}
+
+/// The words of the canonical text of a rule in its form, behind `add`, are `add` and the rule's canonical
+/// words.
+pub fn canonical_texts_keep_their_words()
+    ensures { CanonicalTextsKeepTheirWords }
 {}
 
 /// For every rule that the grammar yields, its canonical text behind `add` is read as the same rule.
