@@ -1,11 +1,11 @@
 -- Texts of digits hold no other byte, and begin no word.
-use Rattle.std.proofs.Common.{◌≡◌, ℕ, ◌+◌, ◌<◌, ◌≤◌, ◌==◌, not, if◌then◌else◌, ◌&&◌, nat_le, nat_lt, nat_eq, Bool, true, false, Some, None, Option, unwrap_or, position, List, [], ◌∷◌, ◌++◌, length, take, drop, refl, sym, ap, ◌∙◌, arith, suc, zero, append_assoc, length-append, cond, eq-eqb, inl, inr}
+use Rattle.std.proofs.Common.{◌≡◌, ℕ, ◌+◌, ◌<◌, ◌==◌, not, if◌then◌else◌, ◌&&◌, nat_eq, Bool, true, false, Some, None, Option, unwrap_or, position, List, [], ◌∷◌, ◌++◌, length, take, drop, refl, sym, ap, ◌∙◌, arith, suc, append_assoc, length-append, eq-eqb, inl, inr}
 use Rattle.std.specs.List.{list_all, position_or_len, slice_split, onto_first, AllByRecursion, join_with_byte}
 use Rattle.std.specs.Option.{option_map}
 use Rattle.std.proofs.lemmas.Bool.{le-ltb, lt-ltb}
 use Rattle.std.proofs.lemmas.Bool.Decides.{eqb_tells}
 use Rattle.std.specs.Cmp.Lexicographic.{pointwise}
-use Rattle.std.proofs.lemmas.List.{take_all, take_at, drop_at, append-nil}
+use Rattle.std.proofs.lemmas.List.{take_all, take_at, drop_at}
 use Rattle.ipfw_parser.specs.Reading.{same}
 use Rattle.ipfw_parser.specs.Numbers.{is_digit, starts_with_digit}
 use Rattle.ipfw_parser.specs.Addresses.{before, behind}

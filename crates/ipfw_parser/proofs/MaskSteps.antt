@@ -1,5 +1,5 @@
 -- Lists of types and of signed names, element by element.
-use Rattle.std.proofs.Common.{◌≡◌, ℕ, ◌+◌, ◌^◌, ◌*◌, ◌%◌, ◌≤◌, ◌<◌, suc, Bool, true, false, not, cond, nat_lt, List, [], ◌∷◌, Option, Some, None, Result, Ok, Err, length, map, position, refl, sym, ap, ◌∙◌, subst}
+use Rattle.std.proofs.Common.{◌≡◌, ℕ, ◌+◌, ◌^◌, ◌*◌, ◌%◌, ◌≤◌, suc, Bool, not, cond, nat_lt, List, [], ◌∷◌, Option, Some, None, Result, Ok, Err, length, map, position, refl, sym, ap, ◌∙◌}
 use Rattle.std.specs.Prelude.{bit_or, bit_and, ◌==◌, if◌then◌else◌}
 use Rattle.std.proofs.Common.{eq-eqb, arith, inl, inr, ◌≢◌}
 use Rattle.std.proofs.lemmas.Bool.Decides.{eqb_tells}
@@ -9,7 +9,7 @@ use Rattle.ipfw_parser.specs.declared.kind.Kind.TheVariants.{BadFlag}
 use Rattle.std.specs.List.{position_or_len}
 use Rattle.std.specs.Borrow.{Bor}
 use Rattle.std.specs.Option.{option_copied}
-use Rattle.ipfw_parser.specs.Reading.{Word, Fault, fault_at, ◌>>=◌, same}
+use Rattle.ipfw_parser.specs.Reading.{Fault, fault_at, ◌>>=◌, same}
 use Rattle.ipfw_parser.specs.Numbers.{number}
 use Rattle.ipfw_parser.specs.Names.{place}
 use Rattle.ipfw_parser.specs.Lists.{type_mask, sign_masks, flag_found, with_name, bare, is_negated, Masks, elements, elements_left}

@@ -1,11 +1,10 @@
 -- A number's digits are read as the number.
-use Rattle.std.proofs.Common.{◌≡◌, ℕ, ◌^◌, ◌<◌, ◌≤◌, true, nat_le, ◌&&◌, Some, Ok, List, length, refl, sym, ap, ◌∙◌, rules, arith}
+use Rattle.std.proofs.Common.{◌≡◌, ℕ, ◌^◌, ◌<◌, ◌≤◌, true, Some, Ok, length, refl, rules, arith}
 use Rattle.std.specs.List.{list_all}
 use Rattle.std.specs.Fmt.{decimal}
 use Rattle.std.proofs.lemmas.Bool.{le-leb}
 use Rattle.std.proofs.lemmas.Str.Parse.{IsNumeralModel, numerals_by_fold}
 use Rattle.std.proofs.lemmas.Fmt.{digits_decimal, digits_value-decimal, decimal_nonempty, length-decimal-le}
-use Rattle.ipfw_parser.specs.Reading.{Word}
 use Rattle.ipfw_parser.specs.Numbers.{number, is_digit, value_after, digits_value, decimal as decimal_of}
 
 own : IsNumeralModel (λ ds. list_all is_digit ds ≡ true) (value_after 0)

@@ -1,5 +1,5 @@
 -- Lists of ports in their canonical text are read again.
-use Rattle.std.proofs.Common.{◌≡◌, ◌≢◌, ℕ, ◌+◌, ◌^◌, ◌<◌, ◌≤◌, Bool, true, false, not, ◌&&◌, ◌==◌, nat_le, nat_lt, if◌then◌else◌, Some, None, Option, Result, Ok, Err, position, suc, List, [], ◌∷◌, ◌++◌, length, map, refl, sym, ap, ◌∙◌, subst, arith, inl, inr, option_and_then, slice_get}
+use Rattle.std.proofs.Common.{◌≡◌, ℕ, ◌+◌, ◌^◌, ◌<◌, ◌≤◌, true, false, not, ◌==◌, nat_le, if◌then◌else◌, Some, None, Option, Result, Ok, List, [], ◌∷◌, ◌++◌, length, map, refl, ap, ◌∙◌, arith, inl, inr, option_and_then, slice_get}
 use Rattle.std.specs.List.{list_all, AllByRecursion, join_with_byte, position_or_len}
 use Rattle.std.specs.Fmt.{decimal}
 use Rattle.std.proofs.lemmas.Bool.{le-leb, le-ltb}
@@ -13,7 +13,7 @@ use Rattle.ipfw_parser.specs.Reading.{Word, Fault, fault_at, ◌>>=◌, same}
 use Rattle.ipfw_parser.specs.declared.kind.Kind.TheVariants.{BadRange}
 use Rattle.ipfw_parser.specs.Numbers.{is_digit, starts_with_digit, up_to}
 use Rattle.ipfw_parser.specs.Names.{place, service, service_names, service_ports}
-use Rattle.ipfw_parser.specs.Lists.{each, elements}
+use Rattle.ipfw_parser.specs.Lists.{each}
 use Rattle.ipfw_parser.specs.Addresses.{before, behind}
 use Rattle.ipfw_parser.specs.Ports.{ranges, range, range_to, port, port_by, found_port}
 use Rattle.ipfw_parser.proofs.NumbersAgain.{decimal_again, all_digits}

@@ -1,11 +1,11 @@
 -- Words with one space between them are read as these words.
-use Rattle.std.proofs.Common.{◌≡◌, ℕ, ◌+◌, ◌-◌, ◌<◌, ◌==◌, not, if◌then◌else◌, zero, suc, false, Some, None, unwrap_or, position, List, [], ◌∷◌, ◌++◌, length, take, drop, map, refl, sym, ap, ◌∙◌, arith, append_assoc, length-append, add-one}
+use Rattle.std.proofs.Common.{◌≡◌, ℕ, ◌+◌, ◌-◌, ◌==◌, not, if◌then◌else◌, suc, false, Some, None, unwrap_or, position, List, [], ◌∷◌, ◌++◌, length, take, drop, map, refl, sym, ap, ◌∙◌, arith, append_assoc, length-append}
 use Rattle.std.specs.List.{AllByRecursion, join_with_byte, flat_map, position_or_len}
 use Rattle.std.proofs.lemmas.List.{append-nil, take_all, take_at, drop_at}
 use Rattle.std.proofs.lemmas.Bool.{le-ltb}
 use Rattle.fw_lex.specs.declared.token.Token.{Token}
-use Rattle.fw_lex.specs.Words.{is_blank, words_from, words_in, words_of, before_comment}
-use Rattle.ipfw_parser.specs.Reading.{Word, word_of}
+use Rattle.fw_lex.specs.Words.{words_from, words_in, words_of, before_comment}
+use Rattle.ipfw_parser.specs.Reading.{word_of}
 use Rattle.ipfw_parser.specs.Laws.{IsSolid, IsWordText}
 
 -- the spans of texts with a space before each, and of such texts behind the first byte

@@ -1,5 +1,5 @@
 -- Addresses, prefixes and tables in a list of addresses (RFC 791 section 3.1, RFC 4632 section 3.1).
-use Rattle.std.specs.Prelude.{ℕ, ◌+◌, ◌-◌, Bool, true, false, ◌&&◌, ◌||◌, ◌==◌, nat_le, nat_lt, nat_eq, if◌then◌else◌, Option, Some, None, Result, Ok, List, [], ◌∷◌, length, take, drop, position, unwrap_or, codes}
+use Rattle.std.specs.Prelude.{ℕ, ◌+◌, Bool, false, ◌||◌, ◌==◌, nat_eq, if◌then◌else◌, Option, Some, None, Result, Ok, List, [], ◌∷◌, length, take, drop, position, unwrap_or, codes}
 use Rattle.std.specs.List.{starts_with}
 use Rattle.std.specs.Option.{option_map}
 use Rattle.std.specs.Int.{w32, from_be_bytes}
@@ -7,7 +7,6 @@ use Rattle.fw_base.specs.Prefix.{Network, network}
 use Rattle.fw_rule.specs.declared.addr_item.AddrItem.{AddrItem}
 use Rattle.fw_rule.specs.declared.addr_item.AddrItem.TheVariants.{Any, Me, Net, InTable, TableValue}
 use Rattle.fw_rule.specs.declared.addr_spec.AddrSpec.{AddrSpec}
-use Rattle.ipfw_parser.specs.declared.kind.Kind.{Kind}
 use Rattle.ipfw_parser.specs.declared.kind.Kind.TheVariants.{BadAddress, BadPrefix}
 use Rattle.ipfw_parser.specs.Reading.{Word, Fault, Reading, fault_at, ◌>>=◌, same, first, negation}
 use Rattle.ipfw_parser.specs.Numbers.{decimal, up_to, number}

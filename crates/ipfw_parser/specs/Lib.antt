@@ -10,3 +10,5 @@ pub mod Views
 pub mod SignViews
 pub mod PlacedViews
 pub mod Laws
+pub mod Forms
+pub mod Sentences

@@ -1,8 +1,6 @@
 -- Lists in one word, their elements with commas between them.
-use Rattle.std.specs.Prelude.{ℕ, suc, ◌+◌, ◌^◌, Bool, true, false, not, ◌&&◌, ◌==◌, if◌then◌else◌, Result, Ok, Option, Some, None, List, [], ◌∷◌, drop, bit_or, bit_and, slice_index}
+use Rattle.std.specs.Prelude.{ℕ, suc, ◌^◌, Bool, true, false, not, ◌&&◌, ◌==◌, if◌then◌else◌, Result, Ok, Option, Some, None, List, [], ◌∷◌, drop, bit_or, bit_and}
 use Rattle.std.specs.List.{slice_split, onto_first}
-use Rattle.fw_rule.specs.Canonical.{flag_names, option_names}
-use Rattle.ipfw_parser.specs.declared.kind.Kind.{Kind}
 use Rattle.ipfw_parser.specs.declared.kind.Kind.TheVariants.{BadFlag}
 use Rattle.ipfw_parser.specs.Reading.{Word, Fault, fault_at, ◌>>=◌}
 use Rattle.ipfw_parser.specs.Numbers.{number}

@@ -1,10 +1,9 @@
 -- Names of tables and interfaces, and words that stand for numbers (services: RFC 6335).
-use Rattle.std.specs.Prelude.{ℕ, ◌-◌, Bool, true, false, ◌&&◌, ◌||◌, ◌==◌, nat_le, if◌then◌else◌, Option, Some, None, Result, Ok, List, [], ◌∷◌, length, position, slice_get, slice_index, take, drop, codes, option_and_then}
+use Rattle.std.specs.Prelude.{ℕ, ◌-◌, Bool, ◌&&◌, ◌||◌, ◌==◌, nat_le, if◌then◌else◌, Option, Some, None, Result, Ok, List, [], ◌∷◌, length, position, slice_get, slice_index, take, codes, option_and_then}
 use Rattle.std.specs.List.{list_all}
 use Rattle.fw_rule.specs.Canonical.{unreach_names}
 use Rattle.fw_rule.specs.declared.iface.Iface.{Iface}
 use Rattle.fw_rule.specs.declared.iface.Iface.TheVariants.{AnyIface, Exact, Begins}
-use Rattle.ipfw_parser.specs.declared.kind.Kind.{Kind}
 use Rattle.ipfw_parser.specs.declared.kind.Kind.TheVariants.{BadName, UnknownWord}
 use Rattle.ipfw_parser.specs.Reading.{Word, Fault, fault_at, same}
 use Rattle.ipfw_parser.specs.Numbers.{number, starts_with_digit}

@@ -10,7 +10,6 @@ use Rattle.fw_rule.specs.declared.limit_mask.LimitMask.{LimitMask}
 use Rattle.fw_rule.specs.declared.limit_mask.LimitMask.TheVariants.{SrcAddr, SrcPort, DstAddr, DstPort}
 use Rattle.fw_rule.specs.declared.state_opt.StateOpt.{StateOpt}
 use Rattle.fw_rule.specs.declared.state_opt.StateOpt.TheVariants.{Keep, Limit}
-use Rattle.ipfw_parser.specs.declared.kind.Kind.{Kind}
 use Rattle.ipfw_parser.specs.declared.kind.Kind.TheVariants.{UnknownWord, SecondState, Misplaced}
 use Rattle.ipfw_parser.specs.Reading.{Word, Fault, Reading, fault_at, ◌>>=◌, same, first}
 use Rattle.ipfw_parser.specs.Numbers.{number}

@@ -1,8 +1,7 @@
 -- Ports and lists of ports.
-use Rattle.std.specs.Prelude.{ℕ, Bool, true, false, ◌&&◌, ◌||◌, ◌==◌, nat_le, if◌then◌else◌, Option, Some, None, Result, Ok, List, [], ◌∷◌, codes, is_some}
+use Rattle.std.specs.Prelude.{ℕ, Bool, false, ◌||◌, nat_le, if◌then◌else◌, Option, Some, None, Result, Ok, List, [], ◌∷◌, codes, is_some}
 use Rattle.fw_base.specs.PortRange.{Ports}
 use Rattle.fw_rule.specs.declared.port_list.PortList.{PortList}
-use Rattle.ipfw_parser.specs.declared.kind.Kind.{Kind}
 use Rattle.ipfw_parser.specs.declared.kind.Kind.TheVariants.{BadPort, BadRange}
 use Rattle.ipfw_parser.specs.Reading.{Word, Fault, Reading, fault_at, ◌>>=◌, same, first, negation}
 use Rattle.ipfw_parser.specs.Numbers.{decimal, up_to, starts_with_digit}

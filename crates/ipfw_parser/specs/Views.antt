@@ -1,5 +1,5 @@
 -- What the parser's words mean.
-use Rattle.std.specs.Prelude.{ℕ, List, map}
+use Rattle.std.specs.Prelude.{List, map}
 use Rattle.ipfw_parser.specs.Reading.{Word, word_of}
 use Rattle.ipfw_parser.specs.declared.word.Word.{Word as TextWord}
 use Rattle.ipfw_parser.specs.declared.words.Words.{Words}

@@ -1,3 +1,6 @@
+ghost use Rattle.std.specs.Prelude.{◌≡◌, Some};
+ghost use Rattle.ipfw_parser.specs.Sentences.{sentence_of};
+
 use std::fmt;
 
 /// What is wrong with a line of a script, in the order of the manual's grammar.
@@ -34,7 +37,9 @@ pub enum Kind {
 }
 
 impl Kind {
-    fn words(self) -> &'static str {
+    fn words(self) -> &'static str
+        ensures { result.now ≡ sentence_of self }
+    {
         match self {
             Kind::UnknownWord => "another word is wanted here",
             Kind::MissingWord => "a word is missing",
@@ -55,6 +60,8 @@ impl Kind {
 }
 
 impl fmt::Display for Kind {
+    ghost output = { λ kind. Some (sentence_of kind) };
+
     fn fmt<W: fmt::Write>(&self, f: &mut fmt::Formatter<W>) -> fmt::Result {
         f.write_str(self.words())
     }

@@ -3,7 +3,12 @@
 
 pub use addresses::{address, prefix};
 pub use kind::Kind;
-pub use laws::{numbers_are_read_again, port_lists_are_read_again, words_are_read_again};
+pub use laws::{
+    address_lists_are_read_again, canonical_texts_are_readable, canonical_texts_keep_their_words,
+    drafts_are_in_form, drafts_are_well_formed, masks_are_read_again, numbers_are_read_again,
+    port_lists_are_read_again, prefixes_are_read_again, rules_are_read_again,
+    rules_in_form_are_read_again, texts_tell_rules_apart, words_are_read_again,
+};
 pub use line::{line_end, parse_rule, skip, words_of};
 pub use names::table_name;
 pub use numbers::{number, set_number, starts_with_digit};

@@ -1,4 +1,5 @@
-ghost use Rattle.std.specs.Prelude.{◌≡◌, ◌≤◌, ◌^◌, ◌<◌, length, drop, map};
+ghost use Rattle.std.specs.Prelude.{◌≡◌, ◌≤◌, ◌^◌, ◌<◌, length, drop, map, IfOk};
+ghost use Rattle.fw_rule.specs.WellFormed.{IsDraft};
 ghost use Rattle.fw_lex.specs.Words as lex;
 ghost use Rattle.ipfw_parser.specs.Reading.{Gives, word_of};
 ghost use Rattle.ipfw_parser.specs.Views.{list_of};
@@ -57,6 +58,7 @@ pub fn parse_rule(
 
     // Exactly the grammar's draft or its first fault, unless memory runs out.
     ensures exact { Gives (λ draft. draft) result (rule_in line.now tokens.now first) }
+    ensures well_formed { IfOk result IsDraft }
 {
     parse_words(alloc, words_of(line, tokens), first)
 }

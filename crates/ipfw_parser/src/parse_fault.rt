@@ -1,4 +1,5 @@
-ghost use Rattle.std.specs.Prelude.{◌≡◌};
+ghost use Rattle.std.specs.Prelude.{◌≡◌, Some};
+ghost use Rattle.ipfw_parser.specs.Sentences.{fault_sentence};
 ghost use Rattle.ipfw_parser.specs.declared.parse_fault.ParseFault.TheVariants.{OutOfMemory};
 
 use crate::Kind;
@@ -16,6 +17,8 @@ pub enum ParseFault {
 }
 
 impl fmt::Display for ParseFault {
+    ghost output = { λ fault. Some (fault_sentence fault) };
+
     fn fmt<W: fmt::Write>(&self, f: &mut fmt::Formatter<W>) -> fmt::Result {
         match self {
             ParseFault::At { column, kind } => write!(f, "column {column}: {kind}"),

@@ -1,5 +1,5 @@
-use crate::{Kind, ParseFault, parse_rule};
-use fw_base::MemorySink;
+use crate::{Kind, ParseFault, Word, address, parse_rule, prefix};
+use fw_base::{Addr, MemorySink, Prefix};
 use fw_lex::{LexFault, tokens};
 use fw_rule::{Rule, RuleDraft, write_rule};
 use std::alloc::Global;
@@ -334,5 +334,36 @@ fn canonical_text_of_a_rule(rt: HostRuntime) -> Result<(), Fail> {
     let want = "00005 set 3 allow log logamount 10 tcp from not 10.0.0.0/8,me 80,1000-2000 to any \
                 not 53 in recv em* tcpflags syn,!ack";
     assert_eq!(rt; text.written(), want.as_bytes());
+    Ok(())
+}
+
+#[test]
+fn addresses_and_prefixes(rt: HostRuntime) -> Result<(), Fail> {
+    let word = |text| Word { column: 7, text };
+    let fault = |kind| ParseFault::At { column: 7, kind };
+    assert_eq!(rt; address(word(b"192.0.2.001")), Ok(Addr(0xc000_0201)));
+    assert_eq!(rt; address(word(b"192.0.2.256")), Err(fault(Kind::BadAddress)));
+    assert_eq!(rt;
+        prefix(word(b"10.9.8.7/8")).ok(),
+        Prefix::new(Addr(0x0a00_0000), 8)
+    );
+    assert_eq!(rt;
+        prefix(word(b"10.9.8.7")).ok(),
+        Prefix::new(Addr(0x0a09_0807), 32)
+    );
+    assert_eq!(rt;
+        prefix(word(b"10.9.8.7/33")).err(),
+        Some(fault(Kind::BadPrefix))
+    );
+    Ok(())
+}
+
+#[test]
+fn a_fault_prints_its_column_and_what_is_wrong(rt: HostRuntime) -> Result<(), Fail> {
+    let kind = Kind::NumberRange;
+    let text = format!(in rt.alloc(); "{}", ParseFault::At { column: 12, kind })?;
+    assert_eq!(rt; text.as_str(), "column 12: the number is out of its range");
+    let text = format!(in rt.alloc(); "{}", ParseFault::OutOfMemory)?;
+    assert_eq!(rt; text.as_str(), "out of memory");
     Ok(())
 }

@@ -1,4 +1,4 @@
-use Rattle.std.proofs.Common.{sym, ◌∙◌}
+use Rattle.std.proofs.Common.{sym}
 use Rattle.ipfw_parser.proofs.Cuts.{none_len}
 use Rattle.ipfw_parser.proofs.cut.comma_place.Goals as goal
 

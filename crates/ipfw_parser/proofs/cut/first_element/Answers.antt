@@ -1,6 +1,4 @@
-use Rattle.std.proofs.Common.{◌∷◌, sym, ◌∙◌, ap, take, length, ◌+◌}
-use Rattle.ipfw_parser.specs.Lists.{elements_left}
-use Rattle.ipfw_parser.proofs.Cuts.{elements_first, left_at}
+use Rattle.ipfw_parser.proofs.Cuts.{elements_first}
 use Rattle.ipfw_parser.proofs.cut.first_element.Goals as goal
 
 pub returns-clause-elements : goal.returns-clause-elements

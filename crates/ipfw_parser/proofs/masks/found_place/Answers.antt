@@ -1,5 +1,4 @@
-use Rattle.std.proofs.Common.{◌≡◌, sym, ◌∙◌, ap, rules}
-use Rattle.std.proofs.lemmas.Grind.{common_steps}
+use Rattle.std.proofs.Common.{sym, ◌∙◌, ap}
 use Rattle.ipfw_parser.specs.Lists.{flag_found}
 use Rattle.ipfw_parser.proofs.MaskSteps.{place-map}
 use Rattle.ipfw_parser.proofs.masks.found_place.Goals as goal

@@ -1,4 +1,3 @@
-use Rattle.std.proofs.Common.{◌≡◌, drop}
 use Rattle.ipfw_parser.proofs.DigitSteps.{IsReading}
 use Rattle.ipfw_parser.proofs.numbers.digits_value.Given as goal
 

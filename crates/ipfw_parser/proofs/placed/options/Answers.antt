@@ -1,6 +1,5 @@
-use Rattle.std.proofs.Common.{◌≡◌, ◌-◌, ◌+◌, suc, length, sym, ◌∙◌, ap, inl, inr, arith}
+use Rattle.std.proofs.Common.{◌≡◌, ◌-◌, ◌+◌, suc, length, sym, ◌∙◌, inl, inr, arith}
 use Rattle.std.proofs.lemmas.Result.{err_from_is_err_and}
-use Rattle.ipfw_parser.specs.PlacedViews.{placed_view}
 use Rattle.ipfw_parser.proofs.Listing.{fails_on}
 use Rattle.ipfw_parser.proofs.Placing.{option_goes, option_breaks, state_goes, state_breaks, second_state, ends, some_words_is, no_words_is, is_some_false}
 use Rattle.ipfw_parser.proofs.placed.options.Goals as goal

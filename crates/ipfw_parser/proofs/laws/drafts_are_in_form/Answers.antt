@@ -1,0 +1,5 @@
+use Rattle.ipfw_parser.proofs.RulesRead.{rule_in_on}
+use Rattle.ipfw_parser.proofs.laws.drafts_are_in_form.Goals as goal
+
+pub returns : goal.returns
+returns c = rule_in_on
