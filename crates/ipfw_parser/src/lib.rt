@@ -2,12 +2,14 @@
 #![tactic(auto)]
 
 pub use addresses::{address, prefix};
+pub use cut::cut as cut_at;
 pub use kind::Kind;
 pub use laws::{numbers_are_read_again, port_lists_are_read_again, words_are_read_again};
 pub use line::{line_end, parse_rule, skip, words_of};
 pub use names::table_name;
 pub use numbers::{number, set_number, starts_with_digit};
 pub use parse_fault::ParseFault;
+pub use rules::{expected, set_behind};
 pub use word::Word;
 pub use words::Words;
 

@@ -1,0 +1,10 @@
+pub mod Lines
+pub mod Ends
+pub mod SetCommands
+pub mod TableCommands
+pub mod SettingCommands
+pub mod Commands
+pub mod Statements
+pub mod Scripts
+pub mod WellFormed
+pub mod Texts
