@@ -1,0 +1,5 @@
+pub mod LineEnds
+pub mod WordLists
+pub mod SetSteps
+pub mod Ranges
+pub mod ScriptSteps

@@ -6,5 +6,7 @@ pub mod SettingCommands
 pub mod Commands
 pub mod Statements
 pub mod Scripts
+pub mod Drafts
+pub mod DraftViews
 pub mod WellFormed
 pub mod Texts

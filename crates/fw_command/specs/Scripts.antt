@@ -1,6 +1,8 @@
 -- A script: the commands of its lines before `live` and the steps behind it, or the first fault.
-use Rattle.std.specs.Prelude.{◌≡◌, ℕ, ◌+◌, Bool, true, false, ◌&&◌, nat_le, nat_lt, if◌then◌else◌, Result, Ok, Err, List, [], ◌∷◌, length}
+use Rattle.std.specs.Prelude.{◌≡◌, ℕ, ◌+◌, Bool, true, false, ◌&&◌, nat_le, nat_lt, if◌then◌else◌, Option, Some, None, is_some, Result, Ok, Err, List, [], ◌∷◌, length}
 use Rattle.fw_rule.specs.declared.command.Command.{Command}
+use Rattle.ipfw_parser.specs.declared.parse_fault.ParseFault.{ParseFault}
+use Rattle.ipfw_parser.specs.declared.parse_fault.ParseFault.TheVariants.{At, OutOfMemory as NoMemory}
 use Rattle.ipfw_parser.specs.Reading.{Fault}
 use Rattle.fw_command.specs.Lines.{lines_of}
 use Rattle.fw_command.specs.Statements.{says}
@@ -29,35 +31,35 @@ on_line number (Err fault) = Err (Parse number fault.column fault.kind)
 -- behind `live` no `after` stands at pace Live, and there are at most 4,096 commands
 abbrev pub allowed : Pace → Place → Statement → Result Statement ScriptFault
 allowed LivePace place (After column count) = Err (PaceInLive place.line column)
-allowed pace place (Order command) = if place.live && nat_le 4096 place.ran then Err TooManyLive else Ok (Order command)
+allowed pace place (Order command) = if is_some place.live && nat_le 4096 place.ran then Err TooManyLive else Ok (Order command)
 allowed pace place other = Ok other
 
 -- what a line at this place says, or its fault
 unfoldable pub line_at : Pace → Place → List ℕ → Result Statement ScriptFault
-line_at pace place line = on_line place.line (says place.live line) >>= allowed pace place
+line_at pace place line = on_line place.line (says (is_some place.live) line) >>= allowed pace place
 
 -- the place of the line behind one that says this
 abbrev pub next_place : Place → Statement → Place
 next_place place Nothing = record { line = place.line + 1; live = place.live; ran = place.ran }
-next_place place (Order command) = record { line = place.line + 1; live = place.live; ran = if place.live then place.ran + 1 else place.ran }
-next_place place Live = record { line = place.line + 1; live = true; ran = place.ran }
+next_place place (Order command) = record { line = place.line + 1; live = place.live; ran = if is_some place.live then place.ran + 1 else place.ran }
+next_place place Live = record { line = place.line + 1; live = Some place.line; ran = place.ran }
 next_place place (After column count) = record { line = place.line + 1; live = place.live; ran = place.ran }
 
 -- the command, before those of the script behind it
 abbrev pub ordered : Bool → Line → Script → Script
-ordered false line script = record { before = line ∷ script.before; live = script.live }
-ordered true line script = record { before = script.before; live = Run line ∷ script.live }
+ordered false line script = record { before = line ∷ script.before; live_at = script.live_at; live = script.live }
+ordered true line script = record { before = script.before; live_at = script.live_at; live = Run line ∷ script.live }
 
 -- what the line at this place says, before the script behind it
 abbrev pub joined : Place → Statement → Script → Script
 joined place Nothing script = script
-joined place (Order command) script = ordered place.live (record { line = place.line; command = command }) script
+joined place (Order command) script = ordered (is_some place.live) (record { line = place.line; command = command }) script
 joined place Live script = script
-joined place (After column count) script = record { before = script.before; live = AfterPackets count ∷ script.live }
+joined place (After column count) script = record { before = script.before; live_at = script.live_at; live = AfterPackets count ∷ script.live }
 
 -- the script of the lines from this place on
 unfoldable pub script_from : Pace → Place → List (List ℕ) → Result Script ScriptFault
-script_from pace place [] = Ok (record { before = []; live = [] })
+script_from pace place [] = Ok (record { before = []; live_at = place.live; live = [] })
 script_from pace place (line ∷ lines) = do
   statement ← line_at pace place line
   script ← script_from pace (next_place place statement) lines
@@ -65,7 +67,7 @@ script_from pace place (line ∷ lines) = do
 
 -- the place of a script's first line
 abbrev pub first_place : Place
-first_place = record { line = 1; live = false; ran = 0 }
+first_place = record { line = 1; live = None; ran = 0 }
 
 -- a script of at most 1,048,576 bytes and 65,536 lines
 unfoldable pub script_of : Pace → List ℕ → Result Script ScriptFault
@@ -78,3 +80,9 @@ script_of pace bytes =
 abbrev pub Reads : {X : Type 0} → Result X ScriptFault → Result X ScriptFault → Type 0
 Reads (Err OutOfMemory) script = Unit {0}
 Reads result script = result ≡ script
+
+-- the same of a line, told of what the parser answered
+abbrev pub IsOnLine : ℕ → Result Statement ParseFault → Result Statement ScriptFault → Type 0
+IsOnLine number (Ok statement) result = result ≡ Ok statement
+IsOnLine number (Err (At column kind)) result = result ≡ Err (Parse number column kind)
+IsOnLine number (Err NoMemory) result = result ≡ Err OutOfMemory

@@ -9,20 +9,29 @@ use Rattle.ipfw_parser.specs.Numbers.{set_number}
 use Rattle.ipfw_parser.specs.Rules.{set_behind}
 use Rattle.fw_command.specs.Ends.{finished, number_behind}
 
+-- a set as the bit of a mask
+unfoldable pub set_bit : Word → Result ℕ Fault
+set_bit word = set_number word >>= λ n. Ok (2 ^ n)
+
+-- the word ends a list of sets behind which `enable` may follow
+unfoldable pub ends_sets : Bool → List ℕ → Bool
+ends_sets to_enable text = to_enable && same text (codes "enable")
+
 -- Sets up to the line's end, or up to `enable` where it may follow, as bits beside those of the mask.
 unfoldable pub more_sets : Bool → ℕ → List Word → Reading ℕ
 more_sets to_enable mask [] = Ok (mask, [])
 more_sets to_enable mask (word ∷ words) =
-    if to_enable && same word.text (codes "enable") then Ok (mask, word ∷ words)
+    if ends_sets to_enable word.text then Ok (mask, word ∷ words)
     else (do
-      n ← set_number word
-      more_sets to_enable (bit_or mask (2 ^ n)) words)
+      bit ← set_bit word
+      more_sets to_enable (bit_or mask bit) words)
 
 -- the same, with one set at least
 unfoldable pub sets : Bool → ℕ → List Word → Reading ℕ
 sets to_enable end words = do
-  found ← set_behind end words
-  more_sets to_enable (2 ^ found.0) found.1
+  next ← first end words
+  bit ← set_bit next.0
+  more_sets to_enable bit next.1
 
 -- behind `enable`
 unfoldable pub enable : ℕ → ℕ → List Word → Result Command Fault
@@ -75,7 +84,7 @@ unfoldable pub set_command : ℕ → List Word → Result Command Fault
 set_command end words = do
   next ← first end words
   (if same next.0.text (codes "disable") then disable end next.1
-    else if same next.0.text (codes "enable") then enable 0 end next.1
-    else if same next.0.text (codes "move") then move_words end next.1
-    else if same next.0.text (codes "swap") then swap_sets end next.1
-    else fault_at next.0.column UnknownWord)
+      else if same next.0.text (codes "enable") then enable 0 end next.1
+      else if same next.0.text (codes "move") then move_words end next.1
+      else if same next.0.text (codes "swap") then swap_sets end next.1
+      else fault_at next.0.column UnknownWord)

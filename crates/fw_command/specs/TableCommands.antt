@@ -76,13 +76,13 @@ unfoldable pub table_command : ℕ → List Word → Reading TableCommand
 table_command end words = do
   next ← first end words
   (if same next.0.text (codes "create") then create end next.1
-    else if same next.0.text (codes "destroy") then Ok (Destroy, next.1)
-    else if same next.0.text (codes "flush") then Ok (Clear, next.1)
-    else if same next.0.text (codes "list") then Ok (ListEntries, next.1)
-    else if same next.0.text (codes "add") then add_entry end next.1
-    else if same next.0.text (codes "delete") then remove_entry end next.1
-    else if same next.0.text (codes "swap") then swap_with end next.1
-    else fault_at next.0.column UnknownWord)
+      else if same next.0.text (codes "destroy") then Ok (Destroy, next.1)
+      else if same next.0.text (codes "flush") then Ok (Clear, next.1)
+      else if same next.0.text (codes "list") then Ok (ListEntries, next.1)
+      else if same next.0.text (codes "add") then add_entry end next.1
+      else if same next.0.text (codes "delete") then remove_entry end next.1
+      else if same next.0.text (codes "swap") then swap_with end next.1
+      else fault_at next.0.column UnknownWord)
 
 -- behind `table`
 unfoldable pub table : ℕ → List Word → Result Command Fault

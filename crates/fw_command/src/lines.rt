@@ -8,6 +8,7 @@ fn line_len(bytes: &[u8]) -> Option<usize>
     bytes.iter().position(|byte| *byte == b'\n')
 }
 
+#[tactic(auto, using(crate::proofs::LineEnds::lines_of_at, crate::proofs::LineEnds::lines_of_one))]
 /// The first line without the byte 10 that ends it, and the bytes behind it.
 pub(crate) fn first_line(bytes: &[u8]) -> (&[u8], &[u8])
     requires { 0 < length bytes.now }

@@ -3,8 +3,8 @@
 pub(crate) struct Place {
     /// Its number, from 1.
     pub line: u32,
-    /// Whether `live` stands on an earlier line.
-    pub live: bool,
+    /// The line of `live`, where it stands on an earlier one.
+    pub live: Option<u32>,
     /// How many commands stand behind `live` on earlier lines.
     pub ran: u32,
 }

@@ -6,6 +6,8 @@ use fw_rule::Items;
 pub struct Script {
     /// Those before `live`, or all where there is no `live`.
     pub before: Items<Line>,
+    /// The line of `live`, from 1, where it stands.
+    pub live_at: Option<u32>,
     /// What stands behind `live`: at most 4,096 commands, and any `after` between them.
     pub live: Items<Step>,
 }

@@ -1,6 +1,6 @@
 ghost use Rattle.std.specs.Prelude.{◌≡◌, ◌≤◌, ◌<◌, ◌+◌, ◌^◌, IfOk, length};
 ghost use Rattle.fw_command.specs.Scripts as spec;
-ghost use Rattle.fw_command.specs.Scripts.{Reads};
+ghost use Rattle.fw_command.specs.Scripts.{Reads, IsOnLine};
 ghost use Rattle.fw_command.specs.Lines.{lines_of};
 ghost use Rattle.fw_command.specs.WellFormed.{IsScript};
 
@@ -22,7 +22,9 @@ pub const SCRIPT_LINES: usize = 65_536;
 /// How many commands stand behind `live` at most.
 pub const LIVE_COMMANDS: u32 = 4_096;
 
-fn on_line(line: u32, said: Result<Statement, ParseFault>) -> Result<Statement, ScriptFault> {
+fn on_line(line: u32, said: Result<Statement, ParseFault>) -> Result<Statement, ScriptFault>
+    ensures { IsOnLine line said result }
+{
     match said {
         Ok(statement) => Ok(statement),
         Err(ParseFault::At { column, kind }) => Err(ScriptFault::Parse { line, column, kind }),
@@ -31,13 +33,15 @@ fn on_line(line: u32, said: Result<Statement, ParseFault>) -> Result<Statement, 
 }
 
 /// The statement, where it may stand at this place.
-fn allowed(pace: Pace, place: Place, statement: Statement) -> Result<Statement, ScriptFault> {
+fn allowed(pace: Pace, place: Place, statement: Statement) -> Result<Statement, ScriptFault>
+    ensures { result ≡ spec.allowed pace place statement }
+{
     match (pace, &statement) {
         (Pace::Live, Statement::After { column, .. }) => Err(ScriptFault::PaceInLive {
             line: place.line,
             column: *column,
         }),
-        (_, Statement::Order(_)) if place.live && place.ran >= LIVE_COMMANDS => {
+        (_, Statement::Order(_)) if place.live.is_some() && LIVE_COMMANDS <= place.ran => {
             Err(ScriptFault::TooManyLive)
         }
         _ => Ok(statement),
@@ -45,10 +49,12 @@ fn allowed(pace: Pace, place: Place, statement: Statement) -> Result<Statement, 
 }
 
 /// What the line at this place says, or its fault.
+#[tactic(auto, unfolding(crate::specs::Scripts::line_at))]
 fn line_at(alloc: Global, pace: Pace, place: Place, line: &[u8]) -> Result<Statement, ScriptFault>
     requires { length line.now ≤ 1048576 }
+    ensures { Reads result (spec.line_at pace place line.now) }
 {
-    let statement = on_line(place.line, says(alloc, place.live, line))?;
+    let statement = on_line(place.line, says(alloc, place.live.is_some(), line))?;
     allowed(pace, place, statement)
 }
 
@@ -56,17 +62,18 @@ fn line_at(alloc: Global, pace: Pace, place: Place, line: &[u8]) -> Result<State
 fn next_place(place: Place, statement: &Statement) -> Place
     requires line { place.line + 1 < 2 ^ 32 }
     requires ran { place.ran + 1 < 2 ^ 32 }
+    ensures { result ≡ spec.next_place place statement.now }
 {
     let line = place.line + 1;
     match statement {
         Statement::Live => Place {
             line,
-            live: true,
+            live: Some(place.line),
             ran: place.ran,
         },
-        Statement::Order(_) if place.live => Place {
+        Statement::Order(_) if place.live.is_some() => Place {
             line,
-            live: true,
+            live: place.live,
             ran: place.ran + 1,
         },
         _ => Place {
@@ -85,7 +92,7 @@ fn read_lines(alloc: Global, pace: Pace, bytes: &[u8]) -> Result<Script, ScriptF
     let mut draft = ScriptDraft::new(alloc);
     let mut place = Place {
         line: 1,
-        live: false,
+        live: None,
         ran: 0,
     };
     let mut rest = bytes;
@@ -97,7 +104,7 @@ fn read_lines(alloc: Global, pace: Pace, bytes: &[u8]) -> Result<Script, ScriptF
         place = next;
         rest = behind;
     }
-    Ok(draft.script())
+    Ok(draft.script(place.live))
 }
 
 /// Reads a script of at most 1,048,576 bytes and 65,536 lines, of which at most 4,096 are commands

@@ -5,20 +5,36 @@ ghost use Rattle.fw_command.specs.SetCommands as spec;
 
 use crate::ends::{finished, number_behind};
 use fw_rule::Command;
-use ipfw_parser::{Kind, ParseFault, Words, expected, set_behind, set_number};
+use ipfw_parser::{Kind, ParseFault, Word, Words, expected, set_behind, set_number};
 
-/// Sets up to the line's end, or up to `enable` where it may follow, as bits beside those of the mask.
-fn more_sets(to_enable: bool, mask: u32, words: Words<'_>) -> Result<(u32, Words<'_>), ParseFault>
-    ensures { Gives (λ r. (r.0, list_of r.1)) result (spec.more_sets to_enable mask (list_of words.entry)) }
+/// A set as the bit of a mask.
+#[tactic(auto, unfolding(crate::specs::SetCommands::set_bit))]
+fn set_bit(word: Word<'_>) -> Result<u32, ParseFault>
+    ensures { Gives (λ b. b) result (spec.set_bit (view word.entry)) }
 {
-    let mut mask = mask;
+    let set = set_number(word)?;
+    Ok(1 << set)
+}
+
+/// Whether the word ends a list of sets behind which `enable` may follow.
+#[tactic(auto, unfolding(crate::specs::SetCommands::ends_sets))]
+fn ends_sets(to_enable: bool, word: Word<'_>) -> bool
+    ensures { result ≡ spec.ends_sets to_enable word.entry.text.now }
+{
+    to_enable && word.is(b"enable")
+}
+
+/// Sets up to the line's end, or up to `enable` where it may follow, as bits beside those before.
+fn more_sets(to_enable: bool, before: u32, words: Words<'_>) -> Result<(u32, Words<'_>), ParseFault>
+    ensures { Gives (λ r. (r.0, list_of r.1)) result (spec.more_sets to_enable before (list_of words.entry)) }
+{
+    let mut mask = before;
     let mut rest = words;
     while let Some((word, behind)) = rest.next() {
-        if to_enable && word.is(b"enable") {
+        if ends_sets(to_enable, word) {
             return Ok((mask, rest));
         }
-        let set = set_number(word)?;
-        mask |= 1 << set;
+        mask |= set_bit(word)?;
         rest = behind;
     }
     Ok((mask, rest))
@@ -29,8 +45,9 @@ fn more_sets(to_enable: bool, mask: u32, words: Words<'_>) -> Result<(u32, Words
 fn sets(to_enable: bool, end: u32, words: Words<'_>) -> Result<(u32, Words<'_>), ParseFault>
     ensures { Gives (λ r. (r.0, list_of r.1)) result (spec.sets to_enable end (list_of words.entry)) }
 {
-    let (set, words) = set_behind(end, words)?;
-    more_sets(to_enable, 1 << set, words)
+    let (next, words) = words.first(end)?;
+    let bit = set_bit(next)?;
+    more_sets(to_enable, bit, words)
 }
 
 #[tactic(auto, unfolding(crate::specs::SetCommands::enable))]
