@@ -1,5 +1,5 @@
 -- A script, line after line.
-use Rattle.std.proofs.Common.{◌≡◌, ℕ, List, [], ◌∷◌, ◌++◌, Bool, true, false, Option, Result, Ok, Err, refl, sym, ap, ◌∙◌, append_assoc}
+use Rattle.std.proofs.Common.{◌≡◌, ◌≤◌, ◌+◌, if◌then◌else◌, arith, ℕ, List, [], ◌∷◌, ◌++◌, Bool, true, false, Option, Result, Ok, Err, refl, sym, ap, ◌∙◌, append_assoc}
 use Rattle.std.specs.Prelude.{is_some}
 use Rattle.std.proofs.lemmas.List.{append-nil}
 use Rattle.fw_command.specs.Lines.{lines_of}
@@ -40,6 +40,22 @@ with_draft-joined place statement draft (Err fault) = refl
 with_draft-nil : (reading : Result Script ScriptFault) → with_draft (record { before = []; live = [] }) reading ≡ reading
 with_draft-nil (Ok script) = refl
 with_draft-nil (Err fault) = refl
+
+pub next_line : (place : Place) (statement : Statement) → (next_place place statement).line ≡ place.line + 1
+next_line place Nothing = refl
+next_line place (Order command) = refl
+next_line place Live = refl
+next_line place (After column count) = refl
+
+counted : (live : Bool) (ran : ℕ) → (if live then ran + 1 else ran) ≤ ran + 1
+counted true ran = omega arith
+counted false ran = omega arith
+
+pub next_ran : (place : Place) (statement : Statement) → (next_place place statement).ran ≤ place.ran + 1
+next_ran place Nothing = omega arith
+next_ran place (Order command) = counted (is_some place.live) place.ran
+next_ran place Live = omega arith
+next_ran place (After column count) = omega arith
 
 -- so far this draft was read; these lines are left, the first of them at this place
 pub record IsScripting (pace : Pace) (whole : Result Script ScriptFault) (draft : Draft) (place : Place) (left : List (List ℕ)) : Type 0 where

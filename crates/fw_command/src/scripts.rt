@@ -107,6 +107,7 @@ fn read_lines(alloc: Global, pace: Pace, bytes: &[u8]) -> Result<Script, ScriptF
     Ok(draft.script(place.live))
 }
 
+#[tactic(auto, unfolding(crate::specs::Scripts::script_of))]
 /// Reads a script of at most 1,048,576 bytes and 65,536 lines, of which at most 4,096 are commands
 /// behind `live`: its commands, or the first fault. Time grows with the bytes; memory is taken for the
 /// words of one line and for what the commands keep.
