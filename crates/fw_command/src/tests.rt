@@ -1,10 +1,15 @@
-use crate::{Pace, parse_script};
+use crate::ScriptFault;
+use fw_base::MemorySink;
+use std::alloc::Global;
 use std::test::Fail;
 
-#[test]
-fn an_empty_script_has_no_command(rt: HostRuntime) -> Result<(), Fail> {
-    let script = parse_script(rt.alloc(), b"", Pace::Serial)?;
-    assert_eq!(rt; script.before.as_slice().len(), 0);
-    assert_eq!(rt; script.live.as_slice().len(), 0);
-    Ok(())
+mod commands;
+mod faults;
+mod limits;
+
+/// What is printed of the fault.
+fn printed(alloc: Global, fault: ScriptFault) -> Result<MemorySink, Fail> {
+    let mut out = MemorySink::new(alloc, 1000)?;
+    fault.write(&mut out)?;
+    Ok(out)
 }
