@@ -1,25 +1,22 @@
 -- Each number of a command is in its range.
-use Rattle.std.proofs.Common.{◌≡◌, ◌≤◌, ◌<◌, ◌^◌, ℕ, Bool, true, false, if◌then◌else◌, Option, Some, None, List, [], ◌∷◌, Result, Ok, Err, refl, arith, nat_le}
+use Rattle.std.proofs.Common.{◌≤◌, ◌<◌, ◌^◌, ℕ, Bool, true, false, Option, Some, None, List, [], ◌∷◌, Result, arith}
 use Rattle.std.specs.Prelude.{IfOk, bit_or, codes}
 use Rattle.std.specs.List.{AllByRecursion}
 use Rattle.std.proofs.lemmas.Nat.{or_of_32}
 use Rattle.std.proofs.lemmas.Bool.Decides.{leb_tells}
 use Rattle.std.proofs.Common.{inl, inr}
 use Rattle.std.proofs.Math.Pow.{pow_mono}
-use Rattle.fw_base.specs.Prefix.{Network, network}
-use Rattle.fw_rule.specs.declared.command.Command.{Command}
 use Rattle.fw_rule.specs.declared.setting.Setting.{Setting}
 use Rattle.fw_rule.specs.declared.setting.Setting.TheVariants.{Ack, Syn, Fin, Rst, Udp, Short, Max}
 use Rattle.fw_rule.specs.declared.table_command.TableCommand.{TableCommand}
-use Rattle.fw_rule.specs.declared.key.Key.{Key}
-use Rattle.fw_rule.specs.Settings.{IsInRange, IsLifetime, IsMostStates}
+use Rattle.fw_rule.specs.Settings.{IsInRange}
 use Rattle.fw_rule.specs.WellFormed.{IsFromTo, IsNumber, IsSet, IsValue, IsKey, IsPrefix, IsTableCommand, IsWellFormed}
-use Rattle.ipfw_parser.specs.Reading.{Word, Fault, Reading, ◌>>=◌, first, expected, same}
+use Rattle.ipfw_parser.specs.Reading.{Word, Fault, ◌>>=◌, first, expected, same}
 use Rattle.ipfw_parser.specs.Numbers.{number, set_number, up_to, decimal}
 use Rattle.ipfw_parser.specs.Names.{table_name}
 use Rattle.ipfw_parser.specs.Addresses.{prefix, prefix_length, found_length, address as address_number, before, behind}
 use Rattle.ipfw_parser.specs.Rules.{set_behind}
-use Rattle.fw_command.specs.Ends.{finished, number_behind, each_word}
+use Rattle.fw_command.specs.Ends.{number_behind}
 use Rattle.fw_command.specs.SetCommands.{set_bit, ends_sets, more_sets, sets, enable, disable_end, disable, move_rule, move_set, move_words, swap_sets, set_command}
 use Rattle.fw_command.specs.TableCommands.{has_dot, key, table_type, typed, create, value, add_entry, remove_entry, swap_with, table_command, table}
 use Rattle.fw_command.specs.SettingCommands.{setting, most, without_prefix, set_to, assignment, sysctl}

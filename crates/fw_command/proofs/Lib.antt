@@ -6,3 +6,4 @@ pub mod ScriptSteps
 pub mod OnResults
 pub mod InRange
 pub mod ScriptInRange
+pub mod Pieces

@@ -1,9 +1,8 @@
 -- The first line and those behind it.
-use Rattle.std.proofs.Common.{◌≡◌, ℕ, suc, ◌+◌, ◌<◌, ◌≤◌, Bool, true, false, cond, List, [], ◌∷◌, None, Some, length, take, drop, refl, sym, ap, subst, arith, nat_lt, ◌==◌, inl, inr}
+use Rattle.std.proofs.Common.{◌≡◌, ℕ, suc, ◌+◌, ◌<◌, ◌≤◌, Bool, true, false, cond, List, [], ◌∷◌, None, Some, length, take, drop, refl, sym, ap, arith, nat_lt, ◌==◌, inl, inr}
 use Rattle.std.specs.Prelude.{position}
 use Rattle.std.specs.List.{position_or_len, onto_first}
 use Rattle.std.proofs.lemmas.Bool.{cases_Bool, ltb-true, ltb-false}
-use Rattle.std.proofs.Math.Seq.{take-length, drop-length}
 use Rattle.std.proofs.lemmas.Option.{cond_some, none-some}
 use Rattle.fw_command.specs.Lines.{lines_of}
 

@@ -1,8 +1,8 @@
 -- Numbers that were read are in their range.
-use Rattle.std.proofs.Common.{◌≡◌, ℕ, ◌≤◌, Bool, true, false, ◌&&◌, nat_le, if◌then◌else◌, Option, Some, None, Result, Ok, Err, inl, inr, refl, arith}
+use Rattle.std.proofs.Common.{◌≡◌, ℕ, ◌≤◌, Option, Some, None, Ok, inl, inr, arith}
 use Rattle.std.proofs.lemmas.Bool.{cases_Bool}
 use Rattle.std.proofs.lemmas.Bool.Decides.{leb_tells}
-use Rattle.ipfw_parser.specs.Reading.{Word, Fault}
+use Rattle.ipfw_parser.specs.Reading.{Word}
 use Rattle.ipfw_parser.specs.Numbers.{number, number_by, set_number, starts_with_digit, decimal}
 use Rattle.fw_rule.specs.WellFormed.{IsFromTo}
 

@@ -1,19 +1,16 @@
 -- Each number of a script's commands is in its range.
-use Rattle.std.proofs.Common.{◌≡◌, ◌≤◌, ℕ, Bool, true, false, if◌then◌else◌, Option, Some, None, List, [], ◌∷◌, Result, Ok, Err, refl, arith, length, map}
-use Rattle.std.specs.Prelude.{IfOk, is_some, codes, nat_lt, ◌&&◌, nat_le}
-use Rattle.std.specs.List.{AllByRecursion}
+use Rattle.std.proofs.Common.{◌≤◌, ℕ, Bool, true, false, Option, Some, None, List, [], ◌∷◌, Result, Ok, Err, length, map}
+use Rattle.std.specs.Prelude.{IfOk, is_some, codes, ◌&&◌, nat_le}
 use Rattle.fw_lex.specs.Words.{before_comment, first_bad, words_of}
-use Rattle.fw_rule.specs.declared.rule_draft.RuleDraft.{RuleDraft}
 use Rattle.fw_rule.specs.WellFormed.{IsFromTo, IsDraft, IsWellFormed}
-use Rattle.ipfw_parser.specs.Reading.{Word, Fault, ◌>>=◌, same, word_of}
+use Rattle.ipfw_parser.specs.Reading.{Word, Fault, same, word_of}
 use Rattle.ipfw_parser.specs.Rules.{rule_in, end_column}
-use Rattle.fw_command.specs.Lines.{lines_of}
 use Rattle.fw_command.specs.Ends.{number_behind}
 use Rattle.fw_command.specs.Commands.{command}
 use Rattle.fw_command.specs.Statements.{live_line, after_count, after_line, statement, addition, words_say, says_unless, says}
 use Rattle.fw_command.specs.Scripts as scripts
 use Rattle.fw_command.specs.Scripts.{on_line, allowed, line_at, next_place, ordered, joined, script_from, script_of, Reads}
-use Rattle.fw_command.specs.WellFormed.{IsLine, IsStep, IsScript, DraftsAreWellFormed}
+use Rattle.fw_command.specs.WellFormed.{IsLine, IsScript, DraftsAreWellFormed}
 use Rattle.fw_command.specs.declared.pace.Pace.{Pace}
 use Rattle.fw_command.specs.declared.pace.Pace.TheVariants.{Serial, Live as LivePace}
 use Rattle.fw_command.specs.declared.place.Place.{Place}
@@ -22,8 +19,7 @@ use Rattle.fw_command.specs.declared.statement.Statement.{Statement}
 use Rattle.fw_command.specs.declared.statement.Statement.TheVariants.{Nothing, Order, Live, After}
 use Rattle.fw_command.specs.declared.script.Script.{Script}
 use Rattle.fw_command.specs.declared.script_fault.ScriptFault.{ScriptFault}
-use Rattle.fw_command.specs.declared.script_fault.ScriptFault.TheVariants.{OutOfMemory}
-use Rattle.fw_command.proofs.OnResults.{any, on_bind, on_if, finished_on}
+use Rattle.fw_command.proofs.OnResults.{on_bind, on_if, finished_on}
 use Rattle.fw_command.proofs.InRange.{number_behind_on, command_on}
 
 abbrev IsStatement : Statement → Type 0

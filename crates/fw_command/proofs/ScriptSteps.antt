@@ -1,8 +1,7 @@
 -- A script, line after line.
-use Rattle.std.proofs.Common.{◌≡◌, ◌≤◌, ◌+◌, if◌then◌else◌, arith, ℕ, List, [], ◌∷◌, ◌++◌, Bool, true, false, Option, Result, Ok, Err, refl, sym, ap, ◌∙◌, append_assoc}
+use Rattle.std.proofs.Common.{◌≡◌, ◌≤◌, ◌+◌, if◌then◌else◌, arith, ℕ, List, [], ◌∷◌, ◌++◌, Bool, true, false, Result, Ok, Err, refl, sym, ap, ◌∙◌, append_assoc}
 use Rattle.std.specs.Prelude.{is_some}
 use Rattle.std.proofs.lemmas.List.{append-nil}
-use Rattle.fw_command.specs.Lines.{lines_of}
 use Rattle.fw_command.specs.declared.pace.Pace.{Pace}
 use Rattle.fw_command.specs.declared.place.Place.{Place}
 use Rattle.fw_command.specs.declared.line.Line.{Line}

@@ -1,7 +1,7 @@
 -- Sets of a list, one after another, as the bits of a mask.
-use Rattle.std.proofs.Common.{◌≡◌, ℕ, ◌≤◌, ◌^◌, ◌&&◌, Bool, true, false, if◌then◌else◌, List, [], ◌∷◌, Result, Ok, Err, refl, sym, ap, ◌∙◌}
-use Rattle.std.specs.Prelude.{bit_or, codes}
-use Rattle.ipfw_parser.specs.Reading.{Word, Fault, Reading, ◌>>=◌, same}
+use Rattle.std.proofs.Common.{◌≡◌, ℕ, Bool, true, false, List, [], ◌∷◌, Ok, Err, sym}
+use Rattle.std.specs.Prelude.{bit_or}
+use Rattle.ipfw_parser.specs.Reading.{Word, Fault, Reading}
 use Rattle.fw_command.specs.SetCommands.{more_sets, set_bit, ends_sets}
 
 -- one more set

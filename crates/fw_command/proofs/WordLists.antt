@@ -1,5 +1,5 @@
 -- Words that are read one after another.
-use Rattle.std.proofs.Common.{◌≡◌, ℕ, ◌+◌, ◌<◌, List, [], ◌∷◌, ◌++◌, Result, Ok, Err, Some, None, length, refl, sym, ap, ◌∙◌, subst, arith}
+use Rattle.std.proofs.Common.{◌≡◌, ◌<◌, List, [], ◌∷◌, ◌++◌, Result, Ok, Err, Some, length, sym, ap, ◌∙◌, subst, arith}
 use Rattle.std.proofs.lemmas.List.{append-nil}
 use Rattle.ipfw_parser.specs.Reading.{Word, Fault, ◌>>=◌, some_words}
 use Rattle.ipfw_parser.proofs.Listing.{with_front, with_front-nil, with_front-step}

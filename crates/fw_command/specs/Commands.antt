@@ -1,9 +1,8 @@
 -- The commands of a script but `add` (ipfw(8), "SYNOPSIS"), by the words behind the first.
-use Rattle.std.specs.Prelude.{ℕ, if◌then◌else◌, Result, Ok, List, [], ◌∷◌, codes}
+use Rattle.std.specs.Prelude.{ℕ, if◌then◌else◌, Result, Ok, List, codes}
 use Rattle.fw_base.specs.declared.address.Addr.{Addr}
 use Rattle.fw_rule.specs.declared.command.Command.{Command}
 use Rattle.fw_rule.specs.declared.command.Command.TheVariants.{Delete, DeleteSet, Flush, Zero, ListRules, Local}
-use Rattle.ipfw_parser.specs.declared.kind.Kind.{Kind}
 use Rattle.ipfw_parser.specs.declared.kind.Kind.TheVariants.{UnknownWord}
 use Rattle.ipfw_parser.specs.Reading.{Word, Fault, fault_at, ◌>>=◌, same, first}
 use Rattle.ipfw_parser.specs.Numbers.{number}

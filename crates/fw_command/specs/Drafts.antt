@@ -1,5 +1,5 @@
 -- The script of the lines that were read so far.
-use Rattle.std.specs.Prelude.{Bool, true, false, Option, is_some, Result, Ok, Err, List, [], ◌∷◌, ◌++◌}
+use Rattle.std.specs.Prelude.{Bool, true, false, is_some, Result, Ok, Err, List, [], ◌∷◌, ◌++◌}
 use Rattle.fw_command.specs.declared.statement.Statement.{Statement}
 use Rattle.fw_command.specs.declared.statement.Statement.TheVariants.{Nothing, Order, Live, After}
 use Rattle.fw_command.specs.declared.place.Place.{Place}

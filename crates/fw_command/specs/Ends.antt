@@ -1,6 +1,5 @@
 -- The end of a command, and words that the productions share.
 use Rattle.std.specs.Prelude.{ℕ, Result, Ok, List, [], ◌∷◌}
-use Rattle.ipfw_parser.specs.declared.kind.Kind.{Kind}
 use Rattle.ipfw_parser.specs.declared.kind.Kind.TheVariants.{ExtraWord}
 use Rattle.ipfw_parser.specs.Reading.{Word, Fault, Reading, fault_at, ◌>>=◌, first}
 use Rattle.ipfw_parser.specs.Numbers.{number}

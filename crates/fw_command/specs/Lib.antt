@@ -10,3 +10,4 @@ pub mod Drafts
 pub mod DraftViews
 pub mod WellFormed
 pub mod Texts
+pub mod Laws

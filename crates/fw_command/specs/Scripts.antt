@@ -1,6 +1,5 @@
 -- A script: the commands of its lines before `live` and the steps behind it, or the first fault.
-use Rattle.std.specs.Prelude.{◌≡◌, ℕ, ◌+◌, Bool, true, false, ◌&&◌, nat_le, nat_lt, if◌then◌else◌, Option, Some, None, is_some, Result, Ok, Err, List, [], ◌∷◌, length}
-use Rattle.fw_rule.specs.declared.command.Command.{Command}
+use Rattle.std.specs.Prelude.{◌≡◌, ℕ, ◌+◌, Bool, true, false, ◌&&◌, nat_le, nat_lt, if◌then◌else◌, Some, None, is_some, Result, Ok, Err, List, [], ◌∷◌, length}
 use Rattle.ipfw_parser.specs.declared.parse_fault.ParseFault.{ParseFault}
 use Rattle.ipfw_parser.specs.declared.parse_fault.ParseFault.TheVariants.{At, OutOfMemory as NoMemory}
 use Rattle.ipfw_parser.specs.Reading.{Fault}
@@ -12,7 +11,6 @@ use Rattle.fw_command.specs.declared.pace.Pace.{Pace}
 use Rattle.fw_command.specs.declared.pace.Pace.TheVariants.{Live as LivePace}
 use Rattle.fw_command.specs.declared.place.Place.{Place}
 use Rattle.fw_command.specs.declared.line.Line.{Line}
-use Rattle.fw_command.specs.declared.step.Step.{Step}
 use Rattle.fw_command.specs.declared.step.Step.TheVariants.{Run, After as AfterPackets}
 use Rattle.fw_command.specs.declared.script.Script.{Script}
 use Rattle.fw_command.specs.declared.script_fault.ScriptFault.{ScriptFault}

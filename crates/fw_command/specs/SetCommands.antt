@@ -2,7 +2,6 @@
 use Rattle.std.specs.Prelude.{ℕ, ◌^◌, Bool, true, false, ◌&&◌, if◌then◌else◌, bit_or, Result, Ok, List, [], ◌∷◌, codes}
 use Rattle.fw_rule.specs.declared.command.Command.{Command}
 use Rattle.fw_rule.specs.declared.command.Command.TheVariants.{SetMask, MoveSet, MoveRule, SwapSets}
-use Rattle.ipfw_parser.specs.declared.kind.Kind.{Kind}
 use Rattle.ipfw_parser.specs.declared.kind.Kind.TheVariants.{UnknownWord}
 use Rattle.ipfw_parser.specs.Reading.{Word, Fault, Reading, fault_at, ◌>>=◌, same, first, expected}
 use Rattle.ipfw_parser.specs.Numbers.{set_number}

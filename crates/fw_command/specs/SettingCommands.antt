@@ -1,11 +1,10 @@
 -- The settings (ipfw(8), "SYSCTL VARIABLES"): the words behind `sysctl`.
-use Rattle.std.specs.Prelude.{ℕ, if◌then◌else◌, Option, Some, None, Result, Ok, List, codes, drop, length, nat_eq}
+use Rattle.std.specs.Prelude.{ℕ, if◌then◌else◌, Option, Some, None, Result, Ok, List, codes, drop, nat_eq}
 use Rattle.std.specs.List.{starts_with}
 use Rattle.fw_rule.specs.declared.command.Command.{Command}
 use Rattle.fw_rule.specs.declared.command.Command.TheVariants.{Sysctl}
 use Rattle.fw_rule.specs.declared.setting.Setting.{Setting}
 use Rattle.fw_rule.specs.declared.setting.Setting.TheVariants.{Ack, Syn, Fin, Rst, Udp, Short, Max}
-use Rattle.ipfw_parser.specs.declared.kind.Kind.{Kind}
 use Rattle.ipfw_parser.specs.declared.kind.Kind.TheVariants.{UnknownWord}
 use Rattle.ipfw_parser.specs.Reading.{Word, Fault, fault_at, ◌>>=◌, same, first}
 use Rattle.ipfw_parser.specs.Numbers.{number}

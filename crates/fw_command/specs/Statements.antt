@@ -1,8 +1,7 @@
 -- What a line of a script says (ipfw(8)): nothing, a command, `live` or `after`, or its first fault.
-use Rattle.std.specs.Prelude.{ℕ, ◌+◌, Bool, true, false, if◌then◌else◌, Option, Some, None, Result, Ok, List, [], ◌∷◌, length, map, codes}
+use Rattle.std.specs.Prelude.{ℕ, ◌+◌, Bool, if◌then◌else◌, Option, Some, None, Result, Ok, List, [], ◌∷◌, length, map, codes}
 use Rattle.fw_lex.specs.Words.{before_comment, first_bad, words_of}
 use Rattle.fw_rule.specs.declared.command.Command.TheVariants.{Add}
-use Rattle.ipfw_parser.specs.declared.kind.Kind.{Kind}
 use Rattle.ipfw_parser.specs.declared.kind.Kind.TheVariants.{Misplaced, BadByte}
 use Rattle.ipfw_parser.specs.Reading.{Word, Fault, fault_at, ◌>>=◌, same, word_of}
 use Rattle.ipfw_parser.specs.Rules.{rule_in, end_column}

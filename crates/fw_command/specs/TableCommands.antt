@@ -9,7 +9,6 @@ use Rattle.fw_rule.specs.declared.table_command.TableCommand.{TableCommand}
 use Rattle.fw_rule.specs.declared.table_command.TableCommand.TheVariants.{Create, Destroy, Add, Remove, Clear, SwapWith, ListEntries}
 use Rattle.fw_rule.specs.declared.table_type.TableType.{TableType}
 use Rattle.fw_rule.specs.declared.table_type.TableType.TheVariants.{Addresses, Numbers}
-use Rattle.ipfw_parser.specs.declared.kind.Kind.{Kind}
 use Rattle.ipfw_parser.specs.declared.kind.Kind.TheVariants.{UnknownWord}
 use Rattle.ipfw_parser.specs.Reading.{Word, Fault, Reading, fault_at, ◌>>=◌, same, first}
 use Rattle.ipfw_parser.specs.Numbers.{number}

@@ -1,6 +1,7 @@
 //! Reads a script of the packet filter: its commands (ipfw(8)), or the first fault.
 #![tactic(auto)]
 
+pub use laws::lines_are_pieces;
 pub use line::Line;
 pub use pace::Pace;
 pub use script::Script;
@@ -11,6 +12,7 @@ pub use step::Step;
 mod commands;
 mod ends;
 mod fault_text;
+mod laws;
 mod line;
 mod lines;
 mod pace;

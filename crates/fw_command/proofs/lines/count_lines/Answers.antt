@@ -1,5 +1,4 @@
-use Rattle.std.proofs.Common.{◌≡◌, ◌+◌, [], length, ap, arith, rules, drop_of_length-le}
-use Rattle.fw_command.specs.Lines.{lines_of}
+use Rattle.std.proofs.Common.{◌≡◌, [], arith, rules, drop_of_length-le}
 use Rattle.fw_command.proofs.LineEnds.{lines_of_none}
 use Rattle.fw_command.proofs.lines.count_lines.Goals as goal
 

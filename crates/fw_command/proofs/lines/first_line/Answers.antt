@@ -1,4 +1,4 @@
-use Rattle.std.proofs.Common.{◌+◌, sym}
+use Rattle.std.proofs.Common.{◌+◌}
 use Rattle.std.proofs.lemmas.List.{take_rest}
 use Rattle.fw_command.proofs.LineEnds.{lines_of_at}
 use Rattle.fw_command.proofs.lines.first_line.Goals as goal

@@ -1,4 +1,4 @@
-use Rattle.std.proofs.Common.{◌≡◌, ◌+◌, ◌≤◌, [], length, sym, ◌∙◌, ap, arith, rules, drop_of_length-le}
+use Rattle.std.proofs.Common.{◌≡◌, [], sym, ◌∙◌, ap, arith, rules, drop_of_length-le}
 use Rattle.std.proofs.lemmas.Result.{err_from_is_err_and}
 use Rattle.fw_command.specs.Lines.{lines_of}
 use Rattle.fw_command.specs.declared.place.Place.{Place}
