@@ -7,3 +7,4 @@ pub mod OnResults
 pub mod InRange
 pub mod ScriptInRange
 pub mod Pieces
+pub mod Standing

@@ -65,7 +65,7 @@ says_on : DraftsAreWellFormed → (live : Bool) (line : List ℕ) → IfOk (says
 unfolding says
 says_on drafts live line = says_unless_on drafts live line (first_bad (before_comment line))
 
-on_then : {X Y : Type 0} (r : Result X ScriptFault) (f : X → Result Y ScriptFault) (P : X → Type 0) (Q : Y → Type 0) → IfOk r P → ((x : X) → P x → IfOk (f x) Q) → IfOk (scripts.◌>>=◌ r f) Q
+pub on_then : {X Y : Type 0} (r : Result X ScriptFault) (f : X → Result Y ScriptFault) (P : X → Type 0) (Q : Y → Type 0) → IfOk r P → ((x : X) → P x → IfOk (f x) Q) → IfOk (scripts.◌>>=◌ r f) Q
 on_then (Ok x) f P Q p q = q x p
 on_then (Err e) f P Q p q = tt
 

@@ -1,7 +1,7 @@
 //! Reads a script of the packet filter: its commands (ipfw(8)), or the first fault.
 #![tactic(auto)]
 
-pub use laws::lines_are_pieces;
+pub use laws::{commands_stand_on_their_lines, lines_are_pieces};
 pub use line::Line;
 pub use pace::Pace;
 pub use script::Script;

@@ -358,3 +358,43 @@ fn first_faulty_line_is_told(rt: HostRuntime) -> Result<(), Fail> {
     }
     Ok(())
 }
+
+#[test]
+fn faults_in_words(rt: HostRuntime) -> Result<(), Fail> {
+    let (line, column, kind) = (3, 5, Kind::MissingWord);
+    let faults = [
+        (
+            ScriptFault::TooLong,
+            "the script has more than 1,048,576 bytes",
+            "script TooLong\n",
+        ),
+        (
+            ScriptFault::TooManyLines,
+            "the script has more than 65,536 lines",
+            "script TooManyLines\n",
+        ),
+        (
+            ScriptFault::Parse { line, column, kind },
+            "line 3, column 5: a word is missing",
+            "script line 3 column 5 MissingWord\n",
+        ),
+        (
+            ScriptFault::PaceInLive { line, column },
+            "line 3, column 5: `after` can't stand in a live run",
+            "script line 3 column 5 PaceInLive\n",
+        ),
+        (
+            ScriptFault::TooManyLive,
+            "the script has more than 4,096 commands behind `live`",
+            "script TooManyLive\n",
+        ),
+        (ScriptFault::OutOfMemory, "out of memory", ""),
+    ];
+    for (fault, words, line) in faults {
+        let text = format!(in rt.alloc(); "{fault}")?;
+        assert_eq!(rt; text.as_str(), words);
+        let text = printed(rt.alloc(), fault)?;
+        assert_eq!(rt; text.written(), line.as_bytes());
+    }
+    Ok(())
+}
