@@ -2,6 +2,7 @@
 #![tactic(auto)]
 
 pub use addresses::{address, prefix};
+pub use cut::cut as cut_at;
 pub use kind::Kind;
 pub use laws::{
     address_lists_are_read_again, canonical_texts_are_readable, canonical_texts_keep_their_words,
@@ -13,6 +14,7 @@ pub use line::{line_end, parse_rule, skip, words_of};
 pub use names::table_name;
 pub use numbers::{number, set_number, starts_with_digit};
 pub use parse_fault::ParseFault;
+pub use rules::{expected, set_behind};
 pub use word::Word;
 pub use words::Words;
 

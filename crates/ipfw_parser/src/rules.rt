@@ -15,7 +15,7 @@ use std::alloc::Global;
 
 /// The words behind the next one, which is this word.
 #[tactic(auto, unfolding(crate::specs::Reading::expected))]
-fn expected<'a>(name: &'a [u8], end: u32, words: Words<'a>) -> Result<Words<'a>, ParseFault>
+pub fn expected<'a>(name: &'a [u8], end: u32, words: Words<'a>) -> Result<Words<'a>, ParseFault>
     ensures { Gives (λ w. list_of w) result (reading.expected name.entry.now end (list_of words.entry)) }
 {
     let (next, words) = words.first(end)?;
@@ -40,8 +40,9 @@ fn rule_number(end: u32, words: Words<'_>) -> Result<(Option<u16>, Words<'_>), P
     }
 }
 
+/// The number of a set, and the words behind it.
 #[tactic(auto, unfolding(crate::specs::Rules::set_behind))]
-fn set_behind(end: u32, words: Words<'_>) -> Result<(u8, Words<'_>), ParseFault>
+pub fn set_behind(end: u32, words: Words<'_>) -> Result<(u8, Words<'_>), ParseFault>
     ensures { Gives (λ r. (r.0, list_of r.1)) result (spec.set_behind end (list_of words.entry)) }
 {
     let (which, words) = words.first(end)?;

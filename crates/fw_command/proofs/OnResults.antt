@@ -1,0 +1,34 @@
+-- What holds of each value that reading gives.
+use Rattle.std.proofs.Common.{◌≡◌, Bool, true, false, if◌then◌else◌, List, [], ◌∷◌, Result, Ok, Err, refl}
+use Rattle.std.specs.Prelude.{IfOk}
+use Rattle.std.specs.List.{AllByRecursion}
+use Rattle.ipfw_parser.specs.Reading.{Word, Fault, ◌>>=◌}
+use Rattle.fw_command.specs.Ends.{each_word, finished}
+
+pub any : {X E : Type 0} (r : Result X E) → IfOk r (λ _. Unit {0})
+any (Ok x) = tt
+any (Err e) = tt
+
+pub if_ok : {X E : Type 0} (r : Result X E) (P : X → Type 0) → ((x : X) → r ≡ Ok x → P x) → IfOk r P
+if_ok (Ok x) P here = here x refl
+if_ok (Err e) P here = tt
+
+pub on_bind : {X Y : Type 0} (r : Result X Fault) (f : X → Result Y Fault) (P : X → Type 0) (Q : Y → Type 0) → IfOk r P → ((x : X) → P x → IfOk (f x) Q) → IfOk (r >>= f) Q
+on_bind (Ok x) f P Q p q = q x p
+on_bind (Err e) f P Q p q = tt
+
+pub on_if : {X E : Type 0} (b : Bool) (r s : Result X E) (P : X → Type 0) → IfOk r P → IfOk s P → IfOk (if b then r else s) P
+on_if true r s P p q = p
+on_if false r s P p q = q
+
+pub finished_on : {X : Type 0} (x : X) (words : List Word) (P : X → Type 0) → P x → IfOk (finished x words) P
+unfolding finished
+finished_on x [] P p = p
+finished_on x (word ∷ words) P p = tt
+
+pub each_on : {X : Type 0} (read : Word → Result X Fault) (P : X → Type 0) → ((word : Word) → IfOk (read word) P) → (words : List Word) → IfOk (each_word read words) (AllByRecursion P)
+unfolding each_word
+each_on read P each [] = tt
+each_on read P each (word ∷ words) =
+    on_bind (read word) _ P (AllByRecursion P) (each word) (λ x p.
+    on_bind (each_word read words) _ (AllByRecursion P) (AllByRecursion P) (each_on read P each words) (λ xs ps. (p, ps)))

@@ -1,0 +1,111 @@
+-- Each number of a script's commands is in its range.
+use Rattle.std.proofs.Common.{◌≤◌, ℕ, Bool, true, false, Option, Some, None, List, [], ◌∷◌, Result, Ok, Err, length, map}
+use Rattle.std.specs.Prelude.{IfOk, is_some, codes, ◌&&◌, nat_le}
+use Rattle.fw_lex.specs.Words.{before_comment, first_bad, words_of}
+use Rattle.fw_rule.specs.WellFormed.{IsFromTo, IsDraft, IsWellFormed}
+use Rattle.ipfw_parser.specs.Reading.{Word, Fault, same, word_of}
+use Rattle.ipfw_parser.specs.Rules.{rule_in, end_column}
+use Rattle.fw_command.specs.Ends.{number_behind}
+use Rattle.fw_command.specs.Commands.{command}
+use Rattle.fw_command.specs.Statements.{live_line, after_count, after_line, statement, addition, words_say, says_unless, says}
+use Rattle.fw_command.specs.Scripts as scripts
+use Rattle.fw_command.specs.Scripts.{on_line, allowed, line_at, next_place, ordered, joined, script_from, script_of, Reads}
+use Rattle.fw_command.specs.WellFormed.{IsLine, IsScript, DraftsAreWellFormed}
+use Rattle.fw_command.specs.declared.pace.Pace.{Pace}
+use Rattle.fw_command.specs.declared.pace.Pace.TheVariants.{Serial, Live as LivePace}
+use Rattle.fw_command.specs.declared.place.Place.{Place}
+use Rattle.fw_command.specs.declared.line.Line.{Line}
+use Rattle.fw_command.specs.declared.statement.Statement.{Statement}
+use Rattle.fw_command.specs.declared.statement.Statement.TheVariants.{Nothing, Order, Live, After}
+use Rattle.fw_command.specs.declared.script.Script.{Script}
+use Rattle.fw_command.specs.declared.script_fault.ScriptFault.{ScriptFault}
+use Rattle.fw_command.proofs.OnResults.{on_bind, on_if, finished_on}
+use Rattle.fw_command.proofs.InRange.{number_behind_on, command_on}
+
+abbrev IsStatement : Statement → Type 0
+IsStatement (Order command) = IsWellFormed command
+IsStatement (After column count) = count ≤ 33554432
+IsStatement other = Unit {0}
+
+live_line_on : (live : Bool) (word : Word) (words : List Word) → IfOk (live_line live word words) IsStatement
+unfolding live_line
+live_line_on live word words = on_if live _ _ IsStatement tt (finished_on _ words IsStatement tt)
+
+after_count_on : (column end : ℕ) (words : List Word) → IfOk (after_count column end words) IsStatement
+unfolding after_count
+after_count_on column end words =
+    on_bind (number_behind 0 33554432 end words) _ (λ r. IsFromTo 0 33554432 r.0) IsStatement (number_behind_on 0 33554432 end words) (λ count p. finished_on _ count.1 IsStatement p.most_ge)
+
+after_line_on : (live : Bool) (end : ℕ) (word : Word) (words : List Word) → IfOk (after_line live end word words) IsStatement
+unfolding after_line
+after_line_on live end word words = on_if live _ _ IsStatement (after_count_on word.column end words) tt
+
+statement_on : (live : Bool) (end : ℕ) (word : Word) (words : List Word) → IfOk (statement live end word words) IsStatement
+unfolding statement
+statement_on live end word words =
+    on_if (same word.text (codes "live")) _ _ IsStatement (live_line_on live word words)
+    (on_if (same word.text (codes "after")) _ _ IsStatement (after_line_on live end word words)
+    (on_bind (command end word words) _ IsWellFormed IsStatement (command_on end word words) (λ found p. p)))
+
+addition_on : DraftsAreWellFormed → (line : List ℕ) → IfOk (addition line) IsStatement
+unfolding addition
+addition_on drafts line = on_bind (rule_in line (words_of line) 1) _ IsDraft IsStatement (drafts line (words_of line) 1) (λ draft p. p)
+
+words_say_on : DraftsAreWellFormed → (live : Bool) (line : List ℕ) (words : List Word) → IfOk (words_say live line words) IsStatement
+unfolding words_say
+words_say_on drafts live line [] = tt
+words_say_on drafts live line (word ∷ words) =
+    on_if (same word.text (codes "add")) _ _ IsStatement (addition_on drafts line) (statement_on live (end_column (length (before_comment line)) (words_of line)) word words)
+
+says_unless_on : DraftsAreWellFormed → (live : Bool) (line : List ℕ) (bad : Option ℕ) → IfOk (says_unless live line bad) IsStatement
+says_unless_on drafts live line (Some at) = tt
+says_unless_on drafts live line None = words_say_on drafts live line (map (word_of line) (words_of line))
+
+says_on : DraftsAreWellFormed → (live : Bool) (line : List ℕ) → IfOk (says live line) IsStatement
+unfolding says
+says_on drafts live line = says_unless_on drafts live line (first_bad (before_comment line))
+
+pub on_then : {X Y : Type 0} (r : Result X ScriptFault) (f : X → Result Y ScriptFault) (P : X → Type 0) (Q : Y → Type 0) → IfOk r P → ((x : X) → P x → IfOk (f x) Q) → IfOk (scripts.◌>>=◌ r f) Q
+on_then (Ok x) f P Q p q = q x p
+on_then (Err e) f P Q p q = tt
+
+on_line_on : (number : ℕ) (said : Result Statement Fault) → IfOk said IsStatement → IfOk (on_line number said) IsStatement
+on_line_on number (Ok s) p = p
+on_line_on number (Err fault) p = tt
+
+allowed_on : (pace : Pace) (place : Place) (s : Statement) → IsStatement s → IfOk (allowed pace place s) IsStatement
+allowed_on Serial place Nothing p = p
+allowed_on Serial place (Order command) p = on_if (is_some place.live && nat_le 4096 place.ran) _ _ IsStatement tt p
+allowed_on Serial place Live p = p
+allowed_on Serial place (After column count) p = p
+allowed_on LivePace place Nothing p = p
+allowed_on LivePace place (Order command) p = on_if (is_some place.live && nat_le 4096 place.ran) _ _ IsStatement tt p
+allowed_on LivePace place Live p = p
+allowed_on LivePace place (After column count) p = tt
+
+line_at_on : DraftsAreWellFormed → (pace : Pace) (place : Place) (line : List ℕ) → IfOk (line_at pace place line) IsStatement
+unfolding line_at
+line_at_on drafts pace place line =
+    on_then (on_line place.line (says (is_some place.live) line)) _ IsStatement IsStatement (on_line_on place.line (says (is_some place.live) line) (says_on drafts (is_some place.live) line)) (λ s p. allowed_on pace place s p)
+
+ordered_on : (live : Bool) (line : Line) (script : Script) → IsLine line → IsScript script → IsScript (ordered live line script)
+ordered_on false line script p q = record { before = (p, q.before); live = q.live }
+ordered_on true line script p q = record { before = q.before; live = (p, q.live) }
+
+joined_on : (place : Place) (s : Statement) (script : Script) → IsStatement s → IsScript script → IsScript (joined place s script)
+joined_on place Nothing script p q = q
+joined_on place (Order command) script p q = ordered_on (is_some place.live) (record { line = place.line; command = command }) script p q
+joined_on place Live script p q = q
+joined_on place (After column count) script p q = record { before = q.before; live = (p, q.live) }
+
+pub script_from_on : DraftsAreWellFormed → (pace : Pace) (place : Place) (lines : List (List ℕ)) → IfOk (script_from pace place lines) IsScript
+unfolding script_from
+script_from_on drafts pace place [] = record { before = tt; live = tt }
+script_from_on drafts pace place (line ∷ lines) =
+    on_then (line_at pace place line) _ IsStatement IsScript (line_at_on drafts pace place line) (λ s p.
+    on_then (script_from pace (next_place place s) lines) _ IsScript IsScript (script_from_on drafts pace (next_place place s) lines) (λ script q. joined_on place s script p q))
+
+-- what holds of the script that the definition gives holds of the one that was answered
+pub on_reads : {X : Type 0} (result script : Result X ScriptFault) (P : X → Type 0) → Reads result script → IfOk script P → IfOk result P
+on_reads (Ok x) script P reads p = rw (← reads) at p
+on_reads (Err e) script P reads p = tt

@@ -1,0 +1,34 @@
+-- The script of the lines that were read so far.
+use Rattle.std.specs.Prelude.{Bool, true, false, is_some, Result, Ok, Err, List, [], ◌∷◌, ◌++◌}
+use Rattle.fw_command.specs.declared.statement.Statement.{Statement}
+use Rattle.fw_command.specs.declared.statement.Statement.TheVariants.{Nothing, Order, Live, After}
+use Rattle.fw_command.specs.declared.place.Place.{Place}
+use Rattle.fw_command.specs.declared.line.Line.{Line}
+use Rattle.fw_command.specs.declared.step.Step.{Step}
+use Rattle.fw_command.specs.declared.step.Step.TheVariants.{Run, After as AfterPackets}
+use Rattle.fw_command.specs.declared.script.Script.{Script}
+use Rattle.fw_command.specs.declared.script_fault.ScriptFault.{ScriptFault}
+
+-- the commands before `live`, and the steps behind it
+pub record Draft : Type 0 where
+  pub before : List Line
+  pub live : List Step
+
+abbrev pub taken_order : Bool → Line → Draft → Draft
+taken_order false line draft = record { before = draft.before ++ line ∷ []; live = draft.live }
+taken_order true line draft = record { before = draft.before; live = draft.live ++ Run line ∷ [] }
+
+-- what the line at this place says, behind what was read
+abbrev pub taken : Place → Statement → Draft → Draft
+taken place Nothing draft = draft
+taken place (Order command) draft = taken_order (is_some place.live) (record { line = place.line; command = command }) draft
+taken place Live draft = draft
+taken place (After column count) draft = record { before = draft.before; live = draft.live ++ AfterPackets count ∷ [] }
+
+-- what was read, before the script behind it
+abbrev pub appended : Draft → Script → Script
+appended draft script = record { before = draft.before ++ script.before; live_at = script.live_at; live = draft.live ++ script.live }
+
+abbrev pub with_draft : Draft → Result Script ScriptFault → Result Script ScriptFault
+with_draft draft (Ok script) = Ok (appended draft script)
+with_draft draft (Err fault) = Err fault

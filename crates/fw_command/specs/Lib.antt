@@ -1,0 +1,13 @@
+pub mod Lines
+pub mod Ends
+pub mod SetCommands
+pub mod TableCommands
+pub mod SettingCommands
+pub mod Commands
+pub mod Statements
+pub mod Scripts
+pub mod Drafts
+pub mod DraftViews
+pub mod WellFormed
+pub mod Texts
+pub mod Laws

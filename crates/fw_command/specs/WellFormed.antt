@@ -1,0 +1,26 @@
+-- Every command of a script is well formed: each of its numbers is in its range.
+use Rattle.std.specs.Prelude.{ℕ, ◌≤◌, List, IfOk}
+use Rattle.std.specs.List.{AllByRecursion}
+use Rattle.fw_lex.specs.declared.token.Token.{Token}
+use Rattle.fw_rule.specs.WellFormed.{IsDraft, IsWellFormed}
+use Rattle.ipfw_parser.specs.Rules.{rule_in}
+use Rattle.fw_command.specs.declared.line.Line.{Line}
+use Rattle.fw_command.specs.declared.step.Step.{Step}
+use Rattle.fw_command.specs.declared.step.Step.TheVariants.{Run, After}
+use Rattle.fw_command.specs.declared.script.Script.{Script}
+
+abbrev pub IsLine : Line → Type 0
+IsLine line = IsWellFormed line.command
+
+-- how many packets go first, 0 to 33,554,432
+abbrev pub IsStep : Step → Type 0
+IsStep (Run line) = IsLine line
+IsStep (After count) = count ≤ 33554432
+
+pub record IsScript (script : Script) : Type 0 where
+  pub before : AllByRecursion IsLine script.before
+  pub live : AllByRecursion IsStep script.live
+
+-- each rule that a line's words give is well formed
+abbrev pub DraftsAreWellFormed : Type 0
+DraftsAreWellFormed = (line : List ℕ) (tokens : List Token) (skipped : ℕ) → IfOk (rule_in line tokens skipped) IsDraft
