@@ -10,7 +10,8 @@ use Rattle.fw_command.specs.Commands.{command}
 use Rattle.fw_command.specs.Statements.{live_line, after_count, after_line, statement, addition, words_say, says_unless, says}
 use Rattle.fw_command.specs.Scripts as scripts
 use Rattle.fw_command.specs.Scripts.{on_line, allowed, line_at, next_place, ordered, joined, script_from, script_of, Reads}
-use Rattle.fw_command.specs.WellFormed.{IsLine, IsScript, DraftsAreWellFormed}
+use Rattle.ipfw_parser.proofs.DraftsInRange.{drafts_are}
+use Rattle.fw_command.specs.WellFormed.{IsLine, IsScript}
 use Rattle.fw_command.specs.declared.pace.Pace.{Pace}
 use Rattle.fw_command.specs.declared.pace.Pace.TheVariants.{Serial, Live as LivePace}
 use Rattle.fw_command.specs.declared.place.Place.{Place}
@@ -47,23 +48,23 @@ statement_on live end word words =
     (on_if (same word.text (codes "after")) _ _ IsStatement (after_line_on live end word words)
     (on_bind (command end word words) _ IsWellFormed IsStatement (command_on end word words) (λ found p. p)))
 
-addition_on : DraftsAreWellFormed → (line : List ℕ) → IfOk (addition line) IsStatement
+addition_on : (line : List ℕ) → IfOk (addition line) IsStatement
 unfolding addition
-addition_on drafts line = on_bind (rule_in line (words_of line) 1) _ IsDraft IsStatement (drafts line (words_of line) 1) (λ draft p. p)
+addition_on line = on_bind (rule_in line (words_of line) 1) _ IsDraft IsStatement (drafts_are line (words_of line) 1) (λ draft p. p)
 
-words_say_on : DraftsAreWellFormed → (live : Bool) (line : List ℕ) (words : List Word) → IfOk (words_say live line words) IsStatement
+words_say_on : (live : Bool) (line : List ℕ) (words : List Word) → IfOk (words_say live line words) IsStatement
 unfolding words_say
-words_say_on drafts live line [] = tt
-words_say_on drafts live line (word ∷ words) =
-    on_if (same word.text (codes "add")) _ _ IsStatement (addition_on drafts line) (statement_on live (end_column (length (before_comment line)) (words_of line)) word words)
+words_say_on live line [] = tt
+words_say_on live line (word ∷ words) =
+    on_if (same word.text (codes "add")) _ _ IsStatement (addition_on line) (statement_on live (end_column (length (before_comment line)) (words_of line)) word words)
 
-says_unless_on : DraftsAreWellFormed → (live : Bool) (line : List ℕ) (bad : Option ℕ) → IfOk (says_unless live line bad) IsStatement
-says_unless_on drafts live line (Some at) = tt
-says_unless_on drafts live line None = words_say_on drafts live line (map (word_of line) (words_of line))
+says_unless_on : (live : Bool) (line : List ℕ) (bad : Option ℕ) → IfOk (says_unless live line bad) IsStatement
+says_unless_on live line (Some at) = tt
+says_unless_on live line None = words_say_on live line (map (word_of line) (words_of line))
 
-says_on : DraftsAreWellFormed → (live : Bool) (line : List ℕ) → IfOk (says live line) IsStatement
+says_on : (live : Bool) (line : List ℕ) → IfOk (says live line) IsStatement
 unfolding says
-says_on drafts live line = says_unless_on drafts live line (first_bad (before_comment line))
+says_on live line = says_unless_on live line (first_bad (before_comment line))
 
 pub on_then : {X Y : Type 0} (r : Result X ScriptFault) (f : X → Result Y ScriptFault) (P : X → Type 0) (Q : Y → Type 0) → IfOk r P → ((x : X) → P x → IfOk (f x) Q) → IfOk (scripts.◌>>=◌ r f) Q
 on_then (Ok x) f P Q p q = q x p
@@ -83,10 +84,10 @@ allowed_on LivePace place (Order command) p = on_if (is_some place.live && nat_l
 allowed_on LivePace place Live p = p
 allowed_on LivePace place (After column count) p = tt
 
-line_at_on : DraftsAreWellFormed → (pace : Pace) (place : Place) (line : List ℕ) → IfOk (line_at pace place line) IsStatement
+line_at_on : (pace : Pace) (place : Place) (line : List ℕ) → IfOk (line_at pace place line) IsStatement
 unfolding line_at
-line_at_on drafts pace place line =
-    on_then (on_line place.line (says (is_some place.live) line)) _ IsStatement IsStatement (on_line_on place.line (says (is_some place.live) line) (says_on drafts (is_some place.live) line)) (λ s p. allowed_on pace place s p)
+line_at_on pace place line =
+    on_then (on_line place.line (says (is_some place.live) line)) _ IsStatement IsStatement (on_line_on place.line (says (is_some place.live) line) (says_on (is_some place.live) line)) (λ s p. allowed_on pace place s p)
 
 ordered_on : (live : Bool) (line : Line) (script : Script) → IsLine line → IsScript script → IsScript (ordered live line script)
 ordered_on false line script p q = record { before = (p, q.before); live = q.live }
@@ -98,12 +99,12 @@ joined_on place (Order command) script p q = ordered_on (is_some place.live) (re
 joined_on place Live script p q = q
 joined_on place (After column count) script p q = record { before = q.before; live = (p, q.live) }
 
-pub script_from_on : DraftsAreWellFormed → (pace : Pace) (place : Place) (lines : List (List ℕ)) → IfOk (script_from pace place lines) IsScript
+pub script_from_on : (pace : Pace) (place : Place) (lines : List (List ℕ)) → IfOk (script_from pace place lines) IsScript
 unfolding script_from
-script_from_on drafts pace place [] = record { before = tt; live = tt }
-script_from_on drafts pace place (line ∷ lines) =
-    on_then (line_at pace place line) _ IsStatement IsScript (line_at_on drafts pace place line) (λ s p.
-    on_then (script_from pace (next_place place s) lines) _ IsScript IsScript (script_from_on drafts pace (next_place place s) lines) (λ script q. joined_on place s script p q))
+script_from_on pace place [] = record { before = tt; live = tt }
+script_from_on pace place (line ∷ lines) =
+    on_then (line_at pace place line) _ IsStatement IsScript (line_at_on pace place line) (λ s p.
+    on_then (script_from pace (next_place place s) lines) _ IsScript IsScript (script_from_on pace (next_place place s) lines) (λ script q. joined_on place s script p q))
 
 -- what holds of the script that the definition gives holds of the one that was answered
 pub on_reads : {X : Type 0} (result script : Result X ScriptFault) (P : X → Type 0) → Reads result script → IfOk script P → IfOk result P

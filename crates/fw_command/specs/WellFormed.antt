@@ -1,9 +1,7 @@
 -- Every command of a script is well formed: each of its numbers is in its range.
-use Rattle.std.specs.Prelude.{ℕ, ◌≤◌, List, IfOk}
+use Rattle.std.specs.Prelude.{◌≤◌}
 use Rattle.std.specs.List.{AllByRecursion}
-use Rattle.fw_lex.specs.declared.token.Token.{Token}
-use Rattle.fw_rule.specs.WellFormed.{IsDraft, IsWellFormed}
-use Rattle.ipfw_parser.specs.Rules.{rule_in}
+use Rattle.fw_rule.specs.WellFormed.{IsWellFormed}
 use Rattle.fw_command.specs.declared.line.Line.{Line}
 use Rattle.fw_command.specs.declared.step.Step.{Step}
 use Rattle.fw_command.specs.declared.step.Step.TheVariants.{Run, After}
@@ -20,7 +18,3 @@ IsStep (After count) = count ≤ 33554432
 pub record IsScript (script : Script) : Type 0 where
   pub before : AllByRecursion IsLine script.before
   pub live : AllByRecursion IsStep script.live
-
--- each rule that a line's words give is well formed
-abbrev pub DraftsAreWellFormed : Type 0
-DraftsAreWellFormed = (line : List ℕ) (tokens : List Token) (skipped : ℕ) → IfOk (rule_in line tokens skipped) IsDraft

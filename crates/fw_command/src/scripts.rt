@@ -2,7 +2,7 @@ ghost use Rattle.std.specs.Prelude.{◌≡◌, ◌≤◌, ◌<◌, ◌+◌, ◌^
 ghost use Rattle.fw_command.specs.Scripts as spec;
 ghost use Rattle.fw_command.specs.Scripts.{Reads, IsOnLine};
 ghost use Rattle.fw_command.specs.Lines.{lines_of};
-ghost use Rattle.fw_command.specs.WellFormed.{IsScript, DraftsAreWellFormed};
+ghost use Rattle.fw_command.specs.WellFormed.{IsScript};
 
 use crate::lines::{count_lines, first_line};
 use crate::place::Place;
@@ -115,8 +115,8 @@ pub fn parse_script(alloc: Global, bytes: &[u8], pace: Pace) -> Result<Script, S
     // Exactly the grammar's script or its first fault, unless memory runs out.
     ensures exact { Reads result (spec.script_of pace bytes.now) }
 
-    // Each number of each command is in its range, where each rule's are.
-    ensures well_formed { DraftsAreWellFormed → IfOk result IsScript }
+    // Each number of each command is in its range.
+    ensures well_formed { IfOk result IsScript }
 {
     if bytes.len() > SCRIPT_BYTES {
         return Err(ScriptFault::TooLong);
