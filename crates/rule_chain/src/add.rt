@@ -1,4 +1,4 @@
-ghost use Rattle.std.specs.Prelude.{◌≡◌, OnOk, IfErr, map};
+ghost use Rattle.std.specs.Prelude.{◌≡◌, ◌<◌, OnOk, IfErr, map};
 ghost use Rattle.std.specs.Arc.{arc_value};
 ghost use Rattle.fw_rule.specs.WellFormed.{IsDraft};
 ghost use Rattle.rule_chain.specs.Answers.{Gives};
@@ -16,16 +16,26 @@ use std::sync::Arc;
 /// How far an automatic number stands behind the greatest.
 const STEP: u16 = 100;
 
+/// The greatest number below 65535, 0 where there is none.
+fn greatest_number(rules: &[Arc<Rule>]) -> u16
+    requires { AscendsFrom 1 (map arc_value rules.now) }
+    ensures value { result ≡ lists.greatest_number (map arc_value rules.now) }
+    ensures below { result < 65535 }
+{
+    if rules.len() < 2 {
+        0
+    } else {
+        rules[rules.len() - 2].number
+    }
+}
+
 /// The number of a rule that is added without one.
+#[tactic(auto, unfolding(crate::specs::Rules::automatic_number))]
 fn automatic_number(rules: &[Arc<Rule>]) -> u16
     requires { AscendsFrom 1 (map arc_value rules.now) }
     ensures { result ≡ lists.automatic_number (map arc_value rules.now) }
 {
-    let greatest = if rules.len() < 2 {
-        0
-    } else {
-        rules[rules.len() - 2].number
-    };
+    let greatest = greatest_number(rules);
     if greatest <= LAST_NUMBER - 1 - STEP {
         greatest + STEP
     } else {
@@ -58,6 +68,7 @@ fn insert_rule(rules: &mut Vec<Arc<Rule>>, rule: Arc<Rule>) -> Result<(), ApplyF
 
 impl Config {
     /// `add`: the draft as a rule, behind those of its number.
+    #[tactic(auto, unfolding(crate::specs::Apply::add_rule))]
     pub(crate) fn add_rule(mut self, alloc: Global, draft: RuleDraft) -> Result<Config, ApplyFault>
         requires { IsDraft draft }
         ensures { Gives result (spec.add_rule self draft) }

@@ -1,4 +1,4 @@
-ghost use Rattle.std.specs.Prelude.{◌≡◌};
+ghost use Rattle.std.specs.Prelude.{◌≡◌, OnOk, IfErr};
 ghost use Rattle.fw_rule.specs.Settings.{IsInRange};
 ghost use Rattle.fw_rule.specs.WellFormed.{IsWellFormed};
 ghost use Rattle.rule_chain.specs.Answers.{Gives};
@@ -18,30 +18,21 @@ impl Config {
         requires { IsWellFormed command.now }
         ensures { Gives result (spec.apply self.now command.now) }
     {
-        self.copy(alloc)?.change(alloc, command)
+        self.copy(alloc)?.apply_owned(alloc, command)
     }
 
-    /// The same where this configuration isn't wanted any more: the list of rules isn't copied. A
-    /// refusal drops it.
-    pub fn apply_owned(self, alloc: Global, command: Command) -> Result<Config, ApplyFault>
-        requires { IsWellFormed command }
-        ensures { Gives result (spec.apply self command) }
-    {
-        match command {
-            Command::Add(draft) => self.add_rule(alloc, draft),
-            other => self.change(alloc, &other),
-        }
-    }
-
-    fn change(self, alloc: Global, command: &Command) -> Result<Config, ApplyFault>
+    /// The same where this configuration isn't wanted any more: the list of rules isn't copied, and an
+    /// `add` takes logarithmic time, and one move of the rules behind it. A refusal drops the
+    /// configuration.
+    pub fn apply_owned(self, alloc: Global, command: &Command) -> Result<Config, ApplyFault>
         requires { IsWellFormed command.now }
         ensures { Gives result (spec.apply self command.now) }
     {
         match command {
             Command::Add(draft) => self.add_rule(alloc, draft.copy(alloc)?),
             Command::Delete(numbers) => self.delete_rules(numbers.as_slice()),
-            Command::DeleteSet(set) => self.delete_set(*set),
-            Command::Flush => self.flush_rules(),
+            Command::DeleteSet(set) => Ok(self.delete_set(*set)),
+            Command::Flush => Ok(self.flush_rules()),
             Command::Zero(numbers) => self.zero_counters(alloc, numbers.as_slice()),
             Command::ListRules => Ok(self),
             Command::SetMask { disable, enable } => self.set_mask(*disable, *enable),
@@ -54,6 +45,7 @@ impl Config {
         }
     }
 
+    #[tactic(auto, unfolding(crate::specs::Apply::change_table))]
     fn change_table(
         mut self,
         alloc: Global,
@@ -74,14 +66,36 @@ impl Config {
         self
     }
 
+    #[tactic(auto, unfolding(crate::specs::Apply::add_locals))]
     fn add_locals(mut self, addresses: &[Addr]) -> Result<Config, ApplyFault>
         ensures { Gives result (spec.add_locals self addresses.now) }
     {
-        for address in addresses {
-            if !self.locals.contains(address) {
-                self.locals.push(*address)?;
-            }
-        }
+        add_addresses(&mut self.locals, addresses)?;
         Ok(self)
     }
+}
+
+/// Adds the address where it isn't there.
+fn add_address(locals: &mut Vec<Addr>, address: Addr) -> Result<(), ApplyFault>
+    ensures ok { OnOk result (locals.new.items ≡ spec.with_address locals.old.items address) }
+    ensures err { IfErr result (λ fault. fault ≡ ApplyFault.OutOfMemory) }
+{
+    if locals.contains(&address) {
+        Ok(())
+    } else {
+        locals.push(address)?;
+        Ok(())
+    }
+}
+
+/// Adds each address that isn't there.
+#[tactic(auto, unfolding(crate::specs::Apply::with_addresses))]
+fn add_addresses(locals: &mut Vec<Addr>, addresses: &[Addr]) -> Result<(), ApplyFault>
+    ensures ok { OnOk result (locals.new.items ≡ spec.with_addresses locals.old.items addresses.now) }
+    ensures err { IfErr result (λ fault. fault ≡ ApplyFault.OutOfMemory) }
+{
+    for address in addresses {
+        add_address(locals, *address)?;
+    }
+    Ok(())
 }

@@ -127,7 +127,7 @@ impl Config {
         ensures { IfOk result (λ config. config ≡ self.now) }
     {
         Ok(Config {
-            rules: self.rules.clone()?,
+            rules: share_rules(alloc, &self.rules)?,
             disabled: self.disabled,
             tables: self.tables.copy(alloc)?,
             locals: self.locals.clone()?,
@@ -136,6 +136,17 @@ impl Config {
             greatest_counter: self.greatest_counter,
         })
     }
+}
+
+/// The same rules, and not copies of them.
+fn share_rules(alloc: Global, rules: &[Arc<Rule>]) -> Result<Vec<Arc<Rule>>, OutOfMemory>
+    ensures { IfOk result (λ shared. map arc_value shared.items ≡ map arc_value rules.now) }
+{
+    let mut shared = Vec::with_capacity(alloc, rules.len())?;
+    for rule in rules {
+        shared.push(Arc::try_clone(rule)?)?;
+    }
+    Ok(shared)
 }
 
 /// Every address.

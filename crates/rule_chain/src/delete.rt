@@ -2,6 +2,7 @@ ghost use Rattle.std.specs.Prelude.{◌≡◌, map};
 ghost use Rattle.std.specs.Arc.{arc_value};
 ghost use Rattle.rule_chain.specs.Answers.{Gives, first_fault};
 ghost use Rattle.rule_chain.specs.Apply as spec;
+ghost use Rattle.rule_chain.specs.Rules as lists;
 
 use crate::config::{LAST_NUMBER, LAST_SET};
 use crate::numbers::{has_rule, is_among};
@@ -24,32 +25,55 @@ fn deletion_fault(rules: &[Arc<Rule>], numbers: &[u16]) -> Option<ApplyFault>
     None
 }
 
+/// Takes out the rules of these numbers.
+fn take_numbers(rules: &mut Vec<Arc<Rule>>, numbers: &[u16])
+    ensures { map arc_value rules.new.items ≡ lists.without_numbers numbers.now (map arc_value rules.old.items) }
+{
+    rules.retain(|rule| !is_among(numbers, rule.number));
+}
+
+/// Takes out the rules of the set, but for rule 65535.
+fn take_set(rules: &mut Vec<Arc<Rule>>, set: u8)
+    ensures { map arc_value rules.new.items ≡ lists.without_set set (map arc_value rules.old.items) }
+{
+    rules.retain(|rule| rule.set != set || rule.number == LAST_NUMBER);
+}
+
+/// Takes out the rules of all sets but 31.
+fn take_unreserved(rules: &mut Vec<Arc<Rule>>)
+    ensures { map arc_value rules.new.items ≡ lists.flushed (map arc_value rules.old.items) }
+{
+    rules.retain(|rule| rule.set == LAST_SET);
+}
+
 impl Config {
     /// `delete`: the rules of all these numbers go, or none.
+    #[tactic(auto, unfolding(crate::specs::Apply::delete_rules))]
     pub(crate) fn delete_rules(mut self, numbers: &[u16]) -> Result<Config, ApplyFault>
         ensures { Gives result (spec.delete_rules self numbers.now) }
     {
         if let Some(fault) = deletion_fault(&self.rules, numbers) {
             return Err(fault);
         }
-        self.rules.retain(|rule| !is_among(numbers, rule.number));
+        take_numbers(&mut self.rules, numbers);
         Ok(self)
     }
 
     /// `delete set`: the set's rules go, but rule 65535.
-    pub(crate) fn delete_set(mut self, set: u8) -> Result<Config, ApplyFault>
-        ensures { Gives result (spec.delete_set self set) }
+    #[tactic(auto, unfolding(crate::specs::Apply::delete_set))]
+    pub(crate) fn delete_set(mut self, set: u8) -> Config
+        ensures { spec.delete_set self set ≡ Ok result }
     {
-        self.rules
-            .retain(|rule| rule.set != set || rule.number == LAST_NUMBER);
-        Ok(self)
+        take_set(&mut self.rules, set);
+        self
     }
 
     /// `flush`: the rules of all sets but 31 go.
-    pub(crate) fn flush_rules(mut self) -> Result<Config, ApplyFault>
-        ensures { Gives result (spec.flush_rules self) }
+    #[tactic(auto, unfolding(crate::specs::Apply::flush_rules))]
+    pub(crate) fn flush_rules(mut self) -> Config
+        ensures { spec.flush_rules self ≡ Ok result }
     {
-        self.rules.retain(|rule| rule.set == LAST_SET);
-        Ok(self)
+        take_unreserved(&mut self.rules);
+        self
     }
 }

@@ -9,7 +9,12 @@ use std::sync::Arc;
 pub(crate) fn has_rule(rules: &[Arc<Rule>], number: u16) -> bool
     ensures { result ≡ lists.has_rule (map arc_value rules.now) number }
 {
-    rules.iter().any(|rule| rule.number == number)
+    for rule in rules {
+        if rule.number == number {
+            return true;
+        }
+    }
+    false
 }
 
 /// Whether the number is one of these.

@@ -40,6 +40,7 @@ fn move_rules(
 
 impl Config {
     /// `set disable .. enable ..`: the disabling, then the enabling.
+    #[tactic(auto, unfolding(crate::specs::Apply::set_mask))]
     pub(crate) fn set_mask(mut self, disable: u32, enable: u32) -> Result<Config, ApplyFault>
         ensures { Gives result (spec.set_mask self disable enable) }
     {
@@ -51,6 +52,7 @@ impl Config {
     }
 
     /// `set move`: all rules of the one set go into the other.
+    #[tactic(auto, unfolding(crate::specs::Apply::move_set))]
     pub(crate) fn move_set(mut self, alloc: Global, from: u8, to: u8) -> Result<Config, ApplyFault>
         requires { IsSet to }
         ensures { Gives result (spec.move_set self from to) }
@@ -63,6 +65,7 @@ impl Config {
     }
 
     /// `set move rule`: all rules of the number go into the set.
+    #[tactic(auto, unfolding(crate::specs::Apply::move_rule))]
     pub(crate) fn move_rule(
         mut self,
         alloc: Global,
@@ -86,6 +89,7 @@ impl Config {
     }
 
     /// `set swap`: the rules of each of the two sets go into the other. The disabled sets stay.
+    #[tactic(auto, unfolding(crate::specs::Apply::swap_sets))]
     pub(crate) fn swap_sets(
         mut self,
         alloc: Global,

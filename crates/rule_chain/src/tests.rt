@@ -313,7 +313,7 @@ fn each_refusal_and_what_it_leaves(rt: HostRuntime) -> Result<(), Fail> {
             assert_eq!(rt; answer.err(), Some(case.fault), "{}", case.fault.word());
             assert_eq!(rt; numbers_of(alloc, &config)?.as_slice(), rules.as_slice());
             assert_eq!(rt; config.tables().entries().len(), tables);
-            let owned = config.apply_owned(alloc, case.command);
+            let owned = config.apply_owned(alloc, &case.command);
             assert_eq!(rt; owned.err(), Some(case.fault), "{}", case.fault.word());
         }
     }
@@ -511,10 +511,10 @@ fn counter_numbers_run_out(rt: HostRuntime) -> Result<(), Fail> {
     let alloc = rt.alloc();
     let mut config = Config::new(alloc)?;
     for _ in 0..4095 {
-        config = config.apply_owned(alloc, add(alloc, 7, 0)?)?;
+        config = config.apply_owned(alloc, &add(alloc, 7, 0)?)?;
     }
     for _ in 0..4095 {
-        config = config.apply_owned(alloc, Command::Zero(numbers(alloc, &[])?))?;
+        config = config.apply_owned(alloc, &Command::Zero(numbers(alloc, &[])?))?;
     }
     assert_eq!(rt; config.counters(), 16_777_216);
     let zeroed = config.apply(alloc, &Command::Zero(numbers(alloc, &[65535])?));

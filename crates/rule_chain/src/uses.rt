@@ -115,6 +115,17 @@ fn make_for_options(alloc: Global, tables: &mut Tables, options: &[Opt]) -> Resu
     Ok(())
 }
 
+/// Makes the tables that a body names, in the order of its text.
+#[tactic(auto, using(crate::proofs::UsesInTurn::uses_append))]
+fn make_for_body(alloc: Global, tables: &mut Tables, body: &Body) -> Result<(), ApplyFault>
+    ensures ok { OnOk result (lookups.with_uses tables.old (uses.body_uses body.now) ≡ Ok tables.new) }
+    ensures err { IfErr result (λ fault. IsRefusal fault (lookups.with_uses tables.old (uses.body_uses body.now))) }
+{
+    make_for_items(alloc, tables, body.source.items.as_slice())?;
+    make_for_items(alloc, tables, body.destination.items.as_slice())?;
+    make_for_options(alloc, tables, body.options.as_slice())
+}
+
 /// Makes the tables that a rule names, in the order of its text.
 pub(crate) fn make_tables(
     alloc: Global,
@@ -124,12 +135,10 @@ pub(crate) fn make_tables(
     ensures ok { OnOk result (lookups.with_uses tables.old (uses.uses_of body.now) ≡ Ok tables.new) }
     ensures err { IfErr result (λ fault. IsRefusal fault (lookups.with_uses tables.old (uses.uses_of body.now))) }
 {
-    if let Some(asked) = body {
-        make_for_items(alloc, tables, asked.source.items.as_slice())?;
-        make_for_items(alloc, tables, asked.destination.items.as_slice())?;
-        make_for_options(alloc, tables, asked.options.as_slice())?;
+    match body {
+        Some(asked) => make_for_body(alloc, tables, asked),
+        None => Ok(()),
     }
-    Ok(())
 }
 
 /// Whether the rule's body names the table.

@@ -44,6 +44,7 @@ fn count_zeroed(rules: &[Arc<Rule>], numbers: &[u16]) -> usize
     count
 }
 
+#[tactic(auto, unfolding(crate::specs::Rules::renumber))]
 /// The rules, of which each that is named has the next counter number, in order.
 fn renumber(
     alloc: Global,
@@ -71,6 +72,7 @@ fn renumber(
 }
 
 impl Config {
+    #[tactic(auto, unfolding(crate::specs::Apply::zero_counters))]
     /// `zero`: each rule of these numbers, or each where none is named, gets a fresh counter number.
     pub(crate) fn zero_counters(
         mut self,
