@@ -10,7 +10,15 @@ use Rattle.rule_chain.proofs.Renumbered.{count_fresh, count_same, fresh, same}
 use Rattle.rule_chain.proofs.zero.renumber.Goals as goal
 
 pub overflow_add-next : goal.overflow_add-next
-overflow_add-next c = let h = c.into_iter-rule-iterator.ensures in ?
+overflow_add-next c =
+    let passes : lists.is_zeroed c.args.numbers.now (arc_value c.in-Some.rule) ≡ true = cc in
+    let gives = c.into_iter-rule-iterator.ensures.into_iter_gives in
+    let list = YieldsList-from_vec c.args.rules.items gives.0 (gives.1 ∙ c.args.rules.ok.0) in
+    let turn = YieldsList-turn list c.loop-rule.yielded c.loop-rule.rule-iterator c.loop-rule.yielded_by c.next.result c.next.new.self c.in-Some.rule c.in-Some.is c.next.ensures.steps in
+    let so_far = YieldsList-so_far list c.loop-rule.yielded c.loop-rule.rule-iterator c.loop-rule.yielded_by in
+    let given = c.loop-rule.invariant.given in
+    let more = count_next (lists.is_zeroed c.args.numbers.now) arc_value c.args.rules.items c.loop-rule.yielded c.in-Some.rule so_far turn.0 turn.1 passes in
+    omega arith
 
 pub loop-rule-preserved-in_ok-push : goal.loop-rule-preserved-in_ok-push
 loop-rule-preserved-in_ok-push c =
