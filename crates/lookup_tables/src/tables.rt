@@ -8,6 +8,7 @@ use crate::place::place_of;
 use fw_base::{Name, OutOfMemory};
 use std::alloc::Global;
 use std::marker::Model;
+use std::mem::replace;
 
 /// Tables under their names. Contracts see them as pairs of a name and its table, in the order of the
 /// names' bytes.
@@ -47,17 +48,20 @@ impl Tables {
         }
     }
 
-    /// Puts the table under the name, in the place of the one that is there, if any. Where memory runs
-    /// out, the tables are as they were.
-    pub fn insert(&mut self, name: Name, table: Table) -> Result<(), OutOfMemory>
+    /// Puts the table under the name, and answers the one that was there, if any. Where memory runs out,
+    /// the tables are as they were.
+    pub fn insert(&mut self, name: Name, table: Table) -> Result<Option<Table>, OutOfMemory>
+        ensures before { IfOk result (λ before. before ≡ value_of name_cmp self.old name) }
         ensures ok { OnOk result (self.new ≡ with_entry name_cmp self.old name table) }
         ensures err { OnErr result (self.new ≡ self.old) }
     {
         match place_of(&self.tables, &name) {
-            Ok(place) => self.tables[place].1 = table,
-            Err(place) => self.tables.insert(place, (name, table))?,
+            Ok(place) => Ok(Some(replace(&mut self.tables[place].1, table))),
+            Err(place) => {
+                self.tables.insert(place, (name, table))?;
+                Ok(None)
+            }
         }
-        Ok(())
     }
 
     /// Takes out the table of that name; `None` exactly where there is none. It takes no memory.

@@ -78,8 +78,9 @@ fn named(
     bytes: &[u8],
     table: Table,
     tables: &mut Tables,
-) -> Result<(), OutOfMemory> {
-    tables.insert(Name::new(rt.alloc(), bytes)?, table)
+) -> Result<bool, OutOfMemory> {
+    let before = tables.insert(Name::new(rt.alloc(), bytes)?, table)?;
+    Ok(before.is_some())
 }
 
 #[test]

@@ -1,0 +1,9 @@
+pub mod Chains
+pub mod Chosen
+pub mod Greatest
+pub mod Kept
+pub mod Keys
+pub mod Lists
+pub mod Places
+pub mod Renumbered
+pub mod UsesInTurn

@@ -1,0 +1,10 @@
+use Rattle.std.proofs.Common.{◌≡◌, Bool, not, ◌||◌}
+use Rattle.std.specs.Prelude.{◌==◌}
+use Rattle.fw_rule.specs.declared.rule.Rule.{Rule}
+use Rattle.rule_chain.proofs.Kept.{filter_kept}
+use Rattle.rule_chain.proofs.Lists.{or_true}
+use Rattle.rule_chain.proofs.config.Config.delete_set.Goals as goal
+
+pub invariant_of-self : goal.invariant_of-self
+invariant_of-self c =
+    rw c.take_set.ensures (filter_kept _ (λ (rule : Rule). not (rule.set == c.args.set) || rule.number == 65535) (λ k. or_true (not (31 == c.args.set))) c.self.invariant)

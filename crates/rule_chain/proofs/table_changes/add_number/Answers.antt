@@ -1,0 +1,18 @@
+use Rattle.std.proofs.Common.{◌≡◌, true, false, is_some, refl}
+use Rattle.std.specs.Ordering.{nat_cmp}
+use Rattle.lookup_tables.specs.AddrTable.{network_cmp}
+use Rattle.lookup_tables.specs.Entries.{value_of}
+use Rattle.lookup_tables.proofs.Networks.{network_same, number_same}
+use Rattle.rule_chain.proofs.Keys.{there, not_there}
+use Rattle.rule_chain.proofs.table_changes.add_number.Goals as goal
+
+pub returns-in-Ok : goal.returns-in-Ok
+returns-in-Ok c =
+    let none = not_there nat_cmp number_same c.args.entries c.args.number (λ has. let is = c.in-Ok.ensures.exists.1 has in cc) in
+    let made = c.in-Ok.ensures.ok in
+    rw (none, made) refl
+
+pub returns-in-Err-Exists : goal.returns-in-Err-Exists
+returns-in-Err-Exists c =
+    let some = there nat_cmp number_same c.args.entries c.args.number (c.in-Err-Exists.ensures.exists.0 (rw c.in-Err-Exists.field-0-is refl)) in
+    λ _. rw some refl

@@ -1,0 +1,33 @@
+-- What holds in every configuration.
+use Rattle.std.specs.Prelude.{◌≡◌, ℕ, ◌<◌, ◌≤◌, IfSome, List, [], ◌∷◌, length}
+use Rattle.std.specs.List.{AllByRecursion}
+use Rattle.fw_rule.specs.WellFormed.{IsNumber, IsSet, IsAction, IsValue, HasBody}
+use Rattle.fw_rule.specs.declared.rule.Rule.{Rule}
+use Rattle.rule_chain.specs.Configuration.{Configuration}
+use Rattle.rule_chain.specs.Rules.{last_rule}
+
+-- The numbers ascend from the least on, equal ones among them; the last rule is rule 65535, and no
+-- other has its number.
+abbrev pub AscendsFrom : ℕ → List Rule → Type 0
+AscendsFrom least [] = ⊥
+AscendsFrom least (rule ∷ []) = rule ≡ last_rule rule.counter
+AscendsFrom least (rule ∷ next ∷ rules) = (least ≤ rule.number) × (rule.number < 65535) × AscendsFrom rule.number (next ∷ rules)
+
+-- each number of the rule is in its range, and its identity and its counter number were given out
+pub record IsRule (greatest_id greatest_counter : ℕ) (rule : Rule) : Type 0 where
+  pub number : IsNumber rule.number
+  pub set : IsSet rule.set
+  pub id : rule.id ≤ greatest_id
+  pub counter : rule.counter ≤ greatest_counter
+  pub action : IsAction rule.action
+  pub log : IfSome rule.log IsValue
+  pub body : HasBody rule.action rule.body
+
+-- rules in number order with rule 65535 at their end, within the limits; set 31 isn't disabled
+pub record IsConfiguration (c : Configuration) : Type 0 where
+  pub ordered : AscendsFrom 1 c.rules
+  pub rules : AllByRecursion (IsRule c.greatest_id c.greatest_counter) c.rules
+  pub held : length c.rules ≤ 65535
+  pub ids : c.greatest_id ≤ c.greatest_counter
+  pub counters : c.greatest_counter < 16777216
+  pub disabled : c.disabled < 2147483648

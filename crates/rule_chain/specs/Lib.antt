@@ -1,0 +1,10 @@
+pub mod Answers
+pub mod Apply
+pub mod Chain
+pub mod Configuration
+pub mod First
+pub mod Lookups
+pub mod Moves
+pub mod Rules
+pub mod Uses
+pub mod Words

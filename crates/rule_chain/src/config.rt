@@ -1,0 +1,187 @@
+ghost use Rattle.std.specs.Prelude.{◌≡◌, ◌+◌, IfOk, map};
+ghost use Rattle.std.specs.Arc.{arc_value};
+ghost use Rattle.std.specs.Option.{option_copied};
+ghost use Rattle.rule_chain.specs.Chain.{IsConfiguration};
+ghost use Rattle.rule_chain.specs.Configuration.{Configuration, values_of};
+ghost use Rattle.rule_chain.specs.First.{first_configuration};
+ghost use Rattle.rule_chain.specs.Lookups.{table_named};
+ghost use Rattle.rule_chain.specs.Rules as lists;
+
+use crate::values::default_settings;
+use fw_base::{Addr, Name, OutOfMemory};
+use fw_rule::{Action, AddrItem, AddrSpec, Body, Items, Rule, Settings};
+use lookup_tables::{Table, Tables};
+use std::alloc::Global;
+use std::marker::Model;
+use std::sync::Arc;
+
+/// The number of the rule that each list ends with, and that no command changes but `zero`.
+pub const LAST_NUMBER: u16 = 65_535;
+
+/// The set that can't be disabled, moved or exchanged, and that `flush` leaves.
+pub const LAST_SET: u8 = 31;
+
+/// How many rules a configuration may hold, rule 65535 among them.
+pub const MOST_RULES: usize = 65_535;
+
+/// How many counter numbers may be given out, number 0 among them.
+pub const MOST_COUNTERS: u32 = 16_777_216;
+
+/// A configuration of the packet filter: its rules in order, its sets, tables and settings (ipfw(8),
+/// "RULESET"). Contracts see it as a plain `Configuration`.
+#[derive(Drop)]
+pub struct Config {
+    pub(crate) rules: Vec<Arc<Rule>>,
+    pub(crate) disabled: u32,
+    pub(crate) tables: Tables,
+    pub(crate) locals: Vec<Addr>,
+    pub(crate) settings: Settings,
+    pub(crate) greatest_id: u32,
+    pub(crate) greatest_counter: u32,
+}
+
+impl Model for Config {
+    ghost use Rattle.std.specs.Prelude.{map};
+    ghost use Rattle.std.specs.Arc.{arc_value};
+    ghost use Rattle.rule_chain.specs.Chain.{IsConfiguration};
+    ghost use Rattle.rule_chain.specs.Configuration.{Configuration, values_of};
+
+    ghost Value = { Configuration };
+
+    ghost view = { λ c. record { rules = map arc_value c.rules.items; disabled = c.disabled; tables = c.tables; locals = c.locals.items; values = values_of c.settings; greatest_id = c.greatest_id; greatest_counter = c.greatest_counter } };
+
+    ghost invariant = { λ c. IsConfiguration (record { rules = map arc_value c.rules.items; disabled = c.disabled; tables = c.tables; locals = c.locals.items; values = values_of c.settings; greatest_id = c.greatest_id; greatest_counter = c.greatest_counter }) };
+}
+
+impl Config {
+    /// The configuration that stands before any command: rule 65535 alone, all sets enabled, no table.
+    pub fn new(alloc: Global) -> Result<Config, OutOfMemory>
+        ensures { IfOk result (λ config. config ≡ first_configuration) }
+    {
+        let mut rules = Vec::new(alloc);
+        rules.push(Arc::new(alloc, last_rule(alloc)?)?)?;
+        Ok(Config {
+            rules,
+            disabled: 0,
+            tables: Tables::new(alloc),
+            locals: Vec::new(alloc),
+            settings: default_settings(),
+            greatest_id: 0,
+            greatest_counter: 0,
+        })
+    }
+
+    /// The rules in order: by number, those of one number in the order of their `add`, rule 65535 last.
+    pub fn rules(&self) -> &[Arc<Rule>]
+        ensures value { map arc_value result.now ≡ self.now.rules }
+        ensures lawful { IsConfiguration self.now }
+    {
+        &self.rules
+    }
+
+    /// The disabled sets, as the bits of a mask. Bit 31 is clear.
+    pub fn disabled(&self) -> u32
+        ensures { result ≡ self.now.disabled }
+    {
+        self.disabled
+    }
+
+    /// The settings of dynamic states.
+    pub fn settings(&self) -> Settings
+        ensures { values_of result ≡ self.now.values }
+    {
+        self.settings
+    }
+
+    /// The host's own addresses, no two equal, in the order in which they were added.
+    pub fn locals(&self) -> &[Addr]
+        ensures { result.now ≡ self.now.locals }
+    {
+        &self.locals
+    }
+
+    /// How many counter numbers were given out, number 0 among them: 1 to 16,777,216. Each rule's is
+    /// below it.
+    pub fn counters(&self) -> u32
+        ensures { result ≡ self.now.greatest_counter + 1 }
+    {
+        self.greatest_counter + 1
+    }
+
+    /// The table of that name; `None` exactly where there is none.
+    pub fn table(&self, name: &Name) -> Option<&Table>
+        ensures { option_copied result ≡ table_named self.now.tables name.now }
+    {
+        self.tables.get(name)
+    }
+
+    /// The tables under their names.
+    pub fn tables(&self) -> &Tables
+        ensures { result.now ≡ self.now.tables }
+    {
+        &self.tables
+    }
+
+    /// The same configuration, with the same rules and not copies of them.
+    pub(crate) fn copy(&self, alloc: Global) -> Result<Config, OutOfMemory>
+        ensures { IfOk result (λ config. config ≡ self.now) }
+    {
+        Ok(Config {
+            rules: share_rules(alloc, &self.rules)?,
+            disabled: self.disabled,
+            tables: self.tables.copy(alloc)?,
+            locals: self.locals.clone()?,
+            settings: self.settings,
+            greatest_id: self.greatest_id,
+            greatest_counter: self.greatest_counter,
+        })
+    }
+}
+
+/// The same rules, and not copies of them.
+fn share_rules(alloc: Global, rules: &[Arc<Rule>]) -> Result<Vec<Arc<Rule>>, OutOfMemory>
+    ensures { IfOk result (λ shared. map arc_value shared.items ≡ map arc_value rules.now) }
+{
+    let mut shared = Vec::with_capacity(alloc, rules.len())?;
+    for rule in rules {
+        shared.push(Arc::try_clone(rule)?)?;
+    }
+    Ok(shared)
+}
+
+/// Every address.
+fn any_address(alloc: Global) -> Result<AddrSpec, OutOfMemory>
+    ensures { IfOk result (λ spec. spec ≡ lists.any_address) }
+{
+    let mut items = Vec::new(alloc);
+    items.push(AddrItem::Any)?;
+    Ok(AddrSpec {
+        negated: false,
+        items: Items::from_vec(items),
+    })
+}
+
+/// `65535 set 31 deny ip from any to any`
+fn last_rule(alloc: Global) -> Result<Rule, OutOfMemory>
+    ensures { IfOk result (λ rule. rule ≡ lists.last_rule 0) }
+{
+    let body = Body {
+        protocol: 0,
+        source: any_address(alloc)?,
+        source_ports: None,
+        destination: any_address(alloc)?,
+        destination_ports: None,
+        options: Items::from_vec(Vec::new(alloc)),
+        state: None,
+        state_at: 0,
+    };
+    Ok(Rule {
+        number: LAST_NUMBER,
+        set: LAST_SET,
+        id: 0,
+        counter: 0,
+        action: Action::Deny,
+        log: None,
+        body: Some(body),
+    })
+}

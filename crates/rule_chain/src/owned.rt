@@ -1,0 +1,40 @@
+ghost use Rattle.std.specs.Prelude.{◌≡◌, IfOk};
+ghost use Rattle.std.specs.Arc.{arc_value};
+
+use fw_base::OutOfMemory;
+use fw_rule::{Body, Rule};
+use std::alloc::Global;
+use std::sync::Arc;
+
+fn copy_body(alloc: Global, body: &Option<Body>) -> Result<Option<Body>, OutOfMemory>
+    ensures { IfOk result (λ copied. copied ≡ body.now) }
+{
+    match body {
+        Some(asked) => Ok(Some(asked.copy(alloc)?)),
+        None => Ok(None),
+    }
+}
+
+fn copy_rule(alloc: Global, rule: &Rule) -> Result<Rule, OutOfMemory>
+    ensures { IfOk result (λ copied. copied ≡ rule.now) }
+{
+    Ok(Rule {
+        number: rule.number,
+        set: rule.set,
+        id: rule.id,
+        counter: rule.counter,
+        action: rule.action,
+        log: rule.log,
+        body: copy_body(alloc, &rule.body)?,
+    })
+}
+
+/// The rule itself where no one else has it, and else a copy.
+pub(crate) fn own_rule(alloc: Global, rule: Arc<Rule>) -> Result<Rule, OutOfMemory>
+    ensures { IfOk result (λ owned. owned ≡ arc_value rule) }
+{
+    match Arc::try_unwrap(rule) {
+        Ok(owned) => Ok(owned),
+        Err(shared) => copy_rule(alloc, &shared),
+    }
+}

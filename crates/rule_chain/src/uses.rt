@@ -1,0 +1,182 @@
+ghost use Rattle.std.specs.Prelude.{◌≡◌, OnOk, IfErr};
+ghost use Rattle.std.specs.List.{filter_map};
+ghost use Rattle.std.specs.Option.{option_map};
+ghost use Rattle.rule_chain.specs.Answers.{IsRefusal};
+ghost use Rattle.rule_chain.specs.Lookups as lookups;
+ghost use Rattle.rule_chain.specs.Uses as uses;
+
+use crate::ApplyFault;
+use fw_base::Name;
+use fw_rule::{AddrItem, Body, Field, Opt, TableType, Test};
+use lookup_tables::{AddrTable, NumberTable, Table, Tables};
+use std::alloc::Global;
+
+/// The table that the element names, and the type that it has to have.
+fn item_use(item: &AddrItem) -> Option<(&Name, TableType)>
+    ensures { option_map (λ u. record { name = u.0.now; kind = u.1 }) result ≡ uses.item_use item.now }
+{
+    match item {
+        AddrItem::InTable(name) | AddrItem::TableValue(name, _) => {
+            Some((name, TableType::Addresses))
+        }
+        _ => None,
+    }
+}
+
+fn field_kind(field: Field) -> TableType
+    ensures { result ≡ uses.field_kind field }
+{
+    match field {
+        Field::SrcIp | Field::DstIp => TableType::Addresses,
+        Field::SrcPort | Field::DstPort => TableType::Numbers,
+    }
+}
+
+/// The table that the option names, and the type that it has to have.
+fn option_use(option: &Opt) -> Option<(&Name, TableType)>
+    ensures { option_map (λ u. record { name = u.0.now; kind = u.1 }) result ≡ uses.option_use option.now }
+{
+    match &option.test {
+        Test::Lookup(field, name) => Some((name, field_kind(*field))),
+        _ => None,
+    }
+}
+
+/// A table without entries.
+pub(crate) fn empty_table(alloc: Global, kind: TableType) -> Table
+    ensures { result ≡ lookups.empty_table kind }
+{
+    match kind {
+        TableType::Addresses => Table::Addresses(AddrTable::new(alloc)),
+        TableType::Numbers => Table::Numbers(NumberTable::new(alloc)),
+    }
+}
+
+/// Whether the table has this type.
+fn is_of(kind: TableType, table: &Table) -> bool
+    ensures { result ≡ lookups.is_of kind table.now }
+{
+    match (kind, table) {
+        (TableType::Addresses, Table::Addresses(_)) | (TableType::Numbers, Table::Numbers(_)) => {
+            true
+        }
+        _ => false,
+    }
+}
+
+/// Makes the table where it isn't there; it has to be of this type.
+fn make_table(
+    alloc: Global,
+    tables: &mut Tables,
+    name: &Name,
+    kind: TableType,
+) -> Result<(), ApplyFault>
+    ensures ok { OnOk result (lookups.with_use tables.old (record { name = name.now; kind = kind }) ≡ Ok tables.new) }
+    ensures err { IfErr result (λ fault. IsRefusal fault (lookups.with_use tables.old (record { name = name.now; kind = kind }))) }
+{
+    match tables.get(name) {
+        None => {
+            tables.insert(name.copy()?, empty_table(alloc, kind))?;
+            Ok(())
+        }
+        Some(table) => {
+            if is_of(kind, table) {
+                Ok(())
+            } else {
+                Err(ApplyFault::WrongType)
+            }
+        }
+    }
+}
+
+/// Makes the tables that a list of addresses names.
+fn make_for_items(alloc: Global, tables: &mut Tables, items: &[AddrItem]) -> Result<(), ApplyFault>
+    ensures ok { OnOk result (lookups.with_uses tables.old (filter_map uses.item_use items.now) ≡ Ok tables.new) }
+    ensures err { IfErr result (λ fault. IsRefusal fault (lookups.with_uses tables.old (filter_map uses.item_use items.now))) }
+{
+    for item in items {
+        if let Some((name, kind)) = item_use(item) {
+            make_table(alloc, tables, name, kind)?;
+        }
+    }
+    Ok(())
+}
+
+/// Makes the tables that options name.
+fn make_for_options(alloc: Global, tables: &mut Tables, options: &[Opt]) -> Result<(), ApplyFault>
+    ensures ok { OnOk result (lookups.with_uses tables.old (filter_map uses.option_use options.now) ≡ Ok tables.new) }
+    ensures err { IfErr result (λ fault. IsRefusal fault (lookups.with_uses tables.old (filter_map uses.option_use options.now))) }
+{
+    for option in options {
+        if let Some((name, kind)) = option_use(option) {
+            make_table(alloc, tables, name, kind)?;
+        }
+    }
+    Ok(())
+}
+
+/// Makes the tables that a body names, in the order of its text.
+#[tactic(auto, using(crate::proofs::UsesInTurn::uses_append))]
+fn make_for_body(alloc: Global, tables: &mut Tables, body: &Body) -> Result<(), ApplyFault>
+    ensures ok { OnOk result (lookups.with_uses tables.old (uses.body_uses body.now) ≡ Ok tables.new) }
+    ensures err { IfErr result (λ fault. IsRefusal fault (lookups.with_uses tables.old (uses.body_uses body.now))) }
+{
+    make_for_items(alloc, tables, body.source.items.as_slice())?;
+    make_for_items(alloc, tables, body.destination.items.as_slice())?;
+    make_for_options(alloc, tables, body.options.as_slice())
+}
+
+/// Makes the tables that a rule names, in the order of its text.
+pub(crate) fn make_tables(
+    alloc: Global,
+    tables: &mut Tables,
+    body: &Option<Body>,
+) -> Result<(), ApplyFault>
+    ensures ok { OnOk result (lookups.with_uses tables.old (uses.uses_of body.now) ≡ Ok tables.new) }
+    ensures err { IfErr result (λ fault. IsRefusal fault (lookups.with_uses tables.old (uses.uses_of body.now))) }
+{
+    match body {
+        Some(asked) => make_for_body(alloc, tables, asked),
+        None => Ok(()),
+    }
+}
+
+/// Whether the rule's body names the table.
+pub(crate) fn names_table(name: &Name, body: &Option<Body>) -> bool
+    ensures { result ≡ uses.use_names name.now (uses.uses_of body.now) }
+{
+    match body {
+        None => false,
+        Some(asked) => {
+            items_name(name, asked.source.items.as_slice())
+                || items_name(name, asked.destination.items.as_slice())
+                || options_name(name, asked.options.as_slice())
+        }
+    }
+}
+
+fn items_name(name: &Name, items: &[AddrItem]) -> bool
+    ensures { result ≡ uses.use_names name.now (filter_map uses.item_use items.now) }
+{
+    for item in items {
+        if let Some((other, _)) = item_use(item)
+            && other == name
+        {
+            return true;
+        }
+    }
+    false
+}
+
+fn options_name(name: &Name, options: &[Opt]) -> bool
+    ensures { result ≡ uses.use_names name.now (filter_map uses.option_use options.now) }
+{
+    for option in options {
+        if let Some((other, _)) = option_use(option)
+            && other == name
+        {
+            return true;
+        }
+    }
+    false
+}

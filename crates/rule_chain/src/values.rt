@@ -1,0 +1,38 @@
+ghost use Rattle.std.specs.Prelude.{◌≡◌};
+ghost use Rattle.fw_rule.specs.Settings.{IsInRange};
+ghost use Rattle.rule_chain.specs.Configuration.{values_of, default_values, with_value};
+
+use fw_rule::{MOST_STATES, Setting, Settings};
+
+/// The settings that hold before any command.
+pub(crate) fn default_settings() -> Settings
+    ensures { values_of result ≡ default_values }
+{
+    Settings {
+        ack: 300,
+        syn: 20,
+        fin: 1,
+        rst: 1,
+        udp: 10,
+        short: 5,
+        max: MOST_STATES,
+    }
+}
+
+/// The settings with one of them changed, to a value in its range.
+pub(crate) fn changed(settings: Settings, setting: Setting, value: u32) -> Settings
+    requires { IsInRange setting value }
+    ensures { values_of result ≡ with_value (values_of settings) setting value }
+{
+    let mut changed = settings;
+    match setting {
+        Setting::Ack => changed.ack = value,
+        Setting::Syn => changed.syn = value,
+        Setting::Fin => changed.fin = value,
+        Setting::Rst => changed.rst = value,
+        Setting::Udp => changed.udp = value,
+        Setting::Short => changed.short = value,
+        Setting::Max => changed.max = value,
+    }
+    changed
+}
