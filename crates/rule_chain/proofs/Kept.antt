@@ -15,12 +15,14 @@ use Rattle.rule_chain.specs.Apply.{deletion_fault, mask_after}
 use Rattle.rule_chain.specs.declared.apply_fault.ApplyFault.TheVariants.{NoSuchRule, ReservedRule}
 use Rattle.rule_chain.specs.Rules.{last_rule, rule_of, insert_rule, renumber, count_of, in_set_for, move_rules, set_moved, set_of_number, set_swapped, is_among, is_named, has_rule}
 use Rattle.rule_chain.proofs.Chains.{filter_keeps, move_keeps, renumber_keeps, insert_keeps}
+use Rattle.rule_chain.proofs.Ids.{filter_ids, move_ids, renumber_ids, insert_ids}
 use Rattle.rule_chain.proofs.Lists.{length-filter_le, all-filter, all-map, all-weaker}
 
 pub filter_kept : (c : Configuration) (p : Rule → Bool) → ((k : ℕ) → p (last_rule k) ≡ true) → IsConfiguration c → IsConfiguration (record c { rules = filter p c.rules })
 filter_kept c p last h = record {
   ordered = filter_keeps p last 1 c.rules h.ordered;
   rules = all-filter (IsRule c.greatest_id c.greatest_counter) p c.rules h.rules;
+  distinct = filter_ids p c.rules h.distinct;
   held = let less = length-filter_le p c.rules in omega (arith, h.held, less);
   ids = h.ids;
   counters = h.counters;
@@ -46,6 +48,7 @@ pub move_kept : (c : Configuration) (set_for : Rule → ℕ) → ((k : ℕ) → 
 move_kept c set_for last in_range h = record {
   ordered = move_keeps set_for last 1 c.rules h.ordered;
   rules = all-map (IsRule c.greatest_id c.greatest_counter) (in_set_for set_for) (rule_moved set_for in_range c.greatest_id c.greatest_counter) c.rules h.rules;
+  distinct = move_ids set_for c.rules h.distinct;
   held = let same = length_moved set_for c.rules in omega (arith, h.held, same);
   ids = h.ids;
   counters = h.counters;
@@ -97,6 +100,7 @@ pub zero_kept : (c : Configuration) (test : Rule → Bool) → c.greatest_counte
 zero_kept c test room h = record {
   ordered = renumber_keeps test 1 (c.greatest_counter + 1) c.rules h.ordered;
   rules = all_zeroed test c.greatest_id c.greatest_counter (c.greatest_counter + count_of test c.rules) (c.greatest_counter + 1) c.rules (omega arith) (omega arith) h.rules;
+  distinct = renumber_ids test (c.greatest_counter + 1) c.rules h.distinct;
   held = let same = length_zeroed test (c.greatest_counter + 1) c.rules in omega (arith, h.held, same);
   ids = omega (arith, h.ids);
   counters = room;
@@ -132,13 +136,14 @@ drafted draft number id counter least less h = record {
   body = h.body;
 }
 
-pub add_kept : (c d : Configuration) (rule : Rule) → rule.number < 65535 → IsRule (c.greatest_id + 1) (c.greatest_counter + 1) rule → length c.rules < 65535 → c.greatest_counter + 1 < 16777216
+pub add_kept : (c d : Configuration) (rule : Rule) → rule.number < 65535 → c.greatest_id < rule.id → IsRule (c.greatest_id + 1) (c.greatest_counter + 1) rule → length c.rules < 65535 → c.greatest_counter + 1 < 16777216
     → d.rules ≡ insert_rule rule c.rules → d.greatest_id ≡ c.greatest_id + 1 → d.greatest_counter ≡ c.greatest_counter + 1 → d.disabled ≡ c.disabled
     → IsConfiguration c → IsConfiguration d
-add_kept c d rule less is room counters rules ids greatest disabled h = record {
+add_kept c d rule less new_id is room counters rules ids greatest disabled h = record {
   ordered = rw rules (insert_keeps rule less 1 c.rules is.number.least_le h.ordered);
   rules = rw (rules, ids, greatest) (all_inserted (IsRule (c.greatest_id + 1) (c.greatest_counter + 1)) rule is c.rules
       (all-weaker (IsRule c.greatest_id c.greatest_counter) (IsRule (c.greatest_id + 1) (c.greatest_counter + 1)) (rule_within c.greatest_id (c.greatest_id + 1) c.greatest_counter (c.greatest_counter + 1) (omega arith) (omega arith)) c.rules h.rules));
+  distinct = rw rules (insert_ids c.greatest_id c.greatest_counter rule c.rules new_id h.rules h.distinct);
   held = let more = length_inserted rule c.rules in rw rules (omega arith);
   ids = omega (arith, h.ids);
   counters = omega arith;
@@ -149,6 +154,7 @@ pub mask_kept : (c : Configuration) (disable enable : ℕ) → disable < 2147483
 mask_kept c disable enable low h = record {
   ordered = h.ordered;
   rules = h.rules;
+  distinct = h.distinct;
   held = h.held;
   ids = h.ids;
   counters = h.counters;

@@ -1,6 +1,7 @@
 pub mod Chains
 pub mod Chosen
 pub mod Greatest
+pub mod Ids
 pub mod Kept
 pub mod Keys
 pub mod Lists

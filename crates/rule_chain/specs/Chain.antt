@@ -1,5 +1,5 @@
 -- What holds in every configuration.
-use Rattle.std.specs.Prelude.{◌≡◌, ℕ, ◌<◌, ◌≤◌, IfSome, List, [], ◌∷◌, length}
+use Rattle.std.specs.Prelude.{◌≡◌, ◌≢◌, ℕ, ◌<◌, ◌≤◌, ⊤, IfSome, List, [], ◌∷◌, length}
 use Rattle.std.specs.List.{AllByRecursion}
 use Rattle.fw_rule.specs.WellFormed.{IsNumber, IsSet, IsAction, IsValue, HasBody}
 use Rattle.fw_rule.specs.declared.rule.Rule.{Rule}
@@ -13,6 +13,11 @@ AscendsFrom least [] = ⊥
 AscendsFrom least (rule ∷ []) = rule ≡ last_rule rule.counter
 AscendsFrom least (rule ∷ next ∷ rules) = (least ≤ rule.number) × (rule.number < 65535) × AscendsFrom rule.number (next ∷ rules)
 
+-- no two of the rules have one identity
+abbrev pub HaveOwnIds : List Rule → Type 0
+HaveOwnIds [] = ⊤
+HaveOwnIds (rule ∷ rules) = AllByRecursion (λ other. other.id ≢ rule.id) rules × HaveOwnIds rules
+
 -- each number of the rule is in its range, and its identity and its counter number were given out
 pub record IsRule (greatest_id greatest_counter : ℕ) (rule : Rule) : Type 0 where
   pub number : IsNumber rule.number
@@ -23,10 +28,12 @@ pub record IsRule (greatest_id greatest_counter : ℕ) (rule : Rule) : Type 0 wh
   pub log : IfSome rule.log IsValue
   pub body : HasBody rule.action rule.body
 
--- rules in number order with rule 65535 at their end, within the limits; set 31 isn't disabled
+-- rules in number order with rule 65535 at their end, each with an identity of its own, within the
+-- limits; set 31 isn't disabled
 pub record IsConfiguration (c : Configuration) : Type 0 where
   pub ordered : AscendsFrom 1 c.rules
   pub rules : AllByRecursion (IsRule c.greatest_id c.greatest_counter) c.rules
+  pub distinct : HaveOwnIds c.rules
   pub held : length c.rules ≤ 65535
   pub ids : c.greatest_id ≤ c.greatest_counter
   pub counters : c.greatest_counter < 16777216

@@ -1,19 +1,59 @@
+ghost use Rattle.std.specs.Prelude.{◌≡◌, IfOk, [], ◌∷◌};
+ghost use Rattle.fw_rule.specs.WellFormed.{IsBody, IsItem, IsKey, IsNumber, IsTableCommand, IsTest, IsWellFormed};
+ghost use Rattle.std.specs.List.{AllByRecursion};
+
 use crate::{ApplyFault, Config};
 use fw_base::{Addr, Name, Prefix};
 use fw_rule::{
-    Action, AddrItem, AddrSpec, Body, Command, Field, Items, Key, Opt, RuleDraft, TableCommand,
-    TableType, Test,
+    Action, AddrItem, AddrSpec, Body, Command, Field, Items, Key, Opt, RuleDraft, Setting,
+    TableCommand, TableType, Test,
 };
 use std::alloc::{AllocError, Global};
 use std::test::Fail;
 
-fn one<T: Drop>(alloc: Global, item: T) -> Result<Items<T>, Fail> {
+/// A command of a test. A table's name is one letter.
+#[derive(Clone, Copy)]
+enum Step {
+    /// `add NUMBER set SET count ip from any to any`
+    Add(u16, u8),
+    /// `add NUMBER count ip from table(FIRST) to any lookup dst-port SECOND`
+    Lookup(u16, u8, u8),
+    Delete(u16, u16),
+    DeleteSet(u8),
+    Flush,
+    Zero(u16, u16),
+    ZeroAll,
+    Mask(u32, u32),
+    MoveSet(u8, u8),
+    MoveRule(u16, u8),
+    Swap(u8, u8),
+    Create(u8, TableType),
+    Destroy(u8),
+    /// Adds 10.0.0.0 of that length, with the length as its value.
+    AddNet(u8, u8),
+    AddNumber(u8, u32),
+    RemoveNet(u8, u8),
+    Clear(u8),
+    SwapTables(u8, u8),
+    Local(u32, u32),
+    Most(u32),
+}
+
+fn one<T: Drop>(alloc: Global, item: T) -> Result<Items<T>, AllocError>
+    ensures { IfOk result (λ items. items ≡ item ∷ []) }
+{
     let mut items = Vec::new(alloc);
     items.push(item)?;
     Ok(Items::from_vec(items))
 }
 
-fn spec(alloc: Global, item: AddrItem) -> Result<AddrSpec, Fail> {
+fn letter(alloc: Global, byte: u8) -> Result<Name, Fail> {
+    Ok(Name::new(alloc, &[byte])?)
+}
+
+fn spec(alloc: Global, item: AddrItem) -> Result<AddrSpec, Fail>
+    ensures { IfOk result (λ spec. spec.items ≡ item ∷ []) }
+{
     Ok(AddrSpec {
         negated: false,
         items: one(alloc, item)?,
@@ -21,7 +61,11 @@ fn spec(alloc: Global, item: AddrItem) -> Result<AddrSpec, Fail> {
 }
 
 /// `ip from SOURCE to any OPTIONS`
-fn body(alloc: Global, source: AddrItem, options: Items<Opt>) -> Result<Body, Fail> {
+fn body(alloc: Global, source: AddrItem, options: Items<Opt>) -> Result<Body, Fail>
+    requires source { IsItem source }
+    requires options { AllByRecursion (λ option. IsTest option.test) options }
+    ensures { IfOk result (λ body. IsBody body) }
+{
     Ok(Body {
         protocol: 0,
         source: spec(alloc, source)?,
@@ -34,288 +78,229 @@ fn body(alloc: Global, source: AddrItem, options: Items<Opt>) -> Result<Body, Fa
     })
 }
 
-fn draft(number: Option<u16>, set: u8, body: Body) -> Command {
-    Command::Add(RuleDraft {
-        number,
-        set,
+fn add(alloc: Global, number: u16, set: u8) -> Result<Command, Fail>
+    ensures { IfOk result (λ command. IsWellFormed command) }
+{
+    let body = body(alloc, AddrItem::Any, Items::from_vec(Vec::new(alloc)))?;
+    Ok(Command::Add(RuleDraft {
+        number: Some(number),
+        set: set.min(31),
         action: Action::Count,
         log: None,
         body: Some(body),
-    })
+    }))
 }
 
-/// `add NUMBER set SET count ip from any to any`
-fn add(alloc: Global, number: u16, set: u8) -> Result<Command, Fail> {
-    let options = Items::from_vec(Vec::new(alloc));
-    Ok(draft(Some(number), set, body(alloc, AddrItem::Any, options)?))
-}
-
-/// `add count ip from any to any`
-fn add_next(alloc: Global) -> Result<Command, Fail> {
-    let options = Items::from_vec(Vec::new(alloc));
-    Ok(draft(None, 0, body(alloc, AddrItem::Any, options)?))
-}
-
-/// `add NUMBER count ip from table(NAME) to any`
-fn add_from(alloc: Global, number: u16, name: &[u8]) -> Result<Command, Fail> {
-    let source = AddrItem::InTable(Name::new(alloc, name)?);
-    let options = Items::from_vec(Vec::new(alloc));
-    Ok(draft(Some(number), 0, body(alloc, source, options)?))
-}
-
-/// `add NUMBER count ip from table(NAME) to any lookup dst-port OTHER`
-fn add_lookup(alloc: Global, number: u16, name: &[u8], other: &[u8]) -> Result<Command, Fail> {
-    let source = AddrItem::InTable(Name::new(alloc, name)?);
+fn lookup(alloc: Global, number: u16, first: u8, second: u8) -> Result<Command, Fail>
+    ensures { IfOk result (λ command. IsWellFormed command) }
+{
     let option = Opt {
         negated: false,
-        test: Test::Lookup(Field::DstPort, Name::new(alloc, other)?),
+        test: Test::Lookup(Field::DstPort, letter(alloc, second)?),
     };
-    Ok(draft(Some(number), 0, body(alloc, source, one(alloc, option)?)?))
+    let options = one(alloc, option)?;
+    let body = body(alloc, AddrItem::InTable(letter(alloc, first)?), options)?;
+    Ok(Command::Add(RuleDraft {
+        number: Some(number),
+        set: 0,
+        action: Action::Count,
+        log: None,
+        body: Some(body),
+    }))
 }
 
-fn numbers(alloc: Global, listed: &[u16]) -> Result<Items<u16>, AllocError> {
-    Ok(Items::from_vec(Vec::from_slice(alloc, listed)?))
+fn two(alloc: Global, first: u16, second: u16) -> Result<Items<u16>, AllocError>
+    ensures { IfOk result (λ numbers. AllByRecursion IsNumber numbers) }
+{
+    let numbers = [first.max(1), second.max(1)];
+    Ok(Items::from_vec(Vec::from_slice(alloc, numbers.as_slice())?))
 }
 
-fn table(alloc: Global, name: &[u8], command: TableCommand) -> Result<Command, Fail> {
-    Ok(Command::Table(Name::new(alloc, name)?, command))
+fn on_table(alloc: Global, name: u8, command: TableCommand) -> Result<Command, Fail>
+    requires { IsTableCommand command }
+    ensures { IfOk result (λ made. IsWellFormed made) }
+{
+    Ok(Command::Table(letter(alloc, name)?, command))
 }
 
-fn net(length: u8) -> Result<Key, Fail> {
-    Ok(Key::Net(Prefix::new(Addr(0x0a00_0000), length).ok_or("a length")?))
+/// 10.0.0.0 of that length.
+fn net(length: u8) -> Result<Key, Fail>
+    ensures { IfOk result (λ key. IsKey key) }
+{
+    match Prefix::new(Addr(0x0a00_0000), length) {
+        Some(prefix) => Ok(Key::Net(prefix)),
+        None => Err("a length")?,
+    }
 }
 
-fn after(alloc: Global, commands: &[Command]) -> Result<Config, Fail> {
+fn rule_command(alloc: Global, step: Step) -> Result<Command, Fail>
+    ensures { IfOk result (λ command. IsWellFormed command) }
+{
+    match step {
+        Step::Add(number, set) => add(alloc, number, set),
+        Step::Lookup(number, first, second) => lookup(alloc, number, first, second),
+        Step::Delete(first, second) => Ok(Command::Delete(two(alloc, first, second)?)),
+        Step::DeleteSet(set) => Ok(Command::DeleteSet(set.min(31))),
+        Step::Zero(first, second) => Ok(Command::Zero(two(alloc, first, second)?)),
+        Step::ZeroAll => Ok(Command::Zero(Items::from_vec(Vec::new(alloc)))),
+        Step::Mask(disable, enable) => Ok(Command::SetMask { disable, enable }),
+        Step::MoveSet(from, to) => Ok(Command::MoveSet {
+            from: from.min(31),
+            to: to.min(31),
+        }),
+        Step::MoveRule(number, to) => Ok(Command::MoveRule {
+            number: number.max(1),
+            to: to.min(31),
+        }),
+        Step::Swap(first, second) => Ok(Command::SwapSets {
+            first: first.min(31),
+            second: second.min(31),
+        }),
+        _ => Ok(Command::Flush),
+    }
+}
+
+fn other_command(alloc: Global, step: Step) -> Result<Command, Fail>
+    ensures { IfOk result (λ command. IsWellFormed command) }
+{
+    match step {
+        Step::Create(name, kind) => on_table(alloc, name, TableCommand::Create(kind)),
+        Step::Destroy(name) => on_table(alloc, name, TableCommand::Destroy),
+        Step::AddNet(name, length) => {
+            on_table(
+                alloc,
+                name,
+                TableCommand::Add(net(length)?, u32::from(length)),
+            )
+        }
+        Step::AddNumber(name, number) => {
+            on_table(alloc, name, TableCommand::Add(Key::Number(number), 7))
+        }
+        Step::RemoveNet(name, length) => on_table(alloc, name, TableCommand::Remove(net(length)?)),
+        Step::Clear(name) => on_table(alloc, name, TableCommand::Clear),
+        Step::SwapTables(name, other) => {
+            on_table(alloc, name, TableCommand::SwapWith(letter(alloc, other)?))
+        }
+        Step::Local(first, second) => {
+            let addresses = [Addr(first), Addr(second)];
+            let addresses = Vec::from_slice(alloc, addresses.as_slice())?;
+            Ok(Command::Local(Items::from_vec(addresses)))
+        }
+        Step::Most(value) => Ok(Command::Sysctl {
+            setting: Setting::Max,
+            value: value.max(1).min(16384),
+        }),
+        _ => rule_command(alloc, step),
+    }
+}
+
+/// The configuration after the steps.
+fn after(alloc: Global, steps: &[Step]) -> Result<Config, Fail> {
     let mut config = Config::new(alloc)?;
-    for command in commands {
-        config = config.apply(alloc, command)?;
+    for step in steps {
+        let command = other_command(alloc, *step)?;
+        config = config.apply_owned(alloc, &command)?;
     }
     Ok(config)
 }
 
-fn numbers_of(alloc: Global, config: &Config) -> Result<Vec<u16>, AllocError> {
-    config.rules().iter().map(|rule| rule.number).collect(alloc)
+/// The refusal of a step after others, where `apply` and `apply_owned` agree and the first leaves the
+/// rules and the tables as they were.
+fn refusal(alloc: Global, steps: &[Step], step: Step) -> Result<Option<ApplyFault>, Fail> {
+    let config = after(alloc, steps)?;
+    let (rules, tables) = (config.rules().len(), config.tables().entries().len());
+    let command = other_command(alloc, step)?;
+    let refused = config.apply(alloc, &command).err();
+    let same = rules == config.rules().len() && tables == config.tables().entries().len();
+    let again = config.apply_owned(alloc, &command).err();
+    if same && again == refused {
+        Ok(refused)
+    } else {
+        Ok(None)
+    }
 }
 
-fn counters_of(alloc: Global, config: &Config) -> Result<Vec<u32>, AllocError> {
-    config
-        .rules()
-        .iter()
-        .map(|rule| rule.counter)
-        .collect(alloc)
+/// The number, the set and the counter number of each rule.
+fn shown(alloc: Global, config: &Config) -> Result<Vec<(u16, u8, u32)>, AllocError> {
+    let mut shown = Vec::new(alloc);
+    for rule in config.rules() {
+        shown.push((rule.number, rule.set, rule.counter))?;
+    }
+    Ok(shown)
 }
 
-fn sets_of(alloc: Global, config: &Config) -> Result<Vec<u8>, AllocError> {
-    config.rules().iter().map(|rule| rule.set).collect(alloc)
-}
-
-/// Commands that are accepted, and one after them with its refusal.
-#[derive(Drop)]
-struct Refused {
-    before: Vec<Command>,
-    command: Command,
-    fault: ApplyFault,
-}
-
-fn case<const N: usize>(
-    alloc: Global,
-    before: [Command; N],
-    command: Command,
-    fault: ApplyFault,
-) -> Result<Refused, Fail> {
-    Ok(Refused {
-        before: Vec::from_array(alloc, before)?,
-        command,
-        fault,
-    })
-}
-
-fn refused_rules(alloc: Global) -> Result<Vec<Refused>, Fail> {
-    Ok(vec![in alloc;
-        case(
-            alloc,
-            [],
-            Command::Delete(numbers(alloc, &[7])?),
-            ApplyFault::NoSuchRule
-        )?,
-        case(
-            alloc,
-            [],
-            Command::Zero(numbers(alloc, &[65535, 7])?),
-            ApplyFault::NoSuchRule
-        )?,
-        case(
-            alloc,
-            [],
-            Command::MoveRule { number: 7, to: 1 },
-            ApplyFault::NoSuchRule
-        )?,
-        case(alloc, [], add(alloc, 65535, 0)?, ApplyFault::ReservedRule)?,
-        case(
-            alloc,
-            [],
-            Command::Delete(numbers(alloc, &[65535, 7])?),
-            ApplyFault::ReservedRule
-        )?,
-        case(
-            alloc,
-            [add(alloc, 7, 0)?],
-            Command::Delete(numbers(alloc, &[7, 8, 65535])?),
-            ApplyFault::NoSuchRule
-        )?,
-        case(
-            alloc,
-            [],
-            Command::MoveRule {
-                number: 65535,
-                to: 1
-            },
-            ApplyFault::ReservedRule
-        )?,
-        case(
-            alloc,
-            [],
-            Command::MoveRule {
-                number: 65535,
-                to: 31
-            },
-            ApplyFault::ReservedSet
-        )?,
-        case(
-            alloc,
-            [],
-            Command::SetMask {
-                disable: 0x8000_0000,
-                enable: 0x8000_0000
-            },
-            ApplyFault::ReservedSet
-        )?,
-        case(
-            alloc,
-            [],
-            Command::MoveSet { from: 31, to: 1 },
-            ApplyFault::ReservedSet
-        )?,
-        case(
-            alloc,
-            [],
-            Command::MoveSet { from: 1, to: 31 },
-            ApplyFault::ReservedSet
-        )?,
-        case(
-            alloc,
-            [],
-            Command::SwapSets {
-                first: 31,
-                second: 31
-            },
-            ApplyFault::ReservedSet
-        )?,
-    ]?)
-}
-
-fn refused_tables(alloc: Global) -> Result<Vec<Refused>, Fail> {
-    let create = |name: &[u8], kind| table(alloc, name, TableCommand::Create(kind));
-    Ok(vec![in alloc;
-        case(
-            alloc,
-            [],
-            table(alloc, b"t", TableCommand::Destroy)?,
-            ApplyFault::NoSuchTable
-        )?,
-        case(
-            alloc,
-            [],
-            table(alloc, b"t", TableCommand::Remove(net(8)?))?,
-            ApplyFault::NoSuchTable
-        )?,
-        case(
-            alloc,
-            [],
-            table(alloc, b"t", TableCommand::Clear)?,
-            ApplyFault::NoSuchTable
-        )?,
-        case(
-            alloc,
-            [create(b"t", TableType::Addresses)?],
-            table(alloc, b"t", TableCommand::SwapWith(Name::new(alloc, b"u")?))?,
-            ApplyFault::NoSuchTable
-        )?,
-        case(
-            alloc,
-            [add_from(alloc, 7, b"t")?],
-            create(b"t", TableType::Numbers)?,
-            ApplyFault::EntryExists
-        )?,
-        case(
-            alloc,
-            [table(alloc, b"t", TableCommand::Add(net(8)?, 1))?],
-            table(alloc, b"t", TableCommand::Add(net(8)?, 2))?,
-            ApplyFault::EntryExists
-        )?,
-        case(
-            alloc,
-            [table(alloc, b"t", TableCommand::Add(net(8)?, 1))?],
-            table(alloc, b"t", TableCommand::Remove(net(9)?))?,
-            ApplyFault::NoSuchEntry
-        )?,
-        case(
-            alloc,
-            [
-                add_from(alloc, 7, b"t")?,
-                Command::SetMask {
-                    disable: 1,
-                    enable: 0
-                }
-            ],
-            table(alloc, b"t", TableCommand::Destroy)?,
-            ApplyFault::TableInUse
-        )?,
-        case(
-            alloc,
-            [],
-            table(alloc, b"t", TableCommand::Add(Key::Number(1), 1))?,
-            ApplyFault::WrongType
-        )?,
-        case(
-            alloc,
-            [create(b"t", TableType::Numbers)?],
-            add_from(alloc, 7, b"t")?,
-            ApplyFault::WrongType
-        )?,
-        case(
-            alloc,
-            [],
-            add_lookup(alloc, 7, b"t", b"t")?,
-            ApplyFault::WrongType
-        )?,
-        case(
-            alloc,
-            [
-                create(b"t", TableType::Numbers)?,
-                create(b"u", TableType::Addresses)?
-            ],
-            table(alloc, b"t", TableCommand::SwapWith(Name::new(alloc, b"u")?))?,
-            ApplyFault::WrongType
-        )?,
-    ]?)
+fn shown_after(alloc: Global, steps: &[Step]) -> Result<Vec<(u16, u8, u32)>, Fail> {
+    let config = after(alloc, steps)?;
+    Ok(shown(alloc, &config)?)
 }
 
 #[test]
-fn each_refusal_and_what_it_leaves(rt: HostRuntime) -> Result<(), Fail> {
+fn refused_rule_numbers(rt: HostRuntime) -> Result<(), Fail> {
     let alloc = rt.alloc();
-    for cases in [refused_rules(alloc)?, refused_tables(alloc)?] {
-        for case in cases {
-            let config = after(alloc, &case.before)?;
-            let rules = numbers_of(alloc, &config)?;
-            let tables = config.tables().entries().len();
-            let answer = config.apply(alloc, &case.command);
-            assert_eq!(rt; answer.err(), Some(case.fault), "{}", case.fault.word());
-            assert_eq!(rt; numbers_of(alloc, &config)?.as_slice(), rules.as_slice());
-            assert_eq!(rt; config.tables().entries().len(), tables);
-            let owned = config.apply_owned(alloc, &case.command);
-            assert_eq!(rt; owned.err(), Some(case.fault), "{}", case.fault.word());
-        }
+    let seven = [Step::Add(7, 0)];
+    let cases = [
+        (Step::Delete(8, 8), ApplyFault::NoSuchRule),
+        (Step::Delete(7, 8), ApplyFault::NoSuchRule),
+        (Step::Delete(8, 65535), ApplyFault::NoSuchRule),
+        (Step::Zero(65535, 8), ApplyFault::NoSuchRule),
+        (Step::MoveRule(8, 1), ApplyFault::NoSuchRule),
+        (Step::Add(65535, 0), ApplyFault::ReservedRule),
+        (Step::Delete(7, 65535), ApplyFault::ReservedRule),
+        (Step::Delete(65535, 8), ApplyFault::ReservedRule),
+        (Step::MoveRule(65535, 1), ApplyFault::ReservedRule),
+    ];
+    for (step, fault) in cases {
+        assert_eq!(rt; refusal(alloc, seven.as_slice(), step)?, Some(fault));
+    }
+    Ok(())
+}
+
+#[test]
+fn refused_sets(rt: HostRuntime) -> Result<(), Fail> {
+    let alloc = rt.alloc();
+    for step in [
+        Step::Mask(0x8000_0000, 0x8000_0000),
+        Step::MoveSet(31, 1),
+        Step::MoveSet(1, 31),
+        Step::MoveRule(65535, 31),
+        Step::Swap(31, 31),
+        Step::Swap(1, 31),
+    ] {
+        assert_eq!(rt; refusal(alloc, &[], step)?, Some(ApplyFault::ReservedSet));
+    }
+    Ok(())
+}
+
+#[test]
+fn refused_table_commands(rt: HostRuntime) -> Result<(), Fail> {
+    let alloc = rt.alloc();
+    let steps = [
+        Step::Lookup(7, b'a', b'n'),
+        Step::AddNet(b'a', 8),
+        Step::Mask(1, 0),
+    ];
+    let cases = [
+        (Step::Destroy(b'x'), ApplyFault::NoSuchTable),
+        (Step::RemoveNet(b'x', 8), ApplyFault::NoSuchTable),
+        (Step::Clear(b'x'), ApplyFault::NoSuchTable),
+        (Step::SwapTables(b'a', b'x'), ApplyFault::NoSuchTable),
+        (Step::SwapTables(b'x', b'a'), ApplyFault::NoSuchTable),
+        (
+            Step::Create(b'a', TableType::Numbers),
+            ApplyFault::EntryExists,
+        ),
+        (Step::AddNet(b'a', 8), ApplyFault::EntryExists),
+        (Step::RemoveNet(b'a', 9), ApplyFault::NoSuchEntry),
+        (Step::Destroy(b'n'), ApplyFault::TableInUse),
+        (Step::AddNumber(b'a', 1), ApplyFault::WrongType),
+        (Step::AddNumber(b'x', 1), ApplyFault::WrongType),
+        (Step::RemoveNet(b'n', 8), ApplyFault::WrongType),
+        (Step::SwapTables(b'a', b'n'), ApplyFault::WrongType),
+        (Step::Lookup(8, b'n', b'n'), ApplyFault::WrongType),
+        (Step::Lookup(8, b'x', b'x'), ApplyFault::WrongType),
+    ];
+    for (step, fault) in cases {
+        assert_eq!(rt; refusal(alloc, steps.as_slice(), step)?, Some(fault));
     }
     Ok(())
 }
@@ -323,205 +308,164 @@ fn each_refusal_and_what_it_leaves(rt: HostRuntime) -> Result<(), Fail> {
 #[test]
 fn automatic_numbers(rt: HostRuntime) -> Result<(), Fail> {
     let alloc = rt.alloc();
-    let first = after(alloc, &[add_next(alloc)?, add(alloc, 0, 0)?])?;
+    let first = shown_after(alloc, &[Step::Add(0, 0), Step::Add(0, 0)])?;
     assert_eq!(rt;
-        numbers_of(alloc, &first)?.as_slice(),
-        [100, 200, 65535].as_slice()
+        first.as_slice(),
+        [(100, 0, 1), (200, 0, 2), (65535, 31, 0)].as_slice()
     );
-    let last = after(
-        alloc,
-        &[add(alloc, 65434, 0)?, add_next(alloc)?, add_next(alloc)?],
-    )?;
-    assert_eq!(rt;
-        numbers_of(alloc, &last)?.as_slice(),
-        [65434, 65534, 65534, 65535].as_slice()
-    );
-    assert_eq!(rt;
-        counters_of(alloc, &last)?.as_slice(),
-        [1, 2, 3, 0].as_slice()
-    );
-    assert_eq!(rt; last.counters(), 4);
+    let steps = [Step::Add(65434, 0), Step::Add(0, 0), Step::Add(0, 0)];
+    let last = shown_after(alloc, steps.as_slice())?;
+    let want = [(65434, 0, 1), (65534, 0, 2), (65534, 0, 3), (65535, 31, 0)];
+    assert_eq!(rt; last.as_slice(), want.as_slice());
     Ok(())
 }
 
 #[test]
 fn equal_numbers_and_fresh_counters(rt: HostRuntime) -> Result<(), Fail> {
     let alloc = rt.alloc();
-    let config = after(
-        alloc,
-        &[
-            add(alloc, 7, 0)?,
-            add(alloc, 7, 1)?,
-            add(alloc, 5, 31)?,
-            add(alloc, 7, 2)?,
-        ],
-    )?;
-    assert_eq!(rt;
-        counters_of(alloc, &config)?.as_slice(),
-        [3, 1, 2, 4, 0].as_slice()
-    );
-    let twice = config.apply(alloc, &Command::Zero(numbers(alloc, &[7, 65535, 7])?))?;
-    assert_eq!(rt;
-        counters_of(alloc, &twice)?.as_slice(),
-        [3, 5, 6, 7, 8].as_slice()
-    );
-    let all = twice.apply(alloc, &Command::Zero(numbers(alloc, &[])?))?;
-    assert_eq!(rt;
-        counters_of(alloc, &all)?.as_slice(),
-        [9, 10, 11, 12, 13].as_slice()
-    );
-    assert_eq!(rt; all.counters(), 14);
-    assert_eq!(rt;
-        counters_of(alloc, &config)?.as_slice(),
-        [3, 1, 2, 4, 0].as_slice()
-    );
-    let same = all.apply(alloc, &Command::Delete(numbers(alloc, &[7, 5, 7])?))?;
-    assert_eq!(rt; numbers_of(alloc, &same)?.as_slice(), [65535].as_slice());
-    assert_eq!(rt; (same.counters(), same.rules()[0].id), (14, 0));
+    let config = after(alloc, &[Step::Add(7, 0), Step::Add(5, 31), Step::Add(7, 2)])?;
+    let zero = other_command(alloc, Step::Zero(7, 7))?;
+    let zeroed = config.apply(alloc, &zero)?;
+    let before = [(5, 31, 2), (7, 0, 1), (7, 2, 3), (65535, 31, 0)];
+    let behind = [(5, 31, 2), (7, 0, 4), (7, 2, 5), (65535, 31, 0)];
+    assert_eq!(rt; shown(alloc, &config)?.as_slice(), before.as_slice());
+    assert_eq!(rt; shown(alloc, &zeroed)?.as_slice(), behind.as_slice());
+    assert_eq!(rt; (config.counters(), zeroed.counters()), (4, 6));
+    Ok(())
+}
+
+#[test]
+fn all_counters_are_renumbered_in_list_order(rt: HostRuntime) -> Result<(), Fail> {
+    let alloc = rt.alloc();
+    let steps = [
+        Step::Add(7, 0),
+        Step::Add(5, 1),
+        Step::ZeroAll,
+        Step::Delete(7, 7),
+    ];
+    let shown = shown_after(alloc, steps.as_slice())?;
+    assert_eq!(rt; shown.as_slice(), [(5, 1, 3), (65535, 31, 5)].as_slice());
     Ok(())
 }
 
 #[test]
 fn sets_are_moved_and_exchanged(rt: HostRuntime) -> Result<(), Fail> {
     let alloc = rt.alloc();
-    let config = after(
-        alloc,
-        &[
-            add(alloc, 1, 1)?,
-            add(alloc, 2, 2)?,
-            add(alloc, 3, 31)?,
-            Command::SetMask {
-                disable: 6,
-                enable: 0x8000_0002,
-            },
-        ],
-    )?;
+    let steps = [
+        Step::Add(1, 1),
+        Step::Add(2, 2),
+        Step::Add(3, 31),
+        Step::Add(4, 4),
+        Step::Mask(6, 0x8000_0002),
+        Step::Swap(1, 2),
+        Step::Swap(3, 3),
+        Step::MoveSet(4, 4),
+        Step::MoveSet(4, 5),
+        Step::MoveRule(3, 6),
+    ];
+    let config = after(alloc, steps.as_slice())?;
+    let want = [(1, 2, 1), (2, 1, 2), (3, 6, 3), (4, 5, 4), (65535, 31, 0)];
+    assert_eq!(rt; shown(alloc, &config)?.as_slice(), want.as_slice());
     assert_eq!(rt; config.disabled(), 4);
-    let swapped = config.apply(
-        alloc,
-        &Command::SwapSets {
-            first: 1,
-            second: 2,
-        },
-    )?;
-    assert_eq!(rt;
-        sets_of(alloc, &swapped)?.as_slice(),
-        [2, 1, 31, 31].as_slice()
-    );
-    assert_eq!(rt; swapped.disabled(), 4);
-    let same = swapped
-        .apply(
-            alloc,
-            &Command::SwapSets {
-                first: 3,
-                second: 3,
-            },
-        )?
-        .apply(alloc, &Command::MoveSet { from: 4, to: 4 })?;
-    assert_eq!(rt;
-        sets_of(alloc, &same)?.as_slice(),
-        [2, 1, 31, 31].as_slice()
-    );
-    let moved = same
-        .apply(alloc, &Command::MoveSet { from: 2, to: 1 })?
-        .apply(alloc, &Command::MoveRule { number: 3, to: 5 })?;
-    assert_eq!(rt;
-        sets_of(alloc, &moved)?.as_slice(),
-        [1, 1, 5, 31].as_slice()
-    );
-    let flushed = same.apply(alloc, &Command::Flush)?;
-    assert_eq!(rt;
-        numbers_of(alloc, &flushed)?.as_slice(),
-        [3, 65535].as_slice()
-    );
-    let without = flushed.apply(alloc, &Command::DeleteSet(31))?;
-    assert_eq!(rt; numbers_of(alloc, &without)?.as_slice(), [65535].as_slice());
-    let empty = without.apply(alloc, &Command::DeleteSet(9))?;
-    assert_eq!(rt; numbers_of(alloc, &empty)?.as_slice(), [65535].as_slice());
     Ok(())
+}
+
+#[test]
+fn rules_of_sets_go(rt: HostRuntime) -> Result<(), Fail> {
+    let alloc = rt.alloc();
+    let steps = [
+        Step::Add(1, 1),
+        Step::Add(2, 31),
+        Step::Mask(2, 0),
+        Step::DeleteSet(9),
+        Step::Flush,
+    ];
+    let flushed = shown_after(alloc, steps.as_slice())?;
+    assert_eq!(rt; flushed.as_slice(), [(2, 31, 2), (65535, 31, 0)].as_slice());
+    let last = shown_after(alloc, &[Step::Add(2, 31), Step::DeleteSet(31)])?;
+    assert_eq!(rt; last.as_slice(), [(65535, 31, 0)].as_slice());
+    Ok(())
+}
+
+/// How many entries the table has.
+fn entries_of(alloc: Global, config: &Config, name: u8) -> Result<Option<usize>, Fail> {
+    let name = letter(alloc, name)?;
+    match config.table(&name) {
+        Some(lookup_tables::Table::Addresses(table)) => Ok(Some(table.entries().len())),
+        Some(lookup_tables::Table::Numbers(table)) => Ok(Some(100 + table.entries().len())),
+        None => Ok(None),
+    }
 }
 
 #[test]
 fn tables_are_made_changed_and_exchanged(rt: HostRuntime) -> Result<(), Fail> {
     let alloc = rt.alloc();
-    let (nets, ports) = (Name::new(alloc, b"nets")?, Name::new(alloc, b"ports")?);
-    let config = after(
-        alloc,
-        &[
-            add_lookup(alloc, 1, b"nets", b"ports")?,
-            table(alloc, b"nets", TableCommand::Add(net(8)?, 1))?,
-            table(alloc, b"ports", TableCommand::Add(Key::Number(80), 2))?,
-            table(alloc, b"more", TableCommand::Add(net(9)?, 3))?,
-        ],
-    )?;
-    let Some(lookup_tables::Table::Addresses(entries)) = config.table(&nets) else {
-        return Err("a table of addresses")?;
-    };
-    assert_eq!(rt; entries.entries().len(), 1);
-    assert!(rt; matches!(config.table(&ports), Some(lookup_tables::Table::Numbers(_))));
-    let other = config.apply(
-        alloc,
-        &table(
-            alloc,
-            b"more",
-            TableCommand::SwapWith(Name::new(alloc, b"nets")?),
-        )?,
-    )?;
-    let Some(lookup_tables::Table::Addresses(swapped)) = other.table(&nets) else {
-        return Err("a table of addresses")?;
-    };
-    assert_eq!(rt; swapped.find(Addr(0x0a00_0001)), Some(3));
-    assert_eq!(rt; entries.find(Addr(0x0a00_0001)), Some(1));
-    let gone = other
-        .apply(
-            alloc,
-            &table(alloc, b"nets", TableCommand::Remove(net(9)?))?,
-        )?
-        .apply(alloc, &table(alloc, b"ports", TableCommand::Clear)?)?
-        .apply(alloc, &table(alloc, b"more", TableCommand::Destroy)?)?;
-    assert_eq!(rt; gone.tables().entries().len(), 2);
+    let steps = [
+        Step::Lookup(1, b'a', b'n'),
+        Step::AddNumber(b'n', 80),
+        Step::AddNet(b'm', 8),
+        Step::AddNet(b'm', 9),
+        Step::SwapTables(b'm', b'a'),
+        Step::RemoveNet(b'a', 9),
+        Step::Destroy(b'm'),
+        Step::Create(b'c', TableType::Addresses),
+    ];
+    let config = after(alloc, steps.as_slice())?;
+    for (name, want) in [
+        (b'a', Some(1)),
+        (b'n', Some(101)),
+        (b'm', None),
+        (b'c', Some(0)),
+    ] {
+        assert_eq!(rt; entries_of(alloc, &config, name)?, want);
+    }
     Ok(())
 }
 
 #[test]
 fn settings_and_addresses(rt: HostRuntime) -> Result<(), Fail> {
     let alloc = rt.alloc();
-    let (first, second) = (Addr(0x0a00_0001), Addr(0x0a00_0002));
     let config = after(
         alloc,
-        &[
-            Command::Local(Items::from_vec(Vec::from_slice(
-                alloc,
-                [second, first, second].as_slice(),
-            )?)),
-            Command::Local(one(alloc, first)?),
-            Command::Sysctl {
-                setting: fw_rule::Setting::Max,
-                value: 1,
-            },
-        ],
+        &[Step::Local(2, 1), Step::Local(1, 2), Step::Most(1)],
     )?;
-    assert_eq!(rt; config.locals(), [second, first].as_slice());
+    assert_eq!(rt; config.locals(), [Addr(2), Addr(1)].as_slice());
     assert_eq!(rt; (config.settings().max, config.settings().syn), (1, 20));
     Ok(())
+}
+
+/// A configuration whose counter numbers all were given out.
+fn full(alloc: Global) -> Result<Config, Fail> {
+    let mut config = Config::new(alloc)?;
+    for _ in 0..4095 {
+        let command = add(alloc, 7, 0)?;
+        config = config.apply_owned(alloc, &command)?;
+    }
+    for _ in 0..4095 {
+        let zero = rule_command(alloc, Step::ZeroAll)?;
+        config = config.apply_owned(alloc, &zero)?;
+    }
+    Ok(config)
 }
 
 #[test]
 fn counter_numbers_run_out(rt: HostRuntime) -> Result<(), Fail> {
     let alloc = rt.alloc();
-    let mut config = Config::new(alloc)?;
-    for _ in 0..4095 {
-        config = config.apply_owned(alloc, &add(alloc, 7, 0)?)?;
-    }
-    for _ in 0..4095 {
-        config = config.apply_owned(alloc, &Command::Zero(numbers(alloc, &[])?))?;
-    }
+    let config = full(alloc)?;
     assert_eq!(rt; config.counters(), 16_777_216);
-    let zeroed = config.apply(alloc, &Command::Zero(numbers(alloc, &[65535])?));
-    assert_eq!(rt; zeroed.err(), Some(ApplyFault::TooManyCounters));
-    let added = config.apply(alloc, &add_next(alloc)?);
-    assert_eq!(rt; added.err(), Some(ApplyFault::TooManyCounters));
-    let missing = config.apply(alloc, &Command::Zero(numbers(alloc, &[8])?));
-    assert_eq!(rt; missing.err(), Some(ApplyFault::NoSuchRule));
+    for (step, fault) in [
+        (Step::Zero(65535, 65535), ApplyFault::TooManyCounters),
+        (Step::Zero(8, 7), ApplyFault::NoSuchRule),
+        (Step::Add(0, 0), ApplyFault::TooManyCounters),
+        (Step::Add(65535, 0), ApplyFault::ReservedRule),
+    ] {
+        let command = other_command(alloc, step)?;
+        assert_eq!(rt; config.apply(alloc, &command).err(), Some(fault));
+    }
     Ok(())
+}
+
+#[test]
+fn refusals_have_words(rt: HostRuntime) {
+    assert_eq!(rt; ApplyFault::TooManyRules.word(), "TooManyRules");
 }

@@ -15,6 +15,6 @@ invariant_of-self c =
     let held = map_length arc_value c.self.inside.rules.items in
     let rule = drafted c.args.draft c.chosen_number-number.result (c.self.inside.greatest_id + 1) (c.self.inside.greatest_counter + 1) least less c.requires in
     let made = c.in_ok-new.ensures.ok in
-    add_kept _ _ (lists.rule_of c.args.draft c.chosen_number-number.result (c.self.inside.greatest_id + 1) (c.self.inside.greatest_counter + 1)) less rule
+    add_kept _ _ (lists.rule_of c.args.draft c.chosen_number-number.result (c.self.inside.greatest_id + 1) (c.self.inside.greatest_counter + 1)) less (omega arith) rule
     (omega (arith, c.if-len-ge-MOST_RULES.false, c.len.ensures)) (omega (arith, c.if-self-ge-MOST_COUNTERS.false))
     (c.in_ok-insert_rule.ensures.ok ∙ ap (λ r. lists.insert_rule r (map arc_value c.self.inside.rules.items)) made) refl refl refl c.self.invariant
