@@ -9,7 +9,7 @@ use Rattle.pcap_read.specs.Reading.{Captured, Place, Open, Closed, AtBoundary, H
 use Rattle.pcap_read.proofs.OneFront.{front_unique, front_stays}
 use Rattle.replay_driver.specs.Words.{Named}
 use Rattle.replay_driver.specs.Finding.{finding_status, end_status}
-use Rattle.replay_driver.specs.PlainScript.{script_rules}
+use Rattle.replay_driver.specs.Editions.{edition_of}
 use Rattle.replay_driver.specs.Replay.{IsEnd}
 use Rattle.replay_driver.specs.WholeSource.{ReadsAll}
 use Rattle.replay_driver.specs.Run.{ReadsScript, ReadsBoth, Judges, Finds, IsRun}
@@ -18,7 +18,7 @@ use Rattle.replay_driver.proofs.Promised.{IfSome-map}
 use Rattle.replay_driver.specs.declared.capture_end.CaptureEnd.{CaptureEnd}
 use Rattle.replay_driver.specs.declared.capture_end.CaptureEnd.TheVariants.{Read, Stopped}
 use Rattle.replay_driver.specs.declared.finding.Finding.{Finding}
-use Rattle.replay_driver.specs.declared.finding.Finding.TheVariants.{Unread, NotYet, Replayed}
+use Rattle.replay_driver.specs.declared.finding.Finding.TheVariants.{Unread, Unready, Replayed}
 use Rattle.replay_driver.specs.declared.outcome.Outcome.{Outcome}
 
 -- what an opening takes out of a told list
@@ -68,10 +68,10 @@ module _ {K S L : Type 0} (written : K → Option (List ℕ)) (sink_faults : K �
   abbrev Complete : Type 0
   Complete = IsComplete written sink_faults pairs faults refused left failures names library libraryAfter sink sinkAfter outcome
 
-  -- a script that was opened and read has the told rules
-  reads_rules : (complete : Complete) (between : L) (script : S) (bytes : List ℕ) → ReadsScript pairs faults refused left failures library between names.script script bytes
+  -- a script that was opened and read has the told bytes
+  reads_script_of : (complete : Complete) (between : L) (script : S) (bytes : List ℕ) → ReadsScript pairs faults refused left failures library between names.script script bytes
       → (bytes ≡ complete.script) × (pairs between ≡ Some complete.behind)
-  reads_rules complete between script bytes reads =
+  reads_script_of complete between script bytes reads =
       let opened = took_from _ _ names.script _ complete.before _ _ reads.opens.took complete.told complete.script_stands in
       (all_bytes complete.script bytes (left script) (subst (λ (l : Option (List ℕ)). ReadsAll l (left script) 1048577 bytes) opened.0 reads.reads) complete.script_short, opened.1)
 
@@ -82,14 +82,14 @@ module _ {K S L : Type 0} (written : K → Option (List ℕ)) (sink_faults : K �
   judged_0 : (complete : Complete) (finding : Finding) (script capture opened : S) (bytes : List ℕ) → failures capture ≡ 0
       → ReadsBoth pairs faults refused left failures names library libraryAfter script opened bytes → Judges left failures bytes opened finding capture → finding_status finding ≡ 0
   judged_0 complete (Unread name) script capture opened bytes quiet both judged = absurd judged
-  judged_0 complete (NotYet fault) script capture opened bytes quiet both judged =
-      let read = reads_rules complete both.between script bytes both.reads_script in
-      let ok : script_rules bytes ≡ Ok complete.rules = ap script_rules read.0 ∙ complete.script_read in
-      let bad : script_rules bytes ≡ Err fault.line = judged.1 in
+  judged_0 complete (Unready error) script capture opened bytes quiet both judged =
+      let read = reads_script_of complete both.between script bytes both.reads_script in
+      let ok : edition_of bytes ≡ Ok complete.edition = ap edition_of read.0 ∙ complete.script_read in
+      let bad : edition_of bytes ≡ Err error = judged.1 in
       cc
-  judged_0 complete (Replayed trace end) script capture opened bytes quiet both judged =
-      let replay = judged.3 in
-      let read = reads_rules complete both.between script bytes both.reads_script in
+  judged_0 complete (Replayed trace end answers) script capture opened bytes quiet both judged =
+      let replay = judged.1 in
+      let read = reads_script_of complete both.between script bytes both.reads_script in
       let told = took_from _ _ names.capture _ complete.behind _ _ both.opens_capture.took read.1 complete.capture_stands in
       let (place, front, stops, numbered) = replay.stopped in
       let taken : Consumes (Some complete.capture) (left capture) replay.bytes = subst (λ (l : Option (List ℕ)). Consumes l (left capture) replay.bytes) told.0 replay.taken in
@@ -107,20 +107,20 @@ module _ {K S L : Type 0} (written : K → Option (List ℕ)) (sink_faults : K �
       let later : faults library ≤ faults between = reads.opens.later in
       let rose : Rose (faults between) (faults libraryAfter) = refuses.rose in
       absurd (complete.library_quiet (omega arith))
-  status_0 complete (NotYet fault) [] is finds = absurd finds
-  status_0 complete (NotYet fault) (script ∷ []) is finds = absurd finds
-  status_0 complete (Replayed trace end) [] is finds = absurd finds
-  status_0 complete (Replayed trace end) (script ∷ []) is finds = absurd finds
+  status_0 complete (Unready error) [] is finds = absurd finds
+  status_0 complete (Unready error) (script ∷ []) is finds = absurd finds
+  status_0 complete (Replayed trace end answers) [] is finds = absurd finds
+  status_0 complete (Replayed trace end answers) (script ∷ []) is finds = absurd finds
   status_0 complete (Unread name) (script ∷ capture ∷ []) is finds = let (bytes, opened, both, judged) = finds in absurd judged
-  status_0 complete (NotYet fault) (script ∷ capture ∷ []) is finds =
+  status_0 complete (Unready error) (script ∷ capture ∷ []) is finds =
       let (bytes, opened, both, judged) = finds in
-      judged_0 complete (NotYet fault) script capture opened bytes (quiet_of complete (script ∷ capture ∷ []) is 1 script (omega arith)) both judged
-  status_0 complete (Replayed trace end) (script ∷ capture ∷ []) is finds =
+      judged_0 complete (Unready error) script capture opened bytes (quiet_of complete (script ∷ capture ∷ []) is 1 script (omega arith)) both judged
+  status_0 complete (Replayed trace end answers) (script ∷ capture ∷ []) is finds =
       let (bytes, opened, both, judged) = finds in
-      judged_0 complete (Replayed trace end) script capture opened bytes (quiet_of complete (script ∷ capture ∷ []) is 1 script (omega arith)) both judged
+      judged_0 complete (Replayed trace end answers) script capture opened bytes (quiet_of complete (script ∷ capture ∷ []) is 1 script (omega arith)) both judged
   status_0 complete (Unread name) (script ∷ capture ∷ more ∷ others) is finds = absurd finds
-  status_0 complete (NotYet fault) (script ∷ capture ∷ more ∷ others) is finds = absurd finds
-  status_0 complete (Replayed trace end) (script ∷ capture ∷ more ∷ others) is finds = absurd finds
+  status_0 complete (Unready error) (script ∷ capture ∷ more ∷ others) is finds = absurd finds
+  status_0 complete (Replayed trace end answers) (script ∷ capture ∷ more ∷ others) is finds = absurd finds
 
   ends_0 : IsRun written sink_faults pairs faults refused left failures names library libraryAfter sink sinkAfter outcome → Complete → (outcome.status ≡ 0) ⊎ (outcome.status ≡ 6)
   ends_0 (inl memory) complete = inr memory.status

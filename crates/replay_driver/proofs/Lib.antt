@@ -1,9 +1,9 @@
-pub mod Digits
-pub mod Lines
-pub mod Scripts
-pub mod ReportLines
-pub mod Judging
-pub mod Replays
-pub mod Promised
 pub mod Complete
+pub mod Entering
+pub mod Lists
 pub mod Operands
+pub mod Promised
+pub mod Replays
+pub mod ReportLines
+pub mod ScriptLines
+pub mod ScriptReading

@@ -5,19 +5,17 @@ use Rattle.fw_base.specs.Faults.{Rose}
 use Rattle.fw_base.specs.Pairs.{Pair, TakesOut}
 use Rattle.fw_base.specs.Texts.{AppendsPart}
 use Rattle.replay_driver.specs.Words.{Named}
-use Rattle.replay_driver.specs.Rules.{IsRuleList}
 use Rattle.replay_driver.specs.Replay.{IsReplay}
-use Rattle.replay_driver.specs.PlainScript.{script_rules}
+use Rattle.replay_driver.specs.Editions.{edition_of}
 use Rattle.replay_driver.specs.WholeSource.{ReadsAll}
-use Rattle.replay_driver.specs.declared.plain_rule.PlainRule.{PlainRule}
 use Rattle.replay_driver.specs.declared.script_source.ScriptSource.{ScriptSource}
 use Rattle.replay_driver.specs.declared.script_source.ScriptSource.TheVariants.{Read, Broken, Refused}
 use Rattle.fw_base.specs.declared.failure.Failed.{Failed}
 use Rattle.replay_driver.specs.declared.prepare.Prepared.{Prepared}
 use Rattle.replay_driver.specs.declared.outcome.Outcome.{Outcome}
-use Rattle.replay_driver.specs.Finding.{usage_text, finding_status, finding_text, finding_kept, finding_ends}
+use Rattle.replay_driver.specs.Finding.{usage_text, finding_status, finding_text, finding_kept, finding_ends, finding_answers}
 use Rattle.replay_driver.specs.declared.finding.Finding.{Finding}
-use Rattle.replay_driver.specs.declared.finding.Finding.TheVariants.{Unread, NotYet, Replayed}
+use Rattle.replay_driver.specs.declared.finding.Finding.TheVariants.{Unread, Unready, Replayed}
 
 module _ {K : Type 0} (written : K → Option (List ℕ)) (faults : K → ℕ) where
   -- A text was to be written with a status. With another status than 5 the whole text was appended; with 5,
@@ -42,10 +40,10 @@ module _ {S : Type 0} (left : S → Option (List ℕ)) (failures : S → ℕ) wh
   -- what was found of a script and an opened capture, whose source is then this one
   abbrev pub Judges : List ℕ → S → Finding → S → Type 0
   Judges script opened (Unread name) capture = ⊥
-  Judges script opened (NotYet fault) capture = (capture ≡ opened) × (script_rules script ≡ Err fault.line)
-  Judges script opened (Replayed trace end) capture =
-      (rules : List PlainRule) × (script_rules script ≡ Ok rules) × IsRuleList rules trace.rules
-      × IsReplay left failures trace.rules opened capture trace.docket end
+  Judges script opened (Unready error) capture = (capture ≡ opened) × (edition_of script ≡ Err error)
+  Judges script opened (Replayed trace end answers) capture =
+      (edition_of script ≡ Ok (record { config = trace.config; answers = answers }))
+      × IsReplay left failures trace.config opened capture trace.docket end
 
 module _ {L S : Type 0} (pairs : L → Option (List Pair)) (faults : L → ℕ) (refused : L → Option (List ℕ)) (left : S → Option (List ℕ)) (failures : S → ℕ) where
   -- a name was opened: its reader has the bytes that the library told, and no read of it failed
@@ -95,14 +93,16 @@ pub record IsWithoutMemory {K S : Type 0} (sink sinkAfter : K) (outcome : Outcom
   pub nothing_written : sinkAfter ≡ sink
   pub nothing_handed_back : outcome.sources.items ≡ []
   pub nothing_kept : outcome.kept ≡ None
-  pub no_end : outcome.ends ≡ []
+  pub no_end : outcome.ends.captures ≡ []
+  pub no_answer : outcome.ends.answers ≡ []
 
 module _ {K S : Type 0} (written : K → Option (List ℕ)) (sink_faults : K → ℕ) where
   -- what was found is written with its status, and kept
   pub record WritesFound (sink sinkAfter : K) (finding : Finding) (outcome : Outcome S) : Type 0 where
     pub writes : Writes written sink_faults sink sinkAfter (finding_status finding) outcome.status (finding_text finding)
     pub kept : outcome.kept ≡ finding_kept finding
-    pub ends : outcome.ends ≡ finding_ends finding
+    pub ends : outcome.ends.captures ≡ finding_ends finding
+    pub answers : outcome.ends.answers ≡ finding_answers finding
 
   -- what was prepared is written, or memory ran out before
   abbrev pub Reports : K → K → Prepared S → Outcome S → Type 0
@@ -115,7 +115,8 @@ module _ {K S : Type 0} (written : K → Option (List ℕ)) (sink_faults : K →
     pub library_kept : libraryAfter ≡ library
     pub nothing_opened : outcome.sources.items ≡ []
     pub nothing_kept : outcome.kept ≡ None
-    pub no_end : outcome.ends ≡ []
+    pub no_end : outcome.ends.captures ≡ []
+    pub no_answer : outcome.ends.answers ≡ []
     pub writes : Writes written sink_faults sink sinkAfter 1 outcome.status usage_text
 
   -- the words are no command, or memory ran out before that was known

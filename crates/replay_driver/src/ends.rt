@@ -1,47 +1,26 @@
-ghost use Rattle.std.specs.Prelude.{◌≡◌, ◌∷◌, [], IfOk};
+ghost use Rattle.std.specs.Prelude.{◌≡◌, []};
 
-use crate::CaptureEnd;
-use std::alloc::{AllocError, Global};
-use std::marker::Model;
+use crate::{CaptureEnd, LineAnswer};
+use fw_rule::Items;
+use std::alloc::Global;
 
-/// How the captures of a run ended, in the order of the words.
+/// How the captures of a run ended, in the order of the words, and the answers to lines of the script, in
+/// the order of the lines.
 #[derive(Debug, Drop)]
 pub struct Ends {
-    captures: Vec<CaptureEnd>,
-}
-
-impl Model for Ends {
-    ghost use Rattle.std.specs.Prelude.{List};
-    ghost use Rattle.replay_driver.specs.declared.capture_end.CaptureEnd.{CaptureEnd};
-
-    ghost Value = { List CaptureEnd };
-
-    ghost view = { λ e. e.captures.items };
+    pub captures: Items<CaptureEnd>,
+    pub answers: Items<LineAnswer>,
 }
 
 impl Ends {
-    /// No capture ended.
+    /// No capture ended, and no line has an answer.
     pub(crate) fn none(alloc: Global) -> Ends
-        ensures { result ≡ [] }
+        ensures captures { result.captures ≡ [] }
+        ensures answers { result.answers ≡ [] }
     {
         Ends {
-            captures: Vec::new(alloc),
+            captures: Items::from_vec(Vec::new(alloc)),
+            answers: Items::from_vec(Vec::new(alloc)),
         }
-    }
-
-    /// One capture ended.
-    pub(crate) fn one(alloc: Global, end: CaptureEnd) -> Result<Ends, AllocError>
-        ensures { IfOk result (λ ends. ends ≡ end ∷ []) }
-    {
-        let mut captures = Vec::new(alloc);
-        captures.push(end)?;
-        Ok(Ends { captures })
-    }
-
-    /// How each capture ended.
-    pub fn captures(&self) -> &[CaptureEnd]
-        ensures { result.now ≡ self.now }
-    {
-        &self.captures
     }
 }

@@ -1,22 +1,25 @@
 ghost use Rattle.std.specs.Prelude.{◌≡◌};
 ghost use Rattle.fw_base.specs.Texts.{WritesText};
 ghost use Rattle.replay_driver.specs.Finding as spec;
+ghost use Rattle.replay_driver.specs.Report.{report_text};
 
+use crate::listing::write_answers;
 use crate::report::write_capture;
-use crate::{CaptureEnd, NotYet, Trace};
+use crate::{CaptureEnd, LineAnswer, ScriptError, Trace};
 use fw_base::{Failed, Name, Sink, write_pieces, write_text};
-use itoa::Buffer;
+use fw_rule::Items;
 use pcap_read::CaptureFault;
+use std::alloc::Global;
 
 /// What the words, the script and the capture come to, before a byte is written.
-#[derive(Debug, Drop)]
+#[derive(Drop)]
 pub(crate) enum Finding {
     /// A name that couldn't be opened or, for the script, read.
     Unread(Name),
-    /// A script line that isn't read yet.
-    NotYet(NotYet),
-    /// The capture was judged, and ended so.
-    Replayed(Trace, CaptureEnd),
+    /// A script that gives no edition.
+    Unready(ScriptError),
+    /// The capture was judged, and ended so; the answers to lines of the script.
+    Replayed(Trace, CaptureEnd, Items<LineAnswer>),
 }
 
 /// The status of a capture's end: 0 at its end, 4 where its source failed, 3 with another fault.
@@ -42,8 +45,8 @@ impl Finding {
     {
         match self {
             Finding::Unread(_) => 4,
-            Finding::NotYet(_) => 2,
-            Finding::Replayed(_, end) => end_status(*end),
+            Finding::Unready(_) => 2,
+            Finding::Replayed(_, end, _) => end_status(*end),
         }
     }
 
@@ -54,20 +57,37 @@ impl Finding {
     {
         match self {
             Finding::Unread(name) => write_unread(out, name),
-            Finding::NotYet(fault) => write_not_yet(out, *fault),
-            Finding::Replayed(trace, end) => write_capture(out, 1, trace.docket.entries(), *end),
+            Finding::Unready(error) => error.write(out),
+            Finding::Replayed(trace, end, answers) => {
+                write_report(out, trace, *end, answers.as_slice())
+            }
         }
     }
 
-    /// What is kept of it.
-    pub(crate) fn kept(self) -> Option<Trace>
-        ensures { result ≡ spec.finding_kept self }
+    /// What is kept of it, and the answers to lines of the script.
+    pub(crate) fn into_parts(self, alloc: Global) -> (Option<Trace>, Items<LineAnswer>)
+        ensures kept { result.0 ≡ spec.finding_kept self }
+        ensures answers { result.1 ≡ spec.finding_answers self }
     {
         match self {
-            Finding::Unread(_) | Finding::NotYet(_) => None,
-            Finding::Replayed(trace, _) => Some(trace),
+            Finding::Replayed(trace, _, answers) => (Some(trace), answers),
+            _ => (None, Items::from_vec(Vec::new(alloc))),
         }
     }
+}
+
+/// Writes the report.
+#[tactic(auto, unfolding(crate::specs::Report::report_text))]
+fn write_report<K: Sink>(
+    out: &mut K,
+    trace: &Trace,
+    end: CaptureEnd,
+    answers: &[LineAnswer],
+) -> Result<(), Failed>
+    ensures { WritesText (K.written out.old) (K.written out.new) (K.faults out.old) (K.faults out.new) (report_text trace.now.config trace.now.docket end answers.now) result }
+{
+    write_capture(out, 1, trace.docket.entries(), end)?;
+    write_answers(out, &trace.config, answers)
 }
 
 /// Writes which name couldn't be read.
@@ -77,16 +97,6 @@ fn write_unread<K: Sink>(out: &mut K, name: &Name) -> Result<(), Failed>
 {
     let name = name.bytes();
     write_pieces(out, &[b"cannot read ", name, b"\n"])
-}
-
-/// Writes which script line isn't read yet.
-#[tactic(auto, unfolding(crate::specs::Finding::not_yet_text))]
-fn write_not_yet<K: Sink>(out: &mut K, fault: NotYet) -> Result<(), Failed>
-    ensures { WritesText (K.written out.old) (K.written out.new) (K.faults out.old) (K.faults out.new) (spec.not_yet_text fault.line) result }
-{
-    let mut line_digits = Buffer::new();
-    let line = line_digits.format(fault.line).as_bytes();
-    write_pieces(out, &[b"script line ", line, b" NotYet\n"])
 }
 
 /// Writes the usage line.

@@ -3,11 +3,11 @@ ghost use Rattle.replay_driver.specs.Invocation.{named};
 ghost use Rattle.replay_driver.specs.Run.{Finds, Judges};
 
 use crate::capture_word::Invocation;
+use crate::edition::{Edition, read_edition};
 use crate::finding::Finding;
-use crate::plain_script::{ScriptError, read_script};
 use crate::replay::replay;
 use crate::script_source::{ScriptSource, read_script_source};
-use crate::{RuleList, Trace};
+use crate::{ScriptError, Trace};
 use fw_base::{Library, Name, OutOfMemory, Source};
 use std::alloc::Global;
 
@@ -33,22 +33,22 @@ fn judge_capture<S: Source>(
 ) -> Result<Judged<S>, OutOfMemory>
     ensures { IfOk result (λ judged. Judges S.left S.faults script.now capture judged.finding judged.capture) }
 {
-    match read_script(alloc, script) {
-        Err(ScriptError::OutOfMemory) => Err(OutOfMemory),
-        Err(ScriptError::NotYet(fault)) => Ok(Judged {
-            finding: Finding::NotYet(fault),
-            capture,
-        }),
-        Ok(script_rules) => {
-            let rules = RuleList::new(script_rules)?;
-            let replayed = replay(alloc, capture, &rules)?;
-            let docket = replayed.docket;
-            Ok(Judged {
-                finding: Finding::Replayed(Trace { rules, docket }, replayed.end),
-                capture: replayed.source,
-            })
+    let Edition { config, answers } = match read_edition(alloc, script) {
+        Ok(edition) => edition,
+        Err(ScriptError::OutOfMemory) => return Err(OutOfMemory),
+        Err(error) => {
+            return Ok(Judged {
+                finding: Finding::Unready(error),
+                capture,
+            });
         }
-    }
+    };
+    let replayed = replay(alloc, capture, &config)?;
+    let docket = replayed.docket;
+    Ok(Judged {
+        finding: Finding::Replayed(Trace { config, docket }, replayed.end, answers),
+        capture: replayed.source,
+    })
 }
 
 /// Opens and reads what the words name, and judges the capture by the script.

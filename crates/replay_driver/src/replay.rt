@@ -5,10 +5,12 @@ ghost use Rattle.replay_driver.specs.Docket as spec;
 ghost use Rattle.replay_driver.specs.Replay as ends;
 ghost use Rattle.replay_driver.specs.Replay.{IsReplay, Judges};
 
-use crate::{CaptureEnd, Docket, DocketEntry, Judgement, RuleList};
+use crate::judging::judge;
+use crate::{CaptureEnd, Docket, DocketEntry};
 use fw_base::{Link, OutOfMemory, Source};
-use packet_headers::{Ip4, Packet, read_packet};
+use packet_headers::{Packet, read_packet};
 use pcap_read::{Capture, CaptureFault, OpenFault, Record};
+use rule_chain::Config;
 use std::alloc::Global;
 
 /// A capture that was judged to its end, with its source.
@@ -19,27 +21,15 @@ pub(crate) struct Replayed<S> {
     pub(crate) source: S,
 }
 
-/// Judges a packet by the first rule that holds of it.
-fn judge(rules: &RuleList, packet: &Ip4<'_>) -> Judgement
-    ensures { result ≡ spec.judgement rules.now packet.now }
-{
-    let rule = rules.deciding_rule(packet);
-    Judgement {
-        edition: 1,
-        verdict: rule.verdict,
-        rule: rule.number,
-    }
-}
-
 /// What is entered for a record.
-fn entry_of(link: Link, rules: &RuleList, bytes: &[u8]) -> DocketEntry
+fn entry_of(link: Link, config: &Config, bytes: &[u8]) -> DocketEntry
     requires { length bytes.now < 2 ^ 32 }
-    ensures { result ≡ spec.entry_for rules.now (read link bytes.now) }
+    ensures { result ≡ spec.entry_for config.now (read link bytes.now) }
 {
     match read_packet(link, bytes) {
         Packet::Other => DocketEntry::Other,
         Packet::Malformed(kind) => DocketEntry::Malformed(kind),
-        Packet::Ip(packet) => DocketEntry::Judged(judge(rules, &packet)),
+        Packet::Ip(packet) => DocketEntry::Judged(judge(config, &packet)),
     }
 }
 
@@ -47,15 +37,15 @@ fn entry_of(link: Link, rules: &RuleList, bytes: &[u8]) -> DocketEntry
 /// `None` at its end.
 fn judge_records<S: Source>(
     capture: &mut Capture<S>,
-    rules: &RuleList,
+    config: &Config,
     docket: &mut Docket,
 ) -> Result<Option<CaptureFault>, OutOfMemory>
-    ensures { IfOk result (Judges S.left S.faults rules.now capture.old capture.new docket.old docket.new) }
+    ensures { IfOk result (Judges S.left S.faults config.now capture.old capture.new docket.old docket.new) }
 {
     let link = capture.link();
     loop {
         match capture.next() {
-            Ok(Some(record)) => docket.push(entry_of(link, rules, record.bytes))?,
+            Ok(Some(record)) => docket.push(entry_of(link, config, record.bytes))?,
             Ok(None) => return Ok(None),
             Err(fault) => return Ok(Some(fault)),
         }
@@ -81,13 +71,13 @@ fn end_behind(records: u64, stop: Option<CaptureFault>, count: u64) -> CaptureEn
 fn replay_records<S: Source>(
     alloc: Global,
     mut capture: Capture<S>,
-    rules: &RuleList,
+    config: &Config,
 ) -> Result<Replayed<S>, OutOfMemory>
     ensures { (source : S) → IsOpened S.left S.faults source capture
-        → IfOk result (λ replayed. IsReplay S.left S.faults rules.now source replayed.source replayed.docket replayed.end) }
+        → IfOk result (λ replayed. IsReplay S.left S.faults config.now source replayed.source replayed.docket replayed.end) }
 {
     let mut docket = Docket::new(alloc);
-    let stop = judge_records(&mut capture, rules, &mut docket)?;
+    let stop = judge_records(&mut capture, config, &mut docket)?;
     let count = capture.faults();
     let records = docket.entries().len() as u64;
     let end = end_behind(records, stop, count);
@@ -102,12 +92,12 @@ fn replay_records<S: Source>(
 pub(crate) fn replay<S: Source>(
     alloc: Global,
     source: S,
-    rules: &RuleList,
+    config: &Config,
 ) -> Result<Replayed<S>, OutOfMemory>
-    ensures { IfOk result (λ replayed. IsReplay S.left S.faults rules.now source replayed.source replayed.docket replayed.end) }
+    ensures { IfOk result (λ replayed. IsReplay S.left S.faults config.now source replayed.source replayed.docket replayed.end) }
 {
     match Capture::open(alloc, source) {
-        Ok(capture) => replay_records(alloc, capture, rules),
+        Ok(capture) => replay_records(alloc, capture, config),
         Err(OpenFault { fault, source }) => match fault {
             CaptureFault::OutOfMemory => Err(OutOfMemory),
             fault => {

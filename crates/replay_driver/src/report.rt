@@ -1,9 +1,11 @@
 ghost use Rattle.std.specs.Prelude.{◌≡◌, ◌<◌, ◌≤◌, ◌+◌, ◌/◌, ◌%◌, ◌++◌};
 ghost use Rattle.fw_base.specs.Texts.{WritesText};
+ghost use Rattle.fw_rule.specs.Canonical.{code_word};
 ghost use Rattle.replay_driver.specs.Report as spec;
 
-use crate::{CaptureEnd, DocketEntry, Verdict};
-use fw_base::{Failed, Sink, write_pieces};
+use crate::{CaptureEnd, DocketEntry, Judgement, Verdict};
+use fw_base::{Failed, Sink, write_pieces, write_text};
+use fw_rule::write_unreach_code;
 use itoa::Buffer;
 
 /// A rule's number in five digits.
@@ -23,14 +25,48 @@ fn five_digits(number: u16) -> [u8; 5]
     ]
 }
 
+/// Writes a code of `unreach`.
+fn write_code<K: Sink>(out: &mut K, code: u8) -> Result<(), Failed>
+    ensures { WritesText (K.written out.old) (K.written out.new) (K.faults out.old) (K.faults out.new) (code_word code) result }
+{
+    write_unreach_code(code, out).map_err(|_| Failed)
+}
+
+/// Writes a verdict.
 #[tactic(auto, unfolding(crate::specs::Report::verdict_word))]
-fn verdict_word(verdict: Verdict) -> &'static [u8]
-    ensures { result.now ≡ spec.verdict_word verdict }
+fn write_verdict<K: Sink>(out: &mut K, verdict: Verdict) -> Result<(), Failed>
+    ensures { WritesText (K.written out.old) (K.written out.new) (K.faults out.old) (K.faults out.new) (spec.verdict_word verdict) result }
 {
     match verdict {
-        Verdict::Allow => b"allow",
-        Verdict::Deny => b"deny",
+        Verdict::Allow => write_text(out, b"allow"),
+        Verdict::Deny => write_text(out, b"deny"),
+        Verdict::Reset => write_text(out, b"reset"),
+        Verdict::Unreach(code) => {
+            write_text(out, b"unreach ")?;
+            write_code(out, code)
+        }
     }
+}
+
+/// Writes by which rule a packet was judged, and under which edition.
+#[tactic(auto, unfolding(crate::specs::Report::deciding_text))]
+fn write_deciding<K: Sink>(out: &mut K, rule: u16, edition: u64) -> Result<(), Failed>
+    ensures { WritesText (K.written out.old) (K.written out.new) (K.faults out.old) (K.faults out.new) (spec.deciding_text rule edition) result }
+{
+    let mut digits = Buffer::new();
+    let rule = five_digits(rule);
+    let edition = digits.format(edition).as_bytes();
+    write_pieces(out, &[b" ", &rule, b" at ", edition, b"\n"])
+}
+
+/// Writes how a packet was judged, behind the numbers of its capture and its record.
+#[tactic(auto, unfolding(crate::specs::Report::judged_text))]
+fn write_judgement<K: Sink>(out: &mut K, judgement: Judgement) -> Result<(), Failed>
+    ensures { WritesText (K.written out.old) (K.written out.new) (K.faults out.old) (K.faults out.new) (spec.judged_text judgement) result }
+{
+    write_text(out, b" ")?;
+    write_verdict(out, judgement.verdict)?;
+    write_deciding(out, judgement.rule, judgement.edition)
 }
 
 /// Writes the line of a record.
@@ -55,15 +91,8 @@ fn write_entry<K: Sink>(
             write_pieces(out, &[capture, b".", at, b" malformed ", kind, b"\n"])
         }
         DocketEntry::Judged(judgement) => {
-            let verdict = verdict_word(judgement.verdict);
-            let rule = five_digits(judgement.rule);
-            let edition = last_digits.format(judgement.edition).as_bytes();
-            write_pieces(
-                out,
-                &[
-                    capture, b".", at, b" ", verdict, b" ", &rule, b" at ", edition, b"\n",
-                ],
-            )
+            write_pieces(out, &[capture, b".", at])?;
+            write_judgement(out, judgement)
         }
     }
 }

@@ -1,16 +1,18 @@
-ghost use Rattle.std.specs.Prelude.{◌≡◌, None, IfSome, ◌≢◌, ◌⊎◌, IsSome, IfNone, IfOk, map, string_bytes, take, length, []};
+ghost use Rattle.std.specs.Prelude.{◌≡◌, None, IfSome, ◌≢◌, ◌⊎◌, IfNone, IfOk, map, string_bytes, take, length, []};
 ghost use Rattle.replay_driver.specs.Finding as findings;
 ghost use Rattle.replay_driver.specs.Finding.{usage_text};
 ghost use Rattle.replay_driver.specs.Run.{IsNoCommand, IsRun, Reports, Writes, status_of};
 ghost use Rattle.replay_driver.specs.Words.{command_of};
-ghost use Rattle.replay_driver.specs.Promises.{IsReported, IsNotYet, IsUnread, IsComplete, without, in_order};
+ghost use Rattle.replay_driver.specs.Promises.{IsReported, IsStopped, IsUnready, IsUnread, IsComplete, without, in_order};
 ghost use Rattle.fw_base.specs.Faults.{Rose};
 
 use crate::finding::{Finding, write_usage};
 use crate::prepare::{Prepared, prepare};
 use crate::words::read_words;
-use crate::{Ends, Outcome};
+use crate::{CaptureEnd, Ends, Outcome};
 use fw_base::{Failed, Gate, Library, OutOfMemory, Sink};
+use fw_rule::Items;
+use pcap_read::CaptureFault;
 use std::alloc::{AllocError, Global};
 use std::sync::Wait;
 use std::thread::Threads;
@@ -26,19 +28,21 @@ fn status_written(wanted: u8, written: Result<(), Failed>) -> u8
 }
 
 /// How the captures ended, by what was found.
-fn ends_of(alloc: Global, finding: &Finding) -> Result<Ends, AllocError>
+fn captures_of(alloc: Global, finding: &Finding) -> Result<Items<CaptureEnd>, AllocError>
     ensures { IfOk result (λ ends. ends ≡ findings.finding_ends finding.now) }
 {
-    match finding {
-        Finding::Unread(_) | Finding::NotYet(_) => Ok(Ends::none(alloc)),
-        Finding::Replayed(_, end) => Ends::one(alloc, *end),
+    let mut captures = Vec::new(alloc);
+    if let Finding::Replayed(_, end, _) = finding {
+        captures.push(*end)?;
     }
+    Ok(Items::from_vec(captures))
 }
 
 /// The answer where memory ran out.
 fn without_memory<S>(alloc: Global) -> Outcome<S>
     ensures status { result.status ≡ 6 }
-    ensures ends { result.ends ≡ [] }
+    ensures ends { result.ends.captures ≡ [] }
+    ensures answers { result.ends.answers ≡ [] }
     ensures kept { result.kept ≡ None }
     ensures nothing { result.sources.items ≡ [] }
 {
@@ -54,15 +58,16 @@ fn without_memory<S>(alloc: Global) -> Outcome<S>
 fn report<S: Drop, K: Sink>(alloc: Global, prepared: Prepared<S>, out: &mut K) -> Outcome<S>
     ensures { Reports K.written K.faults out.old out.new prepared result }
 {
-    let Ok(ends) = ends_of(alloc, &prepared.finding) else {
+    let Ok(captures) = captures_of(alloc, &prepared.finding) else {
         return without_memory(alloc);
     };
     let Prepared { finding, sources } = prepared;
     let status = status_written(finding.status(), finding.write(out));
+    let (kept, answers) = finding.into_parts(alloc);
     Outcome {
         status,
-        ends,
-        kept: finding.kept(),
+        ends: Ends { captures, answers },
+        kept,
         sources,
     }
 }
@@ -70,7 +75,8 @@ fn report<S: Drop, K: Sink>(alloc: Global, prepared: Prepared<S>, out: &mut K) -
 /// Writes the usage line.
 fn usage<S: Drop, K: Sink>(alloc: Global, out: &mut K) -> Outcome<S>
     ensures writes { Writes K.written K.faults out.old out.new 1 result.status usage_text }
-    ensures ends { result.ends ≡ [] }
+    ensures ends { result.ends.captures ≡ [] }
+    ensures answers { result.ends.answers ≡ [] }
     ensures kept { result.kept ≡ None }
     ensures nothing { result.sources.items ≡ [] }
 {
@@ -132,10 +138,11 @@ where
     // Each status only where its cause is.
     ensures status_1_cause { result.status ≡ 1 → command_of (map string_bytes words.now) ≡ None }
     ensures status_2_cause { result.status ≡ 2 → IfSome (command_of (map string_bytes words.now)) (λ names.
-        IsNotYet K.written K.faults L.pairs L.faults L.refused L.Reader.left L.Reader.faults names library.old library.new out.old out.new result) }
-    ensures status_3_cause { result.status ≡ 3 → IsSome result.kept }
+        IsUnready K.written K.faults L.pairs L.faults L.refused L.Reader.left L.Reader.faults names library.old library.new out.old out.new result) }
+    ensures status_3_cause { result.status ≡ 3 → IsStopped (λ fault. fault ≢ CaptureFault.ReadFault) result }
     ensures status_4_cause { result.status ≡ 4 → IfNone result.kept (IfSome (command_of (map string_bytes words.now)) (λ names.
         IsUnread K.written K.faults L.pairs L.faults L.refused L.Reader.left L.Reader.faults names library.old library.new out.old out.new result)) }
+    ensures status_4_with_record { result.status ≡ 4 → IfSome result.kept (λ _. IsStopped (λ fault. fault ≡ CaptureFault.ReadFault) result) }
     ensures status_5_cause { result.status ≡ 5 → Rose (K.faults out.old) (K.faults out.new) }
     ensures status_6_silent { result.status ≡ 6 → out.new ≡ out.old }
 

@@ -1,9 +1,9 @@
 ghost use Rattle.std.specs.Prelude.{IfOk};
 ghost use Rattle.replay_driver.specs.Run.{FindsScript};
 
-use crate::plain_script::SCRIPT_BYTES;
 use crate::whole_source::{ReadError, read_up_to};
 use fw_base::{Library, Name, OutOfMemory};
+use fw_command::SCRIPT_BYTES;
 use std::alloc::Global;
 
 /// What opening and reading a script comes to.

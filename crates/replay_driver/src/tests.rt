@@ -8,6 +8,7 @@ use std::thread::Threads;
 mod captures;
 mod cuts;
 mod rows;
+mod scripts;
 mod words;
 
 /// The piece lists that each row is run with.

@@ -1,9 +1,10 @@
-use crate::{Docket, RuleList};
+use crate::Docket;
+use rule_chain::Config;
 
-/// What a run that writes its report keeps: the rules that packets were judged by, and what was entered
+/// What a run that writes its report keeps: edition 1, by which packets were judged, and what was entered
 /// for each record.
-#[derive(Debug, Drop)]
+#[derive(Drop)]
 pub struct Trace {
-    pub rules: RuleList,
+    pub config: Config,
     pub docket: Docket,
 }

@@ -1,12 +1,12 @@
 -- Each record so far was entered.
 use Rattle.std.proofs.Common.{◌≡◌, ◌≤◌, ◌-◌}
 use Rattle.pcap_read.specs.Capture.{source_of, link_of, given_of}
-use Rattle.replay_driver.proofs.Judging.{Enters}
+use Rattle.replay_driver.proofs.Entering.{Enters}
 use Rattle.replay_driver.proofs.replay.judge_records.Given as goal
 
 abbrev pub invariant-loop-record : goal.invariant-loop-record
 invariant-loop-record g l = record {
-  enters : Enters g.S.Source.left g.S.Source.faults l.rules l.fn.capture l.capture l.fn.docket l.docket;
+  enters : Enters g.S.Source.left g.S.Source.faults l.config l.fn.capture l.capture l.fn.docket l.docket;
   later : g.S.Source.faults (source_of l.fn.capture) ≤ g.S.Source.faults (source_of l.capture);
   link : l.link ≡ link_of l.fn.capture;
 }

@@ -1,0 +1,142 @@
+ghost use Rattle.std.specs.Prelude.{◌≡◌, ◌++◌, [], IfOk, IfErr, OnOk};
+ghost use Rattle.std.specs.List.{AllByRecursion};
+ghost use Rattle.fw_command.specs.WellFormed.{IsLine, IsScript};
+ghost use Rattle.fw_command.specs.declared.pace.Pace.TheVariants.{Serial};
+ghost use Rattle.fw_command.specs.Scripts.{script_of};
+ghost use Rattle.rule_chain.specs.Apply as commands;
+ghost use Rattle.rule_chain.specs.First.{first_configuration};
+ghost use Rattle.replay_driver.specs.Editions as spec;
+ghost use Rattle.replay_driver.specs.Editions.{Gives};
+
+use crate::forms::not_yet;
+use crate::{Answer, LineAnswer, NotYet, RefusedLine, ScriptError};
+use fw_base::Name;
+use fw_command::{Line, Pace, Script, ScriptFault, parse_script};
+use fw_rule::{Command, Items, TableCommand};
+use rule_chain::{ApplyFault, Config};
+use std::alloc::Global;
+
+/// Edition 1 of a script.
+#[derive(Drop)]
+pub(crate) struct Edition {
+    /// What the commands of the script give.
+    pub(crate) config: Config,
+    /// The answers to its listings, in the order of their lines.
+    pub(crate) answers: Items<LineAnswer>,
+}
+
+/// The configuration behind a command on this line.
+fn apply_line(alloc: Global, config: Config, line: &Line) -> Result<Config, ScriptError>
+    requires { IsLine line.now }
+    ensures { Gives (λ c. c) result (spec.on_line line.now.line (commands.apply config line.now.command)) }
+{
+    match config.apply_owned(alloc, &line.command) {
+        Ok(next) => Ok(next),
+        Err(ApplyFault::OutOfMemory) => Err(ScriptError::OutOfMemory),
+        Err(fault) => Err(ScriptError::Refused(RefusedLine {
+            line: line.line,
+            fault,
+        })),
+    }
+}
+
+/// The configuration behind the commands of these lines.
+fn configure(alloc: Global, lines: &[Line]) -> Result<Config, ScriptError>
+    requires { AllByRecursion IsLine lines.now }
+    ensures { Gives (λ c. c) result (spec.configured first_configuration lines.now) }
+{
+    let mut config = Config::new(alloc)?;
+    for line in lines {
+        config = apply_line(alloc, config, line)?;
+    }
+    Ok(config)
+}
+
+fn listed(line: u32, table: Option<Name>) -> Option<LineAnswer>
+    ensures { result ≡ spec.listed line table }
+{
+    Some(LineAnswer {
+        line,
+        answer: Answer::Listed { edition: 1, table },
+    })
+}
+
+/// The answer to a listing of that table.
+fn list_table(config: &Config, line: u32, name: &Name) -> Result<Option<LineAnswer>, ScriptError>
+    ensures { Gives (λ a. a) result (spec.table_listed config.now line name.now) }
+{
+    if config.table(name).is_some() {
+        Ok(listed(line, Some(name.copy()?)))
+    } else {
+        Err(ScriptError::Refused(RefusedLine {
+            line,
+            fault: ApplyFault::NoSuchTable,
+        }))
+    }
+}
+
+/// The answer to a command on this line, if it is a listing.
+fn listing(config: &Config, line: &Line) -> Result<Option<LineAnswer>, ScriptError>
+    ensures { Gives (λ a. a) result (spec.listing config.now line.now.line line.now.command) }
+{
+    match &line.command {
+        Command::ListRules => Ok(listed(line.line, None)),
+        Command::Table(name, TableCommand::ListEntries) => list_table(config, line.line, name),
+        _ => Ok(None),
+    }
+}
+
+/// Adds an answer, if there is one.
+fn add_answer(answers: &mut Vec<LineAnswer>, answer: Option<LineAnswer>) -> Result<(), ScriptError>
+    ensures ok { OnOk result (answers.new.items ≡ answers.old.items ++ spec.with_answer answer []) }
+    ensures err { IfErr result (λ error. error ≡ ScriptError.OutOfMemory) }
+{
+    if let Some(answer) = answer {
+        answers.push(answer)?;
+    }
+    Ok(())
+}
+
+/// The answers to the listings among these lines.
+fn answer_listings(
+    alloc: Global,
+    config: &Config,
+    lines: &[Line],
+) -> Result<Vec<LineAnswer>, ScriptError>
+    ensures { Gives (λ answers. answers.items) result (spec.answered config.now lines.now) }
+{
+    let mut answers = Vec::new(alloc);
+    for line in lines {
+        add_answer(&mut answers, listing(config, line)?)?;
+    }
+    Ok(answers)
+}
+
+/// The commands of a script.
+fn read_lines(alloc: Global, bytes: &[u8]) -> Result<Script, ScriptError>
+    ensures exact { Gives (λ s. s) result (spec.read_script (script_of Serial bytes.now)) }
+    ensures well_formed { IfOk result IsScript }
+{
+    match parse_script(alloc, bytes, Pace::Serial) {
+        Ok(script) => Ok(script),
+        Err(ScriptFault::OutOfMemory) => Err(ScriptError::OutOfMemory),
+        Err(fault) => Err(ScriptError::Fault(fault)),
+    }
+}
+
+/// Edition 1 of a script, with the answers to its listings; or why there is none.
+pub(crate) fn read_edition(alloc: Global, bytes: &[u8]) -> Result<Edition, ScriptError>
+    ensures { Gives (λ e. e) result (spec.edition_of bytes.now) }
+{
+    let script = read_lines(alloc, bytes)?;
+    if let Some(line) = not_yet(&script) {
+        return Err(ScriptError::NotYet(NotYet { line }));
+    }
+    let lines = script.before.as_slice();
+    let config = configure(alloc, lines)?;
+    let answers = answer_listings(alloc, &config, lines)?;
+    Ok(Edition {
+        config,
+        answers: Items::from_vec(answers),
+    })
+}

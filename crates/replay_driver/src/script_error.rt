@@ -1,0 +1,85 @@
+ghost use Rattle.std.specs.Prelude.{◌≡◌};
+ghost use Rattle.fw_base.specs.Texts.{WritesText};
+ghost use Rattle.replay_driver.specs.ScriptTexts as spec;
+ghost use Rattle.replay_driver.specs.declared.script_error.ScriptError.TheVariants as errors;
+
+use crate::{NotYet, RefusedLine};
+use fw_base::{Failed, OutOfMemory, Sink, write_pieces};
+use fw_command::ScriptFault;
+use itoa::Buffer;
+use std::alloc::{AllocError, AllocFailed};
+
+/// Why a script gives no edition, in the order in which it is tested.
+#[derive(Clone, Copy, Debug, PartialEq, Eq)]
+pub enum ScriptError {
+    /// It isn't of the grammar, or passes a limit.
+    Fault(ScriptFault),
+    /// The first line whose form isn't carried out yet.
+    NotYet(NotYet),
+    /// The first command that is refused.
+    Refused(RefusedLine),
+    OutOfMemory,
+}
+
+impl From<AllocError> for ScriptError {
+    ghost from_gives = { λ _ e. e ≡ errors.OutOfMemory };
+
+    fn from(_error: AllocError) -> ScriptError {
+        ScriptError::OutOfMemory
+    }
+}
+
+impl<T: Drop> From<AllocFailed<T>> for ScriptError {
+    ghost from_gives = { λ _ e. e ≡ errors.OutOfMemory };
+
+    fn from(_error: AllocFailed<T>) -> ScriptError {
+        ScriptError::OutOfMemory
+    }
+}
+
+impl From<OutOfMemory> for ScriptError {
+    ghost from_gives = { λ _ e. e ≡ errors.OutOfMemory };
+
+    fn from(_error: OutOfMemory) -> ScriptError {
+        ScriptError::OutOfMemory
+    }
+}
+
+/// Writes which script line isn't carried out yet.
+#[tactic(auto, unfolding(crate::specs::ScriptTexts::not_yet_text))]
+fn write_not_yet<K: Sink>(out: &mut K, fault: NotYet) -> Result<(), Failed>
+    ensures { WritesText (K.written out.old) (K.written out.new) (K.faults out.old) (K.faults out.new) (spec.not_yet_text fault.line) result }
+{
+    let mut line_digits = Buffer::new();
+    let line = line_digits.format(fault.line).as_bytes();
+    write_pieces(out, &[b"script line ", line, b" NotYet\n"])
+}
+
+/// Writes which script line is refused, and why.
+#[tactic(auto, unfolding(crate::specs::ScriptTexts::refused_text))]
+fn write_refused<K: Sink>(out: &mut K, refused: RefusedLine) -> Result<(), Failed>
+    ensures { WritesText (K.written out.old) (K.written out.new) (K.faults out.old) (K.faults out.new) (spec.refused_text refused) result }
+{
+    let mut line_digits = Buffer::new();
+    let line = line_digits.format(refused.line).as_bytes();
+    let fault = refused.fault.word().as_bytes();
+    write_pieces(out, &[b"script line ", line, b" ", fault, b"\n"])
+}
+
+impl ScriptError {
+    ghost use Rattle.fw_base.specs.Texts.{WritesText};
+    ghost use Rattle.replay_driver.specs.ScriptTexts as spec;
+
+    /// Writes the one line that says why; nothing where memory ran out.
+    #[tactic(auto, unfolding(crate::specs::ScriptTexts::error_text))]
+    pub(crate) fn write<K: Sink>(&self, out: &mut K) -> Result<(), Failed>
+        ensures { WritesText (K.written out.old) (K.written out.new) (K.faults out.old) (K.faults out.new) (spec.error_text self.now) result }
+    {
+        match self {
+            ScriptError::Fault(fault) => fault.write(out),
+            ScriptError::NotYet(fault) => write_not_yet(out, *fault),
+            ScriptError::Refused(refused) => write_refused(out, *refused),
+            ScriptError::OutOfMemory => Ok(()),
+        }
+    }
+}
