@@ -1,0 +1,6 @@
+use Rattle.std.proofs.Common.{rules, arith, ap}
+use Rattle.rm_table.proofs.LockCalls.{take_book_allows}
+use Rattle.rm_table.proofs.table.RmTable.take_book.Goals as goal
+
+pub compare_exchange-found-requires : goal.compare_exchange-found-requires
+compare_exchange-found-requires g c = (search rules, (omega (arith, ap (λ z. z.words) c.requires.table)), take_book_allows _ _ _ _ _ _ (search rules) c.requires.working c.requires.inside (search rules))
