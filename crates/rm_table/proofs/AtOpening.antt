@@ -13,7 +13,7 @@ use Rattle.rm_table.specs.declared.slot.Slot.{Slot}
 use Rattle.rm_table.specs.declared.slot.Slot.TheVariants.{Edition, Book}
 use Rattle.rm_table.specs.declared.part.Part.{Part}
 use Rattle.rm_table.specs.declared.view.View.{View}
-use Rattle.rm_table.specs.Layout.{words_of, number_index, behind_index, book_index, tracker_index, token_index}
+use Rattle.rm_table.specs.Layout.{index_of_word, words_of, number_index, behind_index, book_index, tracker_index, token_index}
 use Rattle.rm_table.specs.Meanings.{Meanings, values_from}
 use Rattle.rm_table.specs.Rule.{Core, core_of, Words, Current, KeptAt, Keeps, Agrees, Shows, Whole}
 use Rattle.rm_table.specs.Ends.{first_words, first_slots, first_part, first_view, Opens}
@@ -40,11 +40,18 @@ first_words_are n number =
       book_is = zeros book_index (λ clash. absurd (omega arith));
       trackers = λ k low high. zeros (tracker_index k) (λ clash. absurd (omega arith));
       tokens = λ k low high. zeros (token_index n k) (λ clash. absurd (omega arith));
+      between = λ w k inside low high. zeros (index_of_word w + k) (λ clash. absurd (omega arith));
     }
+
+pub count_of_first_words : (n number : ℕ) → length (first_words n number) ≡ words_of n
+count_of_first_words n number = (first_words_are n number).size
 
 sizes_of-map : {A X : Type 0} (f : A → X) (xs : List A) → length (map f xs) ≡ length xs
 sizes_of-map f [] = refl
 sizes_of-map f (x ∷ xs) = let e = sizes_of-map f xs in omega arith
+
+pub count_of_first_slots : {E B : Type 0} (book : B) (editions : List E) → length (first_slots book editions) ≡ length editions + 1
+count_of_first_slots {E} {B} book editions = let slot : E → Slot E B = λ e. Edition e in let e : length (map Edition editions) ≡ length editions = sizes_of-map slot editions in omega arith
 
 -- an element of a list whose elements are all at home
 home_of-map : {A : Type 0} (xs : List A) (k : ℕ) (h : at.Option A) → get_elem? (map at.some xs) k ≡ at.some h → (x : A) × (h ≡ at.some x) × (slice_get xs k ≡ Some x)

@@ -8,7 +8,7 @@ use lib.ListN.{get_elem?}
 use Rattle.rm_core.specs.declared.processor_state.ProcessorState.{ProcessorState}
 use Rattle.rm_core.specs.CoreState.{processor_of, with_processor, IsProcessor}
 use Rattle.rm_core.proofs.Changes.{processor_of-at, processor_of-within, IsProcessor-from, with_processor-some}
-use Rattle.rm_table.specs.Layout.{number_index, behind_index, book_index, tracker_index, token_index}
+use Rattle.rm_table.specs.Layout.{index_of_word, number_index, behind_index, book_index, tracker_index, token_index}
 use Rattle.rm_table.specs.Meanings.{put, values_from}
 use Rattle.rm_table.specs.Rule.{Core, core_of, Words}
 
@@ -147,6 +147,7 @@ module _ {n number behind holder : ℕ} {tracker token : ℕ → ℕ} {ws : List
     book_is = w.book_is;
     trackers = λ k low high. w.trackers k low high ∙ sym (t k);
     tokens = λ k low high. w.tokens k low high ∙ sym (u k);
+    between = w.between;
   }
 
   pub words_number : (x : ℕ) → Words n number behind holder tracker token ws → Words n x behind holder tracker token (slice_set ws number_index x)
@@ -157,6 +158,7 @@ module _ {n number behind holder : ℕ} {tracker token : ℕ → ℕ} {ws : List
     book_is = index_else ws number_index book_index x 0 (λ clash. absurd (omega arith)) ∙ w.book_is;
     trackers = λ k low high. index_else ws number_index (tracker_index k) x 0 (λ clash. absurd (omega arith)) ∙ w.trackers k low high;
     tokens = λ k low high. index_else ws number_index (token_index n k) x 0 (λ clash. absurd (omega arith)) ∙ w.tokens k low high;
+    between = λ word k inside low high. index_else ws number_index (index_of_word word + k) x 0 (λ clash. absurd (omega arith)) ∙ w.between word k inside low high;
   }
 
   pub words_behind : (x : ℕ) → Words n number behind holder tracker token ws → Words n number x holder tracker token (slice_set ws behind_index x)
@@ -167,6 +169,7 @@ module _ {n number behind holder : ℕ} {tracker token : ℕ → ℕ} {ws : List
     book_is = index_else ws behind_index book_index x 0 (λ clash. absurd (omega arith)) ∙ w.book_is;
     trackers = λ k low high. index_else ws behind_index (tracker_index k) x 0 (λ clash. absurd (omega arith)) ∙ w.trackers k low high;
     tokens = λ k low high. index_else ws behind_index (token_index n k) x 0 (λ clash. absurd (omega arith)) ∙ w.tokens k low high;
+    between = λ word k inside low high. index_else ws behind_index (index_of_word word + k) x 0 (λ clash. absurd (omega arith)) ∙ w.between word k inside low high;
   }
 
   pub words_book : (x : ℕ) → Words n number behind holder tracker token ws → Words n number behind x tracker token (slice_set ws book_index x)
@@ -177,6 +180,7 @@ module _ {n number behind holder : ℕ} {tracker token : ℕ → ℕ} {ws : List
     book_is = index_here ws book_index x 0 (let s = w.size in omega arith);
     trackers = λ k low high. index_else ws book_index (tracker_index k) x 0 (λ clash. absurd (omega arith)) ∙ w.trackers k low high;
     tokens = λ k low high. index_else ws book_index (token_index n k) x 0 (λ clash. absurd (omega arith)) ∙ w.tokens k low high;
+    between = λ word k inside low high. index_else ws book_index (index_of_word word + k) x 0 (λ clash. absurd (omega arith)) ∙ w.between word k inside low high;
   }
 
   pub words_tracker : (p x : ℕ) (tracker' : ℕ → ℕ) → 0 < p → p ≤ n → tracker' p ≡ x → ((k : ℕ) → k ≢ p → tracker' k ≡ tracker k) → Words n number behind holder tracker token ws → Words n number behind holder tracker' token (slice_set ws (tracker_index p) x)
@@ -194,6 +198,7 @@ module _ {n number behind holder : ℕ} {tracker token : ℕ → ℕ} {ws : List
       | inr other ↦ index_else ws (tracker_index p) (tracker_index k) x 0 (λ clash. other.1 (omega arith)) ∙ w.trackers k low high ∙ sym (rest_of k other.1)
     ];
     tokens = λ k low high. index_else ws (tracker_index p) (token_index n k) x 0 (λ clash. absurd (omega arith)) ∙ w.tokens k low high;
+    between = λ word k inside low high. index_else ws (tracker_index p) (index_of_word word + k) x 0 (λ clash. absurd (omega arith)) ∙ w.between word k inside low high;
   }
 
   pub words_token : (p x : ℕ) (token' : ℕ → ℕ) → 0 < p → p ≤ n → token' p ≡ x → ((k : ℕ) → k ≢ p → token' k ≡ token k) → Words n number behind holder tracker token ws → Words n number behind holder tracker token' (slice_set ws (token_index n p) x)
@@ -211,6 +216,7 @@ module _ {n number behind holder : ℕ} {tracker token : ℕ → ℕ} {ws : List
       | inr other ↦ index_else ws (token_index n p) (token_index n k) x 0 (λ clash. other.1 (omega arith)) ∙ w.tokens k low high ∙ sym (rest_of k other.1)
     ];
     trackers = λ k low high. index_else ws (token_index n p) (tracker_index k) x 0 (λ clash. absurd (omega arith)) ∙ w.trackers k low high;
+    between = λ word k inside low high. index_else ws (token_index n p) (index_of_word word + k) x 0 (λ clash. absurd (omega arith)) ∙ w.between word k inside low high;
   }
 
 -- the lock's core that a Core shows

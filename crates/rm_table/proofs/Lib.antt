@@ -12,3 +12,4 @@ pub mod AtOpening
 pub mod AtClosing
 pub mod Calls
 pub mod LockCalls
+pub mod Begun

@@ -36,6 +36,8 @@ pub record SameSeat {E B T L I : Type 0} (v w : View E B T L I) : Type 0 where
   pub place : w.place ≡ v.place
   pub number : w.number ≡ v.number
   pub tracker : tracker_word w.part.sections w.phase ≡ tracker_word v.part.sections v.phase
+  pub closing : w.closing ≡ v.closing
+  pub kept : w.kept ≡ v.kept
 
 module _ {E B T L I : Type 0} (m : Meanings E B T L I) where
   pub drain_same : (me after : Seated m) (place index found : ℕ) (b : Bool) → MatchBool b
@@ -47,6 +49,8 @@ module _ {E B T L I : Type 0} (m : Meanings E B T L I) where
     place = ap (λ z. z.0.place) is;
     number = ap (λ z. z.0.number) is;
     tracker = ap (λ z. tracker_word z.0.part.sections z.0.phase) is;
+    closing = ap (λ z. z.0.closing) is;
+    kept = ap (λ z. z.0.kept) is;
   }
   drain_same me after place index found false is = record {
     role = ap (λ z. z.0.role) is;
@@ -54,6 +58,8 @@ module _ {E B T L I : Type 0} (m : Meanings E B T L I) where
     place = ap (λ z. z.0.place) is;
     number = ap (λ z. z.0.number) is;
     tracker = ap (λ z. tracker_word z.0.part.sections z.0.phase) is;
+    closing = ap (λ z. z.0.closing) is;
+    kept = ap (λ z. z.0.kept) is;
   }
 
   pub take_back_makes : TakeBackLaw m

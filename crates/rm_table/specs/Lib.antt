@@ -1,6 +1,7 @@
 pub mod Layout
 pub mod Meanings
 pub mod Rule
+pub mod Seats
 pub mod Moves
 pub mod Plays
 pub mod Ends

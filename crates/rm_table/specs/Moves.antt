@@ -166,6 +166,10 @@ module _ {E B T L I : Type 0} where
   right_of v place (Some None) = spent_view
   right_of v place None = spent_view
 
+  -- the seat of that place isn't split off yet, or was joined again
+  abbrev pub IsKept : View E B T L I → ℕ → Type 0
+  IsKept v place = (part : Part E L I) × (kept_at v place ≡ Some (Some part))
+
   -- join seat: the operator keeps the processor's part
   abbrev pub joined : View E B T L I → View E B T L I → View E B T L I
   joined v w = record v { closing = true; kept = slice_set v.kept w.place (Some w.part) }
@@ -177,9 +181,6 @@ module _ {E B T L I : Type 0} where
   -- each seat but the operator's was joined
   abbrev pub AllJoined : View E B T L I → Type 0
   AllJoined v = (v.closing ≡ true) × ((k : ℕ) → 0 < k → k ≤ v.count → (part : Part E L I) × (slice_get v.kept k ≡ Some (Some part)))
-
-  abbrev pub IsAt : View E B T L I → Type 0
-  IsAt v = v.role ≡ Processor
 
   -- The operator, at work.
   pub record IsOperator (v : View E B T L I) : Type 0 where

@@ -1,5 +1,5 @@
 -- The running rule: what holds of the table between any two atomic steps of a lock, whatever threads have the seats.
-use Rattle.std.specs.Prelude.{◌≡◌, ◌≢◌, ◌⊎◌, ℕ, ◌+◌, ◌-◌, ◌<◌, ◌≤◌, ◌==◌, Bool, true, false, if◌then◌else◌, Option, Some, None, List, length, slice_index, slice_index_or}
+use Rattle.std.specs.Prelude.{◌≡◌, ◌≢◌, ◌⊎◌, ℕ, ◌+◌, ◌-◌, ◌*◌, ◌<◌, ◌≤◌, ◌==◌, Bool, true, false, if◌then◌else◌, Option, Some, None, List, length, slice_index, slice_index_or}
 use mathlib.Core.Option as at
 use lib.ListN.{get_elem?}
 use Rattle.atomic_table.specs.Table.{State}
@@ -12,7 +12,7 @@ use Rattle.rm_table.specs.declared.slot.Slot.{Slot}
 use Rattle.rm_table.specs.declared.slot.Slot.TheVariants.{Edition, Book}
 use Rattle.rm_table.specs.declared.part.Part.{Part}
 use Rattle.rm_table.specs.declared.view.View.{View}
-use Rattle.rm_table.specs.Layout.{words_of, number_index, behind_index, book_index, tracker_index, token_index, tracker_word, token_word, holder_word, is_held_by}
+use Rattle.rm_table.specs.Layout.{index_of_word, words_of, number_index, behind_index, book_index, tracker_index, token_index, tracker_word, token_word, holder_word, is_held_by}
 use Rattle.rm_table.specs.Meanings.{Meanings, values_from, BeginsWith}
 
 -- The state that words, slots and views show together. Of the lock's core: the published number N, the number n of processors, who holds
@@ -42,7 +42,7 @@ core_of c = record { number = c.number; holder = c.behind; processors = values_f
 abbrev pub lent : {B : Type 0} → ℕ → B → ℕ → Option B
 lent holder book place = if holder == place then Some book else None
 
--- Part 1, the words: the number, who holds the two locks, and of each processor tracker and token.
+-- Part 1, the words: the number, who holds the two locks, and of each processor tracker and token. The unused words between them are 0.
 pub record Words (n number behind holder : ℕ) (tracker token : ℕ → ℕ) (words : List ℕ) : Type 0 where
   pub size : length words ≡ words_of n
   pub number_is : slice_index words number_index ≡ number
@@ -50,6 +50,7 @@ pub record Words (n number behind holder : ℕ) (tracker token : ℕ → ℕ) (w
   pub book_is : slice_index words book_index ≡ holder
   pub trackers : (k : ℕ) → 0 < k → k ≤ n → slice_index words (tracker_index k) ≡ tracker k
   pub tokens : (k : ℕ) → 0 < k → k ≤ n → slice_index words (token_index n k) ≡ token k
+  pub between : (w k : ℕ) → w ≤ 2 * n + 2 → 0 < k → k < 8 → slice_index words (index_of_word w + k) ≡ 0
 
 abbrev pub tracker_of : {E L I : Type 0} → (ℕ → ProcessorState) → (ℕ → Part E L I) → ℕ → ℕ
 tracker_of state part k = tracker_word (part k).sections (state k).phase

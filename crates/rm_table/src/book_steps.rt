@@ -16,12 +16,12 @@ impl<E: Numbered<Tag = B::Facts>, B: Kept> RmTable<E, B> {
     /// A processor that is in, or the operator, tries once to take the book. Where another has it nothing
     /// changes. Once all processors are drained, the operator's try succeeds. One compare-and-exchange.
     pub fn take_book(&self, seat: &mut RmSeat<E, B>) -> Tried
-        requires table { seat.old.seat.table_id ≡ self.now.table.shared.table_id }
-        requires working { IsWorking seat.old.seat.me.0 }
-        requires inside { seat.old.seat.me.0.role ≡ Role.Processor → seat.old.seat.me.0.phase ≡ Phase.In }
-        ensures table { (seat.new.seat.table_id ≡ seat.old.seat.table_id) × (seat.new.seat.id ≡ seat.old.seat.id) }
-        ensures step { TriedBook (meanings E.number E.tag E.name B.number B.tag B.ready B.of B.facts_item) seat.old.seat.me result seat.new.seat.me }
-        ensures free { seat.old.seat.me.0.role ≡ Role.Operator → AllDrained seat.old.seat.me.0 → seat.old.seat.me.0.book ≡ None → result ≡ Tried.Taken }
+        requires table { seat.old.table_id ≡ self.now }
+        requires working { IsWorking seat.old.me.0 }
+        requires inside { seat.old.me.0.role ≡ Role.Processor → seat.old.me.0.phase ≡ Phase.In }
+        ensures table { seat.new.table_id ≡ seat.old.table_id }
+        ensures step { TriedBook (meanings E.number E.tag E.name B.number B.tag B.ready B.of B.facts_item) seat.old.me result seat.new.me }
+        ensures free { seat.old.me.0.role ≡ Role.Operator → AllDrained seat.old.me.0 → seat.old.me.0.book ≡ None → result ≡ Tried.Taken }
     {
         let place = u64::from(seat.place);
         let found = self
@@ -39,11 +39,11 @@ impl<E: Numbered<Tag = B::Facts>, B: Kept> RmTable<E, B> {
     /// holder's own as taken, or, by an operator that has published since, with that publication taken in.
     /// One store.
     pub fn give_book(&self, seat: &mut RmSeat<E, B>)
-        requires table { seat.old.seat.table_id ≡ self.now.table.shared.table_id }
-        requires working { IsWorking seat.old.seat.me.0 }
-        requires book { HasBook (meanings E.number E.tag E.name B.number B.tag B.ready B.of B.facts_item) seat.old.seat.me.0 seat.old.seat.me.1 }
-        ensures table { (seat.new.seat.table_id ≡ seat.old.seat.table_id) × (seat.new.seat.id ≡ seat.old.seat.id) }
-        ensures step { (book : B) → seat.old.seat.me.1 ≡ (0, Book book) ∷ rest seat.old.seat.me.1 → seat.new.seat.me ≡ (noted (book_given (meanings E.number E.tag E.name B.number B.tag B.ready B.of B.facts_item) seat.old.seat.me.0 book) book_index 0, rest seat.old.seat.me.1) }
+        requires table { seat.old.table_id ≡ self.now }
+        requires working { IsWorking seat.old.me.0 }
+        requires book { HasBook (meanings E.number E.tag E.name B.number B.tag B.ready B.of B.facts_item) seat.old.me.0 seat.old.me.1 }
+        ensures table { seat.new.table_id ≡ seat.old.table_id }
+        ensures step { (book : B) → seat.old.me.1 ≡ (0, Book book) ∷ rest seat.old.me.1 → seat.new.me ≡ (noted (book_given (meanings E.number E.tag E.name B.number B.tag B.ready B.of B.facts_item) seat.old.me.0 book) book_index 0, rest seat.old.me.1) }
     {
         self.table
             .shared
@@ -58,11 +58,11 @@ impl<E: Numbered<Tag = B::Facts>, B: Kept> RmTable<E, B> {
         processor: u32,
         new: Option<E>,
     ) -> Option<E>
-        requires table { seat.old.seat.table_id ≡ self.now.table.shared.table_id }
-        requires on_top { (old : Option E) × (seat.old.seat.me.1 ≡ (processor, edition_slot old) ∷ rest seat.old.seat.me.1) }
-        ensures table { (seat.new.seat.table_id ≡ seat.old.seat.table_id) × (seat.new.seat.id ≡ seat.old.seat.id) }
-        ensures was { seat.old.seat.me.1 ≡ (processor, edition_slot result) ∷ rest seat.old.seat.me.1 }
-        ensures now { seat.new.seat.me ≡ (seat.old.seat.me.0, (processor, edition_slot new) ∷ rest seat.old.seat.me.1) }
+        requires table { seat.old.table_id ≡ self.now }
+        requires on_top { (old : Option E) × (seat.old.me.1 ≡ (processor, edition_slot old) ∷ rest seat.old.me.1) }
+        ensures table { seat.new.table_id ≡ seat.old.table_id }
+        ensures was { seat.old.me.1 ≡ (processor, edition_slot result) ∷ rest seat.old.me.1 }
+        ensures now { seat.new.me ≡ (seat.old.me.0, (processor, edition_slot new) ∷ rest seat.old.me.1) }
     {
         let slot = match new {
             Some(edition) => Slot::Edition(edition),
@@ -82,11 +82,11 @@ impl<E: Numbered<Tag = B::Facts>, B: Kept> RmTable<E, B> {
     /// Puts a value into the book's slot, which lies on top of the hand, and answers what it held. No step
     /// on a word.
     pub fn exchange_book(&self, seat: &mut RmSeat<E, B>, new: Option<B>) -> Option<B>
-        requires table { seat.old.seat.table_id ≡ self.now.table.shared.table_id }
-        requires on_top { (old : Option B) × (seat.old.seat.me.1 ≡ (0, book_slot old) ∷ rest seat.old.seat.me.1) }
-        ensures table { (seat.new.seat.table_id ≡ seat.old.seat.table_id) × (seat.new.seat.id ≡ seat.old.seat.id) }
-        ensures was { seat.old.seat.me.1 ≡ (0, book_slot result) ∷ rest seat.old.seat.me.1 }
-        ensures now { seat.new.seat.me ≡ (seat.old.seat.me.0, (0, book_slot new) ∷ rest seat.old.seat.me.1) }
+        requires table { seat.old.table_id ≡ self.now }
+        requires on_top { (old : Option B) × (seat.old.me.1 ≡ (0, book_slot old) ∷ rest seat.old.me.1) }
+        ensures table { seat.new.table_id ≡ seat.old.table_id }
+        ensures was { seat.old.me.1 ≡ (0, book_slot result) ∷ rest seat.old.me.1 }
+        ensures now { seat.new.me ≡ (seat.old.me.0, (0, book_slot new) ∷ rest seat.old.me.1) }
     {
         let slot = match new {
             Some(book) => Slot::Book(book),
@@ -103,8 +103,8 @@ impl<E: Numbered<Tag = B::Facts>, B: Kept> RmTable<E, B> {
 impl<E: Numbered<Tag = B::Facts>, B: Kept> RmSeat<E, B> {
     /// The slot on top of the hand goes behind the others.
     pub fn turn(&mut self)
-        ensures table { (self.new.seat.table_id ≡ self.old.seat.table_id) × (self.new.seat.id ≡ self.old.seat.id) }
-        ensures turned { self.new.seat.me ≡ (self.old.seat.me.0, turned self.old.seat.me.1) }
+        ensures table { self.new.table_id ≡ self.old.table_id }
+        ensures turned { self.new.me ≡ (self.old.me.0, turned self.old.me.1) }
     {
         self.seat.turn();
     }

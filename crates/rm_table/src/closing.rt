@@ -91,12 +91,12 @@ impl<E: Numbered<Tag = B::Facts>, B: Kept> RmTable<E, B> {
     /// Ends the lock, once every seat was joined into the operator's and every slot is at home. Takes no
     /// memory.
     pub fn close(self, operator: RmSeat<E, B>) -> Closed<E, B>
-        requires table { operator.seat.table_id ≡ self.table.shared.table_id }
-        requires operator { operator.seat.me.0.role ≡ Role.Operator }
-        requires joined { AllJoined operator.seat.me.0 }
-        requires undrained { NoneDrained operator.seat.me.0 }
-        requires bookless { operator.seat.me.0.book ≡ None }
-        ensures { ClosesWith (meanings E.number E.tag E.name B.number B.tag B.ready B.of B.facts_item) operator.seat.me.0 result.book result.trackers.items result.editions.items }
+        requires table { operator.table_id ≡ self }
+        requires operator { operator.me.0.role ≡ Role.Operator }
+        requires joined { AllJoined operator.me.0 }
+        requires undrained { NoneDrained operator.me.0 }
+        requires bookless { operator.me.0.book ≡ None }
+        ensures { ClosesWith (meanings E.number E.tag E.name B.number B.tag B.ready B.of B.facts_item) operator.me.0 result.book result.trackers.items result.editions.items }
     {
         let RmTable {
             table,

@@ -1,6 +1,5 @@
 ghost use Rattle.std.specs.Prelude.{◌≡◌, ℕ, ◌<◌, ◌≤◌, [], None, Some, true, false, Option, ◌⊎◌, slice_get, IsSome};
-ghost use Rattle.rm_table.specs.declared.part.Part.{Part};
-ghost use Rattle.rm_table.specs.Moves.{split_off, right_of, kept_at, joined, spent_view, AllSplit};
+ghost use Rattle.rm_table.specs.Moves.{IsKept, split_off, right_of, kept_at, joined, spent_view, AllSplit};
 
 use crate::rule::LockView;
 use crate::{RmSeat, RmTable, Role};
@@ -39,14 +38,15 @@ impl<E: Numbered<Tag = B::Facts>, B: Kept> Join<LockView<E, B>> for Glue {
 impl<E: Numbered<Tag = B::Facts>, B: Kept> RmTable<E, B> {
     fn cut_seat<P: Pick>(&self, seat: &mut RmSeat<E, B>, place: u32) -> RmSeat<E, B>
         requires picked { P.place ≡ place }
-        requires table { seat.old.seat.table_id ≡ self.now.table.shared.table_id }
-        requires operator { seat.old.seat.me.0.role ≡ Role.Operator }
+        requires table { seat.old.table_id ≡ self.now }
+        requires operator { seat.old.me.0.role ≡ Role.Operator }
+        requires opening { seat.old.me.0.closing ≡ false }
         requires above { 0 < place }
-        requires within { place ≤ seat.old.seat.me.0.count }
-        requires kept { (part : Part E E.Label B.Item) × (slice_get seat.old.seat.me.0.kept place ≡ Some (Some part)) × (part.sections ≡ 0) }
-        ensures table { (seat.new.seat.table_id ≡ seat.old.seat.table_id) × (seat.new.seat.id ≡ seat.old.seat.id) × (result.seat.table_id ≡ seat.old.seat.table_id) }
-        ensures left { seat.new.seat.me ≡ (split_off seat.old.seat.me.0 place, seat.old.seat.me.1) }
-        ensures right { result.seat.me ≡ (right_of seat.old.seat.me.0 place (kept_at seat.old.seat.me.0 place), []) }
+        requires within { place ≤ seat.old.me.0.count }
+        requires kept { IsKept seat.old.me.0 place }
+        ensures table { (seat.new.table_id ≡ seat.old.table_id) × (result.table_id ≡ seat.old.table_id) }
+        ensures left { seat.new.me ≡ (split_off seat.old.me.0 place, seat.old.me.1) }
+        ensures right { result.me ≡ (right_of seat.old.me.0 place (kept_at seat.old.me.0 place), []) }
     {
         let right = self.table.shared.split_seat::<Cut<P>>(&mut seat.seat);
         RmSeat {
@@ -58,17 +58,17 @@ impl<E: Numbered<Tag = B::Facts>, B: Kept> RmTable<E, B> {
         }
     }
 
-    /// Splits the seat of the processor at that place off the opening seat. One load.
+    /// Splits the seat of the processor at that place off the opening seat, once. One load.
     pub fn split_seat(&self, seat: &mut RmSeat<E, B>, place: u32) -> RmSeat<E, B>
-        requires table { seat.old.seat.table_id ≡ self.now.table.shared.table_id }
-        requires operator { seat.old.seat.me.0.role ≡ Role.Operator }
-        requires opening { seat.old.seat.me.0.closing ≡ false }
+        requires table { seat.old.table_id ≡ self.now }
+        requires operator { seat.old.me.0.role ≡ Role.Operator }
+        requires opening { seat.old.me.0.closing ≡ false }
         requires above { 0 < place }
-        requires within { place ≤ seat.old.seat.me.0.count }
-        requires kept { (part : Part E E.Label B.Item) × (slice_get seat.old.seat.me.0.kept place ≡ Some (Some part)) × (part.sections ≡ 0) }
-        ensures table { (seat.new.seat.table_id ≡ seat.old.seat.table_id) × (seat.new.seat.id ≡ seat.old.seat.id) × (result.seat.table_id ≡ seat.old.seat.table_id) }
-        ensures left { seat.new.seat.me ≡ (split_off seat.old.seat.me.0 place, seat.old.seat.me.1) }
-        ensures right { result.seat.me ≡ (right_of seat.old.seat.me.0 place (kept_at seat.old.seat.me.0 place), []) }
+        requires within { place ≤ seat.old.me.0.count }
+        requires kept { IsKept seat.old.me.0 place }
+        ensures table { (seat.new.table_id ≡ seat.old.table_id) × (result.table_id ≡ seat.old.table_id) }
+        ensures left { seat.new.me ≡ (split_off seat.old.me.0 place, seat.old.me.1) }
+        ensures right { result.me ≡ (right_of seat.old.me.0 place (kept_at seat.old.me.0 place), []) }
     {
         self.cut_seat::<Brand>(seat, place)
     }
@@ -76,17 +76,17 @@ impl<E: Numbered<Tag = B::Facts>, B: Kept> RmTable<E, B> {
     /// Joins the seat of a processor that is out, holds neither lock and has no slot in hand into the
     /// operator's, after every place was split off. One load.
     pub fn join_seat(&self, into: &mut RmSeat<E, B>, spent: RmSeat<E, B>)
-        requires table { into.old.seat.table_id ≡ self.now.table.shared.table_id }
-        requires same { spent.seat.table_id ≡ self.now.table.shared.table_id }
-        requires operator { into.old.seat.me.0.role ≡ Role.Operator }
-        requires split { (into.old.seat.me.0.closing ≡ true) ⊎ AllSplit into.old.seat.me.0 }
-        requires processor { spent.seat.me.0.role ≡ Role.Processor }
-        requires out { spent.seat.me.0.phase ≡ Phase.Out }
-        requires unheld { spent.seat.me.0.behind ≡ false }
-        requires bookless { spent.seat.me.0.book ≡ None }
-        requires empty_hand { spent.seat.me.1 ≡ [] }
-        ensures table { (into.new.seat.table_id ≡ into.old.seat.table_id) × (into.new.seat.id ≡ into.old.seat.id) }
-        ensures both { into.new.seat.me ≡ (joined into.old.seat.me.0 spent.seat.me.0, into.old.seat.me.1) }
+        requires table { into.old.table_id ≡ self.now }
+        requires same { spent.table_id ≡ self.now }
+        requires operator { into.old.me.0.role ≡ Role.Operator }
+        requires split { (into.old.me.0.closing ≡ true) ⊎ AllSplit into.old.me.0 }
+        requires processor { spent.me.0.role ≡ Role.Processor }
+        requires out { spent.me.0.phase ≡ Phase.Out }
+        requires unheld { spent.me.0.behind ≡ false }
+        requires bookless { spent.me.0.book ≡ None }
+        requires empty_hand { spent.me.1 ≡ [] }
+        ensures table { into.new.table_id ≡ into.old.table_id }
+        ensures both { into.new.me ≡ (joined into.old.me.0 spent.me.0, into.old.me.1) }
     {
         let RmSeat {
             seat,

@@ -1,11 +1,12 @@
-ghost use Rattle.std.specs.Prelude.{◌≡◌, ℕ, ◌+◌, ◌*◌, ◌<◌, ◌≤◌, [], vec_capacity};
-ghost use Rattle.rm_table.specs.Layout.{index_of_word, tracker_index, token_index, words_of};
+ghost use Rattle.std.specs.Prelude.{◌≡◌, ℕ, ◌+◌, ◌*◌, ◌<◌, ◌≤◌};
+ghost use Rattle.rm_table.specs.Layout.{index_of_word, tracker_index, token_index};
 
 use crate::Slot;
 use crate::rule::{LockRule, LockView, Opening};
 use atomic_table::Table;
 use fw_base::{Kept, Numbered};
 use std::alloc::Global;
+use std::marker::Model;
 
 /// The table under a read-mostly lock of 1 to 64 processors and one operator.
 #[derive(Drop)]
@@ -15,9 +16,20 @@ pub struct RmTable<E: Numbered<Tag = B::Facts>, B: Kept> {
     // the memory that `close` needs
     pub(crate) trackers: Vec<u64>,
     pub(crate) editions: Vec<E>,
-    pub ghost room: { (trackers.items ≡ []) × (processors ≤ vec_capacity trackers) × (editions.items ≡ []) × (processors ≤ vec_capacity editions) },
-    pub ghost few: { (0 < processors) × (processors ≤ 64) },
-    pub ghost sized: { (table.shared.table_id.words ≡ words_of processors) × (table.shared.table_id.slots ≡ processors + 1) },
+}
+
+impl<E: Numbered<Tag = B::Facts>, B: Kept> Model for RmTable<E, B> {
+    ghost use Rattle.std.specs.Prelude.{vec_capacity};
+    ghost use Rattle.atomic_table.specs.Seated.{TableId, table_id_coded};
+    ghost use Rattle.rm_table.specs.Seats.{IsSized, HasRoom};
+
+    ghost Value = { TableId };
+
+    ghost coded = { table_id_coded };
+
+    ghost view = { λ t. t.table.shared.table_id };
+
+    ghost invariant = { λ t. IsSized t.processors t.table.shared.table_id × HasRoom t.processors t.trackers.items (vec_capacity t.trackers) t.editions.items (vec_capacity t.editions) };
 }
 
 // The index of the word that has this number: 64 bytes lie between two words.

@@ -11,6 +11,7 @@ struct Number(u64);
 
 impl Numbered for Number {
     type Tag = u64;
+
     type Label = u64;
 
     ghost number = { λ e. e.0 };
@@ -30,6 +31,7 @@ struct Page(u64);
 
 impl Kept for Page {
     type Facts = u64;
+
     type Item = u64;
 
     ghost number = { λ b. b.0 };
