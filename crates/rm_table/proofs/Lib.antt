@@ -13,3 +13,4 @@ pub mod AtClosing
 pub mod Calls
 pub mod LockCalls
 pub mod Begun
+pub mod Resting

@@ -3,6 +3,7 @@ pub mod Meanings
 pub mod Rule
 pub mod Seats
 pub mod Moves
+pub mod Rests
 pub mod Plays
 pub mod Ends
 pub mod Answers

@@ -1,5 +1,6 @@
 ghost use Rattle.std.specs.Prelude.{◌≡◌, ℕ, ◌<◌, ◌≤◌, [], None, Some, true, false, Option, ◌⊎◌, slice_get, IsSome};
 ghost use Rattle.rm_table.specs.Moves.{IsKept, split_off, right_of, kept_at, joined, spent_view, AllSplit};
+ghost use Rattle.rm_table.specs.Rests.{IsIdle};
 
 use crate::rule::LockView;
 use crate::{RmSeat, RmTable, Role};
@@ -80,11 +81,7 @@ impl<E: Numbered<Tag = B::Facts>, B: Kept> RmTable<E, B> {
         requires same { spent.table_id ≡ self.now }
         requires operator { into.old.me.0.role ≡ Role.Operator }
         requires split { (into.old.me.0.closing ≡ true) ⊎ AllSplit into.old.me.0 }
-        requires processor { spent.me.0.role ≡ Role.Processor }
-        requires out { spent.me.0.phase ≡ Phase.Out }
-        requires unheld { spent.me.0.behind ≡ false }
-        requires bookless { spent.me.0.book ≡ None }
-        requires empty_hand { spent.me.1 ≡ [] }
+        requires idle { IsIdle spent.me.0 spent.me.1 }
         ensures table { into.new.table_id ≡ into.old.table_id }
         ensures both { into.new.me ≡ (joined into.old.me.0 spent.me.0, into.old.me.1) }
     {

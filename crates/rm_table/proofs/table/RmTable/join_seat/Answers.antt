@@ -10,7 +10,7 @@ join_seat-requires g c =
     let spent = ap (λ z. z.me) c.spent.view_is in
     let table = ap (λ z. z.table_id) c.into.view_is ∙ c.requires.table ∙ sym c.self.view_is in
     let same = ap (λ z. z.table_id) c.spent.view_is ∙ c.requires.same ∙ sym c.self.view_is in
-    (table, same, rw spent c.requires.empty_hand, search rules, joins _ _ _ _ _ (rw into c.requires.operator) (rw spent c.requires.processor) (rw spent c.requires.out) (rw spent c.requires.unheld))
+    (table, same, rw spent c.requires.idle.empty_hand, search rules, joins _ _ _ _ _ (rw into c.requires.operator) (rw spent c.requires.idle.processor) (rw spent c.requires.idle.out) (rw spent c.requires.idle.unheld))
 
 pub invariant_of-into : goal.invariant_of-into
 invariant_of-into g c =
