@@ -52,7 +52,7 @@ module _ {E B T L I : Type 0} where
 
   pub opening_ends : (next : ℕ) (v : View E B T L I) (hand : Hand E B) → v.count < next → IsOpening next v hand → IsAtRest v hand
   opening_ends next v hand past o = record {
-    operator = record { role = o.operator; split = (o.opening, λ k part is. elim (below k) as (λ _. ⊥) [ | inl low ↦ o.gone k part low is | inr high ↦ let out = beyond v.kept k (let s = o.kept_size in omega arith) in let clash = sym out ∙ is in absurd cc ]) };
+    operator = record { role = o.operator; split = (o.opening, λ k part is. elim (below k) as (λ _. ⊥) [ inl low ↦ o.gone k part low is | inr high ↦ let out = beyond v.kept k (let s = o.kept_size in omega arith) in let clash = sym out ∙ is in absurd cc ]) };
     kept_size = o.kept_size;
     unheld = o.unheld;
     bookless = o.bookless;
@@ -69,7 +69,7 @@ module _ {E B T L I : Type 0} where
           tells : (i j : ℕ) → (i < j) ⊎ (j ≤ i)
           tells i zero = inr (omega arith)
           tells zero (suc j) = inl (omega arith)
-          tells (suc i) (suc j) = elim (tells i j) as (λ _. (suc i < suc j) ⊎ (suc j ≤ suc i)) [ | inl a ↦ inl (omega arith) | inr b ↦ inr (omega arith) ]
+          tells (suc i) (suc j) = elim (tells i j) as (λ _. (suc i < suc j) ⊎ (suc j ≤ suc i)) [ inl a ↦ inl (omega arith) | inr b ↦ inr (omega arith) ]
 
       beyond : {A : Type 0} (xs : List A) (k : ℕ) → length xs ≤ k → slice_get xs k ≡ None
       beyond [] k h = refl

@@ -1,8 +1,9 @@
 -- Seats between two sections and between two writes, and the operator's at the opening and the closing.
-use Rattle.std.specs.Prelude.{◌≡◌, ◌⊎◌, ℕ, ◌+◌, ◌<◌, ◌≤◌, true, false, Some, None, [], length}
-use Rattle.rm_core.specs.declared.phase.Phase.TheVariants.{Out}
+use Rattle.std.specs.Prelude.{◌≡◌, ◌⊎◌, ℕ, ◌+◌, ◌<◌, ◌≤◌, true, false, Some, None, [], ◌∷◌, length}
+use Rattle.rm_core.specs.declared.phase.Phase.TheVariants.{Out, In}
 use Rattle.rm_table.specs.declared.role.Role.TheVariants.{Processor, Operator}
 use Rattle.rm_table.specs.declared.slot.Slot.{Slot}
+use Rattle.rm_table.specs.declared.slot.Slot.TheVariants.{Edition}
 use Rattle.rm_table.specs.declared.part.Part.{Part}
 use Rattle.rm_table.specs.declared.view.View.{View}
 use Rattle.rm_table.specs.Moves.{Hand, kept_at, IsKept, IsOperator, NoneRevoked, NoneDrained}
@@ -15,6 +16,16 @@ module _ {E B T L I : Type 0} where
     pub unheld : v.behind ≡ false
     pub bookless : v.book ≡ None
     pub empty_hand : hand ≡ []
+
+  -- a processor's seat in a section that it has entered: it holds neither lock, and has in its hand the edition that it reads
+  pub record IsInside (v : View E B T L I) (hand : Hand E B) : Type 0 where
+    pub processor : v.role ≡ Processor
+    pub inside : v.phase ≡ In
+    pub unheld : v.behind ≡ false
+    pub bookless : v.book ≡ None
+    pub edition : E
+    pub hand_is : hand ≡ (v.place, Edition edition) ∷ []
+    pub reading : v.part.reading ≡ Some edition
 
   -- the operator's seat between two writes
   pub record IsAtRest (v : View E B T L I) (hand : Hand E B) : Type 0 where

@@ -2,4 +2,5 @@ mod edition;
 mod ends;
 mod ledger;
 mod rows;
+mod threads;
 mod walks;

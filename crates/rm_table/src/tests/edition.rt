@@ -8,6 +8,7 @@ pub(crate) struct Edition {
 
 impl Numbered for Edition {
     type Tag = u64;
+
     type Label = u64;
 
     ghost number = { λ e. e.number };

@@ -43,7 +43,10 @@ fn opens_and_closes_for_one_processor_and_for_64(rt: HostRuntime) -> Result<(), 
         let OpenTable { table, mut seat } = open_lock(rt.alloc(), processors)?;
         one_section_each(&rt, &table, &mut seat, 1, processors);
         let closed = table.close(seat);
-        assert_eq!(rt; closed.trackers, vec![in rt.alloc(); 2; processors as usize]?);
+        assert_eq!(rt;
+            closed.trackers,
+            vec![in rt.alloc(); 2; processors as usize]?
+        );
         assert_eq!(rt; closed.editions.len(), processors as usize);
         for edition in &closed.editions {
             assert_eq!(rt; edition.number, 1);

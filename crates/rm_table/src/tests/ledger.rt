@@ -13,6 +13,7 @@ pub(crate) struct Ledger {
 
 impl Kept for Ledger {
     type Facts = u64;
+
     type Item = u64;
 
     ghost number = { λ b. b.number };

@@ -15,10 +15,7 @@ pub(crate) type LockTable = RmTable<Edition, Ledger>;
 pub(crate) type Seat = RmSeat<Edition, Ledger>;
 
 // Opens a table at number 1, of so many processors.
-pub(crate) fn open_lock(
-    alloc: Global,
-    processors: u32,
-) -> Result<OpenTable<Edition, Ledger>, Fail>
+pub(crate) fn open_lock(alloc: Global, processors: u32) -> Result<OpenTable<Edition, Ledger>, Fail>
     requires some { 0 < processors }
     requires few { processors ≤ 64 }
     ensures table { IfOk result (λ o. o.seat.table_id ≡ o.table) }
