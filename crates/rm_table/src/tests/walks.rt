@@ -93,3 +93,18 @@ pub(crate) fn take_tokens(rt: &impl Abort, table: &LockTable, operator: &mut Sea
     table.revoke(operator, 1);
     table.revoke(operator, 2);
 }
+
+// A processor takes its token again, under the lock behind. Answers the number that it read there.
+pub(crate) fn regain_token(rt: &impl Abort, table: &LockTable, seat: &mut Seat) -> u64
+    requires table { seat.old.table_id ≡ table.now }
+    requires idle { IsIdle seat.old.me.0 seat.old.me.1 }
+    ensures table { seat.new.table_id ≡ seat.old.table_id }
+    ensures place { seat.new.me.0.place ≡ seat.old.me.0.place }
+    ensures idle { IsIdle seat.new.me.0 seat.new.me.1 }
+{
+    assert_eq!(rt; table.take_back(seat), Tried::Taken);
+    let number = table.read_number(seat);
+    table.regain(seat);
+    table.give_back(seat);
+    number
+}
