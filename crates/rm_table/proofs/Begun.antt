@@ -1,5 +1,5 @@
 -- What is known of the processors whose seats aren't split off yet.
-use Rattle.std.proofs.Common.{◌≡◌, ℕ, zero, suc, ◌+◌, Bool, true, false, Option, Some, None, List, [], ◌∷◌, sym, ◌∙◌, ap}
+use Rattle.std.proofs.Common.{◌≡◌, ℕ, zero, suc, Bool, true, false, Option, Some, None, List, [], ◌∷◌, sym, ap}
 use Rattle.std.specs.Prelude.{slice_get, slice_set}
 use Rattle.rm_table.specs.declared.part.Part.{Part}
 use Rattle.rm_table.specs.Meanings.{Meanings, values_from}

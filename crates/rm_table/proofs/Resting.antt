@@ -1,15 +1,14 @@
 -- The operator's seat through opening and closing.
-use Rattle.std.proofs.Common.{◌≡◌, ◌≢◌, ◌⊎◌, inl, inr, ℕ, zero, suc, ◌+◌, ◌<◌, ◌≤◌, Bool, true, false, Option, Some, None, List, [], ◌∷◌, length, length-set, refl, sym, ◌∙◌, ap, subst, arith}
+use Rattle.std.proofs.Common.{◌≡◌, ◌≢◌, ◌⊎◌, inl, inr, ℕ, zero, suc, ◌+◌, ◌<◌, ◌≤◌, true, false, Some, None, List, [], ◌∷◌, length, length-set, refl, sym, ◌∙◌, ap, subst, arith}
 use Rattle.std.specs.Prelude.{slice_get, slice_set, slice_index_or, replicate}
 use Rattle.std.proofs.lemmas.List.{length-replicate}
 use Rattle.std.proofs.lemmas.Bool.Decides.{eqb_tells}
 use Rattle.atomic_table.specs.Table.{Me}
 use Rattle.rm_table.specs.declared.role.Role.TheVariants.{Operator}
 use Rattle.rm_table.specs.declared.slot.Slot.{Slot}
-use Rattle.rm_table.specs.declared.part.Part.{Part}
 use Rattle.rm_table.specs.declared.view.View.{View}
-use Rattle.rm_table.specs.Meanings.{Meanings, values_from}
-use Rattle.rm_table.specs.Moves.{Hand, kept_at, IsKept, noted, split_off, joined, IsOperator, AllSplit, AllJoined}
+use Rattle.rm_table.specs.Meanings.{Meanings}
+use Rattle.rm_table.specs.Moves.{Hand, IsKept, split_off, joined, AllSplit, AllJoined}
 use Rattle.rm_table.specs.Ends.{first_part, first_view, Opens}
 use Rattle.rm_table.specs.Rests.{IsAtRest, IsOpening, IsClosing, IsRejoined}
 use Rattle.rm_table.proofs.Base.{length-values, values_at}

@@ -2,7 +2,6 @@
 use Rattle.std.specs.Prelude.{◌≡◌, ◌⊎◌, ℕ, ◌+◌, ◌<◌, ◌≤◌, true, false, Some, None, [], ◌∷◌, length}
 use Rattle.rm_core.specs.declared.phase.Phase.TheVariants.{Out, In}
 use Rattle.rm_table.specs.declared.role.Role.TheVariants.{Processor, Operator}
-use Rattle.rm_table.specs.declared.slot.Slot.{Slot}
 use Rattle.rm_table.specs.declared.slot.Slot.TheVariants.{Edition}
 use Rattle.rm_table.specs.declared.part.Part.{Part}
 use Rattle.rm_table.specs.declared.view.View.{View}

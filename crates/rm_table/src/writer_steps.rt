@@ -43,6 +43,7 @@ impl<E: Numbered<Tag = B::Facts>, B: Kept> RmTable<E, B> {
         ensures table { seat.new.table_id ≡ seat.old.table_id }
         ensures step { Looked (meanings E.number E.tag E.name B.number B.tag B.ready B.of B.facts_item) seat.old.me processor result seat.new.me }
     {
+        // the seat tells that its table has at most 64 processors
         let _ = &seat.processors;
         let word = tracker_at(processor);
         let found = self.table.shared.load::<Drain>(&mut seat.seat, word);

@@ -1,4 +1,4 @@
-use Rattle.std.proofs.Common.{rules, arith}
+use Rattle.std.proofs.Common.{rules}
 use Rattle.rm_table.proofs.Resting.{after_split, after_join}
 use Rattle.rm_table.proofs.tests.ends.+one_section_each.Goals as goal
 

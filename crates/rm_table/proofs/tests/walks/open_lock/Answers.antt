@@ -1,10 +1,9 @@
-use Rattle.std.proofs.Common.{rules, arith, ◌≡◌, ◌∙◌, ap, sym, refl, subst}
+use Rattle.std.proofs.Common.{rules, ◌≡◌, ◌∙◌, ap, refl}
 use Rattle.std.specs.Prelude.{replicate}
 use Rattle.rm_table.specs.contracts.tests.edition.EditionNumbered.TheImpl as edition
 use Rattle.rm_table.specs.contracts.tests.ledger.LedgerKept.TheImpl as ledger
 use Rattle.rm_table.specs.Meanings.{meanings}
 use Rattle.rm_table.proofs.Resting.{opens_alike, first_of-replicate, opens_me}
-use Rattle.rm_table.specs.Rests.{IsOpening}
 use Rattle.rm_table.specs.declared.tests.edition.Edition.{Edition}
 use Rattle.rm_table.proofs.tests.walks.open_lock.Goals as goal
 
