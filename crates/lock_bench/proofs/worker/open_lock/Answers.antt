@@ -1,10 +1,9 @@
-use Rattle.std.proofs.Common.{rules, arith, ◌≡◌, ◌∙◌, ap, sym, refl, subst}
+use Rattle.std.proofs.Common.{rules, ◌≡◌, ◌∙◌, ap, refl}
 use Rattle.std.specs.Prelude.{replicate}
 use Rattle.lock_bench.specs.contracts.edition.EditionNumbered.TheImpl as edition
 use Rattle.lock_bench.specs.contracts.book.BookKept.TheImpl as ledger
 use Rattle.rm_table.specs.Meanings.{meanings}
 use Rattle.rm_table.proofs.Resting.{opens_alike, first_of-replicate, opens_me}
-use Rattle.rm_table.specs.Rests.{IsOpening}
 use Rattle.lock_bench.specs.declared.edition.Edition.{Edition}
 use Rattle.lock_bench.proofs.worker.open_lock.Goals as goal
 

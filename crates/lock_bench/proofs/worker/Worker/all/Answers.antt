@@ -1,4 +1,4 @@
-use Rattle.std.proofs.Common.{rules, arith}
+use Rattle.std.proofs.Common.{rules}
 use Rattle.rm_table.proofs.Resting.{after_split}
 use Rattle.lock_bench.proofs.worker.Worker.all.Goals as goal
 
