@@ -121,7 +121,7 @@ number-after_all s (e ∷ es) =
     counted false number rest = omega arith
 
 -- whether a refusal at t is published, or will be with the next publication, for which the processor is revoked
-abbrev Pending : CoreState → ℕ → ℕ → Type 0
+abbrev pub Pending : CoreState → ℕ → ℕ → Type 0
 Pending s i t = (t ≤ s.number) ⊎ ((t ≤ s.number + 1) × IsProcessor s i (λ p. p.revoked ≡ true))
 
 -- a flag of a processor that only a publication takes away
@@ -161,7 +161,7 @@ flag_stays P phases tokens revokes drains s i Publish may other holds = absurd (
 is_publish-apart : (e : Event) → is_publish e ≡ false → e ≢ Publish
 is_publish-apart e unflagged is = let flagged : is_publish e ≡ true = ap is_publish is in absurd cc
 
-Pending-after : (s : CoreState) (e : Event) (i t : ℕ) → Allowed s e → Pending s i t → Pending (after s e) i t
+pub Pending-after : (s : CoreState) (e : Event) (i t : ℕ) → Allowed s e → Pending s i t → Pending (after s e) i t
 Pending-after s e i t may (inl done) = inl (pending_past (is_publish e) s.number (after s e).number (number_after s e) done)
   where
     pending_past : (b : Bool) (old new : ℕ) → new ≡ (if b then old + 1 else old) → t ≤ old → t ≤ new
@@ -183,7 +183,7 @@ pending_run s [] i t may pending = pending
 pending_run s (e ∷ es) i t may pending = pending_run (after s e) es i t may.1 (Pending-after s e i t may.0 pending)
 
 -- where a processor regains its token, the writer has none revoked
-pending_regain : (s : CoreState) (i t : ℕ) → Safe s → Allowed s (Regain i) → Pending s i t → t ≤ s.number
+pub pending_regain : (s : CoreState) (i t : ℕ) → Safe s → Allowed s (Regain i) → Pending s i t → t ≤ s.number
 pending_regain s i t safe may (inl done) = done
 pending_regain s i t safe may (inr next) =
     let found : (p : ProcessorState) × (processor_of s i ≡ Some p) × (p.revoked ≡ true) = IsProcessor-some s i (λ p. p.revoked ≡ true) next.1 in
@@ -194,7 +194,7 @@ pending_regain s i t safe may (inr next) =
     absurd (omega arith)
 
 -- a check that hears t finds a refusal that is published or pending
-pending_check : (s : CoreState) (i t : ℕ) → Safe s → Allowed s (Check i) → heard s (Check i) ≡ HeardRevoked t → Pending s i t
+pub pending_check : (s : CoreState) (i t : ℕ) → Safe s → Allowed s (Check i) → heard s (Check i) ≡ HeardRevoked t → Pending s i t
 pending_check s i t safe may hears =
     let found : (p : ProcessorState) × (processor_of s i ≡ Some p) × (p.phase ≡ Raised) = IsProcessor-some s i (λ p. p.phase ≡ Raised) may in
     let refusal : found.0.token ≡ Revoked t = token_from found.0.token (sym (heard-check s i found.0 found.1) ∙ hears) in

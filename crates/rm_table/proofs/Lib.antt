@@ -1,0 +1,16 @@
+pub mod Base
+pub mod Keeping
+pub mod Own
+pub mod Slots
+pub mod Sections
+pub mod Locks
+pub mod Writer
+pub mod Publishing
+pub mod Books
+pub mod Seats
+pub mod AtOpening
+pub mod AtClosing
+pub mod Calls
+pub mod LockCalls
+pub mod Begun
+pub mod Resting

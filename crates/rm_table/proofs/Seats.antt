@@ -1,0 +1,191 @@
+-- The seats: how the opening seat is split, and how the seats are joined again.
+use Rattle.std.proofs.Common.{◌≡◌, ◌≢◌, ℕ, zero, suc, ◌<◌, ◌≤◌, ◌⊎◌, inl, inr, Bool, true, false, Option, Some, None, List, [], ◌∷◌, ◌++◌, length, length-set, refl, sym, ◌∙◌, ap, arith, subst, ⊎_elim, ne_eqb}
+use Rattle.std.specs.Prelude.{slice_set, slice_get, if◌then◌else◌}
+use mathlib.Core.Option as at
+use lib.ListN.{get_elem?}
+use Rattle.atomic_table.specs.Table.{State}
+use Rattle.atomic_table.proofs.Lists.{at_set}
+use Rattle.rm_core.specs.declared.phase.Phase.TheVariants.{Out, In}
+use Rattle.rm_table.specs.declared.role.Role.TheVariants.{Spent, Processor, Operator}
+use Rattle.rm_table.specs.declared.slot.Slot.{Slot}
+use Rattle.rm_table.specs.declared.part.Part.{Part}
+use Rattle.rm_table.specs.declared.view.View.{View}
+use Rattle.rm_table.specs.Meanings.{Meanings, put}
+use Rattle.rm_table.specs.Rule.{Core, lent, Live, KeptAt, Keeps, Agrees, Shows}
+use Rattle.rm_table.specs.Moves.{split_off, processor_view, spent_view, joined}
+use Rattle.rm_table.proofs.Base.{put_here, put_else, slice_at}
+
+at_end : {A : Type 0} (l : List A) (a b : A) (j : ℕ) → get_elem? (l ++ a ∷ []) j ≡ at.some b → (get_elem? l j ≡ at.some b) ⊎ ((j ≡ length l) × (a ≡ b))
+at_end [] a b zero e = inr (refl, at.some-injective a b e)
+at_end [] a b (suc j) e = absurd (at.some-ne-none b (sym e))
+at_end (x ∷ xs) a b zero e = inl e
+at_end (x ∷ xs) a b (suc j) e = ⊎_elim (λ old. inl old) (λ new. inr (ap suc new.0, new.1)) (at_end xs a b j e)
+
+-- what changes where a place gets another seat
+abbrev pub seat_core : {E B T L I : Type 0} → Core E B T L I → ℕ → ℕ → Core E B T L I
+seat_core c k id = record c { seat = put c.seat k id }
+
+module _ {E B T L I : Type 0} (m : Meanings E B T L I) where
+  module _ (c : Core E B T L I) (k id : ℕ) where
+    abbrev moved_core : Core E B T L I
+    moved_core = seat_core c k id
+
+    live_moved : (j : ℕ) (u : View E B T L I) → u.place ≢ k → Live m c j u → Live m moved_core j u
+    live_moved j u other l = record {
+      count = l.count;
+      low = l.low;
+      high = l.high;
+      seat = put_else c.seat k id u.place other ∙ l.seat;
+      phase = l.phase;
+      part = l.part;
+      behind = l.behind;
+      book = l.book;
+    }
+
+    kept_moved : (j i : ℕ) (closing : Bool) (part : Part E L I) → i ≢ k → KeptAt m c j closing i part → KeptAt m moved_core j closing i part
+    kept_moved j i closing part other l = record {
+      low = l.low;
+      high = l.high;
+      seat = put_else c.seat k id i other ∙ l.seat;
+      part_is = l.part_is;
+      out = l.out;
+      behind = l.behind;
+      fresh = l.fresh;
+    }
+
+    keeps_moved : (j : ℕ) (u w : View E B T L I) (kept : List (Option (Part E L I))) (closing : Bool) → w ≡ record u { kept = kept; closing = closing } → length kept ≡ length u.kept
+        → ((i : ℕ) (part : Part E L I) → get_elem? kept i ≡ at.some (Some part) → KeptAt m moved_core j closing i part) → Keeps m c j u → Keeps m moved_core j w
+    keeps_moved j u w kept closing is size all l = subst (λ (x : View E B T L I). Keeps m moved_core j x) (sym is) (record {
+      place = l.place;
+      number = l.number;
+      opened = l.opened;
+      history = l.history;
+      own = l.own;
+      ready = l.ready;
+      stale = l.stale;
+      revoked_size = l.revoked_size;
+      drained_size = l.drained_size;
+      kept_size = size ∙ l.kept_size;
+      revoked = l.revoked;
+      drained = l.drained;
+      kept = all;
+    })
+
+    -- a seat that doesn't have the place
+    agrees_moved : (was j : ℕ) (u : View E B T L I) → c.seat k ≡ was → j ≢ was → Agrees m c j u → Agrees m moved_core j u
+    agrees_moved was j u seat apart a = record {
+      live = λ role. let l = a.live role in live_moved j u (λ same. apart (sym l.seat ∙ ap c.seat same ∙ seat)) l;
+      processor = a.processor;
+      operator = λ role. let l = a.operator role in
+          keeps_moved j u u u.kept u.closing refl refl (λ i part got. let q = l.kept i part got in kept_moved j i u.closing part (λ same. apart (sym q.seat ∙ ap c.seat same ∙ seat)) q) l;
+    }
+
+  module _ (c : Core E B T L I) (t : State (Slot E B) (View E B T L I)) (id : ℕ) (v : View E B T L I) (shows : Shows m c t) (is_at : get_elem? t.views id ≡ at.some v) (role : v.role ≡ Operator) where
+    operator_live : Live m c id v
+    operator_live = (shows.each id v is_at).live (λ spent. let clash : Operator ≡ Spent = sym role ∙ spent in absurd cc)
+
+    operator_here : Keeps m c id v
+    operator_here = (shows.each id v is_at).operator role
+
+    -- the rest of the rule doesn't speak of seats
+    seats_changed : (k id' : ℕ) (views : List (View E B T L I)) → ((j : ℕ) (u : View E B T L I) → get_elem? views j ≡ at.some u → Agrees m (seat_core c k id') j u)
+        → Shows m (seat_core c k id') (record { words = t.words; homes = t.homes; views = views })
+    seats_changed k id' views each = record {
+      words = shows.words;
+      sound = shows.sound;
+      past = shows.past;
+      slots = shows.slots;
+      insides = shows.insides;
+      desk = shows.desk;
+      lists = shows.lists;
+      numbers = shows.numbers;
+      readiness = shows.readiness;
+      each = each;
+    }
+
+    -- who is out hasn't the book
+    not_lent : (k : ℕ) → 0 < k → k ≤ c.count → (c.state k).phase ≡ Out → None ≡ lent c.holder c.book k
+    not_lent k low high out =
+        sym (ap (λ (b : Bool). if b then Some c.book else None) (ne_eqb c.holder k (λ same.
+        let at_desk = shows.desk.inside (λ free. absurd (omega arith)) (λ writer. absurd (omega arith)) in
+        let inside : (c.state k).phase ≡ In = subst (λ (n : ℕ). (c.state n).phase ≡ In) same at_desk.1 in
+        let clash : Out ≡ In = sym out ∙ inside in absurd cc)))
+
+    -- split seat
+    pub split_shows : (k : ℕ) (part : Part E L I) → slice_get v.kept k ≡ Some (Some part)
+        → Shows m (seat_core c k (length t.views)) (record { words = t.words; homes = t.homes; views = slice_set t.views id (split_off v k) ++ processor_view v k part ∷ [] })
+    split_shows k part kept =
+        let l : Live m c id v = operator_live in
+        let o : Keeps m c id v = operator_here in
+        let q : KeptAt m c id v.closing k part = o.kept k part (slice_at v.kept k (Some part) kept) in
+        let new : ℕ = length t.views in
+        let low : 0 < k = q.low in
+        let high : k ≤ c.count = q.high in
+        seats_changed k new (slice_set t.views id (split_off v k) ++ processor_view v k part ∷ [])
+        (λ j u is. ⊎_elim
+        (λ old. ⊎_elim
+        (λ here. subst (λ (i : ℕ). Agrees m (seat_core c k new) i u) (sym here.0) (subst (λ (x : View E B T L I). Agrees m (seat_core c k new) id x) here.1 (record {
+          live = λ _. let e = live_moved c k new id v (λ same. let p = o.place in absurd (omega arith)) l in record { count = e.count; low = e.low; high = e.high; seat = e.seat; phase = e.phase; part = e.part; behind = e.behind; book = e.book };
+          processor = (shows.each id v is_at).processor;
+          operator = λ _. keeps_moved c k new id v (split_off v k) (slice_set v.kept k None) v.closing refl (length-set v.kept k None)
+              (λ i other got. ⊎_elim (λ same. let clash : None ≡ Some other = same.1 in absurd cc)
+              (λ others. kept_moved c k new id i v.closing other others.0 (o.kept i other others.1)) (at_set v.kept k i None (Some other) got)) o;
+        })))
+        (λ other. agrees_moved c k new id j u q.seat other.0 (shows.each j u other.1))
+        (at_set t.views id j (split_off v k) u old))
+        (λ last. subst (λ (x : View E B T L I). Agrees m (seat_core c k new) j x) last.1 (record {
+          live = λ _. record {
+            count = l.count;
+            low = q.low;
+            high = omega arith;
+            seat = put_here c.seat k new ∙ sym (last.0 ∙ length-set t.views id (split_off v k));
+            phase = sym q.out;
+            part = q.part_is;
+            behind = sym q.behind;
+            book = not_lent k q.low q.high q.out;
+          };
+          processor = λ _. q.high;
+          operator = λ operator. absurd cc;
+        }))
+        (at_end (slice_set t.views id (split_off v k)) (processor_view v k part) u j is))
+
+    -- join seat
+    pub join_shows : (other : ℕ) (w : View E B T L I) → ¬ (other ≡ id) → get_elem? t.views other ≡ at.some w → w.role ≡ Processor → w.phase ≡ Out → w.behind ≡ false
+        → Shows m (seat_core c w.place id) (record { words = t.words; homes = t.homes; views = slice_set (slice_set t.views id (joined v w)) other spent_view })
+    join_shows other w apart there processor out unheld =
+        let l : Live m c id v = operator_live in
+        let o : Keeps m c id v = operator_here in
+        let a : Live m c other w = (shows.each other w there).live (λ spent. let clash : Processor ≡ Spent = sym processor ∙ spent in absurd cc) in
+        let k : ℕ = w.place in
+        let high : k ≤ c.count = (shows.each other w there).processor processor in
+        let low : 0 < k = a.low in
+        seats_changed k id (slice_set (slice_set t.views id (joined v w)) other spent_view)
+        (λ j u is. ⊎_elim
+        (λ spent. subst (λ (x : View E B T L I). Agrees m (seat_core c k id) j x) spent.1 (record {
+          live = λ never. absurd (never refl);
+          processor = λ never. absurd cc;
+          operator = λ never. absurd cc;
+        }))
+        (λ rest. ⊎_elim
+        (λ here. subst (λ (i : ℕ). Agrees m (seat_core c k id) i u) (sym here.0) (subst (λ (x : View E B T L I). Agrees m (seat_core c k id) id x) here.1 (record {
+          live = λ _. let e = live_moved c k id id v (λ same. let p = o.place in absurd (omega arith)) l in record { count = e.count; low = e.low; high = e.high; seat = e.seat; phase = e.phase; part = e.part; behind = e.behind; book = e.book };
+          processor = (shows.each id v is_at).processor;
+          operator = λ _. keeps_moved c k id id v (joined v w) (slice_set v.kept k (Some w.part)) true refl (length-set v.kept k (Some w.part))
+              (λ i part got. ⊎_elim
+              (λ same.
+              let part_same : w.part ≡ part = let e : Some w.part ≡ Some part = same.1 in cc in
+              subst (λ (n : ℕ). KeptAt m (seat_core c k id) id true n part) (sym same.0) (record {
+                low = a.low;
+                high = high;
+                seat = put_here c.seat k id;
+                part_is = sym part_same ∙ a.part;
+                out = sym a.phase ∙ out;
+                behind = sym a.behind ∙ unheld;
+                fresh = λ never. absurd cc;
+              }))
+              (λ others. let q = kept_moved c k id id i v.closing part others.0 (o.kept i part others.1) in record { low = q.low; high = q.high; seat = q.seat; part_is = q.part_is; out = q.out; behind = q.behind; fresh = λ never. absurd cc })
+              (at_set v.kept k i (Some w.part) (Some part) got)) o;
+        })))
+        (λ else'. agrees_moved c k id other j u a.seat rest.0 (shows.each j u else'.1))
+        (at_set t.views id j (joined v w) u rest.1))
+        (at_set (slice_set t.views id (joined v w)) other j spent_view u is))

@@ -1,0 +1,10 @@
+pub mod Layout
+pub mod Meanings
+pub mod Rule
+pub mod Seats
+pub mod Moves
+pub mod Rests
+pub mod Plays
+pub mod Ends
+pub mod Answers
+pub mod Laws

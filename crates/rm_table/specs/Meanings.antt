@@ -1,0 +1,28 @@
+-- What an edition and a book mean to the lock, and what of a step is plain data.
+use Rattle.std.specs.Prelude.{◌≡◌, ℕ, zero, suc, ◌==◌, Bool, List, [], ◌∷◌, ◌++◌, if◌then◌else◌}
+
+pub record Meanings (E B T L I : Type 0) : Type 0 where
+  pub number : E → ℕ
+  pub tag : E → T
+  pub name : E → L
+  pub book_number : B → ℕ
+  pub book_tag : B → T
+  pub book_ready : B → Bool
+  pub of : B → ℕ → List I
+  pub item : T → I
+
+abbrev pub meanings : {E B T L I : Type 0} → (E → ℕ) → (E → T) → (E → L) → (B → ℕ) → (B → T) → (B → Bool) → (B → ℕ → List I) → (T → I) → Meanings E B T L I
+meanings number tag name book_number book_tag book_ready of item = record { number = number; tag = tag; name = name; book_number = book_number; book_tag = book_tag; book_ready = book_ready; of = of; item = item }
+
+-- f, but a at p
+unfoldable pub put : {A : Type 0} → (ℕ → A) → ℕ → A → ℕ → A
+put f p a k = if k == p then a else f k
+
+-- the values of f at `from` and the n - 1 numbers behind it
+abbrev pub values_from : {A : Type 0} → (ℕ → A) → ℕ → ℕ → List A
+values_from f from zero = []
+values_from f from (suc n) = f from ∷ values_from f (suc from) n
+
+-- ys begins with xs
+abbrev pub BeginsWith : {A : Type 0} → List A → List A → Type 0
+BeginsWith {A} ys xs = (rest : List A) × (ys ≡ xs ++ rest)

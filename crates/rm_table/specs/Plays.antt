@@ -1,0 +1,71 @@
+-- What each kind of atomic step tells the seat that makes it: of the step, the seat before, the number found (at a store, the number
+-- stored) and the seat after.
+use Rattle.std.specs.Prelude.{◌≡◌, ℕ, ◌+◌, ◌%◌, ◌<◌, ◌≤◌, ◌==◌, MatchBool, Some, None, ◌∷◌}
+use Rattle.atomic_table.specs.Table.{Me, Step, rest}
+use Rattle.rm_table.specs.declared.role.Role.TheVariants.{Processor, Operator}
+use Rattle.rm_table.specs.declared.slot.Slot.{Slot}
+use Rattle.rm_table.specs.declared.slot.Slot.TheVariants.{Edition, Book}
+use Rattle.rm_table.specs.declared.view.View.{View}
+use Rattle.rm_table.specs.Layout.{tracker_index, token_index}
+use Rattle.rm_table.specs.Meanings.{Meanings}
+use Rattle.rm_table.specs.Moves.{noted, raised, refused, lowered, hand_left, behind_taken, behind_given, regained, revoked, drained, number_read, book_taken, entered, published, rest_from, book_given, FoundBy, AllDrained}
+
+module _ {E B T L I : Type 0} (m : Meanings E B T L I) where
+  abbrev pub Seated : Type 0
+  Seated = Me (Slot E B) (View E B T L I)
+
+  -- what a step that changes nothing but one word tells
+  abbrev pub Telling : Type 1
+  Telling = Step (Slot E B) → Seated → ℕ → Seated → Type 0
+
+  abbrev pub Raises : Telling
+  Raises s me found after = after ≡ (noted (raised me.0) s.word found, me.1)
+
+  -- the token is held, and the edition in the slot is of the number that the processor knows, or it is revoked for a later number
+  abbrev pub Checks : Telling
+  Checks s me found after = MatchBool (found == 0)
+      ((e : E) × (after ≡ (noted (entered m me.0 e) s.word found, (me.0.place, Edition e) ∷ me.1)) × (m.number e ≡ me.0.part.held))
+      ((after ≡ (noted (refused me.0 found) s.word found, me.1)) × (me.0.part.held < found))
+
+  abbrev pub Lowers : Telling
+  Lowers s me found after = after ≡ (noted (lowered me.0) s.word found, hand_left me.0.phase me.1)
+
+  abbrev pub TakesBehind : Telling
+  TakesBehind s me found after = MatchBool (found == 0)
+      (after ≡ (noted (behind_taken me.0) s.word found, me.1))
+      ((after ≡ (noted me.0 s.word found, me.1)) × (found ≤ me.0.count + 1))
+
+  abbrev pub GivesBehind : Telling
+  GivesBehind s me found after = after ≡ (noted (behind_given me.0) s.word found, me.1)
+
+  -- the number read is at least the refusal's
+  abbrev pub Regains : Telling
+  Regains s me found after = (x : ℕ) → me.0.part.read ≡ Some x
+      → (after ≡ (noted (regained me.0 x) s.word found, me.1)) × ((t : ℕ) → me.0.part.refusal ≡ Some t → t ≤ x)
+
+  abbrev pub Revokes : Telling
+  Revokes s me found after = (place : ℕ) → s.word ≡ token_index me.0.count place → after ≡ (noted (revoked me.0 place) s.word found, me.1)
+
+  -- an even tracker says that the processor is out
+  abbrev pub Drains : Telling
+  Drains s me found after = (place : ℕ) → s.word ≡ tracker_index place → MatchBool (found % 2 == 0)
+      ((e : E) × (after ≡ (noted (drained me.0 place) s.word found, (place, Edition e) ∷ me.1)) × (m.number e ≡ me.0.number))
+      (after ≡ (noted me.0 s.word found, me.1))
+
+  pub record ReadsNumber (s : Step (Slot E B)) (me : Seated) (found : ℕ) (after : Seated) : Type 0 where
+    pub after_is : after ≡ (noted (number_read me.0 found) s.word found, me.1)
+    pub operator : me.0.role ≡ Operator → found ≡ me.0.number
+    pub processor : me.0.role ≡ Processor → me.0.part.held ≤ found
+
+  abbrev pub Publishes : Telling
+  Publishes s me found after = after ≡ (noted (published m me.0 me.1) s.word found, rest_from me.0.count me.1)
+
+  -- a free book is at home; nobody but the operator has it once all are drained
+  pub record TakesBook (s : Step (Slot E B)) (me : Seated) (found : ℕ) (after : Seated) : Type 0 where
+    pub tried : MatchBool (found == 0)
+        ((book : B) × (after ≡ (noted (book_taken me.0 book) s.word found, (0, Book book) ∷ me.1)) × FoundBy m me.0 book)
+        ((after ≡ (noted me.0 s.word found, me.1)) × (found ≤ me.0.count + 1))
+    pub free : me.0.role ≡ Operator → AllDrained me.0 → me.0.book ≡ None → found ≡ 0
+
+  abbrev pub GivesBook : Telling
+  GivesBook s me found after = (book : B) → me.1 ≡ (0, Book book) ∷ rest me.1 → after ≡ (noted (book_given m me.0 book) s.word found, rest me.1)

@@ -1,0 +1,34 @@
+//! The table under a read-mostly lock, rmlock(9): its words and slots, and one function for each kind
+//! of atomic step.
+#![tactic(auto)]
+
+pub use closing::Closed;
+pub use opening::OpenTable;
+pub use part::Part;
+pub use role::Role;
+pub use rule::{LockRule, LockView, Opening};
+pub use seat::RmSeat;
+pub use slot::Slot;
+pub use table::RmTable;
+pub use tried::Tried;
+pub use view::View;
+
+mod book_steps;
+mod closing;
+pub mod laws;
+mod lock_steps;
+mod opening;
+mod part;
+mod plays;
+mod reader_steps;
+mod role;
+mod rule;
+mod seat;
+mod seat_steps;
+mod slot;
+mod table;
+#[cfg(test)]
+mod tests;
+mod tried;
+mod view;
+mod writer_steps;

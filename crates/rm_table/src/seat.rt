@@ -1,0 +1,26 @@
+use crate::Slot;
+use crate::rule::LockView;
+use atomic_table::Seat;
+use fw_base::{Kept, Numbered};
+use std::marker::Model;
+
+/// A seat of a lock's table, with the numbers that its steps store. What it knows and the slots that it has
+/// in its hand exist for proofs alone.
+#[derive(Drop)]
+pub struct RmSeat<E: Numbered<Tag = B::Facts>, B: Kept> {
+    pub(crate) seat: Seat<Slot<E, B>, LockView<E, B>>,
+    pub(crate) processors: u32,
+    pub(crate) place: u32,
+    pub(crate) number: u64,
+    pub(crate) tracker: u64,
+}
+
+impl<E: Numbered<Tag = B::Facts>, B: Kept> Model for RmSeat<E, B> {
+    ghost use Rattle.rm_table.specs.Seats.{SeatState, StoresBy};
+
+    ghost Value = { SeatState E B B.Facts E.Label B.Item };
+
+    ghost view = { λ s. record { table_id = s.seat.table_id; me = s.seat.me } };
+
+    ghost invariant = { λ s. StoresBy s.processors s.place s.number s.tracker s.seat.table_id s.seat.me.0 };
+}

@@ -1,0 +1,97 @@
+ghost use Rattle.std.specs.Prelude.{◌≡◌, ℕ, ◌<◌, ◌≤◌, [], None, Some, true, false, Option, ◌⊎◌, slice_get, IsSome};
+ghost use Rattle.rm_table.specs.Moves.{IsKept, split_off, right_of, kept_at, joined, spent_view, AllSplit};
+ghost use Rattle.rm_table.specs.Rests.{IsIdle};
+
+use crate::rule::LockView;
+use crate::{RmSeat, RmTable, Role};
+use atomic_table::{Join, Split};
+use fw_base::{Kept, Numbered};
+use rm_core::Phase;
+use std::marker::{Brand, PhantomData};
+
+// The place whose seat is split off. Each call of a program picks it.
+pub(crate) trait Pick {
+    ghost place: { ℕ };
+}
+
+impl Pick for Brand {
+    ghost place = { 0 };
+}
+
+// How the opening seat is cut.
+pub(crate) struct Cut<P: Pick>(PhantomData<P>);
+
+impl<E: Numbered<Tag = B::Facts>, B: Kept, P: Pick> Split<LockView<E, B>> for Cut<P> {
+    ghost left = { λ v. split_off v P.place };
+
+    ghost right = { λ v. right_of v P.place (kept_at v P.place) };
+}
+
+// How a processor's seat is joined into the operator's.
+pub(crate) struct Glue;
+
+impl<E: Numbered<Tag = B::Facts>, B: Kept> Join<LockView<E, B>> for Glue {
+    ghost both = { λ v w. joined v w };
+
+    ghost spent = { spent_view };
+}
+
+impl<E: Numbered<Tag = B::Facts>, B: Kept> RmTable<E, B> {
+    fn cut_seat<P: Pick>(&self, seat: &mut RmSeat<E, B>, place: u32) -> RmSeat<E, B>
+        requires picked { P.place ≡ place }
+        requires table { seat.old.table_id ≡ self.now }
+        requires operator { seat.old.me.0.role ≡ Role.Operator }
+        requires opening { seat.old.me.0.closing ≡ false }
+        requires above { 0 < place }
+        requires within { place ≤ seat.old.me.0.count }
+        requires kept { IsKept seat.old.me.0 place }
+        ensures table { (seat.new.table_id ≡ seat.old.table_id) × (result.table_id ≡ seat.old.table_id) }
+        ensures left { seat.new.me ≡ (split_off seat.old.me.0 place, seat.old.me.1) }
+        ensures right { result.me ≡ (right_of seat.old.me.0 place (kept_at seat.old.me.0 place), []) }
+    {
+        let right = self.table.shared.split_seat::<Cut<P>>(&mut seat.seat);
+        RmSeat {
+            seat: right,
+            processors: seat.processors,
+            place,
+            number: 0,
+            tracker: 0,
+        }
+    }
+
+    /// Splits the seat of the processor at that place off the opening seat, once. One load.
+    pub fn split_seat(&self, seat: &mut RmSeat<E, B>, place: u32) -> RmSeat<E, B>
+        requires table { seat.old.table_id ≡ self.now }
+        requires operator { seat.old.me.0.role ≡ Role.Operator }
+        requires opening { seat.old.me.0.closing ≡ false }
+        requires above { 0 < place }
+        requires within { place ≤ seat.old.me.0.count }
+        requires kept { IsKept seat.old.me.0 place }
+        ensures table { (seat.new.table_id ≡ seat.old.table_id) × (result.table_id ≡ seat.old.table_id) }
+        ensures left { seat.new.me ≡ (split_off seat.old.me.0 place, seat.old.me.1) }
+        ensures right { result.me ≡ (right_of seat.old.me.0 place (kept_at seat.old.me.0 place), []) }
+    {
+        self.cut_seat::<Brand>(seat, place)
+    }
+
+    /// Joins the seat of a processor that is out, holds neither lock and has no slot in hand into the
+    /// operator's, after every place was split off. One load.
+    pub fn join_seat(&self, into: &mut RmSeat<E, B>, spent: RmSeat<E, B>)
+        requires table { into.old.table_id ≡ self.now }
+        requires same { spent.table_id ≡ self.now }
+        requires operator { into.old.me.0.role ≡ Role.Operator }
+        requires split { (into.old.me.0.closing ≡ true) ⊎ AllSplit into.old.me.0 }
+        requires idle { IsIdle spent.me.0 spent.me.1 }
+        ensures table { into.new.table_id ≡ into.old.table_id }
+        ensures both { into.new.me ≡ (joined into.old.me.0 spent.me.0, into.old.me.1) }
+    {
+        let RmSeat {
+            seat,
+            processors: _,
+            place: _,
+            number: _,
+            tracker: _,
+        } = spent;
+        self.table.shared.join_seat::<Glue>(&mut into.seat, seat);
+    }
+}

@@ -1,0 +1,6 @@
+mod edition;
+mod ends;
+mod ledger;
+mod rows;
+mod threads;
+mod walks;
