@@ -7,6 +7,7 @@ use std::test::Fail;
 use std::thread::Threads;
 
 /// A script with the status and the text that its run over one SYN has.
+#[derive(Drop)]
 struct Row {
     script: &'static str,
     status: u8,
