@@ -7,3 +7,6 @@ check example_first 0 serial "$first/rules" "out:em0:$first/session.pcap" <"$fir
 cp "$first/expected" "$work/wanted"
 awk -v script="$first/rules" -f "$tests/verdicts.awk" "$tests/captures/day_c0_out.tsv" >"$work/got"
 same example_first_is_as_its_fields_say
+
+# Two policies in two sets, of which one is disabled; the listings behind the verdicts.
+check example_sets 0 serial "$top/examples/sets/rules" "out:em0:$first/session.pcap" <"$top/examples/sets/expected"

@@ -15,8 +15,8 @@ check folder_as_capture 4 serial empty in:em0:folder <<<'fault 1 record 0 ReadFa
 
 echo 'no rule' >out_of_form
 check missing_capture_comes_before_script_line 4 serial out_of_form in:em0:none < <(cannot_read none)
-check script_line_comes_before_folder_as_capture 2 serial out_of_form in:em0:folder <<<'script line 1 NotYet'
-check script_line_comes_before_capture_fault 2 serial out_of_form in:em0:empty <<<'script line 1 NotYet'
+check script_line_comes_before_folder_as_capture 2 serial out_of_form in:em0:folder <<<'script line 1 column 1 UnknownWord'
+check script_line_comes_before_capture_fault 2 serial out_of_form in:em0:empty <<<'script line 1 column 1 UnknownWord'
 
 # A pipe gives the script, and another the capture in two pieces, cut in the record's header.
 cat >"$work/wanted" <<'END'

@@ -1,4 +1,4 @@
-# Scripts: lines of the form, lines that are out of it, and the limits of a script.
+# Scripts: what lines say, their faults, refusals, listings, what isn't carried out yet, and the limits of a script.
 # shellcheck shell=bash disable=SC2154,SC2238
 
 # script_line NAME STATUS LINES..: what the first packet meets, by the lines, given as printf gives them.
@@ -14,81 +14,155 @@ end 1 records 1'
 
 script_line rule_without_a_line_end 0 'add 100 allow tcp from any to any' <<<"$allowed"
 script_line empty_lines 0 '\n\nadd 100 allow tcp from any to any\n\n' <<<"$allowed"
-script_line several_spaces 0 'add  100   allow tcp from  any to any\n' <<<"$allowed"
-script_line number_with_leading_zeros 0 'add 00100 allow tcp from any to any\n' <<<"$allowed"
+script_line several_spaces 0 '  add  100 \t allow tcp from  any to any \r\n' <<<"$allowed"
+script_line comments 0 '# first\nadd 100 allow tcp from any to any # \xff last\n' <<<"$allowed"
+script_line number_with_leading_zeros 0 'add 0000000100 allow tcp from any to any\n' <<<"$allowed"
 script_line host_bits_are_cleared 0 'add 100 allow tcp from 10.0.0.255/24 to 192.0.2.77/16\n' <<<"$allowed"
 script_line octets_and_lengths_with_zeros 0 'add 100 allow tcp from 010.000.0.001/0032 to any\n' <<<"$allowed"
+script_line first_number_is_100 0 'add allow tcp from any to any\n' <<<"$allowed"
+script_line number_0_is_no_number 0 'add 0 pass 6 from any to any\n' <<<"$allowed"
 
+script_line misspelt_action_in_script 2 'add 100 alow ip from any to any' <<<'script line 1 column 9 UnknownWord'
+script_line last_rule_is_reserved 2 'delete 65535\n' <<<'script line 1 ReservedRule'
+script_line delete_of_no_rule 2 'delete 7\n' <<<'script line 1 NoSuchRule'
 script_line form_not_built_yet 2 'add 100 count ip from any to any\n' <<<'script line 1 NotYet'
-script_line third_line_out_of_form 2 '\nadd 1 allow ip from any to any\nadd 2\n\nadd 3\n' <<<'script line 3 NotYet'
+script_line live_is_not_built_yet 2 'add 100 allow ip from any to any\nlive\n' <<<'script line 2 NotYet'
+script_line fault_before_what_is_not_built 2 'live\nadd 2\n' <<<'script line 2 column 6 MissingWord'
+script_line what_is_not_built_before_refusals 2 'delete 7\nlive\n' <<<'script line 2 NotYet'
 
-# Each of these lines is out of the form, behind a line that is of it.
+printf '%s\n' 'add 65434 deny ip from any to any' 'add deny ip from any to any' 'add deny ip from any to any' list >script
+head -c 24 syn.pcap >none.pcap
+check automatic_numbers_and_list 0 serial script in:em0:none.pcap <<'END'
+end 1 records 0
+list line 4 edition 1
+rules 4
+65434 deny ip from any to any
+65534 deny ip from any to any
+65534 deny ip from any to any
+65535 set 31 deny ip from any to any
+END
+
+printf '%s\n' 'add 100 set 1 reset log tcp from 10.0.0.0/8 to any' 'add 200 set 2 unreach port ip from any to any' \
+    'set disable 1' 'set move 2 to 1' 'set swap 1 3' list >script
+check sets_and_their_rules 0 serial script in:em0:syn.pcap <<'END'
+1.1 reset 00100 at 1
+end 1 records 1
+list line 6 edition 1
+rules 3
+00100 set 3 reset log tcp from 10.0.0.0/8 to any
+00200 set 3 unreach port ip from any to any
+65535 set 31 deny ip from any to any
+END
+
+printf '%s\n' 'table t list' 'table t add 10.0.0.0/8 1' 'table t add 10.0.0.0/16' 'table t add 9.255.0.1 3' \
+    'table u create type number' 'table u add 80 7' 'table u add 9' 'table v swap u' >script
+check swap_with_no_table 2 serial script in:em0:syn.pcap <<<'script line 8 NoSuchTable'
+sed -i '$d' script
+{ echo 'table u list' && echo 'table t flush' && echo 'table t add 1.2.3.4 5'; } >>script
+check tables_as_edition_1_has_them 0 serial script in:em0:syn.pcap <<'END'
+1.1 deny 65535 at 1
+end 1 records 1
+table t addr 1 line 1 edition 1
+1.2.3.4/32 5
+table u number 2 line 8 edition 1
+9 0
+80 7
+END
+
+# What each of these lines comes to, behind a line that denies all.
 : >"$work/wanted"
 : >"$work/got"
-while IFS= read -r line; do
+while IFS='|' read -r line text; do
     printf 'add 100 deny ip from any to any\n%b\n' "$line" >script
-    { printf '%s\n' "$line" && replay serial script in:em0:syn.pcap; } >>"$work/got"
-    printf '%s\nscript line 2 NotYet\nstatus 2\n' "$line" >>"$work/wanted"
+    { printf '%s\n' "$line" && replay serial script in:em0:syn.pcap | head -n 1; } >>"$work/got"
+    printf '%s\n%s\n' "$line" "$text" >>"$work/wanted"
 done <<'END'
-add
-add allow ip from any to any
-add 0 allow ip from any to any
-add 65535 allow ip from any to any
-add 000001 allow ip from any to any
-add +1 allow ip from any to any
-add 1x allow ip from any to any
-add 1 Allow ip from any to any
-add 1 accept ip from any to any
-add 1 allow all from any to any
-add 1 allow 6 from any to any
-add 1 allow ip from any
-add 1 allow ip from any to
-add 1 allow ip from any to any 80
-add 1 allow ip from any to any in
-add 1 allow ip to any from any
-add 1 allow ip from me to any
-add 1 allow ip from not any to any
-add 1 allow ip from 10.0.0.1,10.0.0.2 to any
-add 1 allow ip from 10.0.0 to any
-add 1 allow ip from 10.0.0.0.0 to any
-add 1 allow ip from 10.0.0.256 to any
-add 1 allow ip from 10.0.0.0001 to any
-add 1 allow ip from 10.0.0.0/ to any
-add 1 allow ip from 10.0.0.0/33 to any
-add 1 allow ip from 10.0.0.0/8/8 to any
-add 1 allow ip from 10.0.0.0/-1 to any
-add 1 allow ip from any/0 to any
-delete 100
-list
-ADD 1 allow ip from any to any
-add 1 allow ip from any to any # why
- add 1 allow ip from any to any
-add 1 allow ip from any to any\x20
-add\t1 allow ip from any to any
-add 1 allow ip from any to any\r
-add 1 allow ip from any to any\0
-\x20
-\xff\xfe
+add|script line 2 column 4 MissingWord
+add allow ip from any to any|1.1 deny 00100 at 1
+add 0 allow ip from any to any|1.1 deny 00100 at 1
+add 65535 allow ip from any to any|script line 2 ReservedRule
+add 65536 allow ip from any to any|script line 2 column 5 NumberRange
+add 000001 allow ip from any to any|1.1 allow 00001 at 1
+add +1 allow ip from any to any|script line 2 column 5 UnknownWord
+add 1x allow ip from any to any|script line 2 column 5 BadNumber
+add 1 Allow ip from any to any|script line 2 column 7 UnknownWord
+add 1 accept ip from any to any|1.1 allow 00001 at 1
+add 1 drop all from any to any|1.1 deny 00001 at 1
+add 1 reject 6 from any to any|1.1 unreach host 00001 at 1
+add 1 unreach 255 ip from any to any|1.1 unreach 255 00001 at 1
+add 1 unreach needfrag ip from any to any|1.1 unreach needfrag 00001 at 1
+add 1 allow 256 from any to any|script line 2 column 13 NumberRange
+add 1 allow ip from any|script line 2 column 24 MissingWord
+add 1 allow ip from any to|script line 2 column 27 MissingWord
+add 1 allow tcp from any to any 80|script line 2 NotYet
+add 1 allow tcp from any to any 80-70|script line 2 column 33 BadRange
+add 1 allow ip from any to any in|script line 2 NotYet
+add 1 allow ip from any to any out of|script line 2 column 36 UnknownWord
+add 1 allow ip to any from any|script line 2 column 16 UnknownWord
+add 1 allow ip from me to any|script line 2 NotYet
+add 1 allow ip from not any to any|script line 2 NotYet
+add 1 allow ip from 10.0.0.1,10.0.0.2 to any|script line 2 NotYet
+add 1 allow ip from 10.0.0 to any|script line 2 column 21 BadAddress
+add 1 allow ip from 10.0.0.0.0 to any|script line 2 column 21 BadAddress
+add 1 allow ip from 10.0.0.256 to any|script line 2 column 21 BadAddress
+add 1 allow ip from 10.0.0.0001 to any|script line 2 column 21 BadAddress
+add 1 allow ip from 10.0.0.0/ to any|script line 2 column 21 BadPrefix
+add 1 allow ip from 10.0.0.0/33 to any|script line 2 column 21 BadPrefix
+add 1 allow ip from 10.0.0.0/8/8 to any|script line 2 column 21 BadPrefix
+add 1 allow ip from any/0 to any|script line 2 column 21 BadAddress
+delete 100|1.1 deny 65535 at 1
+delete 100 7|script line 2 NoSuchRule
+delete set 0|1.1 deny 65535 at 1
+delete set 31|1.1 deny 00100 at 1
+delete x|script line 2 column 8 BadNumber
+flush|1.1 deny 65535 at 1
+flush all|script line 2 column 7 ExtraWord
+zero|1.1 deny 00100 at 1
+zero 7|script line 2 NoSuchRule
+set disable 0|1.1 deny 65535 at 1
+set disable 31|script line 2 ReservedSet
+set enable 32|script line 2 column 12 NumberRange
+set move 0 to 31|script line 2 ReservedSet
+set move rule 100 to 5|1.1 deny 00100 at 1
+set move rule 7 to 5|script line 2 NoSuchRule
+set swap 31 31|script line 2 ReservedSet
+set 5|script line 2 column 5 UnknownWord
+table t create x|script line 2 column 16 ExtraWord
+table t destroy|script line 2 NoSuchTable
+table t delete 1.2.3.4|script line 2 NoSuchTable
+table t list|script line 2 NoSuchTable
+table t add 10/8|script line 2 column 13 BadNumber
+table t add 80|script line 2 WrongType
+sysctl dyn_max=16384|1.1 deny 00100 at 1
+sysctl net.inet.ip.fw.dyn_max=16385|script line 2 column 8 NumberRange
+sysctl dyn_keep_states=1|script line 2 column 8 UnknownWord
+local 10.0.0.2 10.0.0.3|1.1 deny 00100 at 1
+local any|script line 2 column 7 BadAddress
+list|1.1 deny 00100 at 1
+after 5|script line 2 column 1 Misplaced
+ADD 1 allow ip from any to any|script line 2 column 1 UnknownWord
+add 1 allow ip from any to any # why|1.1 allow 00001 at 1
+add 1 allow ip from any to any\0|script line 2 column 31 BadByte
+\x20|1.1 deny 00100 at 1
+\xff\xfe|script line 2 column 1 BadByte
 END
-same lines_out_of_form
+same lines_one_by_one
 
-# The shortest rule has 30 bytes with its line end, so 34,952 of them are the most that a script has room for.
-rules() { yes 'add 1 deny ip from any to any' | head -n "$1"; }
-rules 34952 >script
-check most_rules 0 serial script in:em0:syn.pcap <<'END'
-1.1 deny 00001 at 1
+# 37,449 rules without a number, which are the most that a script has room for: 100, 200 and so on to 65500, and
+# then 65500 again.
+yes 'add deny ip from any to any' | head -n 37449 >script
+check most_rules_that_a_script_has_room_for 0 serial script in:em0:syn.pcap <<'END'
+1.1 deny 00100 at 1
 end 1 records 1
 END
-rules 34953 >script
-check rule_too_many 2 serial script in:em0:syn.pcap <<<'script line 34953 NotYet'
 
 # 65,536 lines are the most.
 { yes '' | head -n 65535 && echo 'add 100 allow ip from any to any'; } >script
 check most_lines 0 serial script in:em0:syn.pcap <<<"$allowed"
 { yes '' | head -n 65536 && echo 'add 100 allow ip from any to any'; } >script
-check line_too_many 2 serial script in:em0:syn.pcap <<<'script line 65537 NotYet'
+check line_too_many 2 serial script in:em0:syn.pcap <<<'script TooManyLines'
 yes '' | head -n 65537 >script
-check empty_line_too_many 2 serial script in:em0:syn.pcap <<<'script line 65537 NotYet'
+check empty_line_too_many 2 serial script in:em0:syn.pcap <<<'script TooManyLines'
 
 # 1,048,576 bytes are the most.
 script_of() { # script_of BYTES: a first rule that is mostly blanks, and a second of 33 bytes with its line end
@@ -97,10 +171,9 @@ script_of() { # script_of BYTES: a first rule that is mostly blanks, and a secon
 script_of 1048576 >script
 check most_bytes 0 serial script in:em0:syn.pcap <<<"$allowed"
 script_of 1048577 >script
-check byte_too_many 2 serial script in:em0:syn.pcap <<<'script line 2 NotYet'
-script_of 1048609 >script
-check first_line_of_most_bytes 2 serial script in:em0:syn.pcap <<<'script line 2 NotYet'
-script_of 1048610 >script
-check first_line_too_long 2 serial script in:em0:syn.pcap <<<'script line 1 NotYet'
-{ script_of 1048576 && echo; } >script
-check empty_line_behind_most_bytes 2 serial script in:em0:syn.pcap <<<'script line 3 NotYet'
+check byte_too_many 2 serial script in:em0:syn.pcap <<<'script TooLong'
+{ yes '' | head -n 1048577; } >script
+check too_long_before_too_many_lines 2 serial script in:em0:syn.pcap <<<'script TooLong'
+check script_of_a_folder_is_no_script 4 serial . in:em0:syn.pcap <<<'cannot read .'
+head -c 1048576 /dev/zero >script
+check script_of_zeros 2 serial script in:em0:syn.pcap <<<'script line 1 column 1 BadByte'
