@@ -14,3 +14,4 @@ pub mod Calls
 pub mod LockCalls
 pub mod Begun
 pub mod Resting
+pub mod Writes

@@ -46,6 +46,7 @@ module _ {E B T L I : Type 0} where
     undrained = o.undrained;
     revoked_size = o.revoked_size;
     drained_size = o.drained_size;
+    counts = o.counts;
     empty_hand = o.empty_hand;
   }
 
@@ -59,6 +60,7 @@ module _ {E B T L I : Type 0} where
     undrained = o.undrained;
     revoked_size = o.revoked_size;
     drained_size = o.drained_size;
+    counts = o.counts;
     empty_hand = o.empty_hand;
   }
     where
@@ -127,6 +129,7 @@ module _ {E B T L I : Type 0} where
     undrained = λ k low high. flag_of-replicate _ k;
     revoked_size = length-replicate (n + 1) false;
     drained_size = length-replicate (n + 1) false;
+    counts = refl;
     empty_hand = refl;
   }
     where

@@ -36,6 +36,7 @@ module _ {E B T L I : Type 0} where
     pub undrained : NoneDrained v
     pub revoked_size : length v.revoked ≡ v.count + 1
     pub drained_size : length v.drained ≡ v.count + 1
+    pub counts : v.opened + length v.history ≡ v.number + 1
     pub empty_hand : hand ≡ []
 
   -- the opening seat, of which the places below `next` are split off
@@ -51,6 +52,7 @@ module _ {E B T L I : Type 0} where
     pub undrained : NoneDrained v
     pub revoked_size : length v.revoked ≡ v.count + 1
     pub drained_size : length v.drained ≡ v.count + 1
+    pub counts : v.opened + length v.history ≡ v.number + 1
     pub empty_hand : hand ≡ []
 
   -- the operator's seat, into which the places from `next` on are joined
