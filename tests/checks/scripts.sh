@@ -148,8 +148,8 @@ add 1 allow ip from any to any\0|script line 2 column 31 BadByte
 END
 same lines_one_by_one
 
-# 37,449 rules without a number, which are the most that a script has room for: 100, 200 and so on to 65500, and
-# then 65500 again.
+# 37,449 rules of this form, which are the most that a script has room for: 100, 200 and so on to 65500, and then
+# 65500 again.
 yes 'add deny ip from any to any' | head -n 37449 >script
 check most_rules_that_a_script_has_room_for 0 serial script in:em0:syn.pcap <<'END'
 1.1 deny 00100 at 1
