@@ -1,3 +1,6 @@
+ghost use Rattle.std.specs.Prelude.{Some};
+ghost use Rattle.fw_lex.specs.Sentences.{sentence_of};
+
 use std::error::Error;
 use std::fmt;
 
@@ -21,6 +24,8 @@ pub enum LexFault {
 }
 
 impl fmt::Display for LexFault {
+    ghost output = { λ fault. Some (sentence_of fault) };
+
     fn fmt<W: fmt::Write>(&self, f: &mut fmt::Formatter<W>) -> fmt::Result {
         match self {
             LexFault::BadByte { column, byte } => {

@@ -1,4 +1,4 @@
-ghost use Rattle.std.specs.Prelude.{◌≡◌, ◌<◌, ◌++◌, length, slice_get, map, Some};
+ghost use Rattle.std.specs.Prelude.{◌≡◌, ◌<◌, ◌++◌, length, slice_get, map, codes, Some};
 ghost use Rattle.fw_base.specs.Texts.{WritesText};
 ghost use Rattle.fw_rule.specs.Canonical as text;
 ghost use Rattle.fw_rule.specs.Pieces.{piece_text};
@@ -17,6 +17,8 @@ use std::fmt;
 pub struct WriteFault;
 
 impl fmt::Display for WriteFault {
+    ghost output = { λ _. Some (codes "the text could not be written") };
+
     fn fmt<W: fmt::Write>(&self, f: &mut fmt::Formatter<W>) -> fmt::Result {
         f.write_str("the text could not be written")
     }

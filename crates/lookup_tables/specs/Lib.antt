@@ -1,4 +1,5 @@
 pub mod AddrTable
 pub mod Entries
 pub mod NumberTable
+pub mod Sentences
 pub mod Tables

@@ -1,4 +1,5 @@
-ghost use Rattle.std.specs.Prelude.{◌≡◌};
+ghost use Rattle.std.specs.Prelude.{◌≡◌, Some};
+ghost use Rattle.lookup_tables.specs.Sentences.{sentence_of};
 ghost use Rattle.lookup_tables.specs.declared.insert_fault.InsertFault.TheVariants.{OutOfMemory};
 
 use std::alloc::AllocFailed;
@@ -15,6 +16,8 @@ pub enum InsertFault {
 }
 
 impl fmt::Display for InsertFault {
+    ghost output = { λ fault. Some (sentence_of fault) };
+
     fn fmt<W: fmt::Write>(&self, f: &mut fmt::Formatter<W>) -> fmt::Result {
         match self {
             InsertFault::Exists => f.write_str("the key is there"),
