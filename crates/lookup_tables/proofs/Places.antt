@@ -1,17 +1,18 @@
 -- What stands at the place where a search for a key ends, and what an insertion or a removal there leaves.
-use Rattle.std.proofs.Common.{◌≡◌, ℕ, zero, suc, ◌<◌, ◌≤◌, Bool, true, false, cond, List, [], ◌∷◌, None, Some, length, get_or, set, is_some, refl, sym, ap, ◌∙◌, arith}
+use Rattle.std.proofs.Common.{◌≡◌, ℕ, zero, suc, ◌+◌, ◌<◌, ◌≤◌, Bool, true, false, cond, List, [], ◌∷◌, None, Some, length, get_or, set, is_some, Result, Ok, Err, refl, sym, ap, ◌∙◌, arith}
 use Rattle.std.specs.declared.cmp.Ordering.{Ordering}
 use Rattle.std.specs.declared.cmp.Ordering.TheVariants.{Less, Equal, Greater}
 use Rattle.std.specs.BTreeMap.{insert_entry, is_at}
-use Rattle.std.specs.Cmp.{IsTotalOrder}
+use Rattle.std.specs.Cmp.{IsTotalOrder, alike_right}
 use Rattle.std.specs.List.{AllByRecursion, insert, remove}
-use Rattle.std.specs.List.Sorted.{IsStrictlySortedBy}
+use Rattle.std.specs.List.Sorted.{IsBinarySearchResult, IsSearchInRange, IsSortedBy, IsStrictlySortedBy}
 use Rattle.std.specs.Map.{keys_of, lookup, remove_entry}
 use Rattle.std.specs.Bool.{Decides}
-use Rattle.std.specs.Ordering.{match_ordering, ordering_reverse, is_eq, eq_by_cmp}
+use Rattle.std.specs.Ordering.{match_ordering, ordering_reverse, is_eq, is_lt, eq_by_cmp}
 use Rattle.std.specs.Set.{is_member}
+use Rattle.std.proofs.lemmas.List.Sorted.{searchable_from_sorted}
 use Rattle.std.proofs.lemmas.Map.Made.{is_member-Decides, is_some-lookup}
-use Rattle.lookup_tables.specs.Entries.{AreLower, HasKey, IsGap, IsInOrder, IsPlace, value_of, with_entry, without_key}
+use Rattle.lookup_tables.specs.Entries.{AreLower, HasKey, IsGap, IsInOrder, IsPlace, IsPlaceOf, value_of, with_entry, without_key}
 
 AllByRecursion-weaker : {K : Type 0} (P Q : K → Type 0) → ((x : K) → P x → Q x) → (ks : List K) → AllByRecursion P ks → AllByRecursion Q ks
 AllByRecursion-weaker P Q f [] a = tt
@@ -32,6 +33,35 @@ module _ {K : Type 0} (cmp : K → K → Ordering) (o : IsTotalOrder cmp) where
   tied x y equal = o.antisymm y x ∙ ap ordering_reverse equal
 
 module _ {K V : Type 0} (cmp : K → K → Ordering) (o : IsTotalOrder cmp) where
+  all-at : (P : K → Type 0) (es : List (K × V)) (i : ℕ) (d : K × V) → AllByRecursion P (keys_of es) → i < length es → P (get_or es i d).0
+  all-at P [] i d all within = absurd (omega arith)
+  all-at P (e ∷ es) zero d all within = all.0
+  all-at P (e ∷ es) (suc i) d all within = all-at P es i d all.1 (omega arith)
+
+  -- no key is below the one before it
+  never-falling : (es : List (K × V)) → IsInOrder cmp es → IsSortedBy (λ a b. is_lt (cmp a.0 b.0)) es
+  unfolding IsStrictlySortedBy
+  never-falling [] sorted k d low within = absurd (omega arith)
+  never-falling (e ∷ es) sorted zero d low within = ap is_lt (above cmp o e.0 (get_or es 0 d).0 (all-at (λ k. cmp e.0 k ≡ Less) es 0 d sorted.0 (omega arith)))
+  never-falling (e ∷ es) sorted (suc k) d low within = let next : suc k + 1 ≡ suc (k + 1) = omega arith in rw next (never-falling es sorted.1 k d (omega arith) (omega arith))
+
+  -- in order, each key before an equal one is below it
+  lower-place : (es : List (K × V)) (key : K) (i : ℕ) → IsInOrder cmp es → i < length es → ((d : K × V) → cmp (get_or es i d).0 key ≡ Equal) → AreLower cmp es key i
+  unfolding IsStrictlySortedBy
+  lower-place [] key i sorted within equal k d before = absurd (omega arith)
+  lower-place (e ∷ es) key zero sorted within equal k d before = absurd (omega arith)
+  lower-place (e ∷ es) key (suc i) sorted within equal zero d before =
+      sym (alike_right o (get_or es i d).0 key e.0 (equal d)) ∙ all-at (λ k. cmp e.0 k ≡ Less) es i d sorted.0 (omega arith)
+  lower-place (e ∷ es) key (suc i) sorted within equal (suc k) d before = lower-place es key i sorted.1 (omega arith) equal k d (omega arith)
+
+  -- what a binary search by the keys answers
+  pub IsPlaceOf-searched : (es : List (K × V)) (key : K) (r : Result ℕ ℕ) → IsInOrder cmp es → IsSearchInRange r (length es)
+      → IsBinarySearchResult (λ e. cmp e.0 key) es r → IsPlaceOf cmp es key r
+  IsPlaceOf-searched es key (Ok i) sorted within equal = record { within = within; lower = lower-place es key i sorted within equal; equal = equal }
+  IsPlaceOf-searched es key (Err i) sorted within parted =
+      let (lower, higher) = parted (searchable_from_sorted o (λ (e : K × V). e.0) es key (never-falling es sorted)) in
+      record { within = within; lower = λ k d before. lower k d (omega arith) before; higher = λ d inside. higher i d (omega arith) inside }
+
   insert-at : (es : List (K × V)) (key : K) (v : V) (i : ℕ) → AreLower cmp es key i → i ≤ length es
       → ((d : K × V) → i < length es → cmp (get_or es i d).0 key ≡ Greater) → insert es i (key, v) ≡ insert_entry cmp es key v
   insert-at [] key v zero lower within higher = refl
