@@ -74,10 +74,15 @@ pub fn print_times<R: Threads + Wait + Clock + Print + Sync>(
         &|worker: Worker<'_>| worker.sections(rt, rounds).ok(),
     )?;
     print_mean(rt, "raise, check, lower", sections.as_slice(), rounds)?;
-    let lock = Mutex::new(Book {
-        number: 1,
-        publications: 0,
-    });
+    let OpenTable { table, mut seat } = open_lock(alloc, threads)?;
+    let workers = Worker::all(alloc, &table, &mut seat, threads)?;
+    let entries = thread::map_vec(
+        rt,
+        workers,
+        &|worker: Worker<'_>| worker.sections_with_book(rt, rounds).ok(),
+    )?;
+    print_mean(rt, "raise, check, book, lower", entries.as_slice(), rounds)?;
+    let lock = Mutex::new(Book::new());
     let waits = thread::map_indices(
         rt,
         alloc,

@@ -1,12 +1,15 @@
-ghost use Rattle.std.specs.Prelude.{◌≡◌, ◌≤◌, ◌<◌, IfOk};
-ghost use Rattle.rm_table.specs.Rests.{IsIdle, IsOpening};
+ghost use Rattle.std.specs.Prelude.{◌≡◌, ◌≢◌, ℕ, ◌+◌, ◌≤◌, ◌<◌, ◌∷◌, IfOk, IsTrue, MatchOption};
+ghost use Rattle.rm_table.specs.Layout.{book_index};
+ghost use Rattle.rm_table.specs.Moves.{noted, book_taken};
+ghost use Rattle.rm_table.specs.Rests.{IsIdle, IsInside, IsOpening};
+ghost use Rattle.rm_table.specs.declared.slot.Slot.TheVariants.{Empty};
 
 use crate::book::Book;
 use crate::edition::Edition;
 use crate::timing::nanoseconds;
 use fw_base::OutOfMemory;
 use rm_core::Heard;
-use rm_table::{OpenTable, RmSeat, RmTable};
+use rm_table::{OpenTable, RmSeat, RmTable, Tried};
 use std::alloc::{AllocError, Global};
 use std::io;
 use std::time::{Clock, Instant};
@@ -20,8 +23,12 @@ pub type Seat = RmSeat<Edition, Book>;
 pub struct Worker<'a> {
     table: &'a Table,
     seat: Seat,
+    place: u32,
     pub ghost same: { seat.table_id ≡ table.now },
     pub ghost idle: { IsIdle seat.me.0 seat.me.1 },
+    pub ghost at_place: { seat.me.0.place ≡ place },
+    pub ghost above: { 0 < place },
+    pub ghost within: { place ≤ 64 },
 }
 
 impl<'a> Worker<'a> {
@@ -40,17 +47,36 @@ impl<'a> Worker<'a> {
         let mut workers = Vec::with_capacity(alloc, processors as usize)?;
         for place in 1..processors + 1 {
             let seat = table.split_seat(operator, place);
-            workers.push(Worker { table, seat })?;
+            workers.push(Worker { table, seat, place })?;
         }
         Ok(workers)
     }
 
     /// So many sections: raise, check, lower. Answers their nanoseconds.
     pub fn sections(self, clock: &impl Clock, count: u32) -> io::Result<u64> {
-        let Worker { table, mut seat } = self;
+        let Worker {
+            table,
+            mut seat,
+            place: _,
+        } = self;
         let start = Instant::now(clock)?;
         for _ in 0..count {
             section(table, &mut seat);
+        }
+        nanoseconds(clock, start)
+    }
+
+    /// So many sections, each with one try for the book, and an entry in it where it is free. Answers their
+    /// nanoseconds.
+    pub fn sections_with_book(self, clock: &impl Clock, count: u32) -> io::Result<u64> {
+        let Worker {
+            table,
+            mut seat,
+            place,
+        } = self;
+        let start = Instant::now(clock)?;
+        for _ in 0..count {
+            section_with_book(table, &mut seat, place);
         }
         nanoseconds(clock, start)
     }
@@ -65,14 +91,7 @@ pub fn open_lock(alloc: Global, processors: u32) -> Result<OpenTable<Edition, Bo
     ensures count { IfOk result (λ o. o.seat.me.0.count ≡ processors) }
 {
     let editions = vec![in alloc; Edition { number: 1 }; processors as usize]?;
-    Ok(RmTable::open(
-        alloc,
-        editions,
-        Book {
-            number: 1,
-            publications: 0,
-        },
-    )?)
+    Ok(RmTable::open(alloc, editions, Book::new())?)
 }
 
 // One section.
@@ -81,9 +100,66 @@ fn section(table: &Table, seat: &mut Seat) -> Heard
     requires idle { IsIdle seat.old.me.0 seat.old.me.1 }
     ensures table { seat.new.table_id ≡ seat.old.table_id }
     ensures idle { IsIdle seat.new.me.0 seat.new.me.1 }
+    ensures begun { seat.new.me.0.part.sections ≡ seat.old.me.0.part.sections + 1 }
 {
     table.raise(seat);
     let heard = table.check(seat);
     table.lower(seat);
     heard
+}
+
+// A processor in a section tries once for the book, and takes it out of its slot.
+fn try_book(table: &Table, seat: &mut Seat) -> Option<Book>
+    requires table { seat.old.table_id ≡ table.now }
+    requires inside { IsInside seat.old.me.0 seat.old.me.1 }
+    ensures table { seat.new.table_id ≡ seat.old.table_id }
+    ensures tried { MatchOption result ((holder : ℕ) × (seat.new.me ≡ (noted seat.old.me.0 book_index holder, seat.old.me.1)) × (holder ≢ 0)) (λ book. seat.new.me ≡ (noted (book_taken seat.old.me.0 book) book_index 0, (0, Empty) ∷ seat.old.me.1)) }
+{
+    match table.take_book(seat) {
+        Tried::Taken => table.exchange_book(seat, None),
+        Tried::HeldBy(_) => None,
+    }
+}
+
+// In a section: where the book is free, one entry in the processor's own list. Answers whether it was free.
+fn enter_in_book(table: &Table, seat: &mut Seat, place: u32) -> bool
+    requires table { seat.old.table_id ≡ table.now }
+    requires inside { IsInside seat.old.me.0 seat.old.me.1 }
+    requires place { seat.old.me.0.place ≡ place }
+    requires above { 0 < place }
+    requires within { place ≤ 64 }
+    ensures table { seat.new.table_id ≡ seat.old.table_id }
+    ensures place { seat.new.me.0.place ≡ place }
+    ensures inside { IsInside seat.new.me.0 seat.new.me.1 }
+    ensures sections { seat.new.me.0.part.sections ≡ seat.old.me.0.part.sections }
+    ensures entered { IsTrue result → seat.new.me.0.part.book_taken ≡ seat.old.me.0.part.book_taken + 1 }
+{
+    let Some(mut book) = try_book(table, seat) else {
+        return false;
+    };
+    book.add_entry(place);
+    let _ = table.exchange_book(seat, Some(book));
+    table.give_book(seat);
+    true
+}
+
+// One section with an entry in the book. Answers whether the book was free.
+fn section_with_book(table: &Table, seat: &mut Seat, place: u32) -> bool
+    requires table { seat.old.table_id ≡ table.now }
+    requires idle { IsIdle seat.old.me.0 seat.old.me.1 }
+    requires place { seat.old.me.0.place ≡ place }
+    requires above { 0 < place }
+    requires within { place ≤ 64 }
+    ensures table { seat.new.table_id ≡ seat.old.table_id }
+    ensures place { seat.new.me.0.place ≡ place }
+    ensures idle { IsIdle seat.new.me.0 seat.new.me.1 }
+    ensures begun { seat.new.me.0.part.sections ≡ seat.old.me.0.part.sections + 1 }
+{
+    table.raise(seat);
+    let entered = match table.check(seat) {
+        Heard::Held => enter_in_book(table, seat, place),
+        _ => false,
+    };
+    table.lower(seat);
+    entered
 }

@@ -84,7 +84,7 @@ fn renew(rt: &impl Abort, table: &LockTable, operator: &mut Seat, next: u64)
 }
 
 // The operator takes the book, and the book out of its slot.
-fn take_ledger(rt: &impl Abort, table: &LockTable, operator: &mut Seat) -> Ledger
+pub(crate) fn take_ledger(rt: &impl Abort, table: &LockTable, operator: &mut Seat) -> Ledger
     requires table { operator.old.table_id ≡ table.now }
     requires operator { IsOperator operator.old.me.0 }
     ensures table { operator.new.table_id ≡ operator.old.table_id }

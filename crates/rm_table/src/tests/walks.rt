@@ -46,6 +46,7 @@ pub(crate) fn open_pair(alloc: Global) -> Result<Pair, Fail>
     ensures count { IfOk result (λ p. (p.operator.me.0.count ≡ 2) × (p.operator.me.0.number ≡ 1)) }
     ensures first { IfOk result (λ p. IsIdle p.first.me.0 p.first.me.1) }
     ensures second { IfOk result (λ p. IsIdle p.second.me.0 p.second.me.1) }
+    ensures places { IfOk result (λ p. (p.first.me.0.place ≡ 1) × (p.second.me.0.place ≡ 2)) }
 {
     let OpenTable {
         table,
@@ -87,7 +88,8 @@ pub(crate) fn take_tokens(rt: &impl Abort, table: &LockTable, operator: &mut Sea
     ensures behind { operator.new.me.0.behind ≡ true }
     ensures revoked { (is_revoked operator.new.me.0 1 ≡ true) × (is_revoked operator.new.me.0 2 ≡ true) }
     ensures undrained { (is_drained operator.new.me.0 1 ≡ false) × (is_drained operator.new.me.0 2 ≡ false) }
-    ensures sizes { length operator.new.me.0.drained ≡ 3 }
+    ensures sizes { (length operator.new.me.0.drained ≡ 3) × (length operator.new.me.0.kept ≡ 3) }
+    ensures counts { operator.new.me.0.opened + length operator.new.me.0.history ≡ operator.new.me.0.number + 1 }
 {
     assert_eq!(rt; table.take_back(operator), Tried::Taken);
     table.revoke(operator, 1);

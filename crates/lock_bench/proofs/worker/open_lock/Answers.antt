@@ -1,4 +1,4 @@
-use Rattle.std.proofs.Common.{rules, ◌≡◌, ◌∙◌, ap, refl}
+use Rattle.std.proofs.Common.{rules, ◌≡◌, ◌∙◌, ap, sym}
 use Rattle.std.specs.Prelude.{replicate}
 use Rattle.lock_bench.specs.contracts.edition.EditionNumbered.TheImpl as edition
 use Rattle.lock_bench.specs.contracts.book.BookKept.TheImpl as ledger
@@ -11,13 +11,13 @@ pub open-requires-clause-opens : goal.open-requires-clause-opens
 open-requires-clause-opens c =
     let e : Edition = record { number = 1 } in
     let is : c.in_ok-editions.editions.items ≡ replicate c.args.processors e = c.in_ok-editions.ensures.items_if_clones_equal (search rules) in
-    rw is (e, first_of-replicate e c.args.processors c.requires.some, opens_alike _ c.args.processors e _ c.requires.some refl refl)
+    rw is (e, first_of-replicate e c.args.processors c.requires.some, opens_alike _ c.args.processors e c.new.result c.requires.some (sym (ap (λ b. b.number) c.new.ensures)) (sym (ap (λ b. b.number) c.new.ensures)))
 
 pub returns-clause-opening : goal.returns-clause-opening
 returns-clause-opening c =
     let e : Edition = record { number = 1 } in
     let is : c.in_ok-editions.editions.items ≡ replicate c.args.processors e = c.in_ok-editions.ensures.items_if_clones_equal (search rules) in
-    opens_me (meanings edition.ghosts.number edition.ghosts.tag edition.ghosts.name ledger.ghosts.number ledger.ghosts.tag ledger.ghosts.ready ledger.ghosts.of ledger.ghosts.facts_item) c.in_ok-editions.editions.len e (record { number = 1; publications = 0 }) _ (c.in_ok-open.ensures.seat e (rw is (first_of-replicate e c.args.processors c.requires.some)))
+    opens_me (meanings edition.ghosts.number edition.ghosts.tag edition.ghosts.name ledger.ghosts.number ledger.ghosts.tag ledger.ghosts.ready ledger.ghosts.of ledger.ghosts.facts_item) c.in_ok-editions.editions.len e c.new.result _ (c.in_ok-open.ensures.seat e (rw is (first_of-replicate e c.args.processors c.requires.some)))
 
 pub returns-clause-count : goal.returns-clause-count
 returns-clause-count c =

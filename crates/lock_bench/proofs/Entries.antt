@@ -1,0 +1,69 @@
+-- A processor's entry in the book, and the book given back.
+use Rattle.std.proofs.Common.{◌≡◌, ◌≢◌, ℕ, ◌-◌, ◌^◌, ◌<◌, ◌∷◌, length, refl, sym, ◌∙◌, ap, subst, arith}
+use Rattle.std.specs.Prelude.{slice_index_or, slice_set, replicate, nat_lt}
+use Rattle.std.proofs.lemmas.List.{get_or-set_other}
+use Rattle.atomic_table.specs.Table.{Me, rest}
+use Rattle.rm_table.specs.declared.role.Role.TheVariants.{Processor}
+use Rattle.rm_table.specs.declared.slot.Slot.{Slot}
+use Rattle.rm_table.specs.declared.slot.Slot.TheVariants.{Empty, Book as Held}
+use Rattle.rm_table.specs.declared.view.View.{View}
+use Rattle.rm_table.specs.Layout.{book_index}
+use Rattle.rm_table.specs.Meanings.{Meanings, meanings}
+use Rattle.rm_table.specs.Moves.{Hand, noted, book_taken, book_given, HasBook, LeftBy}
+use Rattle.rm_table.specs.Rests.{IsInside}
+use Rattle.lock_bench.specs.declared.edition.Edition.{Edition}
+use Rattle.lock_bench.specs.declared.book.Book.{Book}
+use Rattle.lock_bench.specs.contracts.edition.EditionNumbered.TheImpl as edition
+use Rattle.lock_bench.specs.contracts.book.BookKept.TheImpl as ledger
+
+abbrev pub Known : Type 0
+Known = Me (Slot Edition Book) (View Edition Book ℕ ℕ ℕ)
+
+abbrev pub means : Meanings Edition Book ℕ ℕ ℕ
+means = meanings edition.ghosts.number edition.ghosts.tag edition.ghosts.name ledger.ghosts.number ledger.ghosts.tag ledger.ghosts.ready ledger.ghosts.of ledger.ghosts.facts_item
+
+-- one entry more in one list leaves the other lists
+pub left_by : (place length : ℕ) (taken book : Book) → 0 < place → book.number ≡ taken.number → book.lengths ≡ slice_set taken.lengths place length → LeftBy means place taken book
+left_by place length taken book above number lengths = record {
+  number = number;
+  tag = number;
+  lists = λ k other. ap (λ n. replicate n 0) (same k other);
+  ready = λ was. ap (λ n. nat_lt n (2 ^ 64 - 1)) (same 0 (λ e. absurd (omega arith))) ∙ was;
+}
+  where
+    same : (k : ℕ) → k ≢ place → slice_index_or book.lengths k 0 ≡ slice_index_or taken.lengths k 0
+    same k other = ap (λ xs. slice_index_or xs k 0) lengths ∙ get_or-set_other taken.lengths place k length 0 other
+
+-- the seat that took the book, and put the changed one into its slot
+pub has_entered : (old taken_seat seat : Known) (taken book : Book) (place length : ℕ) → old.0.role ≡ Processor → old.0.place ≡ place → 0 < place → taken_seat ≡ (noted (book_taken old.0 taken) book_index 0, (0, Empty) ∷ old.1) → book.number ≡ taken.number → book.lengths ≡ slice_set taken.lengths place length
+    → seat ≡ (taken_seat.0, (0, Held book) ∷ rest taken_seat.1) → HasBook means seat.0 seat.1
+has_entered old taken_seat seat taken book place length processor at above is number lengths then =
+    let e : seat ≡ (noted (book_taken old.0 taken) book_index 0, (0, Held book) ∷ old.1) = then ∙ ap (λ (s : Known). (s.0, (0, Held book) ∷ rest s.1)) is in
+    subst (λ (s : Known). HasBook means s.0 s.1) (sym e) (record {
+      book = book;
+      hand_is = refl;
+      taken = taken;
+      book_taken = refl;
+      processor = λ _. subst (λ (p : ℕ). LeftBy means p taken book) (sym at) (left_by place length taken book above number lengths);
+      operator = λ other. let clash = sym processor ∙ other in absurd cc;
+    })
+
+-- the seat once the book is given back
+pub entered : (old taken_seat seat new : Known) (taken book : Book) → taken_seat ≡ (noted (book_taken old.0 taken) book_index 0, (0, Empty) ∷ old.1) → seat ≡ (taken_seat.0, (0, Held book) ∷ rest taken_seat.1)
+    → ((b : Book) → seat.1 ≡ (0, Held b) ∷ rest seat.1 → new ≡ (noted (book_given means seat.0 b) book_index 0, rest seat.1)) → new ≡ (noted (book_given means (noted (book_taken old.0 taken) book_index 0) book) book_index 0, old.1)
+entered old taken_seat seat new taken book is then step =
+    let e : seat ≡ (noted (book_taken old.0 taken) book_index 0, (0, Held book) ∷ old.1) = then ∙ ap (λ (s : Known). (s.0, (0, Held book) ∷ rest s.1)) is in
+    step book (ap (λ (s : Known). s.1) then ∙ ap (λ (h : Hand Edition Book). (0, Held book) ∷ h) (sym (ap (λ (s : Known). rest s.1) then)))
+    ∙ ap (λ (s : Known). (noted (book_given means s.0 book) book_index 0, rest s.1)) e
+
+-- it is in its section as before
+pub inside_again : (old new : Known) (taken book : Book) → IsInside old.0 old.1 → new ≡ (noted (book_given means (noted (book_taken old.0 taken) book_index 0) book) book_index 0, old.1) → IsInside new.0 new.1
+inside_again old new taken book o e = subst (λ (s : Known). IsInside s.0 s.1) (sym e) (record {
+  processor = o.processor;
+  inside = o.inside;
+  unheld = o.unheld;
+  bookless = refl;
+  edition = o.edition;
+  hand_is = o.hand_is;
+  reading = o.reading;
+})
