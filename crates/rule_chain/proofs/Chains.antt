@@ -1,9 +1,9 @@
 -- Rules in number order with rule 65535 at their end: what keeps this.
-use Rattle.std.proofs.Common.{◌≡◌, ℕ, zero, suc, ◌+◌, ◌-◌, ◌≤◌, ◌<◌, Bool, true, false, cond, nat_lt, max, List, [], ◌∷◌, map, length, get_or, refl, ap, ◌∙◌, sym, subst, arith}
+use Rattle.std.proofs.Common.{◌≡◌, ℕ, zero, suc, ◌+◌, ◌≤◌, ◌<◌, Bool, true, false, cond, nat_lt, List, [], ◌∷◌, map, length, get_or, refl, ap, ◌∙◌, arith}
 use Rattle.std.specs.List.{filter}
 use Rattle.fw_rule.specs.declared.rule.Rule.{Rule}
 use Rattle.rule_chain.specs.Chain.{AscendsFrom}
-use Rattle.rule_chain.specs.Rules.{last_rule, insert_rule, renumber, greatest_number, in_set_for}
+use Rattle.rule_chain.specs.Rules.{last_rule, insert_rule, renumber, in_set_for}
 
 pub weaken : (a b : ℕ) (rules : List Rule) → a ≤ b → AscendsFrom b rules → AscendsFrom a rules
 weaken a b [] le h = h

@@ -1,5 +1,5 @@
 -- The number of a new rule is one of 1 to 65534, or the 65535 that was given.
-use Rattle.std.proofs.Common.{◌≡◌, ℕ, zero, suc, ◌+◌, ◌≤◌, ◌<◌, Bool, true, false, cond, nat_le, Option, Some, None, List, refl, arith, IfSome, if◌then◌else◌}
+use Rattle.std.proofs.Common.{◌≡◌, ℕ, ◌+◌, ◌≤◌, ◌<◌, true, false, nat_le, Option, Some, None, List, refl, arith, IfSome, if◌then◌else◌}
 use Rattle.std.specs.Prelude.{◌==◌}
 use Rattle.std.proofs.lemmas.Bool.Decides.{nat_tests}
 use Rattle.fw_rule.specs.declared.rule.Rule.{Rule}

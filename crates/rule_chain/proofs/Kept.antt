@@ -1,14 +1,14 @@
 -- What holds in every configuration is kept by each command.
-use Rattle.std.proofs.Common.{◌≡◌, ℕ, zero, suc, ◌+◌, ◌-◌, ◌≤◌, ◌<◌, Bool, true, false, cond, nat_lt, List, [], ◌∷◌, map, length, refl, ap, ◌∙◌, sym, arith, IfSome, ◌≢◌, ◌||◌, not, if◌then◌else◌, Option, Some, None, bit_or}
+use Rattle.std.proofs.Common.{◌≡◌, ℕ, suc, ◌+◌, ◌-◌, ◌≤◌, ◌<◌, Bool, true, false, cond, nat_lt, List, [], ◌∷◌, map, length, refl, ap, arith, ◌≢◌, ◌||◌, not, if◌then◌else◌, Some, None, bit_or}
 use Rattle.std.specs.Prelude.{◌==◌}
 use Rattle.std.specs.Option.{option_or}
 use Rattle.std.proofs.lemmas.Bool.Decides.{nat_tests}
 use Rattle.std.proofs.lemmas.Nat.{or_lt, and_le_l}
 use Rattle.std.specs.List.{filter, AllByRecursion}
-use Rattle.fw_rule.specs.WellFormed.{IsSet, IsNumber, IsDraft}
+use Rattle.fw_rule.specs.WellFormed.{IsSet, IsDraft}
 use Rattle.fw_rule.specs.declared.rule.Rule.{Rule}
 use Rattle.fw_rule.specs.declared.rule_draft.RuleDraft.{RuleDraft}
-use Rattle.rule_chain.specs.Chain.{AscendsFrom, IsRule, IsConfiguration}
+use Rattle.rule_chain.specs.Chain.{IsRule, IsConfiguration}
 use Rattle.rule_chain.specs.Configuration.{Configuration}
 use Rattle.rule_chain.specs.Answers.{first_fault}
 use Rattle.rule_chain.specs.Apply.{deletion_fault, mask_after}

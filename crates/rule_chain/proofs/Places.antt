@@ -1,6 +1,6 @@
 -- An insertion at the place that a search in number order finds.
-use Rattle.std.proofs.Common.{◌≡◌, ℕ, zero, suc, ◌+◌, ◌-◌, ◌≤◌, ◌<◌, Bool, true, false, cond, nat_lt, nat_le, List, [], ◌∷◌, ◌++◌, map, length, get_or, take, drop, refl, ap, ◌∙◌, sym, arith}
-use Rattle.std.specs.List.{insert, AllWithin}
+use Rattle.std.proofs.Common.{◌≡◌, ℕ, zero, suc, ◌≤◌, ◌<◌, true, false, nat_lt, List, [], ◌∷◌, map, length, get_or, refl, ap, sym, arith}
+use Rattle.std.specs.List.{insert}
 use Rattle.fw_rule.specs.declared.rule.Rule.{Rule}
 use Rattle.rule_chain.specs.Chain.{AscendsFrom}
 use Rattle.rule_chain.specs.Rules.{insert_rule}

@@ -1,8 +1,8 @@
 -- Uses one after the other.
-use Rattle.std.proofs.Common.{◌≡◌, ℕ, suc, ◌+◌, ◌<◌, Result, Ok, Err, Option, Some, None, List, [], ◌∷◌, ◌++◌, length, get_or, drop, refl, ap, ◌∙◌, sym, arith}
-use Rattle.std.specs.List.{filter_map, cons_option}
+use Rattle.std.proofs.Common.{◌≡◌, Ok, Err, Option, Some, None, List, [], ◌∷◌, ◌++◌, refl}
+use Rattle.std.specs.List.{filter_map}
 use Rattle.lookup_tables.specs.Tables.{NamedTables}
-use Rattle.rule_chain.specs.Answers.{Answer, ◌>>=◌}
+use Rattle.rule_chain.specs.Answers.{◌>>=◌}
 use Rattle.rule_chain.specs.Lookups.{with_use, with_uses}
 use Rattle.rule_chain.specs.Uses.{Use}
 

@@ -1,5 +1,5 @@
 -- Commands (ipfw(8), "SYNOPSIS"): the configuration after a command, or its first refusal.
-use Rattle.std.specs.Prelude.{ℕ, ◌+◌, ◌-◌, ◌/◌, ◌%◌, ◌^◌, Bool, ◌||◌, not, ◌==◌, nat_le, if◌then◌else◌, Option, Some, None, Result, Ok, Err, List, [], ◌∷◌, ◌++◌, length, bit_and, bit_or}
+use Rattle.std.specs.Prelude.{ℕ, ◌+◌, ◌-◌, Bool, ◌||◌, not, ◌==◌, nat_le, if◌then◌else◌, Option, Some, None, Ok, Err, List, [], ◌∷◌, ◌++◌, length, bit_and, bit_or}
 use Rattle.std.specs.List.{list_any}
 use Rattle.fw_base.specs.declared.address.Addr.{Addr}
 use Rattle.fw_rule.specs.Canonical.{has_bit}

@@ -1,7 +1,6 @@
 -- Lists of rules (ipfw(8), "RULE FORMAT", "SETS OF RULES").
 use Rattle.std.specs.Prelude.{ℕ, ◌+◌, Bool, true, false, ◌||◌, not, ◌==◌, nat_lt, nat_le, max, if◌then◌else◌, Option, Some, None, List, [], ◌∷◌, length, map}
 use Rattle.std.specs.List.{filter, list_any}
-use Rattle.fw_base.specs.Prefix.{network}
 use Rattle.fw_rule.specs.declared.action.Action.TheVariants.{Deny}
 use Rattle.fw_rule.specs.declared.addr_item.AddrItem.TheVariants.{Any}
 use Rattle.fw_rule.specs.declared.addr_spec.AddrSpec.{AddrSpec}

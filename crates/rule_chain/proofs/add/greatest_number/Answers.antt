@@ -1,4 +1,4 @@
-use Rattle.std.proofs.Common.{◌≡◌, ℕ, ◌<◌, map, ap, ◌∙◌, sym, subst, arith}
+use Rattle.std.proofs.Common.{ℕ, ◌<◌, map, ap, ◌∙◌, sym, subst, arith}
 use Rattle.std.specs.Arc.{arc_value}
 use Rattle.fw_rule.specs.declared.rule.Rule.{Rule}
 use Rattle.rule_chain.proofs.Greatest.{greatest_few, greatest_at, greatest_below}

@@ -1,4 +1,4 @@
-use Rattle.std.proofs.Common.{◌≡◌, ℕ, ◌≤◌, ◌<◌, leb, leb-true, leb-false, true, map, ap, ◌∙◌, sym, arith, rules, Global, get_or, length}
+use Rattle.std.proofs.Common.{ℕ, ◌≤◌, ◌<◌, leb, leb-true, leb-false, map, ap, ◌∙◌, arith, rules, Global, length}
 use Rattle.std.proofs.lemmas.List.Sorted.{IsPartitionPoint-from_clause, IsPartitionedBy-leb}
 use Rattle.std.specs.Arc.{arc_value}
 use Rattle.std.specs.declared.sync.Arc.{Arc}

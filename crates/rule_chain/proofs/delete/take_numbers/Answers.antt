@@ -1,6 +1,5 @@
-use Rattle.std.proofs.Common.{rules, ◌≡◌, Bool, not, ◌||◌, List, ap, ◌∙◌, map}
+use Rattle.std.proofs.Common.{rules, Bool, not, ap, ◌∙◌, map}
 use Rattle.std.proofs.lemmas.Fn.{filter_same}
-use Rattle.std.specs.Prelude.{◌==◌}
 use Rattle.std.specs.Arc.{arc_value}
 use Rattle.fw_rule.specs.declared.rule.Rule.{Rule}
 use Rattle.rule_chain.specs.Rules as lists

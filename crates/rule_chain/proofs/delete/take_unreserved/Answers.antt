@@ -1,9 +1,8 @@
-use Rattle.std.proofs.Common.{rules, Global, ◌≡◌, Bool, not, ◌||◌, List, ap, ◌∙◌, map}
+use Rattle.std.proofs.Common.{rules, Global, Bool, ap, ◌∙◌, map}
 use Rattle.std.proofs.lemmas.Fn.{filter_same}
 use Rattle.std.specs.Prelude.{◌==◌}
 use Rattle.std.specs.Arc.{arc_value}
 use Rattle.fw_rule.specs.declared.rule.Rule.{Rule}
-use Rattle.rule_chain.specs.Rules as lists
 use Rattle.rule_chain.proofs.Lists.{filter-map}
 use Rattle.rule_chain.proofs.delete.take_unreserved.Goals as goal
 

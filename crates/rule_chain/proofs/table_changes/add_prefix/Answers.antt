@@ -1,8 +1,6 @@
-use Rattle.std.proofs.Common.{◌≡◌, true, false, is_some, refl}
-use Rattle.std.specs.Ordering.{nat_cmp}
+use Rattle.std.proofs.Common.{refl}
 use Rattle.lookup_tables.specs.AddrTable.{network_cmp}
-use Rattle.lookup_tables.specs.Entries.{value_of}
-use Rattle.lookup_tables.proofs.Networks.{network_same, number_same}
+use Rattle.lookup_tables.proofs.Networks.{network_same}
 use Rattle.rule_chain.proofs.Keys.{there, not_there}
 use Rattle.rule_chain.proofs.table_changes.add_prefix.Goals as goal
 

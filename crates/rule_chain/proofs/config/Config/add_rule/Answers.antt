@@ -1,4 +1,4 @@
-use Rattle.std.proofs.Common.{◌≡◌, ◌≤◌, ◌<◌, map, sym, refl, ap, ◌∙◌, ◌+◌, length, arith, map, get_or}
+use Rattle.std.proofs.Common.{◌≤◌, ◌<◌, map, refl, ap, ◌∙◌, ◌+◌, arith, map}
 use Rattle.std.specs.Arc.{arc_value}
 use Rattle.rule_chain.specs.Rules as lists
 use Rattle.rule_chain.proofs.Chosen.{chosen_least, chosen_most}

@@ -1,4 +1,4 @@
-use Rattle.std.proofs.Common.{◌≡◌, Bool, not, sym, refl, ◌∙◌}
+use Rattle.std.proofs.Common.{not, sym, refl, ◌∙◌}
 use Rattle.fw_rule.specs.declared.rule.Rule.{Rule}
 use Rattle.rule_chain.specs.Apply.{delete_rules}
 use Rattle.rule_chain.specs.Rules as lists

@@ -1,4 +1,4 @@
-use Rattle.std.proofs.Common.{◌≡◌, Bool, not, ◌||◌}
+use Rattle.std.proofs.Common.{not, ◌||◌}
 use Rattle.std.specs.Prelude.{◌==◌}
 use Rattle.fw_rule.specs.declared.rule.Rule.{Rule}
 use Rattle.rule_chain.proofs.Kept.{filter_kept}

@@ -1,4 +1,4 @@
-use Rattle.std.proofs.Common.{◌≡◌, map, sym, refl, ap, ◌∙◌, ◌+◌, length, arith}
+use Rattle.std.proofs.Common.{map, sym, refl, arith}
 use Rattle.std.specs.Arc.{arc_value}
 use Rattle.rule_chain.specs.Apply.{zero_counters}
 use Rattle.rule_chain.specs.Rules as lists
