@@ -14,7 +14,7 @@ pub use items::Items;
 pub use key::Key;
 pub use limit_mask::LimitMask;
 pub use opt::Opt;
-pub use options::{FLAG_NAMES, OPTION_NAMES};
+pub use options::{FLAG_NAMES, OPTION_NAMES, has_bit};
 pub use port_list::PortList;
 pub use rule::Rule;
 pub use rule_draft::RuleDraft;

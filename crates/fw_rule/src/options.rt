@@ -16,7 +16,8 @@ pub const FLAG_NAMES: [&[u8]; 6] = [b"fin", b"syn", b"rst", b"psh", b"ack", b"ur
 /// The names of bits 0 to 3 of a mask of IP options.
 pub const OPTION_NAMES: [&[u8]; 4] = [b"ssrr", b"lsrr", b"rr", b"ts"];
 
-fn has_bit(mask: u32, bit: u32) -> bool
+/// Whether the mask has that bit, 0 to 31; bit 0 is the one of value 1.
+pub fn has_bit(mask: u32, bit: u32) -> bool
     requires { bit < 32 }
     ensures { result ≡ text.has_bit mask bit }
 {

@@ -12,7 +12,7 @@ use Rattle.rule_chain.specs.Answers.{Answer}
 use Rattle.rule_chain.specs.Apply.{apply}
 use Rattle.rule_chain.specs.Configuration.{Configuration}
 use Rattle.rule_chain.specs.First.{first_configuration}
-use Rattle.rule_chain.specs.Lookups.{table_named}
+use Rattle.lookup_tables.specs.Tables.{table_named}
 use Rattle.rule_chain.specs.declared.apply_fault.ApplyFault.TheVariants.{NoSuchTable}
 use Rattle.replay_driver.specs.Forms.{not_yet}
 use Rattle.replay_driver.specs.declared.answer.Answer.TheVariants.{Listed}

@@ -8,7 +8,7 @@ use Rattle.fw_rule.specs.declared.rule.Rule.{Rule}
 use Rattle.lookup_tables.specs.declared.table.Table.{Table}
 use Rattle.lookup_tables.specs.declared.table.Table.TheVariants.{Addresses, Numbers}
 use Rattle.rule_chain.specs.Configuration.{Configuration}
-use Rattle.rule_chain.specs.Lookups.{table_named}
+use Rattle.lookup_tables.specs.Tables.{table_named}
 use Rattle.replay_driver.specs.declared.answer.Answer.{Answer}
 use Rattle.replay_driver.specs.declared.answer.Answer.TheVariants.{Listed}
 use Rattle.replay_driver.specs.declared.line_answer.LineAnswer.{LineAnswer}

@@ -3,7 +3,7 @@ ghost use Rattle.std.specs.Arc.{arc_value};
 ghost use Rattle.std.specs.List.{flat_map};
 ghost use Rattle.fw_base.specs.Texts.{WritesText};
 ghost use Rattle.fw_rule.specs.Canonical.{rule_text};
-ghost use Rattle.rule_chain.specs.Lookups.{table_named};
+ghost use Rattle.lookup_tables.specs.Tables.{table_named};
 ghost use Rattle.replay_driver.specs.Report as spec;
 
 use crate::{Answer, LineAnswer};

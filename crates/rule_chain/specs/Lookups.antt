@@ -1,5 +1,5 @@
 -- What commands do with lookup tables (ipfw(8), "LOOKUP TABLES").
-use Rattle.std.specs.Prelude.{ℕ, Bool, true, false, if◌then◌else◌, is_some, Option, Some, None, Result, Ok, Err, List, [], ◌∷◌}
+use Rattle.std.specs.Prelude.{ℕ, Bool, true, false, if◌then◌else◌, is_some, Option, Some, None, Ok, Err, List, [], ◌∷◌}
 use Rattle.std.specs.Ordering.{nat_cmp}
 use Rattle.std.specs.List.{list_any}
 use Rattle.fw_rule.specs.declared.key.Key.{Key}
@@ -11,15 +11,12 @@ use Rattle.fw_rule.specs.declared.table_type.TableType.{TableType}
 use Rattle.fw_rule.specs.declared.table_type.TableType.TheVariants.{Addresses, Numbers}
 use Rattle.lookup_tables.specs.AddrTable.{network_cmp}
 use Rattle.lookup_tables.specs.Entries.{value_of, with_entry, without_key}
-use Rattle.lookup_tables.specs.Tables.{NamedTables, name_cmp}
+use Rattle.lookup_tables.specs.Tables.{NamedTables, name_cmp, table_named}
 use Rattle.lookup_tables.specs.declared.table.Table.{Table}
 use Rattle.lookup_tables.specs.declared.table.Table.TheVariants.{Addresses as AddressTable, Numbers as NumberTable}
 use Rattle.rule_chain.specs.declared.apply_fault.ApplyFault.TheVariants.{NoSuchTable, EntryExists, NoSuchEntry, TableInUse, WrongType}
 use Rattle.rule_chain.specs.Answers.{Answer, ◌>>=◌}
 use Rattle.rule_chain.specs.Uses.{Use, names_table}
-
-abbrev pub table_named : NamedTables → List ℕ → Option Table
-table_named tables name = value_of name_cmp tables name
 
 abbrev pub put_table : NamedTables → List ℕ → Table → NamedTables
 put_table tables name table = with_entry name_cmp tables name table

@@ -1,10 +1,10 @@
 ghost use Rattle.std.specs.Prelude.{◌≡◌, ◌+◌, IfOk, map};
 ghost use Rattle.std.specs.Arc.{arc_value};
 ghost use Rattle.std.specs.Option.{option_copied};
+ghost use Rattle.lookup_tables.specs.Tables.{table_named};
 ghost use Rattle.rule_chain.specs.Chain.{IsConfiguration};
 ghost use Rattle.rule_chain.specs.Configuration.{Configuration, values_of};
 ghost use Rattle.rule_chain.specs.First.{first_configuration};
-ghost use Rattle.rule_chain.specs.Lookups.{table_named};
 ghost use Rattle.rule_chain.specs.Rules as lists;
 
 use crate::values::default_settings;

@@ -3,6 +3,7 @@ ghost use Rattle.std.specs.Arc.{arc_value};
 ghost use Rattle.std.specs.List.{list_any};
 ghost use Rattle.fw_rule.specs.declared.key.Key.TheVariants.{Net, Number};
 ghost use Rattle.lookup_tables.specs.declared.table.Table.TheVariants.{Addresses as AddressTable, Numbers as NumberedTable};
+ghost use Rattle.lookup_tables.specs.Tables.{table_named};
 ghost use Rattle.rule_chain.specs.Answers.{Gives};
 ghost use Rattle.rule_chain.specs.Lookups as spec;
 ghost use Rattle.rule_chain.specs.Uses.{names_table};
@@ -201,7 +202,7 @@ fn are_alike(table: &Table, other: &Table) -> bool
 }
 
 fn copy_of(tables: &Tables, name: &Name) -> Result<Table, ApplyFault>
-    ensures { Gives result (spec.found (spec.table_named tables.now name.now)) }
+    ensures { Gives result (spec.found (table_named tables.now name.now)) }
 {
     match tables.get(name) {
         Some(table) => Ok(table.copy()?),

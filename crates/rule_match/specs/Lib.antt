@@ -1,0 +1,5 @@
+pub mod Holds
+pub mod Interfaces
+pub mod Ports
+pub mod Tables
+pub mod Tests

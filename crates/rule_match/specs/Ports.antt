@@ -1,0 +1,22 @@
+-- The ports of a packet, and the ports that a rule asks for (ipfw(8), "RULE BODY").
+use Rattle.std.specs.Prelude.{ℕ, Bool, false, ◌&&◌, nat_le, Option, Some, None, List}
+use Rattle.std.specs.List.{list_any}
+use Rattle.std.specs.Option.{option_map}
+use Rattle.fw_base.specs.PortRange.{Ports}
+use Rattle.packet_headers.specs.Fields.{Fields}
+use Rattle.packet_headers.specs.Transport.{ports_of}
+
+-- those of TCP and UDP with their header; no other packet has one
+abbrev pub source_port : Fields → Option ℕ
+source_port packet = option_map (λ ports. ports.0) (ports_of packet)
+
+abbrev pub destination_port : Fields → Option ℕ
+destination_port packet = option_map (λ ports. ports.1) (ports_of packet)
+
+abbrev pub is_in_range : ℕ → Ports → Bool
+is_in_range port range = nat_le range.low port && nat_le port range.high
+
+-- the port is in some range; a packet without one is in none
+abbrev pub is_in_ranges : Option ℕ → List Ports → Bool
+is_in_ranges None ranges = false
+is_in_ranges (Some port) ranges = list_any (is_in_range port) ranges
