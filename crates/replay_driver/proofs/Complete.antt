@@ -7,7 +7,7 @@ use Rattle.fw_base.specs.Pairs.{Pair, take_named, TakesOut}
 use Rattle.pcap_read.specs.declared.capture_fault.CaptureFault.{CaptureFault}
 use Rattle.pcap_read.specs.Reading.{Captured, Place, Open, Closed, AtBoundary, HasFront, Stops, at_end}
 use Rattle.pcap_read.proofs.OneFront.{front_unique, front_stays}
-use Rattle.replay_driver.specs.Words.{Named}
+use Rattle.replay_driver.specs.Words.{Named, port_of}
 use Rattle.replay_driver.specs.Finding.{finding_status, end_status}
 use Rattle.replay_driver.specs.Editions.{edition_of}
 use Rattle.replay_driver.specs.Replay.{IsEnd}
@@ -80,7 +80,7 @@ module _ {K S L : Type 0} (written : K → Option (List ℕ)) (sink_faults : K �
 
   -- what was read of both has status 0
   judged_0 : (complete : Complete) (finding : Finding) (script capture opened : S) (bytes : List ℕ) → failures capture ≡ 0
-      → ReadsBoth pairs faults refused left failures names library libraryAfter script opened bytes → Judges left failures bytes opened finding capture → finding_status finding ≡ 0
+      → ReadsBoth pairs faults refused left failures names library libraryAfter script opened bytes → Judges left failures (port_of names) bytes opened finding capture → finding_status finding ≡ 0
   judged_0 complete (Unread name) script capture opened bytes quiet both judged = absurd judged
   judged_0 complete (Unready error) script capture opened bytes quiet both judged =
       let read = reads_script_of complete both.between script bytes both.reads_script in

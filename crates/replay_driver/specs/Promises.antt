@@ -5,7 +5,7 @@ use Rattle.fw_base.specs.Faults.{Rose}
 use Rattle.fw_base.specs.Pairs.{Pair, take_named}
 use Rattle.pcap_read.specs.Reading.{Captured, HasFront, Open, AtBoundary}
 use Rattle.replay_driver.specs.Chain.{◌>>=◌}
-use Rattle.replay_driver.specs.Words.{Named}
+use Rattle.replay_driver.specs.Words.{Named, port_of}
 use Rattle.replay_driver.specs.Replay.{IsReplay}
 use Rattle.replay_driver.specs.Report.{report_text}
 use Rattle.replay_driver.specs.ScriptTexts.{error_text}
@@ -33,7 +33,7 @@ in_order names = names.script ∷ names.capture ∷ []
 module _ {K S L : Type 0} (written : K → Option (List ℕ)) (sink_faults : K → ℕ) (pairs : L → Option (List Pair)) (faults : L → ℕ) (refused : L → Option (List ℕ)) (left : S → Option (List ℕ)) (failures : S → ℕ) where
   -- A report was begun. Edition 1 is the configuration that the script gives, with the answers to its
   -- listings; the docket has an entry for each record of the capture, by the first rule of edition 1 that
-  -- decides it; the text is the lines of the docket, of the capture's end and of the answers.
+  -- decides it where it was captured; the text is the lines of the docket, of the capture's end and of the answers.
   pub record IsReported (names : Named) (library libraryAfter : L) (sink sinkAfter : K) (outcome : Outcome S) (trace : Trace) : Type 0 where
     pub script : S
     pub opened : S
@@ -43,7 +43,7 @@ module _ {K S L : Type 0} (written : K → Option (List ℕ)) (sink_faults : K �
     pub reads : ReadsBoth pairs faults refused left failures names library libraryAfter script opened bytes
     pub script_read : edition_of bytes ≡ Ok (record { config = trace.config; answers = outcome.ends.answers })
     pub end : CaptureEnd
-    pub replayed : IsReplay left failures trace.config opened capture trace.docket end
+    pub replayed : IsReplay left failures (port_of names) trace.config opened capture trace.docket end
     pub ends : outcome.ends.captures ≡ end ∷ []
     pub writes : Writes written sink_faults sink sinkAfter (end_status end) outcome.status (report_text trace.config trace.docket end outcome.ends.answers)
 

@@ -4,7 +4,8 @@ use Rattle.std.specs.Io.KnownBytes.{Consumes, Appends}
 use Rattle.fw_base.specs.Faults.{Rose}
 use Rattle.fw_base.specs.Pairs.{Pair, TakesOut}
 use Rattle.fw_base.specs.Texts.{AppendsPart}
-use Rattle.replay_driver.specs.Words.{Named}
+use Rattle.fw_base.specs.declared.port.Port.{Port}
+use Rattle.replay_driver.specs.Words.{Named, port_of}
 use Rattle.replay_driver.specs.Replay.{IsReplay}
 use Rattle.replay_driver.specs.Editions.{edition_of}
 use Rattle.replay_driver.specs.WholeSource.{ReadsAll}
@@ -37,13 +38,13 @@ module _ {S : Type 0} (left : S → Option (List ℕ)) (failures : S → ℕ) wh
     pub took : Consumes (left opened) (left now) taken
     pub few : length taken < 1048577
 
-  -- what was found of a script and an opened capture, whose source is then this one
-  abbrev pub Judges : List ℕ → S → Finding → S → Type 0
-  Judges script opened (Unread name) capture = ⊥
-  Judges script opened (Unready error) capture = (capture ≡ opened) × (edition_of script ≡ Err error)
-  Judges script opened (Replayed trace end answers) capture =
+  -- what was found of a script and of an opened capture that was taken at this port, whose source is then this one
+  abbrev pub Judges : Port → List ℕ → S → Finding → S → Type 0
+  Judges port script opened (Unread name) capture = ⊥
+  Judges port script opened (Unready error) capture = (capture ≡ opened) × (edition_of script ≡ Err error)
+  Judges port script opened (Replayed trace end answers) capture =
       (edition_of script ≡ Ok (record { config = trace.config; answers = answers }))
-      × IsReplay left failures trace.config opened capture trace.docket end
+      × IsReplay left failures port trace.config opened capture trace.docket end
 
 module _ {L S : Type 0} (pairs : L → Option (List Pair)) (faults : L → ℕ) (refused : L → Option (List ℕ)) (left : S → Option (List ℕ)) (failures : S → ℕ) where
   -- a name was opened: its reader has the bytes that the library told, and no read of it failed
@@ -84,7 +85,7 @@ module _ {L S : Type 0} (pairs : L → Option (List Pair)) (faults : L → ℕ) 
       ((name ≡ names.script) × (opened : S) × Opens old new name opened × FailsEarly left failures opened script)
       ⊎ ((name ≡ names.capture) × (between : L) × (bytes : List ℕ) × ReadsScript old between names.script script bytes × Refuses between new name)
   Finds names old new finding (script ∷ capture ∷ []) =
-      (bytes : List ℕ) × (opened : S) × ReadsBoth names old new script opened bytes × Judges left failures bytes opened finding capture
+      (bytes : List ℕ) × (opened : S) × ReadsBoth names old new script opened bytes × Judges left failures (port_of names) bytes opened finding capture
   Finds names old new finding _ = ⊥
 
 -- Memory ran out, and nothing was written.

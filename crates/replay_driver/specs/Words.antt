@@ -5,6 +5,7 @@ use Rattle.std.specs.Option.{option_map}
 use Rattle.std.specs.Char.{is_ascii_alphanumeric}
 use Rattle.fw_base.specs.declared.port.Direction.{Direction}
 use Rattle.fw_base.specs.declared.port.Direction.TheVariants.{In, Out}
+use Rattle.fw_base.specs.declared.port.Port.{Port}
 use Rattle.replay_driver.specs.Chain.{◌>>=◌}
 use Rattle.replay_driver.specs.Bytes.{is_same, is_empty, cut_at}
 
@@ -14,6 +15,10 @@ pub record Named : Type 0 where
   pub direction : Direction
   pub interface : List ℕ
   pub capture : List ℕ
+
+-- where the capture was taken
+abbrev pub port_of : Named → Port
+port_of names = record { direction = names.direction; interface = names.interface }
 
 -- a byte of an interface's name: a letter, a digit, `_`, `.` or `-`
 abbrev pub is_name_byte : ℕ → Bool

@@ -8,7 +8,7 @@ use crate::finding::Finding;
 use crate::replay::replay;
 use crate::script_source::{ScriptSource, read_script_source};
 use crate::{ScriptError, Trace};
-use fw_base::{Library, Name, OutOfMemory, Source};
+use fw_base::{Library, Name, OutOfMemory, Port, Source};
 use std::alloc::Global;
 
 /// All that a run of a command finds before a byte is written, and the sources that it opened.
@@ -25,13 +25,14 @@ struct Judged<S> {
     capture: S,
 }
 
-/// Judges an opened capture by a script.
+/// Judges an opened capture that was taken there by a script.
 fn judge_capture<S: Source>(
     alloc: Global,
     script: &[u8],
+    port: &Port,
     capture: S,
 ) -> Result<Judged<S>, OutOfMemory>
-    ensures { IfOk result (λ judged. Judges S.left S.faults script.now capture judged.finding judged.capture) }
+    ensures { IfOk result (λ judged. Judges S.left S.faults port.now script.now capture judged.finding judged.capture) }
 {
     let Edition { config, answers } = match read_edition(alloc, script) {
         Ok(edition) => edition,
@@ -43,7 +44,7 @@ fn judge_capture<S: Source>(
             });
         }
     };
-    let replayed = replay(alloc, capture, &config)?;
+    let replayed = replay(alloc, capture, port, &config)?;
     let docket = replayed.docket;
     Ok(Judged {
         finding: Finding::Replayed(Trace { config, docket }, replayed.end, answers),
@@ -74,12 +75,16 @@ pub(crate) fn prepare<L: Library>(
         }
     };
     sources.push_reserved(script);
+    let port = Port {
+        direction: names.direction,
+        interface: Name::new(alloc, names.interface)?,
+    };
     let capture_name = Name::new(alloc, names.capture)?;
     let Ok(capture) = library.open(capture_name.copy()?) else {
         let finding = Finding::Unread(capture_name);
         return Ok(Prepared { finding, sources });
     };
-    let Judged { finding, capture } = judge_capture(alloc, &bytes, capture)?;
+    let Judged { finding, capture } = judge_capture(alloc, &bytes, &port, capture)?;
     sources.push_reserved(capture);
     Ok(Prepared { finding, sources })
 }

@@ -7,7 +7,7 @@ ghost use Rattle.replay_driver.specs.Replay.{IsReplay, Judges};
 
 use crate::judging::judge;
 use crate::{CaptureEnd, Docket, DocketEntry};
-use fw_base::{Link, OutOfMemory, Source};
+use fw_base::{Link, OutOfMemory, Port, Source};
 use packet_headers::{Packet, read_packet};
 use pcap_read::{Capture, CaptureFault, OpenFault, Record};
 use rule_chain::Config;
@@ -22,14 +22,14 @@ pub(crate) struct Replayed<S> {
 }
 
 /// What is entered for a record.
-fn entry_of(link: Link, config: &Config, bytes: &[u8]) -> DocketEntry
+fn entry_of(link: Link, port: &Port, config: &Config, bytes: &[u8]) -> DocketEntry
     requires { length bytes.now < 2 ^ 32 }
-    ensures { result ≡ spec.entry_for config.now (read link bytes.now) }
+    ensures { result ≡ spec.entry_for port.now config.now (read link bytes.now) }
 {
     match read_packet(link, bytes) {
         Packet::Other => DocketEntry::Other,
         Packet::Malformed(kind) => DocketEntry::Malformed(kind),
-        Packet::Ip(packet) => DocketEntry::Judged(judge(config, &packet)),
+        Packet::Ip(packet) => DocketEntry::Judged(judge(config, port, &packet)),
     }
 }
 
@@ -37,15 +37,16 @@ fn entry_of(link: Link, config: &Config, bytes: &[u8]) -> DocketEntry
 /// `None` at its end.
 fn judge_records<S: Source>(
     capture: &mut Capture<S>,
+    port: &Port,
     config: &Config,
     docket: &mut Docket,
 ) -> Result<Option<CaptureFault>, OutOfMemory>
-    ensures { IfOk result (Judges S.left S.faults config.now capture.old capture.new docket.old docket.new) }
+    ensures { IfOk result (Judges S.left S.faults port.now config.now capture.old capture.new docket.old docket.new) }
 {
     let link = capture.link();
     loop {
         match capture.next() {
-            Ok(Some(record)) => docket.push(entry_of(link, config, record.bytes))?,
+            Ok(Some(record)) => docket.push(entry_of(link, port, config, record.bytes))?,
             Ok(None) => return Ok(None),
             Err(fault) => return Ok(Some(fault)),
         }
@@ -71,13 +72,14 @@ fn end_behind(records: u64, stop: Option<CaptureFault>, count: u64) -> CaptureEn
 fn replay_records<S: Source>(
     alloc: Global,
     mut capture: Capture<S>,
+    port: &Port,
     config: &Config,
 ) -> Result<Replayed<S>, OutOfMemory>
     ensures { (source : S) → IsOpened S.left S.faults source capture
-        → IfOk result (λ replayed. IsReplay S.left S.faults config.now source replayed.source replayed.docket replayed.end) }
+        → IfOk result (λ replayed. IsReplay S.left S.faults port.now config.now source replayed.source replayed.docket replayed.end) }
 {
     let mut docket = Docket::new(alloc);
-    let stop = judge_records(&mut capture, config, &mut docket)?;
+    let stop = judge_records(&mut capture, port, config, &mut docket)?;
     let count = capture.faults();
     let records = docket.entries().len() as u64;
     let end = end_behind(records, stop, count);
@@ -88,16 +90,17 @@ fn replay_records<S: Source>(
     })
 }
 
-/// Reads a source as a capture and judges each of its records.
+/// Reads a source as a capture that was taken there, and judges each of its records.
 pub(crate) fn replay<S: Source>(
     alloc: Global,
     source: S,
+    port: &Port,
     config: &Config,
 ) -> Result<Replayed<S>, OutOfMemory>
-    ensures { IfOk result (λ replayed. IsReplay S.left S.faults config.now source replayed.source replayed.docket replayed.end) }
+    ensures { IfOk result (λ replayed. IsReplay S.left S.faults port.now config.now source replayed.source replayed.docket replayed.end) }
 {
     match Capture::open(alloc, source) {
-        Ok(capture) => replay_records(alloc, capture, config),
+        Ok(capture) => replay_records(alloc, capture, port, config),
         Err(OpenFault { fault, source }) => match fault {
             CaptureFault::OutOfMemory => Err(OutOfMemory),
             fault => {

@@ -5,6 +5,7 @@ use std::sync::Wait;
 use std::test::Fail;
 use std::thread::Threads;
 
+mod bodies;
 mod captures;
 mod cuts;
 mod rows;
@@ -14,10 +15,11 @@ mod words;
 /// The piece lists that each row is run with.
 const PIECE_LISTS: [&[usize]; 3] = [&[], &[1], &[7, 16]];
 
-/// A script and a capture over memory: how the capture's bytes come, and how much may be written.
+/// A script and a capture over memory: the word that names the capture, how the capture's bytes come, and how much may be written.
 #[derive(Clone, Copy)]
 struct Case<'a> {
     script: &'a [u8],
+    word: &'a str,
     capture: &'a [u8],
     pieces: &'a [usize],
     cut: Option<u64>,
@@ -33,10 +35,11 @@ struct Seen {
     records: usize,
 }
 
-/// A case that is read at once and whole, with ample room.
+/// A case of incoming packets that is read at once and whole, with ample room.
 fn whole<'a>(script: &'a [u8], capture: &'a [u8]) -> Case<'a> {
     Case {
         script,
+        word: "in:em0:c",
         capture,
         pieces: &[],
         cut: None,
@@ -44,10 +47,10 @@ fn whole<'a>(script: &'a [u8], capture: &'a [u8]) -> Case<'a> {
     }
 }
 
-/// The words `serial s in:em0:c`.
-fn serial_words(alloc: Global) -> Result<Vec<String>, Fail> {
+/// The words `serial s` with the capture's word.
+fn serial_words(alloc: Global, capture: &str) -> Result<Vec<String>, Fail> {
     let mut words = Vec::new(alloc);
-    for word in ["serial", "s", "in:em0:c"] {
+    for word in ["serial", "s", capture] {
         words.push(String::from_str(alloc, word)?)?;
     }
     Ok(words)
@@ -98,7 +101,7 @@ fn replay<R: Threads + Wait>(rt: &R, alloc: Global, case: &Case<'_>) -> Result<S
         case.cut,
     )?;
     let mut out = MemorySink::new(alloc, case.room)?;
-    let words = serial_words(alloc)?;
+    let words = serial_words(alloc, case.word)?;
     let outcome = run(rt, alloc, &words, &mut library, &mut out, &FreeGate);
     seen_of(alloc, outcome, out.written())
 }

@@ -152,16 +152,8 @@ fn forms_not_carried_out_yet(rt: HostRuntime) -> Result<(), Fail> {
         "add call 200 ip from any to any",
         "add return ip from any to any",
         "add check-state",
-        "add allow tcp from any 80 to any",
-        "add allow tcp from any to any 80",
-        "add allow tcp from any to any in",
         "add allow tcp from any to any keep-state",
         "add allow tcp from any to any limit src-addr 2",
-        "add allow ip from not any to any",
-        "add allow ip from any to not 10.0.0.0/8",
-        "add allow ip from me to any",
-        "add allow ip from any to table(t)",
-        "add allow ip from 10.0.0.1,10.0.0.2 to any",
     ] {
         let mut script = Vec::from_slice(alloc, b"add 7 allow ip from any to any\n\n")?;
         script.extend_from_slice(line.as_bytes())?;

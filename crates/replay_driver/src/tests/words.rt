@@ -110,7 +110,7 @@ fn refused_names(rt: HostRuntime) -> Result<(), Fail> {
         add(alloc, &mut library, b"c", &syns(alloc, 1)?, &[], None)?;
         library.refuse(Name::new(alloc, name)?)?;
         let mut out = MemorySink::new(alloc, 200)?;
-        let words = serial_words(alloc)?;
+        let words = serial_words(alloc, "in:em0:c")?;
         let outcome = run(&rt, alloc, &words, &mut library, &mut out, &FreeGate);
         let seen = seen_of(alloc, outcome, out.written())?;
         assert_eq!(rt; seen.status, 4);
@@ -129,7 +129,7 @@ fn script_that_cannot_be_read(rt: HostRuntime) -> Result<(), Fail> {
         add(alloc, &mut library, b"s", script, &[7], Some(cut))?;
         add(alloc, &mut library, b"c", &syns(alloc, 1)?, &[], None)?;
         let mut out = MemorySink::new(alloc, 200)?;
-        let words = serial_words(alloc)?;
+        let words = serial_words(alloc, "in:em0:c")?;
         let outcome = run(&rt, alloc, &words, &mut library, &mut out, &FreeGate);
         let seen = seen_of(alloc, outcome, out.written())?;
         assert_eq!(rt; seen.status, 4);

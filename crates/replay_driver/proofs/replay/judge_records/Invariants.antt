@@ -6,7 +6,7 @@ use Rattle.replay_driver.proofs.replay.judge_records.Given as goal
 
 abbrev pub invariant-loop-record : goal.invariant-loop-record
 invariant-loop-record g l = record {
-  enters : Enters g.S.Source.left g.S.Source.faults l.config l.fn.capture l.capture l.fn.docket l.docket;
+  enters : Enters g.S.Source.left g.S.Source.faults l.port l.config l.fn.capture l.capture l.fn.docket l.docket;
   later : g.S.Source.faults (source_of l.fn.capture) ≤ g.S.Source.faults (source_of l.capture);
   link : l.link ≡ link_of l.fn.capture;
 }
