@@ -94,14 +94,17 @@ add 1 unreach needfrag ip from any to any|1.1 unreach needfrag 00001 at 1
 add 1 allow 256 from any to any|script line 2 column 13 NumberRange
 add 1 allow ip from any|script line 2 column 24 MissingWord
 add 1 allow ip from any to|script line 2 column 27 MissingWord
-add 1 allow tcp from any to any 80|script line 2 NotYet
+add 1 allow tcp from any to any 80|1.1 allow 00001 at 1
+add 1 allow tcp from any 80 to any|1.1 deny 00100 at 1
+add 1 allow tcp from any to any keep-state|script line 2 NotYet
 add 1 allow tcp from any to any 80-70|script line 2 column 33 BadRange
-add 1 allow ip from any to any in|script line 2 NotYet
+add 1 allow ip from any to any in|1.1 allow 00001 at 1
+add 1 allow ip from any to any out|1.1 deny 00100 at 1
 add 1 allow ip from any to any out of|script line 2 column 36 UnknownWord
 add 1 allow ip to any from any|script line 2 column 16 UnknownWord
-add 1 allow ip from me to any|script line 2 NotYet
-add 1 allow ip from not any to any|script line 2 NotYet
-add 1 allow ip from 10.0.0.1,10.0.0.2 to any|script line 2 NotYet
+add 1 allow ip from me to any|1.1 deny 00100 at 1
+add 1 allow ip from not any to any|1.1 deny 00100 at 1
+add 1 allow ip from 10.0.0.1,10.0.0.2 to any|1.1 allow 00001 at 1
 add 1 allow ip from 10.0.0 to any|script line 2 column 21 BadAddress
 add 1 allow ip from 10.0.0.0.0 to any|script line 2 column 21 BadAddress
 add 1 allow ip from 10.0.0.256 to any|script line 2 column 21 BadAddress
