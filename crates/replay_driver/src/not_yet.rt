@@ -1,5 +1,5 @@
-/// A line of a script whose form isn't carried out yet: `live`, or a rule of more than an action that ends
-/// the search, a protocol, and one prefix or `any` as source and as destination.
+/// A line of a script whose form isn't carried out yet: `live`, or a rule whose action goes on with the
+/// search or asks for a state, or that makes states.
 #[derive(Clone, Copy, Debug, PartialEq, Eq)]
 pub struct NotYet {
     /// From 1.
