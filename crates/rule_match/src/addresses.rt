@@ -1,9 +1,11 @@
-ghost use Rattle.std.specs.Prelude.{◌≡◌, ◌==◌, Bool};
+ghost use Rattle.std.specs.Prelude.{◌≡◌, ◌==◌, is_some};
 ghost use Rattle.std.specs.List.{list_any};
+ghost use Rattle.lookup_tables.specs.Tables.{table_named};
 ghost use Rattle.rule_match.specs.Holds as spec;
+ghost use Rattle.rule_match.specs.Tables as answers;
 
 use crate::lookups::address_value;
-use fw_base::{Addr, Prefix};
+use fw_base::{Addr, Name, Prefix};
 use fw_rule::{AddrItem, AddrSpec};
 use lookup_tables::Tables;
 
@@ -27,6 +29,28 @@ fn is_own(locals: &[Addr], address: Addr) -> bool
     locals.iter().any(|local| local.0 == address.0)
 }
 
+// The two that look into tables stay out of the loop over a list's elements, which then needs few
+// registers: most elements are prefixes.
+
+/// Whether the table of that name has an answer for the address.
+#[inline(never)]
+fn is_in_table(tables: &Tables, name: &Name, address: Addr) -> bool
+    ensures { result ≡ is_some (answers.address_value (table_named tables.now name.now) address.0) }
+{
+    address_value(tables.get(name), address).is_some()
+}
+
+/// Whether its answer is this value.
+#[inline(never)]
+fn has_value(tables: &Tables, name: &Name, address: Addr, value: u32) -> bool
+    ensures { result ≡ spec.is_value value (answers.address_value (table_named tables.now name.now) address.0) }
+{
+    match address_value(tables.get(name), address) {
+        Some(answer) => answer == value,
+        None => false,
+    }
+}
+
 fn holds_item(tables: &Tables, locals: &[Addr], address: Addr, item: &AddrItem) -> bool
     ensures { result ≡ spec.holds_item tables.now locals.now address.0 item.now }
 {
@@ -34,11 +58,8 @@ fn holds_item(tables: &Tables, locals: &[Addr], address: Addr, item: &AddrItem) 
         AddrItem::Any => true,
         AddrItem::Me => is_own(locals, address),
         AddrItem::Net(prefix) => has_address(*prefix, address),
-        AddrItem::InTable(name) => address_value(tables.get(name), address).is_some(),
-        AddrItem::TableValue(name, value) => match address_value(tables.get(name), address) {
-            Some(answer) => answer == *value,
-            None => false,
-        },
+        AddrItem::InTable(name) => is_in_table(tables, name, address),
+        AddrItem::TableValue(name, value) => has_value(tables, name, address, *value),
     }
 }
 
