@@ -220,13 +220,19 @@ fn syn_from(source: [u8; 4]) -> [u8; 40] {
     packet
 }
 
+/// The SYN with other flags.
+fn syn_with(flags: u8) -> [u8; 40] {
+    let mut packet = SYN;
+    packet[33] = flags;
+    packet
+}
+
 #[test]
 fn established_needs_ack_or_rst(rt: HostRuntime) -> Result<(), Fail> {
     let alloc = rt.alloc();
     let script = b"add 100 allow tcp from any to any established\n";
-    let mut answer = SYN;
-    answer[33] = 0x12;
-    let capture = raw(alloc, &[&SYN, &answer])?;
+    let packets = [SYN, syn_with(0x12)];
+    let capture = raw(alloc, &[&packets[0], &packets[1]])?;
     let text = b"1.1 deny 65535 at 1\n1.2 allow 00100 at 1\nend 1 records 2\n";
     let seen = replay(&rt, alloc, &whole(script, &capture))?;
     assert_eq!(rt; seen.text.as_slice(), text.as_slice());
