@@ -1,5 +1,5 @@
 -- The first element that passes a test, by its place.
-use Rattle.std.proofs.Common.{◌≡◌, ℕ, zero, suc, ◌+◌, ◌<◌, ◌≤◌, Bool, true, false, List, [], ◌∷◌, ◌++◌, Option, None, Some, length, get_or, take, drop, map, refl, sym, ap, ◌∙◌, arith, cond, IsSomeAnd, MatchOption, nat_eq}
+use Rattle.std.proofs.Common.{◌≡◌, ℕ, zero, suc, ◌<◌, Bool, true, false, List, [], ◌∷◌, Option, None, Some, length, get_or, map, refl, ap, arith, cond, IsSomeAnd, MatchOption, nat_eq}
 use Rattle.std.specs.List.{remove}
 use Rattle.std.specs.Option.{option_map}
 use Rattle.fw_base.specs.Memory.{MemoryBytes, MemoryShelf, Named, Gives, pairs_of, take_source}

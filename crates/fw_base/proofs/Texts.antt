@@ -1,9 +1,9 @@
 -- How writes follow each other.
-use Rattle.std.proofs.Common.{◌≡◌, ℕ, ◌+◌, ◌-◌, ◌^◌, ◌≤◌, List, [], ◌++◌, Option, None, Some, Result, Ok, Err, OnOk, OnErr, length, take, drop, refl, sym, ap, ◌∙◌, subst, append_assoc, append-nil, take-append-drop, drop_of_length-le, drop-cons, get_or, flat_map, suc, ◌<◌, arith}
+use Rattle.std.proofs.Common.{◌≡◌, ℕ, ◌+◌, ◌≤◌, List, [], ◌++◌, Option, Result, Ok, Err, length, take, drop, refl, sym, ap, ◌∙◌, subst, append_assoc, append-nil, take-append-drop, drop-cons, get_or, flat_map, suc, ◌<◌, arith}
 use Rattle.std.specs.Io.KnownBytes.{Appends, Keeps}
 use Rattle.std.proofs.KnownBytes.{Appends-nil, Appends-trans, Appends-kept}
-use Rattle.fw_base.specs.Faults.{Rose, HasCause}
-use Rattle.fw_base.specs.Texts.{AppendsPart, WritesText}
+use Rattle.fw_base.specs.Faults.{Rose}
+use Rattle.fw_base.specs.Texts.{WritesText}
 
 -- so far the front of the text that isn't in rest was appended
 pub record IsUnderWay (old now : Option (List ℕ)) (before count : ℕ) (text rest : List ℕ) : Type 0 where

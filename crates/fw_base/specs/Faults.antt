@@ -1,5 +1,5 @@
 -- Counts of faults: how a caller sees that something outside failed, and when.
-use Rattle.std.specs.Prelude.{◌≡◌, ℕ, ◌+◌, ◌-◌, ◌^◌, ◌≤◌, min, Result, OnErr}
+use Rattle.std.specs.Prelude.{ℕ, ◌+◌, ◌-◌, ◌^◌, ◌≤◌, min, Result, OnErr}
 
 -- one more fault was counted; a count of 64 bits stands still at its end
 abbrev pub Rose : ℕ → ℕ → Type 0

@@ -5,4 +5,5 @@ pub mod Memory
 pub mod Pairs
 pub mod PortRange
 pub mod Prefix
+pub mod Prefix6
 pub mod Texts

@@ -3,6 +3,7 @@
 #![tactic(auto)]
 
 pub use address::Addr;
+pub use address6::Addr6;
 pub use buffered::{BUFFER_BYTES, Buffered};
 pub use failure::{Failed, OutOfMemory};
 pub use gate::{FreeGate, Gate};
@@ -17,10 +18,12 @@ pub use numbered::Numbered;
 pub use port::{Direction, Port};
 pub use port_range::PortRange;
 pub use prefix::Prefix;
+pub use prefix6::Prefix6;
 pub use sink::{Sink, write_pieces, write_text};
 pub use source::Source;
 
 mod address;
+mod address6;
 mod buffered;
 mod failure;
 mod gate;
@@ -35,5 +38,6 @@ mod numbered;
 mod port;
 mod port_range;
 mod prefix;
+mod prefix6;
 mod sink;
 mod source;

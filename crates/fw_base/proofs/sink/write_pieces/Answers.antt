@@ -1,7 +1,7 @@
-use Rattle.std.proofs.Common.{◌≡◌, ℕ, ◌+◌, List, [], ◌++◌, flat_map, get_or, drop, subst}
+use Rattle.std.proofs.Common.{ℕ, List, []}
 use Rattle.std.specs.Borrow.{Bor}
 use Rattle.std.proofs.lemmas.Result.{err_from_is_err_and}
-use Rattle.fw_base.proofs.Texts.{IsUnderWay, goes_on_with, breaks_in, flat_map-drop}
+use Rattle.fw_base.proofs.Texts.{goes_on_with, breaks_in, flat_map-drop}
 use Rattle.fw_base.proofs.sink.write_pieces.Goals as goal
 
 pub returns-in_err-write_text : goal.returns-in_err-write_text

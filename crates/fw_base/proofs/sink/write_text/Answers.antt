@@ -1,6 +1,5 @@
-use Rattle.std.proofs.Common.{◌≡◌, ℕ, ◌+◌, ◌≤◌, List, [], ◌++◌, rules, take, drop, sym, drop_of_length-le, arith}
 use Rattle.std.proofs.lemmas.List.{take_rest}
-use Rattle.fw_base.proofs.Texts.{goes_on, ends, breaks}
+use Rattle.fw_base.proofs.Texts.{goes_on}
 use Rattle.fw_base.proofs.sink.write_text.Goals as goal
 
 pub loop-rest-preserved : goal.loop-rest-preserved

@@ -1,6 +1,5 @@
 -- What is gone from `rest` was appended, and the count never fell.
-use Rattle.std.proofs.Common.{◌≡◌, ℕ, ◌≤◌, List, ◌++◌, length}
-use Rattle.std.specs.Io.KnownBytes.{Appends}
+use Rattle.std.proofs.Common.{length}
 use Rattle.fw_base.proofs.Texts.{IsUnderWay}
 use Rattle.fw_base.proofs.sink.write_text.Given as goal
 

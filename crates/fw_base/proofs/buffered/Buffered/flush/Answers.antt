@@ -1,5 +1,4 @@
-use Rattle.std.proofs.Common.{◌≡◌, ℕ, ◌+◌, ◌-◌, ◌≤◌, List, ◌++◌, take, drop, length, sym, ap, ◌∙◌, arith, take-append-drop, drop-drop}
-use Rattle.std.proofs.lemmas.List.{take_rest}
+use Rattle.std.proofs.Common.{arith}
 use Rattle.std.proofs.KnownBytes.{append_known-moved, Keeps-trans}
 use Rattle.fw_base.proofs.Parts.{rest-cut, cut-within}
 use Rattle.fw_base.proofs.buffered.Buffered.flush.Goals as goal

@@ -1,4 +1,4 @@
-use Rattle.std.proofs.Common.{rules, ◌≡◌, ℕ, ◌+◌, ◌<◌, ◌≤◌, List, [], ◌++◌, drop, length, ap, ◌∙◌, sym, arith}
+use Rattle.std.proofs.Common.{drop, ap, sym, arith}
 use Rattle.fw_base.specs.Memory.{MemoryBytes}
 use Rattle.fw_base.proofs.Parts.{front_then_rest, nothing_left}
 use Rattle.fw_base.proofs.memory_source.MemorySourceSource.read.Goals as goal
