@@ -14,7 +14,8 @@ use Rattle.packet_headers.specs.Reading.{Ip, read, read_ipv4, read_typed, versio
 use Rattle.packet_headers.specs.Spelling.{Header, IsHeader, packet_bytes, fields_of, IsLinkHeader, SpelledFramesAreRead, option_bytes, SpelledOptionsAreTold}
 use Rattle.packet_headers.proofs.OptionWalk.{option_types-alone, option_types-long}
 
-two_octets-spelled : (n : ℕ) (rest : List ℕ) → n < 2 ^ 16 → two_octets (to_be_bytes w16 n ++ rest) 0 ≡ n
+-- a number in its two bytes
+pub two_octets-spelled : (n : ℕ) (rest : List ℕ) → n < 2 ^ 16 → two_octets (to_be_bytes w16 n ++ rest) 0 ≡ n
 two_octets-spelled n rest fits = omega arith
 
 four_octets-spelled : (n : ℕ) (rest : List ℕ) → n < 2 ^ 32 → four_octets (to_be_bytes w32 n ++ rest) 0 ≡ n
@@ -64,10 +65,12 @@ spelled-is-read h payload padding is =
 
 -- ---- the link header
 
-octet-behind : (xs ys : List ℕ) (i j : ℕ) → length xs + i ≡ j → octet (xs ++ ys) j ≡ octet ys i
+-- a byte behind a front
+pub octet-behind : (xs ys : List ℕ) (i j : ℕ) → length xs + i ≡ j → octet (xs ++ ys) j ≡ octet ys i
 octet-behind xs ys i j e = rw (← e) (get_or-append-add xs ys i 0)
 
-drop-behind : (xs ys : List ℕ) (i j : ℕ) → length xs + i ≡ j → drop j (xs ++ ys) ≡ drop i ys
+-- the bytes behind a front
+pub drop-behind : (xs ys : List ℕ) (i j : ℕ) → length xs + i ≡ j → drop j (xs ++ ys) ≡ drop i ys
 drop-behind xs ys i j e = rw (← e) (drop-append-add xs ys i)
 
 null-read : (bytes : List ℕ) → 4 ≤ length bytes → (four_octets bytes 0 ≡ 2) ⊎ (four_octets bytes 0 ≡ 0x02000000) → read Null bytes ≡ read_ipv4 (drop 4 bytes)

@@ -4,7 +4,9 @@
 
 pub use flows::Flow;
 pub use ip4::{Ip4, flow};
+pub use octets::{four_octets, two_octets};
 pub use packet::Packet;
+pub use protocols::{TCP, UDP};
 pub use read::read_packet;
 
 mod defect;
