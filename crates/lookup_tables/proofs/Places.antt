@@ -1,5 +1,5 @@
 -- What stands at the place where a search for a key ends, and what an insertion or a removal there leaves.
-use Rattle.std.proofs.Common.{◌≡◌, ℕ, zero, suc, ◌+◌, ◌<◌, ◌≤◌, Bool, true, false, cond, List, [], ◌∷◌, None, Some, length, get_or, set, is_some, Result, Ok, Err, refl, sym, ap, ◌∙◌, arith}
+use Rattle.std.proofs.Common.{◌≡◌, ℕ, zero, suc, ◌+◌, ◌<◌, ◌≤◌, Bool, true, false, cond, List, [], ◌∷◌, None, Some, IsSome, length, get_or, set, is_some, Result, Ok, Err, refl, sym, ap, ◌∙◌, arith}
 use Rattle.std.specs.declared.cmp.Ordering.{Ordering}
 use Rattle.std.specs.declared.cmp.Ordering.TheVariants.{Less, Equal, Greater}
 use Rattle.std.specs.BTreeMap.{insert_entry, is_at}
@@ -171,17 +171,12 @@ module _ {K V : Type 0} (cmp : K → K → Ordering) (o : IsTotalOrder cmp) wher
     listed : (es : List (K × V)) (key : K) → is_some (value_of cmp es key) ≡ is_member (eq_by_cmp cmp) (keys_of es) key
     listed es key = is_some-lookup (is_at (cmp key)) es
 
-    -- an entry that a search found has the key
-    pub HasKey-place : (es : List (K × V)) (key : K) (i : ℕ) (d : K × V) → IsPlace cmp es key i → HasKey es key
-    HasKey-place es key i d place =
-        (is_member-Decides same (keys_of es) key).0 (sym (listed es key) ∙ ap is_some (value_of-place es key i d place))
+    -- a key is listed exactly where it has a value
+    pub HasKey-value : (es : List (K × V)) (key : K) → IsSome (value_of cmp es key) → HasKey es key
+    HasKey-value es key some = (is_member-Decides same (keys_of es) key).0 (sym (listed es key) ∙ some)
 
-    -- where a search found none, none has it
-    pub HasKey-gap : (es : List (K × V)) (key : K) (i : ℕ) → IsInOrder cmp es → IsGap cmp es key i → HasKey es key → ⊥
-    HasKey-gap es key i sorted gap has =
-        let found = (is_member-Decides same (keys_of es) key).1 has in
-        let missing = sym (listed es key) ∙ ap is_some (value_of-gap es key i sorted gap) in
-        cc
+    pub value-HasKey : (es : List (K × V)) (key : K) → HasKey es key → IsSome (value_of cmp es key)
+    value-HasKey es key has = listed es key ∙ (is_member-Decides same (keys_of es) key).1 has
 
   replace-at : (es : List (K × V)) (key : K) (v : V) (i : ℕ) (d : K × V) → AreLower cmp es key i → i < length es
       → ((d : K × V) → cmp (get_or es i d).0 key ≡ Equal) → set es i ((get_or es i d).0, v) ≡ insert_entry cmp es key v

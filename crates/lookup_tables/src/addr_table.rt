@@ -2,29 +2,36 @@ ghost use Rattle.std.specs.Prelude.{◌≡◌, ◌↔◌, [], ℕ, length, All, 
 ghost use Rattle.fw_base.specs.Prefix.{Network, Covers};
 ghost use Rattle.lookup_tables.specs.Entries.{HasKey, IsInOrder, with_entry, without_key};
 ghost use Rattle.lookup_tables.specs.AddrTable.{network_cmp, address_answer, IsLongest};
+ghost use Rattle.lookup_tables.specs.Pieces.{AreEntries, ArePiecesOf};
 
-use crate::InsertFault;
-use crate::place::place_of;
+use crate::entries::{has_key, insert_entry, remove_entry};
+use crate::intervals::{put_prefix, take_prefix};
+use crate::pieces::place_in;
+use crate::{InsertFault, Piece};
 use fw_base::{Addr, OutOfMemory, Prefix};
 use std::alloc::Global;
 use std::marker::Model;
 
 /// A table of prefixes, each with a value: the longest prefix that has an address decides (RFC 4632
 /// section 5.1). Contracts see it as its entries, by address and then by length.
+///
+/// Beside the entries it keeps all addresses in pieces, cut where another prefix decides, so that a
+/// lookup is a search by halves.
 #[derive(Debug, Drop)]
 pub struct AddrTable {
     entries: Vec<(Prefix, u32)>,
+    pieces: Vec<Piece>,
 }
 
 impl Model for AddrTable {
-    ghost use Rattle.lookup_tables.specs.Entries.{IsInOrder};
-    ghost use Rattle.lookup_tables.specs.AddrTable.{AddrEntries, network_cmp};
+    ghost use Rattle.lookup_tables.specs.AddrTable.{AddrEntries};
+    ghost use Rattle.lookup_tables.specs.Pieces.{IsTable};
 
     ghost Value = { AddrEntries };
 
     ghost view = { λ t. t.entries.items };
 
-    ghost invariant = { λ t. IsInOrder network_cmp t.entries.items };
+    ghost invariant = { λ t. IsTable t.entries.items t.pieces.items };
 }
 
 impl AddrTable {
@@ -34,6 +41,7 @@ impl AddrTable {
     {
         AddrTable {
             entries: Vec::new(alloc),
+            pieces: Vec::new(alloc),
         }
     }
 
@@ -44,12 +52,17 @@ impl AddrTable {
         ensures exists { IsErrOf result InsertFault.Exists ↔ HasKey self.old key }
         ensures err { OnErr result (self.new ≡ self.old) }
     {
-        match place_of(&self.entries, &key) {
-            Ok(_) => Err(InsertFault::Exists),
-            Err(place) => {
-                self.entries.insert(place, (key, value))?;
+        if has_key(&self.entries, &key) {
+            return Err(InsertFault::Exists);
+        }
+        // Room first: one piece more for each end of the prefix, and the first of all.
+        self.pieces.reserve(3)?;
+        match insert_entry(&mut self.entries, key, value) {
+            Ok(()) => {
+                put_prefix(&mut self.pieces, key, value);
                 Ok(())
             }
+            Err(fault) => Err(fault),
         }
     }
 
@@ -58,13 +71,11 @@ impl AddrTable {
         ensures there { IsTrue result ↔ HasKey self.old key }
         ensures after { self.new ≡ without_key network_cmp self.old key }
     {
-        match place_of(&self.entries, &key) {
-            Ok(place) => {
-                self.entries.remove(place);
-                true
-            }
-            Err(_) => false,
+        if !remove_entry(&mut self.entries, &key) {
+            return false;
         }
+        take_prefix(&mut self.pieces, &self.entries, key);
+        true
     }
 
     /// The value of the longest prefix that has the address; `None` exactly where none has it. It
@@ -73,22 +84,27 @@ impl AddrTable {
         ensures answer { result ≡ address_answer self.now a.0 }
         ensures longest { MatchOption result (All (λ entry. Covers entry.0 a.0 → ⊥) self.now) (λ value. (prefix : Network) × IsLongest self.now a.0 (prefix, value)) }
     {
-        let mut best: Option<(u8, u32)> = None;
-        for (prefix, value) in &self.entries {
-            let length = prefix.length();
-            if prefix.contains(a) && best.is_none_or(|(longest, _)| longest < length) {
-                best = Some((length, *value));
-            }
+        if self.pieces.is_empty() {
+            return None;
         }
-        best.map(|(_, value)| value)
+        self.pieces[place_in(&self.pieces, a)].value
     }
 
     /// The entries, by address and then by length, no two of one prefix.
     pub fn entries(&self) -> &[(Prefix, u32)]
         ensures value { result.now ≡ self.now }
         ensures ordered { IsInOrder network_cmp self.now }
+        ensures networks { AreEntries self.now }
     {
         &self.entries
+    }
+
+    /// All addresses from 0.0.0.0 on in pieces, each with the answer of its addresses; none where there
+    /// is no entry.
+    pub fn pieces(&self) -> &[Piece]
+        ensures { ArePiecesOf self.now result.now }
+    {
+        &self.pieces
     }
 
     /// A second table with the same entries.
@@ -97,6 +113,7 @@ impl AddrTable {
     {
         Ok(AddrTable {
             entries: self.entries.clone()?,
+            pieces: self.pieces.clone()?,
         })
     }
 }

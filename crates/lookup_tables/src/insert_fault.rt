@@ -2,7 +2,7 @@ ghost use Rattle.std.specs.Prelude.{◌≡◌, Some};
 ghost use Rattle.lookup_tables.specs.Sentences.{sentence_of};
 ghost use Rattle.lookup_tables.specs.declared.insert_fault.InsertFault.TheVariants.{OutOfMemory};
 
-use std::alloc::AllocFailed;
+use std::alloc::{AllocError, AllocFailed};
 use std::error::Error;
 use std::fmt;
 
@@ -32,6 +32,14 @@ impl<T: Drop> From<AllocFailed<T>> for InsertFault {
     ghost from_gives = { λ _ e. e ≡ OutOfMemory };
 
     fn from(_error: AllocFailed<T>) -> InsertFault {
+        InsertFault::OutOfMemory
+    }
+}
+
+impl From<AllocError> for InsertFault {
+    ghost from_gives = { λ _ e. e ≡ OutOfMemory };
+
+    fn from(_error: AllocError) -> InsertFault {
         InsertFault::OutOfMemory
     }
 }

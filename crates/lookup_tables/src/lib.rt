@@ -5,13 +5,18 @@
 pub use addr_table::AddrTable;
 pub use insert_fault::InsertFault;
 pub use number_table::NumberTable;
+pub use piece::Piece;
 pub use table::Table;
 pub use tables::Tables;
 
 mod addr_table;
+mod change;
+mod entries;
 mod insert_fault;
+mod intervals;
 mod number_table;
-mod place;
+mod piece;
+mod pieces;
 mod table;
 mod tables;
 #[cfg(test)]

@@ -4,7 +4,7 @@ ghost use Rattle.lookup_tables.specs.Entries.{HasKey, IsInOrder, with_entry, wit
 ghost use Rattle.lookup_tables.specs.NumberTable.{number_answer};
 
 use crate::InsertFault;
-use crate::place::place_of;
+use crate::entries::{insert_entry, place_of, remove_entry};
 use fw_base::OutOfMemory;
 use std::alloc::Global;
 use std::marker::Model;
@@ -45,13 +45,7 @@ impl NumberTable {
         ensures exists { IsErrOf result InsertFault.Exists ↔ HasKey self.old key }
         ensures err { OnErr result (self.new ≡ self.old) }
     {
-        match place_of(&self.entries, &key) {
-            Ok(_) => Err(InsertFault::Exists),
-            Err(place) => {
-                self.entries.insert(place, (key, value))?;
-                Ok(())
-            }
-        }
+        insert_entry(&mut self.entries, key, value)
     }
 
     /// Takes out the entry of that number; false exactly where the table has none. It takes no memory.
@@ -59,13 +53,7 @@ impl NumberTable {
         ensures there { IsTrue result ↔ HasKey self.old key }
         ensures after { self.new ≡ without_key nat_cmp self.old key }
     {
-        match place_of(&self.entries, &key) {
-            Ok(place) => {
-                self.entries.remove(place);
-                true
-            }
-            Err(_) => false,
-        }
+        remove_entry(&mut self.entries, &key)
     }
 
     /// The value of that number; `None` exactly where the table has no entry of it. It takes no memory.

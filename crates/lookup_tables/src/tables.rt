@@ -4,7 +4,7 @@ ghost use Rattle.lookup_tables.specs.Entries.{IsInOrder, value_of, with_entry, w
 ghost use Rattle.lookup_tables.specs.Tables.{name_cmp};
 
 use crate::Table;
-use crate::place::place_of;
+use crate::entries::place_of;
 use fw_base::{Name, OutOfMemory};
 use std::alloc::Global;
 use std::marker::Model;

@@ -36,6 +36,30 @@ fn longest_prefix_decides(rt: HostRuntime) -> Result<(), Fail> {
 }
 
 #[test]
+fn pieces_of_nested_prefixes(rt: HostRuntime) -> Result<(), Fail> {
+    let mut nets = AddrTable::new(rt.alloc());
+    assert!(rt; nets.pieces().is_empty());
+    nets.insert(prefix([10, 1, 0, 0], 16)?, 2)?;
+    nets.insert(prefix([10, 0, 0, 0], 8)?, 1)?;
+    let wanted = [
+        ([0, 0, 0, 0], None),
+        ([10, 0, 0, 0], Some(1)),
+        ([10, 1, 0, 0], Some(2)),
+        ([10, 2, 0, 0], Some(1)),
+        ([11, 0, 0, 0], None),
+    ];
+    assert_eq!(rt; nets.pieces().len(), 5);
+    for (piece, (first, value)) in nets.pieces().iter().zip(wanted) {
+        assert_eq!(rt; (piece.first, piece.value), (address(first), value));
+    }
+    assert!(rt; nets.remove(prefix([10, 0, 0, 0], 8)?));
+    assert_eq!(rt; nets.pieces().len(), 3);
+    assert!(rt; nets.remove(prefix([10, 1, 0, 0], 16)?));
+    assert!(rt; nets.pieces().is_empty());
+    Ok(())
+}
+
+#[test]
 fn prefixes_of_any_length(rt: HostRuntime) -> Result<(), Fail> {
     let mut nets = AddrTable::new(rt.alloc());
     nets.insert(prefix([10, 1, 2, 3], 32)?, 4)?;

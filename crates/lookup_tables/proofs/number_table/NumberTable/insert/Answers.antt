@@ -1,31 +1,10 @@
-use Rattle.std.proofs.Common.{◌∙◌, refl}
 use Rattle.std.specs.Ordering.{nat_cmp}
-use Rattle.lookup_tables.proofs.Faults.{only_memory}
 use Rattle.std.proofs.lemmas.Cmp.{nat_cmp_total}
 use Rattle.lookup_tables.proofs.Networks.{number_same}
-use Rattle.lookup_tables.proofs.Places.{insert-gap, in_order-insert, HasKey-gap, HasKey-place}
+use Rattle.lookup_tables.proofs.Places.{HasKey-value, value-HasKey}
 use Rattle.lookup_tables.proofs.number_table.NumberTable.insert.Goals as goal
 
-pub returns-in_ok-insert-in-Err-clause-ok : goal.returns-in_ok-insert-in-Err-clause-ok
-returns-in_ok-insert-in-Err-clause-ok c =
-    let gap = rw (c.deref.ensures.value, c.self.view_is) at c.in-Err.ensures in
-    c.in_ok-insert-in-Err.ensures.items ∙ rw c.self.view_is (insert-gap nat_cmp nat_cmp_total c.args.self.now c.args.key c.args.value c.in-Err.place gap)
-
-pub invariant_of-self-in-Err : goal.invariant_of-self-in-Err
-invariant_of-self-in-Err c =
-    rw (returns-in_ok-insert-in-Err-clause-ok c) (in_order-insert nat_cmp nat_cmp_total c.args.self.now c.args.key c.args.value (rw c.self.view_is at c.self.invariant))
-
-pub returns-in_err-insert-in-Err-clause-exists : goal.returns-in_err-insert-in-Err-clause-exists
-returns-in_err-insert-in-Err-clause-exists c =
-    let gap = rw (c.deref.ensures.value, c.self.view_is) at c.in-Err.ensures in
-    (λ is. absurd (only_memory c.from_residual.result c.from_residual.ensures.1 is), λ has. absurd (HasKey-gap nat_cmp nat_cmp_total number_same c.args.self.now c.args.key c.in-Err.place (rw c.self.view_is at c.self.invariant) gap has))
-
-pub returns-in_ok-insert-in-Err-clause-exists : goal.returns-in_ok-insert-in-Err-clause-exists
-returns-in_ok-insert-in-Err-clause-exists c =
-    let gap = rw (c.deref.ensures.value, c.self.view_is) at c.in-Err.ensures in
-    (λ is. cc, λ has. absurd (HasKey-gap nat_cmp nat_cmp_total number_same c.args.self.now c.args.key c.in-Err.place (rw c.self.view_is at c.self.invariant) gap has))
-
-pub returns-in-Ok-clause-exists : goal.returns-in-Ok-clause-exists
-returns-in-Ok-clause-exists c =
-    let place = rw (c.deref.ensures.value, c.self.view_is) at c.in-Ok.ensures in
-    (λ is. HasKey-place nat_cmp nat_cmp_total number_same c.args.self.now c.args.key c.in-Ok.field-0 (c.args.key, 0) place, λ has. refl)
+pub returns-clause-exists : goal.returns-clause-exists
+returns-clause-exists c =
+    let exists = rw c.self.view_is at c.insert_entry.ensures.exists in
+    (λ is. HasKey-value nat_cmp nat_cmp_total number_same c.args.self.now c.args.key (exists.0 is), λ has. exists.1 (value-HasKey nat_cmp nat_cmp_total number_same c.args.self.now c.args.key has))

@@ -1,30 +1,10 @@
-use Rattle.std.proofs.Common.{◌∙◌, sym, refl}
 use Rattle.std.specs.Ordering.{nat_cmp}
 use Rattle.std.proofs.lemmas.Cmp.{nat_cmp_total}
 use Rattle.lookup_tables.proofs.Networks.{number_same}
-use Rattle.lookup_tables.proofs.Places.{remove-place, in_order-remove, without_key-gap, HasKey-gap, HasKey-place}
+use Rattle.lookup_tables.proofs.Places.{HasKey-value, value-HasKey}
 use Rattle.lookup_tables.proofs.number_table.NumberTable.remove.Goals as goal
 
-pub returns-in-Ok-clause-after : goal.returns-in-Ok-clause-after
-returns-in-Ok-clause-after c =
-    let place = rw (c.deref.ensures.value, c.self.view_is) at c.in-Ok.ensures in
-    c.remove.ensures.items ∙ rw c.self.view_is (remove-place nat_cmp nat_cmp_total c.args.self.now c.args.key c.in-Ok.place place)
-
-pub invariant_of-self : goal.invariant_of-self
-invariant_of-self c =
-    rw (returns-in-Ok-clause-after c) (in_order-remove nat_cmp nat_cmp_total c.args.self.now c.args.key (rw c.self.view_is at c.self.invariant))
-
-pub returns-in-Ok-clause-there : goal.returns-in-Ok-clause-there
-returns-in-Ok-clause-there c =
-    let place = rw (c.deref.ensures.value, c.self.view_is) at c.in-Ok.ensures in
-    (λ found. HasKey-place nat_cmp nat_cmp_total number_same c.args.self.now c.args.key c.in-Ok.place (c.args.key, 0) place, λ has. refl)
-
-pub returns-in-Err-clause-there : goal.returns-in-Err-clause-there
-returns-in-Err-clause-there c =
-    let gap = rw (c.deref.ensures.value, c.self.view_is) at c.in-Err.ensures in
-    (λ found. cc, λ has. absurd (HasKey-gap nat_cmp nat_cmp_total number_same c.args.self.now c.args.key c.in-Err.field-0 (rw c.self.view_is at c.self.invariant) gap has))
-
-pub returns-in-Err-clause-after : goal.returns-in-Err-clause-after
-returns-in-Err-clause-after c =
-    let gap = rw (c.deref.ensures.value, c.self.view_is) at c.in-Err.ensures in
-    sym (without_key-gap nat_cmp nat_cmp_total c.args.self.now c.args.key c.in-Err.field-0 (rw c.self.view_is at c.self.invariant) gap)
+pub returns-clause-there : goal.returns-clause-there
+returns-clause-there c =
+    let there = rw c.self.view_is at c.remove_entry.ensures.there in
+    (λ is. HasKey-value nat_cmp nat_cmp_total number_same c.args.self.now c.args.key (there.0 is), λ has. there.1 (value-HasKey nat_cmp nat_cmp_total number_same c.args.self.now c.args.key has))

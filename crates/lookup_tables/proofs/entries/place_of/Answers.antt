@@ -1,7 +1,7 @@
 use Rattle.std.proofs.Common.{rules}
 use Rattle.std.proofs.lemmas.Fn.{always_returns_same}
 use Rattle.lookup_tables.proofs.Places.{IsPlaceOf-searched}
-use Rattle.lookup_tables.proofs.place.place_of.Goals as goal
+use Rattle.lookup_tables.proofs.entries.place_of.Goals as goal
 
 pub returns : goal.returns
 returns g c =
