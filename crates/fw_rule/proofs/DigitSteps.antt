@@ -25,8 +25,8 @@ starts n buffer fits long = record {
 }
 
 -- a digit before those that stand there
-behind : (at : ℕ) (buffer : List ℕ) (digit : ℕ) → 1 ≤ at → at ≤ length buffer → drop (at - 1) (set buffer (at - 1) digit) ≡ digit ∷ drop at buffer
-behind at buffer digit some inside =
+pub put_before : (at : ℕ) (buffer : List ℕ) (digit : ℕ) → 1 ≤ at → at ≤ length buffer → drop (at - 1) (set buffer (at - 1) digit) ≡ digit ∷ drop at buffer
+put_before at buffer digit some inside =
     let back : at - 1 + 1 ≡ at = omega arith in
     drop-set buffer (at - 1) digit (omega arith) ∙ ap (λ k. digit ∷ drop k buffer) back
 
@@ -37,7 +37,7 @@ digit_goes n rest at buffer more w =
     let some : 0 < length (decimal (rest / 10)) = decimal_nonempty (rest / 10) (omega (arith, w.fits)) in
     record {
       digits = w.digits ∙ ap (λ l. l ++ drop at buffer) step ∙ append_assoc (decimal (rest / 10)) ((48 + rest % 10) ∷ []) (drop at buffer)
-          ∙ ap (λ l. decimal (rest / 10) ++ l) (sym (behind at buffer (48 + rest % 10) (omega (arith, w.room)) (omega (arith, w.within, w.long))));
+          ∙ ap (λ l. decimal (rest / 10) ++ l) (sym (put_before at buffer (48 + rest % 10) (omega (arith, w.room)) (omega (arith, w.within, w.long))));
       room = omega (arith, w.room);
       within = omega (arith, w.within);
       long = length-set buffer (at - 1) (48 + rest % 10) ∙ w.long;
@@ -47,7 +47,7 @@ digit_goes n rest at buffer more w =
 pub last_goes : (n rest at : ℕ) (buffer : List ℕ) → rest < 10 → IsWriting n rest at buffer → drop (at - 1) (set buffer (at - 1) (48 + rest)) ≡ decimal n
 last_goes n rest at buffer less w =
     let some : 0 < length (decimal rest) = decimal_nonempty rest (omega (arith, w.fits)) in
-    behind at buffer (48 + rest) (omega (arith, w.room)) (omega (arith, w.within, w.long)) ∙ sym (w.digits ∙ ap (λ l. l ++ drop at buffer) (decimal_digit rest less))
+    put_before at buffer (48 + rest) (omega (arith, w.room)) (omega (arith, w.within, w.long)) ∙ sym (w.digits ∙ ap (λ l. l ++ drop at buffer) (decimal_digit rest less))
 
 pub has_room : (n rest at : ℕ) (buffer : List ℕ) → IsWriting n rest at buffer → 1 ≤ at
 has_room n rest at buffer w = omega (arith, w.room, decimal_nonempty rest (omega (arith, w.fits)))

@@ -1,4 +1,9 @@
 pub mod DigitSteps
 pub mod ElementTexts
+pub mod HexSteps
 pub mod Lists
+pub mod RunLaw
+pub mod Runs
+pub mod Types
 pub mod WriteSteps
+pub mod ZeroRuns

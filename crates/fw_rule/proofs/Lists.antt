@@ -7,23 +7,28 @@ use Rattle.std.specs.Borrow.{Bor}
 use Rattle.std.proofs.lemmas.List.{append-nil, take_min, drop_min, drop_all}
 use Rattle.fw_base.proofs.Texts.{IsUnderWay}
 use Rattle.std.proofs.lemmas.Grind.{flat_map-append}
-use Rattle.fw_rule.specs.Canonical.{spaced, list_words, signed_names, signed, sign_of, unreach_names, code_word, bit_numbers, has_bit, option_words, test_words, negation}
+use Rattle.fw_rule.specs.Canonical.{spaced, list_words, signed_names, signed, sign_of, unreach_names, code_word, numbers_where, has_bit, option_words, test_words, negation}
 use Rattle.fw_rule.specs.declared.opt.Opt.{Opt}
+
+-- each text behind a byte
+abbrev pub behind_bytes : ℕ → List (List ℕ) → List ℕ
+behind_bytes byte texts = flat_map (λ text. byte ∷ text) texts
 
 -- each text behind a comma
 abbrev pub behind_commas : List (List ℕ) → List ℕ
-behind_commas texts = flat_map (λ text. 44 ∷ text) texts
+behind_commas texts = behind_bytes 44 texts
 
-pub join-cons : (text : List ℕ) (texts : List (List ℕ)) → join_with_byte 44 (text ∷ texts) ≡ text ++ behind_commas texts
-join-cons text [] = sym (append-nil text)
-join-cons text (next ∷ texts) = ap (λ rest. text ++ (44 ∷ rest)) (join-cons next texts)
+pub join-cons : (byte : ℕ) (text : List ℕ) (texts : List (List ℕ)) → join_with_byte byte (text ∷ texts) ≡ text ++ behind_bytes byte texts
+join-cons byte text [] = sym (append-nil text)
+join-cons byte text (next ∷ texts) = ap (λ rest. text ++ (byte ∷ rest)) (join-cons byte next texts)
 
-pub join-first : {T : Type 0} (f : T → List ℕ) (items : List T) (first : T) (others : List T) → items ≡ first ∷ others → join_with_byte 44 (map f items) ≡ f first ++ behind_commas (map f others)
-join-first f items first others e = ap (λ all. join_with_byte 44 (map f all)) e ∙ join-cons (f first) (map f others)
+pub join-first : {T : Type 0} (byte : ℕ) (f : T → List ℕ) (items : List T) (first : T) (others : List T) → items ≡ first ∷ others
+    → join_with_byte byte (map f items) ≡ f first ++ behind_bytes byte (map f others)
+join-first byte f items first others e = ap (λ all. join_with_byte byte (map f all)) e ∙ join-cons byte (f first) (map f others)
 
-pub behind_commas-drop : {T : Type 0} (f : T → List ℕ) (items : List T) (i : ℕ) (d : T) → i < length items
-    → behind_commas (map f (drop i items)) ≡ codes "," ++ (f (get_or items i d) ++ behind_commas (map f (drop (i + 1) items)))
-behind_commas-drop f items i d inside = rw (add-one, drop-cons items i d) refl
+pub behind_bytes-drop : {T : Type 0} (byte : ℕ) (f : T → List ℕ) (items : List T) (i : ℕ) (d : T) → i < length items
+    → behind_bytes byte (map f (drop i items)) ≡ (byte ∷ []) ++ (f (get_or items i d) ++ behind_bytes byte (map f (drop (i + 1) items)))
+behind_bytes-drop byte f items i d inside = rw (add-one, drop-cons items i d) refl
 
 pub spaced-list_words : (negated : Bool) (elements : List (List ℕ)) → spaced (list_words negated elements) ≡ (if negated then codes " not " else codes " ") ++ join_with_byte 44 elements
 spaced-list_words true elements = ap (λ rest. codes " not " ++ rest) (append-nil (join_with_byte 44 elements))
@@ -49,7 +54,7 @@ parted-cons before text texts = sym (append_assoc before text (behind_commas tex
 pub parted-nil : (texts : List (List ℕ)) → join_with_byte 44 texts ≡ parted [] texts
 unfolding parted
 parted-nil [] = refl
-parted-nil (text ∷ texts) = join-cons text texts
+parted-nil (text ∷ texts) = join-cons 44 text texts
 
 pub spaced-options : (options : List Opt) (i : ℕ) (item : Opt) → item ≡ get_or options i item → i < length options
     → spaced (flat_map option_words (drop i options)) ≡ spaced (option_words item) ++ spaced (flat_map option_words (drop (i + 1) options))
@@ -101,29 +106,30 @@ pub code_unnamed : (code : ℕ) → 16 ≤ code → code_word code ≡ decimal c
 unfolding code_word unreach_names
 code_unnamed code many = rw (slice_get_past unreach_names code many) refl
 
--- the numbers from bit k on
-pub bit_numbers-step : (k mask : ℕ) → k < 32 → bit_numbers (32 - k) k mask ≡ (if has_bit mask k then decimal k ∷ [] else []) ++ bit_numbers (32 - (k + 1)) (k + 1) mask
-unfolding bit_numbers
-bit_numbers-step k mask inside =
-    let e : 32 - k ≡ suc (32 - (k + 1)) = omega arith in rw e refl
+-- those of the numbers from k on of which the test holds
+pub numbers_where-step : (test : ℕ → Bool) (most k : ℕ) → k < most → numbers_where test (most - k) k ≡ (if test k then decimal k ∷ [] else []) ++ numbers_where test (most - (k + 1)) (k + 1)
+unfolding numbers_where
+numbers_where-step test most k inside =
+    let e : most - k ≡ suc (most - (k + 1)) = omega arith in rw e refl
 
-pub bit_numbers-end : (k mask : ℕ) → k ≡ 32 → bit_numbers (32 - k) k mask ≡ []
-unfolding bit_numbers
-bit_numbers-end k mask done = rw done refl
+pub numbers_where-end : (test : ℕ → Bool) (most k : ℕ) → k ≡ most → numbers_where test (most - k) k ≡ []
+unfolding numbers_where
+numbers_where-end test most k done =
+    let e : most - k ≡ 0 = omega arith in rw e refl
 
 pub parted-number : (before text : List ℕ) (rest : List (List ℕ)) → parted before (text ∷ rest) ≡ (before ++ (text ++ [])) ++ parted (codes ",") rest
 parted-number before text rest = parted-cons before text rest ∙ ap (λ end. (before ++ end) ++ parted (codes ",") rest) (sym (append-nil text))
 
--- bit k is there, and its number was written
-pub number_written : (before : List ℕ) (k mask : ℕ) (b : Bool) → k < 32 → b ≡ has_bit mask k → b ≡ true
-    → parted before (bit_numbers (32 - k) k mask) ≡ (before ++ (decimal k ++ [])) ++ parted (codes ",") (bit_numbers (32 - (k + 1)) (k + 1) mask)
-number_written before k mask b inside bit there =
-    ap (parted before) (bit_numbers-step k mask inside) ∙ rw (← bit, there) (parted-number before (decimal k) (bit_numbers (32 - (k + 1)) (k + 1) mask))
+-- the test holds of k, and its number was written
+pub number_written : (test : ℕ → Bool) (most : ℕ) (before : List ℕ) (k : ℕ) (b : Bool) → k < most → b ≡ test k → b ≡ true
+    → parted before (numbers_where test (most - k) k) ≡ (before ++ (decimal k ++ [])) ++ parted (codes ",") (numbers_where test (most - (k + 1)) (k + 1))
+number_written test most before k b inside told there =
+    ap (parted before) (numbers_where-step test most k inside) ∙ rw (← told, there) (parted-number before (decimal k) (numbers_where test (most - (k + 1)) (k + 1)))
 
--- bit k isn't there
-pub number_skipped : (before : List ℕ) (k mask : ℕ) (b : Bool) → k < 32 → b ≡ has_bit mask k → b ≡ false
-    → parted before (bit_numbers (32 - k) k mask) ≡ parted before (bit_numbers (32 - (k + 1)) (k + 1) mask)
-number_skipped before k mask b inside bit absent = ap (parted before) (bit_numbers-step k mask inside) ∙ rw (← bit, absent) refl
+-- it doesn't
+pub number_skipped : (test : ℕ → Bool) (most : ℕ) (before : List ℕ) (k : ℕ) (b : Bool) → k < most → b ≡ test k → b ≡ false
+    → parted before (numbers_where test (most - k) k) ≡ parted before (numbers_where test (most - (k + 1)) (k + 1))
+number_skipped test most before k b inside told absent = ap (parted before) (numbers_where-step test most k inside) ∙ rw (← told, absent) refl
 
 -- what the code found of a name's sign
 pub record IsSign (set_bits clear_bits i : ℕ) (sign : Option (List ℕ)) : Type 0 where
@@ -159,9 +165,9 @@ pub parted-end : (before : List ℕ) (names : List (Bor (List ℕ))) (i set_bits
 unfolding parted signed_names
 parted-end before names i set_bits clear_bits done = rw (drop_all i names done) refl
 
-pub parted_numbers-end : (before : List ℕ) (k mask : ℕ) → k ≡ 32 → parted before (bit_numbers (32 - k) k mask) ≡ []
+pub parted_numbers-end : (test : ℕ → Bool) (most : ℕ) (before : List ℕ) (k : ℕ) → k ≡ most → parted before (numbers_where test (most - k) k) ≡ []
 unfolding parted
-parted_numbers-end before k mask done = rw (bit_numbers-end k mask done) refl
+parted_numbers-end test most before k done = rw (numbers_where-end test most k done) refl
 
 -- the rest is the same, in other words
 pub same_rest : {a b : Option (List ℕ)} {l m : ℕ} {text was rest : List ℕ} → was ≡ rest → IsUnderWay a b l m text was → IsUnderWay a b l m text rest

@@ -1,14 +1,19 @@
 -- The canonical text of a rule (ipfw(8), "RULE FORMAT"): words with one space between them.
-use Rattle.std.specs.Prelude.{ℕ, ◌+◌, ◌-◌, ◌/◌, ◌%◌, ◌^◌, Bool, ◌==◌, if◌then◌else◌, Option, Some, None, unwrap_or, List, [], ◌∷◌, ◌++◌, length, take, drop, map, replicate, slice_get, codes, zero, suc}
+use Rattle.std.specs.Prelude.{ℕ, ◌+◌, ◌-◌, Bool, ◌==◌, if◌then◌else◌, Option, Some, None, unwrap_or, List, [], ◌∷◌, ◌++◌, length, take, drop, map, replicate, slice_get, codes, nat_eq, zero, suc}
 use Rattle.std.specs.List.{join_with_byte, flat_map}
 use Rattle.std.specs.Fmt.{decimal}
+use Rattle.std.specs.Cmp.Lexicographic.{pointwise}
 use Rattle.fw_base.specs.Addr.{address_text}
 use Rattle.fw_base.specs.Prefix.{Network}
 use Rattle.fw_base.specs.PortRange.{Ports}
+pub use Rattle.fw_rule.specs.Bits.{has_bit}
+use Rattle.fw_rule.specs.Addr6Text.{network6_text}
+use Rattle.fw_rule.specs.FlowName.{default_flow}
+use Rattle.fw_rule.specs.TypeSet.{has_type}
 use Rattle.fw_rule.specs.declared.action.Action.{Action}
 use Rattle.fw_rule.specs.declared.action.Action.TheVariants.{Allow, Deny, Reset, Unreach, Count, SkipTo, Call, Return, CheckState}
 use Rattle.fw_rule.specs.declared.addr_item.AddrItem.{AddrItem}
-use Rattle.fw_rule.specs.declared.addr_item.AddrItem.TheVariants.{Any, Me, Net, InTable, TableValue}
+use Rattle.fw_rule.specs.declared.addr_item.AddrItem.TheVariants.{Any, Me, Net, Net6, InTable, TableValue}
 use Rattle.fw_rule.specs.declared.addr_spec.AddrSpec.{AddrSpec}
 use Rattle.fw_rule.specs.declared.port_list.PortList.{PortList}
 use Rattle.fw_rule.specs.declared.iface.Iface.{Iface}
@@ -16,8 +21,10 @@ use Rattle.fw_rule.specs.declared.iface.Iface.TheVariants.{AnyIface, Exact, Begi
 use Rattle.fw_rule.specs.declared.field.Field.{Field}
 use Rattle.fw_rule.specs.declared.field.Field.TheVariants.{SrcIp, DstIp, SrcPort as SrcPortField, DstPort as DstPortField}
 use Rattle.fw_rule.specs.declared.test.Test.{Test}
-use Rattle.fw_rule.specs.declared.test.Test.TheVariants.{Inward, Outward, Established, Setup, Frag, Recv, Xmit, Via, TcpFlags, IcmpTypes, IpOptions, Lookup}
+use Rattle.fw_rule.specs.declared.test.Test.TheVariants.{Inward, Outward, Established, Setup, Frag, Recv, Xmit, Via, TcpFlags, IcmpTypes, Icmp6Types, IpOptions, Lookup}
 use Rattle.fw_rule.specs.declared.opt.Opt.{Opt}
+use Rattle.fw_rule.specs.declared.family.Family.{Family}
+use Rattle.fw_rule.specs.declared.family.Family.TheVariants.{AnyIp, Four, Six}
 use Rattle.fw_rule.specs.declared.limit_mask.LimitMask.{LimitMask}
 use Rattle.fw_rule.specs.declared.limit_mask.LimitMask.TheVariants.{SrcAddr, SrcPort, DstAddr, DstPort}
 use Rattle.fw_rule.specs.declared.state_opt.StateOpt.{StateOpt}
@@ -50,6 +57,19 @@ unreach_names =
 unfoldable pub code_word : ℕ → List ℕ
 code_word code = unwrap_or (slice_get unreach_names code) (decimal code)
 
+-- the name of a flow behind a colon, but for `default`
+abbrev pub flow_words : List ℕ → Words
+flow_words name = if pointwise nat_eq name default_flow then [] else (58 ∷ name) ∷ []
+
+-- the flows that a `check-state` looks up: those of one name, or all
+abbrev pub looked_up_words : Option (List ℕ) → Words
+looked_up_words None = codes ":any" ∷ []
+looked_up_words (Some name) = flow_words name
+
+-- a rule that only looks states up
+abbrev pub check_state_words : Option (List ℕ) → Words
+check_state_words name = codes "check-state" ∷ looked_up_words name
+
 abbrev pub action_words : Action → Words
 action_words Allow = codes "allow" ∷ []
 action_words Deny = codes "deny" ∷ []
@@ -59,7 +79,7 @@ action_words Count = codes "count" ∷ []
 action_words (SkipTo number) = codes "skipto" ∷ decimal number ∷ []
 action_words (Call number) = codes "call" ∷ decimal number ∷ []
 action_words Return = codes "return" ∷ []
-action_words CheckState = codes "check-state" ∷ []
+action_words (CheckState name) = check_state_words name
 
 -- `log`, and its amount where it isn't 0
 abbrev pub amount_words : ℕ → Words
@@ -82,6 +102,12 @@ protocol_word number =
     else if number == 17 then codes "udp"
     else decimal number
 
+-- a version of IP stands in the protocol's place
+abbrev pub family_word : Family → ℕ → List ℕ
+family_word AnyIp protocol = protocol_word protocol
+family_word Four protocol = codes "ip4"
+family_word Six protocol = codes "ip6"
+
 -- a prefix of 32 without its length
 unfoldable pub network_text : Network → List ℕ
 network_text n = address_text n.address ++ (if n.bits == 32 then [] else 47 ∷ decimal n.bits)
@@ -90,6 +116,7 @@ abbrev pub item_text : AddrItem → List ℕ
 item_text Any = codes "any"
 item_text Me = codes "me"
 item_text (Net network) = network_text network
+item_text (Net6 network) = network6_text network
 item_text (InTable name) = codes "table(" ++ (name ++ codes ")")
 item_text (TableValue name value) = codes "table(" ++ (name ++ (codes "," ++ (decimal value ++ codes ")")))
 
@@ -110,10 +137,6 @@ range_text r = decimal r.low ++ (if r.low == r.high then [] else 45 ∷ decimal 
 abbrev pub port_words : Option PortList → Words
 port_words None = []
 port_words (Some ports) = list_words ports.negated (map range_text ports.ranges)
-
--- the mask has bit k
-abbrev pub has_bit : ℕ → ℕ → Bool
-has_bit mask k = mask / 2 ^ k % 2 == 1
 
 -- how a name is signed: not at all where the one mask has its bit, with ! where the other has it
 abbrev pub sign_of : Bool → Bool → Option (List ℕ)
@@ -136,10 +159,10 @@ flag_names = codes "fin" ∷ codes "syn" ∷ codes "rst" ∷ codes "psh" ∷ cod
 unfoldable pub option_names : Words
 option_names = codes "ssrr" ∷ codes "lsrr" ∷ codes "rr" ∷ codes "ts" ∷ []
 
--- the n bits from bit k on that the mask has, by number
-unfoldable pub bit_numbers : ℕ → ℕ → ℕ → Words
-bit_numbers zero k mask = []
-bit_numbers (suc n) k mask = (if has_bit mask k then decimal k ∷ [] else []) ++ bit_numbers n (k + 1) mask
+-- those of the n numbers from k on of which the test holds
+unfoldable pub numbers_where : (ℕ → Bool) → ℕ → ℕ → Words
+numbers_where test zero k = []
+numbers_where test (suc n) k = (if test k then decimal k ∷ [] else []) ++ numbers_where test n (k + 1)
 
 abbrev pub iface_text : Iface → List ℕ
 iface_text AnyIface = codes "any"
@@ -162,7 +185,8 @@ test_words (Recv iface) = codes "recv" ∷ iface_text iface ∷ []
 test_words (Xmit iface) = codes "xmit" ∷ iface_text iface ∷ []
 test_words (Via iface) = codes "via" ∷ iface_text iface ∷ []
 test_words (TcpFlags set clear) = codes "tcpflags" ∷ join_with_byte 44 (signed_names flag_names 0 set clear) ∷ []
-test_words (IcmpTypes types) = codes "icmptypes" ∷ join_with_byte 44 (bit_numbers 32 0 types) ∷ []
+test_words (IcmpTypes types) = codes "icmptypes" ∷ join_with_byte 44 (numbers_where (has_bit types) 32 0) ∷ []
+test_words (Icmp6Types types) = codes "icmp6types" ∷ join_with_byte 44 (numbers_where (has_type types) 256 0) ∷ []
 test_words (IpOptions present absent) = codes "ipoptions" ∷ join_with_byte 44 (signed_names option_names 0 present absent) ∷ []
 test_words (Lookup field table) = codes "lookup" ∷ field_word field ∷ table ∷ []
 
@@ -175,10 +199,18 @@ mask_word SrcPort = codes "src-port"
 mask_word DstAddr = codes "dst-addr"
 mask_word DstPort = codes "dst-port"
 
+-- at most so many states that agree in the masked part
+abbrev pub limit_words : LimitMask → ℕ → Words
+limit_words mask most = codes "limit" ∷ mask_word mask ∷ decimal most ∷ []
+
+-- how states are made, and the name of their flow
+abbrev pub state_option_words : StateOpt → Words
+state_option_words (Keep name) = codes "keep-state" ∷ flow_words name
+state_option_words (Limit mask most name) = limit_words mask most ++ flow_words name
+
 abbrev pub state_words : Option StateOpt → Words
 state_words None = []
-state_words (Some Keep) = codes "keep-state" ∷ []
-state_words (Some (Limit mask most)) = codes "limit" ∷ mask_word mask ∷ decimal most ∷ []
+state_words (Some state) = state_option_words state
 
 -- the options in their order, with the state in its place among them
 abbrev pub placed_words : List Opt → Option StateOpt → ℕ → Words
@@ -189,7 +221,7 @@ options_words body = placed_words body.options body.state body.state_at
 
 abbrev pub body_words : Body → Words
 body_words body =
-    protocol_word body.protocol
+    family_word body.family body.protocol
     ∷ codes "from" ∷ (addr_words body.source ++ (port_words body.source_ports
     ++ (codes "to" ∷ (addr_words body.destination ++ (port_words body.destination_ports ++ options_words body)))))
 

@@ -1,18 +1,21 @@
 -- When a rule's draft and a command are well formed: each of their numbers is in its range, and
 -- exactly a `check-state` has no body.
-use Rattle.std.specs.Prelude.{ℕ, ◌≤◌, ⊤, Option, Some, None, IfSome, length}
+use Rattle.std.specs.Prelude.{ℕ, ◌^◌, ◌<◌, ◌≤◌, ⊤, Option, IfSome, IsSomeAnd, length}
 use Rattle.std.specs.List.{AllByRecursion}
 use Rattle.fw_base.specs.Prefix.{Network}
+use Rattle.fw_base.specs.Prefix6.{Network6}
 use Rattle.fw_base.specs.PortRange.{Ports}
+use Rattle.fw_rule.specs.FlowName.{IsFlowName}
 use Rattle.fw_rule.specs.Settings.{IsInRange}
 use Rattle.fw_rule.specs.declared.action.Action.{Action}
-use Rattle.fw_rule.specs.declared.action.Action.TheVariants.{Unreach, SkipTo, Call, CheckState}
+use Rattle.fw_rule.specs.declared.action.Action.TheVariants.{Allow, Deny, Reset, Unreach, Count, SkipTo, Call, Return, CheckState}
 use Rattle.fw_rule.specs.declared.addr_item.AddrItem.{AddrItem}
-use Rattle.fw_rule.specs.declared.addr_item.AddrItem.TheVariants.{Net, TableValue}
+use Rattle.fw_rule.specs.declared.addr_item.AddrItem.TheVariants.{Any, Me, Net, Net6, InTable, TableValue}
 use Rattle.fw_rule.specs.declared.addr_spec.AddrSpec.{AddrSpec}
 use Rattle.fw_rule.specs.declared.port_list.PortList.{PortList}
 use Rattle.fw_rule.specs.declared.test.Test.{Test}
-use Rattle.fw_rule.specs.declared.test.Test.TheVariants.{IcmpTypes}
+use Rattle.fw_rule.specs.declared.test.Test.TheVariants.{Inward, Outward, Established, Setup, Frag, Recv, Xmit, Via, TcpFlags, IcmpTypes, Icmp6Types, IpOptions, Lookup}
+use Rattle.fw_rule.specs.declared.type_set.TypeSet.{TypeSet}
 use Rattle.fw_rule.specs.declared.state_opt.StateOpt.{StateOpt}
 use Rattle.fw_rule.specs.declared.state_opt.StateOpt.TheVariants.{Keep, Limit}
 use Rattle.fw_rule.specs.declared.body.Body.{Body}
@@ -20,9 +23,9 @@ use Rattle.fw_rule.specs.declared.rule_draft.RuleDraft.{RuleDraft}
 use Rattle.fw_rule.specs.declared.key.Key.{Key}
 use Rattle.fw_rule.specs.declared.key.Key.TheVariants.{Net as NetKey, Number}
 use Rattle.fw_rule.specs.declared.table_command.TableCommand.{TableCommand}
-use Rattle.fw_rule.specs.declared.table_command.TableCommand.TheVariants.{Add as AddEntry, Remove}
+use Rattle.fw_rule.specs.declared.table_command.TableCommand.TheVariants.{Create, Destroy, Add as AddEntry, Remove, Clear, SwapWith, ListEntries}
 use Rattle.fw_rule.specs.declared.command.Command.{Command}
-use Rattle.fw_rule.specs.declared.command.Command.TheVariants.{Add, Delete, DeleteSet, Zero, SetMask, MoveSet, MoveRule, SwapSets, Table, Sysctl}
+use Rattle.fw_rule.specs.declared.command.Command.TheVariants.{Add, Delete, DeleteSet, Flush, Zero, ListRules, SetMask, MoveSet, MoveRule, SwapSets, Table, Sysctl, Local}
 
 -- from least to most
 pub record IsFromTo (least most n : ℕ) : Type 0 where
@@ -42,19 +45,30 @@ abbrev pub IsValue : ℕ → Type 0
 IsValue n = n ≤ 4294967295
 
 abbrev pub IsAction : Action → Type 0
+IsAction Allow = ⊤
+IsAction Deny = ⊤
+IsAction Reset = ⊤
 IsAction (Unreach code) = code ≤ 255
+IsAction Count = ⊤
 IsAction (SkipTo number) = IsNumber number
 IsAction (Call number) = IsNumber number
-IsAction other = ⊤
+IsAction Return = ⊤
+IsAction (CheckState name) = IfSome name IsFlowName
 
 -- a prefix's length
 abbrev pub IsPrefix : Network → Type 0
 IsPrefix n = n.bits ≤ 32
 
+abbrev pub IsPrefix6 : Network6 → Type 0
+IsPrefix6 n = n.bits ≤ 128
+
 abbrev pub IsItem : AddrItem → Type 0
+IsItem Any = ⊤
+IsItem Me = ⊤
 IsItem (Net n) = IsPrefix n
+IsItem (Net6 n) = IsPrefix6 n
+IsItem (InTable name) = ⊤
 IsItem (TableValue name value) = IsValue value
-IsItem other = ⊤
 
 abbrev pub IsAddrSpec : AddrSpec → Type 0
 IsAddrSpec spec = AllByRecursion IsItem spec.items
@@ -65,14 +79,30 @@ IsRange r = (r.low ≤ r.high) × (r.high ≤ 65535)
 abbrev pub IsPortList : PortList → Type 0
 IsPortList ports = AllByRecursion IsRange ports.ranges
 
+-- 256 ICMPv6 types
+pub record IsTypeSet (types : TypeSet) : Type 0 where
+  pub low : types.low < 2 ^ 128
+  pub high : types.high < 2 ^ 128
+
 -- 32 ICMP types; the bits of a mask of flags or of IP options may be any
 abbrev pub IsTest : Test → Type 0
+IsTest Inward = ⊤
+IsTest Outward = ⊤
+IsTest Established = ⊤
+IsTest Setup = ⊤
+IsTest Frag = ⊤
+IsTest (Recv iface) = ⊤
+IsTest (Xmit iface) = ⊤
+IsTest (Via iface) = ⊤
+IsTest (TcpFlags set clear) = ⊤
 IsTest (IcmpTypes types) = types ≤ 4294967295
-IsTest other = ⊤
+IsTest (Icmp6Types types) = IsTypeSet types
+IsTest (IpOptions present absent) = ⊤
+IsTest (Lookup field table) = ⊤
 
 abbrev pub IsState : StateOpt → Type 0
-IsState Keep = ⊤
-IsState (Limit mask most) = IsFromTo 1 65535 most
+IsState (Keep name) = IsFlowName name
+IsState (Limit mask most name) = IsFromTo 1 65535 most × IsFlowName name
 
 pub record IsBody (body : Body) : Type 0 where
   pub protocol : body.protocol ≤ 255
@@ -86,10 +116,15 @@ pub record IsBody (body : Body) : Type 0 where
 
 -- a body, for all but `check-state`
 abbrev pub HasBody : Action → Option Body → Type 0
-HasBody CheckState None = ⊤
-HasBody CheckState (Some body) = ⊥
-HasBody other None = ⊥
-HasBody other (Some body) = IsBody body
+HasBody Allow body = IsSomeAnd body IsBody
+HasBody Deny body = IsSomeAnd body IsBody
+HasBody Reset body = IsSomeAnd body IsBody
+HasBody (Unreach code) body = IsSomeAnd body IsBody
+HasBody Count body = IsSomeAnd body IsBody
+HasBody (SkipTo number) body = IsSomeAnd body IsBody
+HasBody (Call number) body = IsSomeAnd body IsBody
+HasBody Return body = IsSomeAnd body IsBody
+HasBody (CheckState name) body = IfSome body (λ _. ⊥)
 
 -- the number of a draft may be 0
 pub record IsDraft (draft : RuleDraft) : Type 0 where
@@ -104,19 +139,25 @@ IsKey (NetKey n) = IsPrefix n
 IsKey (Number n) = IsValue n
 
 abbrev pub IsTableCommand : TableCommand → Type 0
+IsTableCommand (Create type) = ⊤
+IsTableCommand Destroy = ⊤
 IsTableCommand (AddEntry key value) = IsKey key × IsValue value
 IsTableCommand (Remove key) = IsKey key
-IsTableCommand other = ⊤
+IsTableCommand Clear = ⊤
+IsTableCommand (SwapWith other) = ⊤
+IsTableCommand ListEntries = ⊤
 
 abbrev pub IsWellFormed : Command → Type 0
 IsWellFormed (Add draft) = IsDraft draft
 IsWellFormed (Delete numbers) = AllByRecursion IsNumber numbers
 IsWellFormed (DeleteSet set) = IsSet set
+IsWellFormed Flush = ⊤
 IsWellFormed (Zero numbers) = AllByRecursion IsNumber numbers
+IsWellFormed ListRules = ⊤
 IsWellFormed (SetMask disable enable) = (disable ≤ 4294967295) × (enable ≤ 4294967295)
 IsWellFormed (MoveSet from to) = IsSet from × IsSet to
 IsWellFormed (MoveRule number to) = IsNumber number × IsSet to
 IsWellFormed (SwapSets first second) = IsSet first × IsSet second
 IsWellFormed (Table name command) = IsTableCommand command
 IsWellFormed (Sysctl setting value) = IsInRange setting value
-IsWellFormed other = ⊤
+IsWellFormed (Local addresses) = ⊤

@@ -1,12 +1,14 @@
 ghost use Rattle.std.specs.Prelude.{◌≡◌, IfOk};
 
-use crate::{AddrSpec, Items, Opt, PortList, StateOpt};
+use crate::{AddrSpec, Family, Items, Opt, PortList, StateOpt};
 use fw_base::OutOfMemory;
 use std::alloc::Global;
 
 /// What a rule asks of a packet (ipfw(8), "RULE BODY").
 #[derive(Debug, Drop)]
 pub struct Body {
+    /// The version of IP.
+    pub family: Family,
     /// The protocol by its number (RFC 791 section 3.1); 0 stands for every protocol.
     pub protocol: u8,
     pub source: AddrSpec,
@@ -27,15 +29,25 @@ impl Body {
         ensures { IfOk result (λ body. body ≡ self.now) }
     {
         Ok(Body {
+            family: self.family,
             protocol: self.protocol,
             source: self.source.copy(alloc)?,
             source_ports: copy_ports(alloc, &self.source_ports)?,
             destination: self.destination.copy(alloc)?,
             destination_ports: copy_ports(alloc, &self.destination_ports)?,
             options: copy_options(alloc, &self.options)?,
-            state: self.state,
+            state: copy_state(&self.state)?,
             state_at: self.state_at,
         })
+    }
+}
+
+fn copy_state(state: &Option<StateOpt>) -> Result<Option<StateOpt>, OutOfMemory>
+    ensures { IfOk result (λ copied. copied ≡ state.now) }
+{
+    match state {
+        Some(option) => Ok(Some(option.copy()?)),
+        None => Ok(None),
     }
 }
 

@@ -4,6 +4,7 @@ ghost use Rattle.fw_rule.specs.Canonical.{item_text, network_text, range_text};
 ghost use Rattle.fw_base.specs.Addr.{address_text};
 
 use crate::AddrItem;
+use crate::address6_text::write_prefix6;
 use crate::piece::Piece;
 use crate::writing::{Element, write_pieces};
 use fw_base::{Addr, Failed, PortRange, Prefix, Sink};
@@ -44,6 +45,7 @@ impl Element for AddrItem {
             AddrItem::Any => write_pieces(out, &[Piece::Text(b"any")]),
             AddrItem::Me => write_pieces(out, &[Piece::Text(b"me")]),
             AddrItem::Net(prefix) => write_prefix(out, *prefix),
+            AddrItem::Net6(prefix) => write_prefix6(out, *prefix),
             AddrItem::InTable(name) => {
                 let name = Piece::Text(name.bytes());
                 write_pieces(out, &[Piece::Text(b"table("), name, Piece::Text(b")")])

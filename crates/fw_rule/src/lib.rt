@@ -5,38 +5,50 @@
 pub use action::Action;
 pub use addr_item::AddrItem;
 pub use addr_spec::AddrSpec;
+pub use address6_text::write_address6;
 pub use body::Body;
 pub use command::Command;
 pub use elements::write_address;
+pub use family::Family;
 pub use field::Field;
+pub use flow_name::{ANY_FLOW, DEFAULT_FLOW};
 pub use iface::Iface;
 pub use items::Items;
 pub use key::Key;
+pub use laws::first_longest_runs_are_found;
 pub use limit_mask::LimitMask;
 pub use opt::Opt;
 pub use options::{FLAG_NAMES, OPTION_NAMES, has_bit};
 pub use port_list::PortList;
 pub use rule::Rule;
 pub use rule_draft::RuleDraft;
-pub use rule_text::{UNREACH_NAMES, WriteFault, write_rule, write_rule_rest, write_unreach_code};
+pub use rule_text::{
+    UNREACH_NAMES, WriteFault, write_protocol, write_rule, write_rule_rest, write_unreach_code,
+};
 pub use setting::Setting;
-pub use settings::{LONGEST_LIFETIME, MOST_STATES, Settings};
+pub use settings::{LONGEST_LIFETIME, MOST_STATES, Settings, USUAL_MOST_STATES};
 pub use state_opt::StateOpt;
 pub use table_command::TableCommand;
 pub use table_type::TableType;
 pub use test::Test;
+pub use type_set::TypeSet;
+pub use writing::write_five_digits;
 
 mod action;
 mod addr_item;
 mod addr_spec;
+mod address6_text;
 mod body;
 mod command;
 mod digits;
 mod elements;
+mod family;
 mod field;
+mod flow_name;
 mod iface;
 mod items;
 mod key;
+mod laws;
 mod limit_mask;
 mod opt;
 mod options;
@@ -53,4 +65,5 @@ mod table_type;
 mod test;
 #[cfg(test)]
 mod tests;
+mod type_set;
 mod writing;

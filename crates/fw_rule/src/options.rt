@@ -4,10 +4,12 @@ ghost use Rattle.std.specs.Option.{option_copied};
 ghost use Rattle.fw_base.specs.Texts.{WritesText};
 ghost use Rattle.fw_rule.specs.Canonical as text;
 ghost use Rattle.fw_rule.specs.Canonical.{spaced};
+ghost use Rattle.fw_rule.specs.TypeSet.{has_type};
 
+use crate::flow_name::write_flow_name;
 use crate::piece::Piece;
 use crate::writing::write_pieces;
-use crate::{Field, Iface, LimitMask, Opt, StateOpt, Test};
+use crate::{Field, Iface, LimitMask, Opt, StateOpt, Test, TypeSet};
 use fw_base::{Failed, Sink, write_text};
 
 /// The names of bits 0 to 5 of a mask of TCP flags.
@@ -66,13 +68,28 @@ fn write_signed_names<'x, K: Sink>(
 
 /// Writes the word, and behind it the numbers of the mask's bits.
 fn write_bit_numbers<K: Sink>(out: &mut K, word: &[u8], mask: u32) -> Result<(), Failed>
-    ensures { WritesText (K.written out.old) (K.written out.new) (K.faults out.old) (K.faults out.new) (word.now ++ join_with_byte 44 (text.bit_numbers 32 0 mask)) result }
+    ensures { WritesText (K.written out.old) (K.written out.new) (K.faults out.old) (K.faults out.new) (word.now ++ join_with_byte 44 (text.numbers_where (text.has_bit mask) 32 0)) result }
 {
     write_text(out, word)?;
     let mut before: &[u8] = b"";
     for bit in 0..32 {
         if has_bit(mask, bit) {
             write_pieces(out, &[Piece::Text(before), Piece::Number(bit)])?;
+            before = b",";
+        }
+    }
+    Ok(())
+}
+
+/// Writes the word, and behind it the types of the set.
+fn write_type_numbers<K: Sink>(out: &mut K, word: &[u8], types: &TypeSet) -> Result<(), Failed>
+    ensures { WritesText (K.written out.old) (K.written out.new) (K.faults out.old) (K.faults out.new) (word.now ++ join_with_byte 44 (text.numbers_where (has_type types.now) 256 0)) result }
+{
+    write_text(out, word)?;
+    let mut before: &[u8] = b"";
+    for number in 0..256 {
+        if types.contains(number as u8) {
+            write_pieces(out, &[Piece::Text(before), Piece::Number(number)])?;
             before = b",";
         }
     }
@@ -133,6 +150,7 @@ fn write_test<K: Sink>(out: &mut K, test: &Test) -> Result<(), Failed>
             write_signed_names(out, b" tcpflags ", &FLAG_NAMES, *set, *clear)
         }
         Test::IcmpTypes(types) => write_bit_numbers(out, b" icmptypes ", *types),
+        Test::Icmp6Types(types) => write_type_numbers(out, b" icmp6types ", types),
         Test::IpOptions { present, absent } => {
             write_signed_names(out, b" ipoptions ", &OPTION_NAMES, *present, *absent)
         }
@@ -171,20 +189,40 @@ pub(crate) fn write_options<K: Sink>(out: &mut K, options: &[Opt]) -> Result<(),
     Ok(())
 }
 
+/// Writes `limit` with its mask and number, each word behind a space.
+fn write_limit<K: Sink>(out: &mut K, mask: LimitMask, most: u16) -> Result<(), Failed>
+    ensures { WritesText (K.written out.old) (K.written out.new) (K.faults out.old) (K.faults out.new) (spaced (text.limit_words mask most)) result }
+{
+    let mask = Piece::Text(mask_word(mask));
+    let most = Piece::Number(u32::from(most));
+    write_pieces(
+        out,
+        &[Piece::Text(b" limit "), mask, Piece::Text(b" "), most],
+    )
+}
+
 /// Writes how states are made, each word behind a space.
-pub(crate) fn write_state<K: Sink>(out: &mut K, state: Option<StateOpt>) -> Result<(), Failed>
-    ensures { WritesText (K.written out.old) (K.written out.new) (K.faults out.old) (K.faults out.new) (spaced (text.state_words state)) result }
+fn write_state_option<K: Sink>(out: &mut K, state: &StateOpt) -> Result<(), Failed>
+    ensures { WritesText (K.written out.old) (K.written out.new) (K.faults out.old) (K.faults out.new) (spaced (text.state_option_words state.now)) result }
+{
+    match state {
+        StateOpt::Keep(name) => {
+            write_text(out, b" keep-state")?;
+            write_flow_name(out, name)
+        }
+        StateOpt::Limit(mask, most, name) => {
+            write_limit(out, *mask, *most)?;
+            write_flow_name(out, name)
+        }
+    }
+}
+
+/// Writes how states are made where they are, each word behind a space.
+pub(crate) fn write_state<K: Sink>(out: &mut K, state: &Option<StateOpt>) -> Result<(), Failed>
+    ensures { WritesText (K.written out.old) (K.written out.new) (K.faults out.old) (K.faults out.new) (spaced (text.state_words state.now)) result }
 {
     match state {
         None => Ok(()),
-        Some(StateOpt::Keep) => write_text(out, b" keep-state"),
-        Some(StateOpt::Limit(mask, most)) => {
-            let mask = Piece::Text(mask_word(mask));
-            let most = Piece::Number(u32::from(most));
-            write_pieces(
-                out,
-                &[Piece::Text(b" limit "), mask, Piece::Text(b" "), most],
-            )
-        }
+        Some(state) => write_state_option(out, state),
     }
 }

@@ -4,11 +4,12 @@ ghost use Rattle.fw_rule.specs.Canonical as text;
 ghost use Rattle.fw_rule.specs.Pieces.{piece_text};
 ghost use Rattle.fw_rule.specs.Canonical.{spaced, rule_text, rest_text};
 
+use crate::flow_name::write_flow_name;
 use crate::options::{write_options, write_state};
 use crate::piece::Piece;
 use crate::writing::{write_five_digits, write_list_words, write_piece, write_pieces};
-use crate::{Action, AddrSpec, Body, Opt, PortList, Rule, StateOpt};
-use fw_base::{Failed, Sink, write_text};
+use crate::{Action, AddrSpec, Body, Family, Opt, PortList, Rule, StateOpt};
+use fw_base::{Failed, Name, Sink, write_text};
 use std::error::Error;
 use std::fmt;
 
@@ -65,28 +66,39 @@ fn unreach_piece(code: u8) -> Piece<'static>
     }
 }
 
+/// Writes `check-state` and which flows it looks up, each word behind a space.
+fn write_check_state<K: Sink>(out: &mut K, name: &Option<Name>) -> Result<(), Failed>
+    ensures { WritesText (K.written out.old) (K.written out.new) (K.faults out.old) (K.faults out.new) (spaced (text.check_state_words name.now)) result }
+{
+    write_text(out, b" check-state")?;
+    match name {
+        None => write_text(out, b" :any"),
+        Some(name) => write_flow_name(out, name),
+    }
+}
+
 /// Writes an action, each word behind a space.
-fn write_action<K: Sink>(out: &mut K, action: Action) -> Result<(), Failed>
-    ensures { WritesText (K.written out.old) (K.written out.new) (K.faults out.old) (K.faults out.new) (spaced (text.action_words action)) result }
+fn write_action<K: Sink>(out: &mut K, action: &Action) -> Result<(), Failed>
+    ensures { WritesText (K.written out.old) (K.written out.new) (K.faults out.old) (K.faults out.new) (spaced (text.action_words action.now)) result }
 {
     match action {
         Action::Allow => write_text(out, b" allow"),
         Action::Deny => write_text(out, b" deny"),
         Action::Reset => write_text(out, b" reset"),
         Action::Unreach(code) => {
-            write_pieces(out, &[Piece::Text(b" unreach "), unreach_piece(code)])
+            write_pieces(out, &[Piece::Text(b" unreach "), unreach_piece(*code)])
         }
         Action::Count => write_text(out, b" count"),
         Action::SkipTo(number) => {
-            let number = Piece::Number(u32::from(number));
+            let number = Piece::Number(u32::from(*number));
             write_pieces(out, &[Piece::Text(b" skipto "), number])
         }
         Action::Call(number) => {
-            let number = Piece::Number(u32::from(number));
+            let number = Piece::Number(u32::from(*number));
             write_pieces(out, &[Piece::Text(b" call "), number])
         }
         Action::Return => write_text(out, b" return"),
-        Action::CheckState => write_text(out, b" check-state"),
+        Action::CheckState(name) => write_check_state(out, name),
     }
 }
 
@@ -124,9 +136,10 @@ fn write_log<K: Sink>(out: &mut K, log: Option<u32>) -> Result<(), Failed>
     }
 }
 
-/// Writes a protocol behind a space, by name where it has one.
+/// Writes a protocol behind a space, by name where it has one. Where the sink fails, a front of that was
+/// written.
 #[tactic(auto, unfolding(crate::specs::Canonical::protocol_word))]
-fn write_protocol<K: Sink>(out: &mut K, protocol: u8) -> Result<(), Failed>
+pub fn write_protocol<K: Sink>(out: &mut K, protocol: u8) -> Result<(), Failed>
     ensures { WritesText (K.written out.old) (K.written out.new) (K.faults out.old) (K.faults out.new) (spaced (text.one_word (text.protocol_word protocol))) result }
 {
     match protocol {
@@ -138,6 +151,17 @@ fn write_protocol<K: Sink>(out: &mut K, protocol: u8) -> Result<(), Failed>
             out,
             &[Piece::Text(b" "), Piece::Number(u32::from(protocol))],
         ),
+    }
+}
+
+/// Writes the version of IP or the protocol behind a space.
+fn write_family<K: Sink>(out: &mut K, family: Family, protocol: u8) -> Result<(), Failed>
+    ensures { WritesText (K.written out.old) (K.written out.new) (K.faults out.old) (K.faults out.new) (spaced (text.one_word (text.family_word family protocol))) result }
+{
+    match family {
+        Family::AnyIp => write_protocol(out, protocol),
+        Family::Four => write_text(out, b" ip4"),
+        Family::Six => write_text(out, b" ip6"),
     }
 }
 
@@ -174,10 +198,10 @@ fn write_end<K: Sink>(
 fn write_placed<K: Sink>(
     out: &mut K,
     options: &[Opt],
-    state: Option<StateOpt>,
+    state: &Option<StateOpt>,
     state_at: usize,
 ) -> Result<(), Failed>
-    ensures { WritesText (K.written out.old) (K.written out.new) (K.faults out.old) (K.faults out.new) (spaced (text.placed_words options.now state state_at)) result }
+    ensures { WritesText (K.written out.old) (K.written out.new) (K.faults out.old) (K.faults out.new) (spaced (text.placed_words options.now state.now state_at)) result }
 {
     let (before, behind) = options.split_at(state_at.min(options.len()));
     write_options(out, before)?;
@@ -188,13 +212,13 @@ fn write_placed<K: Sink>(
 fn write_body_options<K: Sink>(out: &mut K, body: &Body) -> Result<(), Failed>
     ensures { WritesText (K.written out.old) (K.written out.new) (K.faults out.old) (K.faults out.new) (spaced (text.options_words body.now)) result }
 {
-    write_placed(out, body.options.as_slice(), body.state, body.state_at)
+    write_placed(out, body.options.as_slice(), &body.state, body.state_at)
 }
 
 fn write_body<K: Sink>(out: &mut K, body: &Body) -> Result<(), Failed>
     ensures { WritesText (K.written out.old) (K.written out.new) (K.faults out.old) (K.faults out.new) (spaced (text.body_words body.now)) result }
 {
-    write_protocol(out, body.protocol)?;
+    write_family(out, body.family, body.protocol)?;
     write_end(out, b" from", &body.source, &body.source_ports)?;
     write_end(out, b" to", &body.destination, &body.destination_ports)?;
     write_body_options(out, body)
@@ -213,7 +237,7 @@ fn write_words<K: Sink>(out: &mut K, rule: &Rule) -> Result<(), Failed>
     ensures { WritesText (K.written out.old) (K.written out.new) (K.faults out.old) (K.faults out.new) (rest_text rule.now) result }
 {
     write_set(out, rule.set)?;
-    write_action(out, rule.action)?;
+    write_action(out, &rule.action)?;
     write_log(out, rule.log)?;
     write_optional_body(out, &rule.body)
 }

@@ -1,4 +1,5 @@
-/// The settings by name, each `net.inet.ip.fw.` and `dyn_ack_lifetime` and so on, or `dyn_max`.
+/// The settings by name, each `net.inet.ip.fw.` and `dyn_ack_lifetime` and so on, `dyn_max`, or
+/// `dyn_keep_states`, whose values are 0 and 1.
 #[derive(Clone, Copy, Debug, PartialEq, Eq, Hash)]
 pub enum Setting {
     Ack,
@@ -8,4 +9,5 @@ pub enum Setting {
     Udp,
     Short,
     Max,
+    Keep,
 }

@@ -1,6 +1,6 @@
 ghost use Rattle.std.specs.Prelude.{◌≡◌, IfOk};
 
-use crate::{Field, Iface};
+use crate::{Field, Iface, TypeSet};
 use fw_base::{Name, OutOfMemory};
 
 /// What an option of a rule's body asks of a packet (ipfw(8), "RULE OPTIONS").
@@ -27,6 +27,8 @@ pub enum Test {
     TcpFlags { set: u8, clear: u8 },
     /// `icmptypes`: the type is one of 0 to 31 whose bit is set (RFC 792).
     IcmpTypes(u32),
+    /// `icmp6types`: the type is one of the set (RFC 4443).
+    Icmp6Types(TypeSet),
     /// `ipoptions`: these options present and those absent, as bits ssrr 1, lsrr 2, rr 4, ts 8
     /// (RFC 791 section 3.1).
     IpOptions { present: u8, absent: u8 },
@@ -53,6 +55,7 @@ impl Test {
                 clear: *clear,
             },
             Test::IcmpTypes(types) => Test::IcmpTypes(*types),
+            Test::Icmp6Types(types) => Test::Icmp6Types(*types),
             Test::IpOptions { present, absent } => Test::IpOptions {
                 present: *present,
                 absent: *absent,

@@ -1,10 +1,13 @@
 use crate::{
-    Action, AddrItem, AddrSpec, Body, Iface, Items, LimitMask, Opt, PortList, Rule, StateOpt, Test,
-    WriteFault, write_rule, write_rule_rest,
+    Action, AddrItem, AddrSpec, Body, DEFAULT_FLOW, Family, Iface, Items, LimitMask, Opt, PortList,
+    Rule, StateOpt, Test, WriteFault, write_rule, write_rule_rest,
 };
 use fw_base::{Addr, MemorySink, Name, PortRange, Prefix};
 use std::alloc::Global;
 use std::test::Fail;
+
+mod addresses6;
+mod versions;
 
 const TEXT: &str = "00005 set 3 allow log logamount 10 tcp from not 10.0.0.0/8,me \
                     80,1000-2000 to any not 53 in limit src-addr 2 recv em* tcpflags syn,!ack";
@@ -33,6 +36,7 @@ fn body(alloc: Global) -> Result<Body, Fail> {
         })?;
     }
     Ok(Body {
+        family: Family::AnyIp,
         protocol: 6,
         source: AddrSpec {
             negated: true,
@@ -51,7 +55,7 @@ fn body(alloc: Global) -> Result<Body, Fail> {
             ranges: Items::from_vec(domain),
         }),
         options: Items::from_vec(options),
-        state: Some(StateOpt::Limit(LimitMask::SrcAddr, 2)),
+        state: Some(StateOpt::Limit(LimitMask::SrcAddr, 2, Name::new(alloc, DEFAULT_FLOW)?)),
         state_at: 1,
     })
 }
@@ -93,8 +97,27 @@ fn sink_of_ten_bytes(rt: HostRuntime) -> Result<(), Fail> {
 
 #[test]
 fn rules_without_a_body(rt: HostRuntime) -> Result<(), Fail> {
+    let alloc = rt.alloc();
     for (number, set, action, want) in [
-        (65535, 0, Action::CheckState, "65535 check-state"),
+        (65535, 0, Action::CheckState(None), "65535 check-state :any"),
+        (
+            1,
+            0,
+            Action::CheckState(Some(Name::new(alloc, b"web")?)),
+            "00001 check-state :web",
+        ),
+        (
+            2,
+            0,
+            Action::CheckState(Some(Name::new(alloc, b"ANY")?)),
+            "00002 check-state :ANY",
+        ),
+        (
+            3,
+            0,
+            Action::CheckState(Some(Name::new(alloc, DEFAULT_FLOW)?)),
+            "00003 check-state",
+        ),
         (
             0,
             31,

@@ -33,8 +33,8 @@ pub(crate) fn write_pieces<K: Sink>(out: &mut K, pieces: &[Piece<'_>]) -> Result
     Ok(())
 }
 
-/// Writes a number as five digits with leading zeros.
-pub(crate) fn write_five_digits<K: Sink>(out: &mut K, n: u16) -> Result<(), Failed>
+/// Writes a number as five digits with leading zeros. Where the sink fails, a front of them was written.
+pub fn write_five_digits<K: Sink>(out: &mut K, n: u16) -> Result<(), Failed>
     ensures { WritesText (K.written out.old) (K.written out.new) (K.faults out.old) (K.faults out.new) (five_digits n) result }
 {
     let mut buffer = [0; MOST_DIGITS];
@@ -52,16 +52,20 @@ pub(crate) trait Element {
         ensures { WritesText (K.written out.old) (K.written out.new) (K.faults out.old) (K.faults out.new) (text self.now) result };
 }
 
-/// Writes the elements with commas between them.
-fn write_list<T: Element, K: Sink>(out: &mut K, items: &[T]) -> Result<(), Failed>
-    ensures { WritesText (K.written out.old) (K.written out.new) (K.faults out.old) (K.faults out.new) (join_with_byte 44 (map T.text items.now)) result }
+/// Writes the elements with that byte between them.
+pub(crate) fn write_joined<T: Element, K: Sink>(
+    out: &mut K,
+    between: u8,
+    items: &[T],
+) -> Result<(), Failed>
+    ensures { WritesText (K.written out.old) (K.written out.new) (K.faults out.old) (K.faults out.new) (join_with_byte between (map T.text items.now)) result }
 {
     let Some((first, others)) = items.split_first() else {
         return Ok(());
     };
     first.write(out)?;
     for item in others {
-        write_text(out, b",")?;
+        write_text(out, &[between])?;
         item.write(out)?;
     }
     Ok(())
@@ -76,7 +80,7 @@ pub(crate) fn write_list_words<T: Element, K: Sink>(
     ensures { WritesText (K.written out.old) (K.written out.new) (K.faults out.old) (K.faults out.new) (spaced (list_words negated (map T.text items.now))) result }
 {
     write_text(out, list_start(negated))?;
-    write_list(out, items)
+    write_joined(out, b',', items)
 }
 
 fn list_start(negated: bool) -> &'static [u8]

@@ -13,4 +13,4 @@ returns-in_err-write_text g c =
 pub returns : goal.returns
 returns g c =
     let split = spaced-list_words c.args.negated (map g.T.Element.text c.args.items.now) in
-    finishes _ (goes _ (starts _ _ _) (rw (← c.list_start.ensures) at split) c.in_ok-write_text.was c.write_text.ensures) refl c.write_list.ensures
+    finishes _ (goes _ (starts _ _ _) (rw (← c.list_start.ensures) at split) c.in_ok-write_text.was c.write_text.ensures) refl c.write_joined.ensures
