@@ -1,8 +1,9 @@
 -- The first element of a list and the rest.
-use Rattle.std.proofs.Common.{◌≡◌, ℕ, ◌+◌, ◌<◌, ◌≤◌, suc, Bool, true, false, not, ◌&&◌, ◌==◌, nat_lt, if◌then◌else◌, Option, Some, None, List, [], ◌∷◌, length, take, drop, get_or, refl, sym, ap, ◌∙◌, arith, add-one, inl, inr, drop-cons, position}
-use Rattle.std.specs.List.{onto_first, position_or_len}
+use Rattle.std.proofs.Common.{◌≡◌, ℕ, ◌+◌, ◌<◌, ◌≤◌, suc, Bool, true, false, not, ◌&&◌, ◌==◌, nat_lt, if◌then◌else◌, Option, Some, None, List, ◌∷◌, length, take, drop, get_or, refl, sym, ap, ◌∙◌, arith, add-one, inl, inr, drop-cons, position, []}
+use Rattle.std.specs.List.{onto_first, position_or_len, slice_split}
 use Rattle.std.proofs.lemmas.List.{drop_all}
 use Rattle.std.proofs.lemmas.Bool.{cases_lt, lt-ltb, le-ltb}
+use Rattle.ipfw_parser.specs.Addresses6.{colon_parts, colon_parts_left}
 use Rattle.ipfw_parser.specs.Lists.{elements, elements_left, elements_outside, elements_outside_left, element_end, inside_after}
 
 -- the list without its first element, which ends there
@@ -37,17 +38,43 @@ outside_first inside (byte ∷ bytes) = outside_step (byte == 44 && not inside) 
 one-add : (n : ℕ) → 1 + n ≡ suc n
 one-add n = omega arith
 
-elements_step : (b : Bool) (byte : ℕ) (bytes : List ℕ) (end : ℕ)
-    → elements bytes ≡ take end bytes ∷ elements_left (left_at end bytes)
-    → (if b then [] ∷ elements bytes else onto_first byte (elements bytes)) ≡ take (if not b then 1 + end else 0) (byte ∷ bytes) ∷ elements_left (left_at (if not b then 1 + end else 0) (byte ∷ bytes))
-elements_step true byte bytes end rest = ap (λ left. [] ∷ elements_left left) (sym (left_at-zero byte bytes))
-elements_step false byte bytes end rest =
-    rw (one-add end) (ap (onto_first byte) rest ∙ ap (λ left. (byte ∷ take end bytes) ∷ elements_left left) (sym (left_at-suc end byte bytes)))
+-- the parts behind the first one
+abbrev split_left : ℕ → Option (List ℕ) → List (List ℕ)
+split_left at None = []
+split_left at (Some text) = slice_split (λ b. b == at) text
 
+split_step : (b : Bool) (at byte : ℕ) (bytes : List ℕ) (end : ℕ)
+    → slice_split (λ x. x == at) bytes ≡ take end bytes ∷ split_left at (left_at end bytes)
+    → (if b then [] ∷ slice_split (λ x. x == at) bytes else onto_first byte (slice_split (λ x. x == at) bytes)) ≡ take (if not b then 1 + end else 0) (byte ∷ bytes) ∷ split_left at (left_at (if not b then 1 + end else 0) (byte ∷ bytes))
+split_step true at byte bytes end rest = ap (λ left. [] ∷ split_left at left) (sym (left_at-zero byte bytes))
+split_step false at byte bytes end rest =
+    rw (one-add end) (ap (onto_first byte) rest ∙ ap (λ left. (byte ∷ take end bytes) ∷ split_left at left) (sym (left_at-suc end byte bytes)))
+
+split_first : (at : ℕ) (text : List ℕ) → slice_split (λ b. b == at) text ≡ take (position_or_len (λ b. b == at) text) text ∷ split_left at (left_at (position_or_len (λ b. b == at) text) text)
+split_first at [] = refl
+split_first at (byte ∷ bytes) = split_step (byte == at) at byte bytes (position_or_len (λ b. b == at) bytes) (split_first at bytes)
+
+elements_left_are : (left : Option (List ℕ)) → split_left 44 left ≡ elements_left left
+unfolding elements
+elements_left_are None = refl
+elements_left_are (Some text) = refl
+
+-- the first element of a list, and the others
 pub elements_first : (text : List ℕ) → elements text ≡ take (position_or_len (λ b. b == 44) text) text ∷ elements_left (left_at (position_or_len (λ b. b == 44) text) text)
 unfolding elements
-elements_first [] = refl
-elements_first (byte ∷ bytes) = elements_step (byte == 44) byte bytes (position_or_len (λ b. b == 44) bytes) (elements_first bytes)
+elements_first text =
+    split_first 44 text ∙ ap (λ left. take (position_or_len (λ b. b == 44) text) text ∷ left) (elements_left_are (left_at (position_or_len (λ b. b == 44) text) text))
+
+colon_parts_left_are : (left : Option (List ℕ)) → split_left 58 left ≡ colon_parts_left left
+unfolding colon_parts
+colon_parts_left_are None = refl
+colon_parts_left_are (Some text) = refl
+
+-- the first part of an IPv6 address, and those behind its colon
+pub groups_first : (text : List ℕ) → colon_parts text ≡ take (position_or_len (λ b. b == 58) text) text ∷ colon_parts_left (left_at (position_or_len (λ b. b == 58) text) text)
+unfolding colon_parts
+groups_first text =
+    split_first 58 text ∙ ap (λ left. take (position_or_len (λ b. b == 58) text) text ∷ left) (colon_parts_left_are (left_at (position_or_len (λ b. b == 58) text) text))
 
 -- the first `at` bytes end no element, and leave it so
 pub record IsSeeking (text : List ℕ) (at : ℕ) (inside : Bool) : Type 0 where

@@ -1,15 +1,17 @@
 -- The drafts that the grammar yields are well formed.
-use Rattle.std.proofs.Common.{ℕ, Some, None, Option, Result, Ok, Err, List, [], ◌∷◌, arith}
-use Rattle.std.specs.Prelude.{IfOk, IfSome}
+use Rattle.std.proofs.Common.{ℕ, Some, None, Option, Result, Ok, Err, List, ◌∷◌, arith, []}
+use Rattle.std.specs.Prelude.{IfOk, IfSome, IsSomeAnd}
 use Rattle.std.specs.List.{AllByRecursion}
-use Rattle.fw_rule.specs.WellFormed.{IsItem, IsPortList, IsTest, IsBody, HasBody, IsDraft, IsValue}
+use Rattle.fw_rule.specs.WellFormed.{IsItem, IsPortList, IsTest, IsState, IsBody, HasBody, IsDraft, IsValue}
 use Rattle.fw_rule.specs.declared.action.Action.{Action}
 use Rattle.fw_rule.specs.declared.action.Action.TheVariants.{Allow, Deny, Reset, Unreach, Count, SkipTo, Call, Return, CheckState}
 use Rattle.fw_rule.specs.declared.addr_item.AddrItem.{AddrItem}
-use Rattle.fw_rule.specs.declared.addr_item.AddrItem.TheVariants.{Any, Me, Net, InTable, TableValue}
+use Rattle.fw_rule.specs.declared.addr_item.AddrItem.TheVariants.{Any, Me, Net, Net6, InTable, TableValue}
 use Rattle.fw_rule.specs.declared.port_list.PortList.{PortList}
 use Rattle.fw_rule.specs.declared.test.Test.{Test}
-use Rattle.fw_rule.specs.declared.test.Test.TheVariants.{Inward, Outward, Established, Setup, Frag, Recv, Xmit, Via, TcpFlags, IcmpTypes, IpOptions, Lookup}
+use Rattle.fw_rule.specs.declared.test.Test.TheVariants.{Inward, Outward, Established, Setup, Frag, Recv, Xmit, Via, TcpFlags, IcmpTypes, Icmp6Types, IpOptions, Lookup}
+use Rattle.fw_rule.specs.declared.state_opt.StateOpt.{StateOpt}
+use Rattle.fw_rule.specs.declared.state_opt.StateOpt.TheVariants.{Keep, Limit}
 use Rattle.fw_rule.specs.declared.opt.Opt.{Opt}
 use Rattle.fw_rule.specs.declared.body.Body.{Body}
 use Rattle.fw_rule.specs.declared.rule_draft.RuleDraft.{RuleDraft}
@@ -17,7 +19,7 @@ use Rattle.fw_lex.specs.declared.token.Token.{Token}
 use Rattle.ipfw_parser.specs.declared.parse_fault.ParseFault.{ParseFault}
 use Rattle.ipfw_parser.specs.Reading.{Fault, Gives}
 use Rattle.ipfw_parser.specs.Rules.{rule_in}
-use Rattle.ipfw_parser.specs.Forms.{IsItemForm, IsTestForm, IsBodyForm, HasForm, IsDraftForm}
+use Rattle.ipfw_parser.specs.Forms.{IsItemForm, IsTestForm, IsStateForm, IsBodyForm, HasForm, IsDraftForm}
 use Rattle.ipfw_parser.proofs.Following.{weaker, of_ok}
 use Rattle.ipfw_parser.proofs.ItemsRead.{ArePorts}
 use Rattle.ipfw_parser.proofs.RulesRead.{rule_in_on}
@@ -26,6 +28,7 @@ is_item : (x : AddrItem) → IsItemForm x → IsItem x
 is_item Any form = tt
 is_item Me form = tt
 is_item (Net n) form = form.0.within
+is_item (Net6 n) form = form.0.within
 is_item (InTable name) form = tt
 is_item (TableValue name value) form = form.1
 
@@ -48,8 +51,17 @@ is_test (Xmit i) form = tt
 is_test (Via i) form = tt
 is_test (TcpFlags set clear) form = tt
 is_test (IcmpTypes types) form = omega (arith, form.1)
+is_test (Icmp6Types types) form = form.set
 is_test (IpOptions present absent) form = tt
 is_test (Lookup field name) form = tt
+
+is_state : (s : StateOpt) → IsStateForm s → IsState s
+is_state (Keep name) form = form.one
+is_state (Limit mask most name) form = (form.0, form.1.one)
+
+are_states : (made : Option StateOpt) → IfSome made IsStateForm → IfSome made IsState
+are_states None form = tt
+are_states (Some s) form = is_state s form
 
 are_tests : (os : List Opt) → AllByRecursion (λ o. IsTestForm o.test) os → AllByRecursion (λ o. IsTest o.test) os
 are_tests [] form = tt
@@ -63,51 +75,39 @@ is_body b form = record {
   destination = are_items b.destination.items form.destination.each;
   destination_ports = are_ports b.destination_ports form.destination_ports;
   options = are_tests b.options form.placed.each;
-  state = form.placed.state;
+  state = are_states b.state form.placed.state;
   state_at = form.placed.within;
 }
 
+is_some_body : (asked : Option Body) → IsSomeAnd asked IsBodyForm → IsSomeAnd asked IsBody
+is_some_body None form = form
+is_some_body (Some b) form = is_body b form
+
 has_body : (a : Action) (logged : Option ℕ) (asked : Option Body) → HasForm a logged asked → HasBody a asked
-has_body CheckState None None form = tt
-has_body CheckState (Some n) None form = tt
-has_body CheckState None (Some b) form = absurd form
-has_body CheckState (Some n) (Some b) form = absurd form
-has_body Allow logged None form = absurd form
-has_body Allow logged (Some b) form = is_body b form.1
-has_body Deny logged None form = absurd form
-has_body Deny logged (Some b) form = is_body b form.1
-has_body Reset logged None form = absurd form
-has_body Reset logged (Some b) form = is_body b form.1
-has_body (Unreach n) logged None form = absurd form
-has_body (Unreach n) logged (Some b) form = is_body b form.1
-has_body Count logged None form = absurd form
-has_body Count logged (Some b) form = is_body b form.1
-has_body (SkipTo n) logged None form = absurd form
-has_body (SkipTo n) logged (Some b) form = is_body b form.1
-has_body (Call n) logged None form = absurd form
-has_body (Call n) logged (Some b) form = is_body b form.1
-has_body Return logged None form = absurd form
-has_body Return logged (Some b) form = is_body b form.1
+has_body Allow logged asked form = is_some_body asked form.asked
+has_body Deny logged asked form = is_some_body asked form.asked
+has_body Reset logged asked form = is_some_body asked form.asked
+has_body (Unreach n) logged asked form = is_some_body asked form.asked
+has_body Count logged asked form = is_some_body asked form.asked
+has_body (SkipTo n) logged asked form = is_some_body asked form.asked
+has_body (Call n) logged asked form = is_some_body asked form.asked
+has_body Return logged asked form = is_some_body asked form.asked
+has_body (CheckState flow) logged asked form = form.2
+
+no_value : (logged : Option ℕ) → IfSome logged (λ _. ⊥) → IfSome logged IsValue
+no_value None none = tt
+no_value (Some n) none = absurd none
 
 has_value : (a : Action) (logged : Option ℕ) (asked : Option Body) → HasForm a logged asked → IfSome logged IsValue
-has_value CheckState None asked form = tt
-has_value CheckState (Some n) asked form = absurd form
-has_value Allow logged None form = absurd form
-has_value Allow logged (Some b) form = form.0
-has_value Deny logged None form = absurd form
-has_value Deny logged (Some b) form = form.0
-has_value Reset logged None form = absurd form
-has_value Reset logged (Some b) form = form.0
-has_value (Unreach n) logged None form = absurd form
-has_value (Unreach n) logged (Some b) form = form.0
-has_value Count logged None form = absurd form
-has_value Count logged (Some b) form = form.0
-has_value (SkipTo n) logged None form = absurd form
-has_value (SkipTo n) logged (Some b) form = form.0
-has_value (Call n) logged None form = absurd form
-has_value (Call n) logged (Some b) form = form.0
-has_value Return logged None form = absurd form
-has_value Return logged (Some b) form = form.0
+has_value Allow logged asked form = form.amount
+has_value Deny logged asked form = form.amount
+has_value Reset logged asked form = form.amount
+has_value (Unreach n) logged asked form = form.amount
+has_value Count logged asked form = form.amount
+has_value (SkipTo n) logged asked form = form.amount
+has_value (Call n) logged asked form = form.amount
+has_value Return logged asked form = form.amount
+has_value (CheckState flow) logged asked form = no_value logged form.1
 
 -- a draft in its form is well formed
 pub draft_is : (draft : RuleDraft) → IsDraftForm draft → IsDraft draft

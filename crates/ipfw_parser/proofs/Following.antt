@@ -1,7 +1,15 @@
 -- What holds of a reading's value, step by step.
-use Rattle.std.proofs.Common.{◌≡◌, Bool, true, false, if◌then◌else◌, Option, Some, None, Result, Ok, Err, refl, subst}
-use Rattle.std.specs.Prelude.{IfOk, IfSome, ⊤}
+use Rattle.std.proofs.Common.{◌≡◌, if◌then◌else◌, ◌&&◌, Bool, true, false, Some, None, Option, refl, Result, Ok, Err, subst}
 use Rattle.ipfw_parser.specs.Reading.{Fault, ◌>>=◌}
+use Rattle.ipfw_parser.specs.Parts.{then_some}
+use Rattle.std.specs.Prelude.{IfOk, IfSome, ⊤}
+
+pub clash : {A : Type 0} (b : Bool) → b ≡ true → b ≡ false → A
+clash b told other = cc
+
+pub both_true : (a b : Bool) → (a && b) ≡ true → (a ≡ true) × (b ≡ true)
+both_true true b h = (refl, h)
+both_true false b h = clash false h refl
 
 pub on_bind : {X Y : Type 0} (r : Result X Fault) (f : X → Result Y Fault) (P : X → Type 0) (Q : Y → Type 0) → IfOk r P → ((x : X) → P x → IfOk (f x) Q) → IfOk (r >>= f) Q
 on_bind (Ok x) f P Q p step = step x p
@@ -18,6 +26,10 @@ weaker (Err e) P Q p step = tt
 pub of_ok : {X : Type 0} (r : Result X Fault) (P : X → Type 0) (x : X) → IfOk r P → r ≡ Ok x → P x
 of_ok (Ok y) P x p e = let same : y ≡ x = cc in subst P same p
 of_ok (Err f) P x p e = cc
+
+pub some_bind : {X Y : Type 0} (o : Option X) (f : X → Option Y) (P : X → Type 0) (Q : Y → Type 0) → IfSome o P → ((x : X) → P x → IfSome (f x) Q) → IfSome (then_some o f) Q
+some_bind (Some x) f P Q p step = step x p
+some_bind None f P Q p step = tt
 
 pub any_on : {X : Type 0} (r : Result X Fault) → IfOk r (λ _. ⊤)
 any_on (Ok x) = tt

@@ -1,14 +1,16 @@
 -- The addresses, tables and ports that are read.
-use Rattle.std.proofs.Common.{◌≡◌, ℕ, ◌-◌, ◌^◌, ◌<◌, ◌≤◌, zero, suc, true, false, nat_le, nat_eq, Some, None, Option, Result, Ok, Err, List, [], ◌∷◌, length, take, drop, codes, refl, sym, ap, arith, subst}
+use Rattle.std.proofs.Common.{◌≡◌, ℕ, ◌-◌, ◌^◌, ◌<◌, ◌≤◌, zero, suc, true, false, nat_le, nat_eq, Some, None, Option, Result, Ok, Err, List, ◌∷◌, length, take, drop, codes, refl, sym, ap, arith, subst, []}
 use Rattle.std.specs.Prelude.{IfOk, IfSome, ⊤, slice_get, option_and_then}
 use Rattle.std.specs.List.{AllByRecursion, starts_with}
 use Rattle.std.specs.Int.{w32, from_be_bytes}
 use Rattle.std.proofs.Math.Nat.{div-mul-le_self}
 use Rattle.std.proofs.lemmas.Bool.Decides.{nat_tests}
 use Rattle.fw_base.specs.Prefix.{network, size_of, IsNetwork}
+use Rattle.fw_base.specs.Prefix6.{IsNetwork6}
+use Rattle.ipfw_parser.specs.Addresses6.{has_colon, prefix6}
 use Rattle.fw_base.proofs.Networks.{IsNetwork-network}
 use Rattle.fw_rule.specs.WellFormed.{IsFromTo, IsRange}
-use Rattle.fw_rule.specs.declared.addr_item.AddrItem.TheVariants.{Any, Me, Net, InTable, TableValue}
+use Rattle.fw_rule.specs.declared.addr_item.AddrItem.TheVariants.{Any, Me, Net, Net6, InTable, TableValue}
 use Rattle.fw_rule.specs.declared.port_list.PortList.{PortList}
 use Rattle.fw_rule.specs.declared.iface.Iface.TheVariants.{AnyIface, Exact, Begins}
 use Rattle.ipfw_parser.specs.declared.kind.Kind.TheVariants.{BadName, BadAddress, BadRange}
@@ -16,16 +18,13 @@ use Rattle.ipfw_parser.specs.Reading.{Word, Fault, Reading, fault_at, same, firs
 use Rattle.ipfw_parser.specs.Numbers.{number, up_to, decimal}
 use Rattle.ipfw_parser.specs.Names.{is_name, table_name, ends_with_star, iface, place, service, service_names, service_ports, found}
 use Rattle.ipfw_parser.specs.Lists.{each}
-use Rattle.ipfw_parser.specs.Addresses.{before, behind, octet, with_rest, octet_and_dot, then_some, address_in, found_address, address, found_length, prefix_length, prefix, part_len, closes, starts_with_comma, table_value, table_end, table_item, net_item, item, items, addr_spec}
+use Rattle.ipfw_parser.specs.Addresses.{before, behind, octet, with_rest, octet_and_dot, address_in, found_address, address, found_length, prefix_length, prefix, part_len, closes, starts_with_comma, table_value, table_end, table_item, net_item, net6_item, item, items, addr_spec}
 use Rattle.ipfw_parser.specs.Ports.{found_port, port_by, port, range_to, range, ranges, port_list, some_ports, source_ports, destination_ports, begin_with_ports}
 use Rattle.ipfw_parser.specs.Forms.{IsItemForm, IsListForm, IsIfaceForm}
 use Rattle.ipfw_parser.proofs.Cuts.{elements_first, outside_first}
 use Rattle.ipfw_parser.proofs.NumbersRead.{number_on, up_to_on}
-use Rattle.ipfw_parser.proofs.Following.{on_bind, on_if, weaker, any_on}
-
-some_bind : {X Y : Type 0} (o : Option X) (f : X → Option Y) (P : X → Type 0) (Q : Y → Type 0) → IfSome o P → ((x : X) → P x → IfSome (f x) Q) → IfSome (then_some o f) Q
-some_bind (Some x) f P Q p step = step x p
-some_bind None f P Q p step = tt
+use Rattle.ipfw_parser.proofs.Items6Read.{prefix6_on}
+use Rattle.ipfw_parser.proofs.Following.{some_bind, on_bind, on_if, weaker, any_on}
 
 octet_on : (text : List ℕ) → IfSome (octet text) (λ n. n ≤ 255)
 unfolding octet
@@ -67,7 +66,8 @@ length_on : (column : ℕ) (rest : Option (List ℕ)) → IfOk (prefix_length co
 length_on column None = omega arith
 length_on column (Some text) = found_length_on column (up_to 32 (decimal 10 text)) (up_to_on 32 (decimal 10 text))
 
-prefix_on : (word : Word) → IfOk (prefix word) (λ n. IsNetwork n × (n.address < 2 ^ 32))
+-- a prefix that is read has no host bits
+pub prefix_on : (word : Word) → IfOk (prefix word) (λ n. IsNetwork n × (n.address < 2 ^ 32))
 unfolding prefix
 prefix_on word =
     on_bind (address (record { column = word.column; text = before 47 word.text })) _ (λ a. a < 2 ^ 32) (λ n. IsNetwork n × (n.address < 2 ^ 32)) (address_on (record { column = word.column; text = before 47 word.text })) (λ a small.
@@ -102,9 +102,11 @@ unfolding item
 item_on word =
     on_if (same word.text (codes "any")) (Ok Any) _ IsItemForm (λ _. tt) (λ _.
     on_if (same word.text (codes "me")) (Ok Me) _ IsItemForm (λ _. tt) (λ _.
-    on_if (starts_with nat_eq word.text (codes "table(")) (table_item (record { column = word.column; text = drop 6 word.text })) (net_item (prefix word)) IsItemForm
-    (λ _. table_on (record { column = word.column; text = drop 6 word.text }))
-    (λ _. on_bind (prefix word) (λ n. Ok (Net n)) (λ n. IsNetwork n × (n.address < 2 ^ 32)) IsItemForm (prefix_on word) (λ n good. good))))
+    on_if (starts_with nat_eq word.text (codes "table(")) (table_item (record { column = word.column; text = drop 6 word.text })) _ IsItemForm
+    (λ _. table_on (record { column = word.column; text = drop 6 word.text })) (λ _.
+    on_if (has_colon word.text) (net6_item (prefix6 word)) (net_item (prefix word)) IsItemForm
+    (λ _. on_bind (prefix6 word) (λ n. Ok (Net6 n)) (λ n. IsNetwork6 n × (n.address < 2 ^ 128)) IsItemForm (prefix6_on word) (λ n good. good))
+    (λ _. on_bind (prefix word) (λ n. Ok (Net n)) (λ n. IsNetwork n × (n.address < 2 ^ 32)) IsItemForm (prefix_on word) (λ n good. good)))))
 
 -- each element, and as many as there are texts
 each_on : {X : Type 0} (read : Word → Result X Fault) (P : X → Type 0) → ((word : Word) → IfOk (read word) P) → (column : ℕ) (texts : List (List ℕ)) → IfOk (each read column texts) (λ xs. AllByRecursion P xs × (length xs ≡ length texts))

@@ -1,10 +1,11 @@
 -- Lists of types and of signed names, element by element.
-use Rattle.std.proofs.Common.{◌≡◌, ℕ, ◌+◌, ◌^◌, ◌*◌, ◌%◌, ◌≤◌, suc, Bool, not, cond, nat_lt, List, [], ◌∷◌, Option, Some, None, Result, Ok, Err, length, map, position, refl, sym, ap, ◌∙◌}
+use Rattle.std.proofs.Common.{◌≡◌, ℕ, ◌+◌, ◌^◌, ◌*◌, ◌%◌, ◌≤◌, suc, Bool, not, cond, nat_lt, List, ◌∷◌, Option, Some, None, Result, Ok, Err, length, map, position, refl, sym, ap, ◌∙◌, eq-eqb, arith, inl, inr, ◌≢◌, []}
 use Rattle.std.specs.Prelude.{bit_or, bit_and, ◌==◌, if◌then◌else◌}
-use Rattle.std.proofs.Common.{eq-eqb, arith, inl, inr, ◌≢◌}
 use Rattle.std.proofs.lemmas.Bool.Decides.{eqb_tells}
 use Rattle.std.proofs.Math.Nat.{mod-eq_of_lt}
 use Rattle.std.proofs.Math.Pow.{pow_mono}
+use Rattle.fw_rule.specs.TypeSet.{with_type}
+use Rattle.fw_rule.specs.declared.type_set.TypeSet.{TypeSet}
 use Rattle.ipfw_parser.specs.declared.kind.Kind.TheVariants.{BadFlag}
 use Rattle.std.specs.List.{position_or_len}
 use Rattle.std.specs.Borrow.{Bor}
@@ -12,7 +13,7 @@ use Rattle.std.specs.Option.{option_copied}
 use Rattle.ipfw_parser.specs.Reading.{Fault, fault_at, ◌>>=◌, same}
 use Rattle.ipfw_parser.specs.Numbers.{number}
 use Rattle.ipfw_parser.specs.Names.{place}
-use Rattle.ipfw_parser.specs.Lists.{type_mask, sign_masks, flag_found, with_name, bare, is_negated, Masks, elements, elements_left}
+use Rattle.ipfw_parser.specs.Lists.{type_mask, type_set, sign_masks, flag_found, with_name, bare, is_negated, Masks, elements, elements_left}
 
 pub left_types : (mask column : ℕ) (whole : Result ℕ Fault) (rest : Option (Bor (List ℕ))) (text : Bor (List ℕ)) (element : List ℕ) (left : List (List ℕ))
     → rest ≡ Some text → elements text.now ≡ element ∷ left → type_mask mask column (elements_left (option_copied rest)) ≡ whole → type_mask mask column (element ∷ left) ≡ whole
@@ -31,6 +32,24 @@ types_break mask column whole text left e so_far failed = sym so_far ∙ ap (λ 
 pub types_end : (mask column : ℕ) (whole : Result ℕ Fault) (rest : Option (Bor (List ℕ))) → rest ≡ None → type_mask mask column (elements_left (option_copied rest)) ≡ whole → whole ≡ Ok mask
 unfolding type_mask
 types_end mask column whole rest none so_far = sym (rw none at so_far)
+
+pub left_set : (set : TypeSet) (column : ℕ) (whole : Result TypeSet Fault) (rest : Option (Bor (List ℕ))) (text : Bor (List ℕ)) (element : List ℕ) (left : List (List ℕ))
+    → rest ≡ Some text → elements text.now ≡ element ∷ left → type_set set column (elements_left (option_copied rest)) ≡ whole → type_set set column (element ∷ left) ≡ whole
+left_set set column whole rest text element left here split so_far = rw (here, split) at so_far
+
+pub set_go : (set next : TypeSet) (n column : ℕ) (whole : Result TypeSet Fault) (text : List ℕ) (left : List (List ℕ)) → type_set set column (text ∷ left) ≡ whole → number 0 255 (record { column = column; text = text }) ≡ Ok n
+    → next ≡ with_type set n → type_set next column left ≡ whole
+unfolding type_set
+set_go set next n column whole text left so_far ok same_set =
+    ap (λ s. type_set s column left) same_set ∙ sym (ap (λ r. r >>= λ k. type_set (with_type set k) column left) ok) ∙ so_far
+
+pub set_break : (set : TypeSet) (column : ℕ) (whole : Result TypeSet Fault) (text : List ℕ) (left : List (List ℕ)) (e : Fault) → type_set set column (text ∷ left) ≡ whole → number 0 255 (record { column = column; text = text }) ≡ Err e → whole ≡ Err e
+unfolding type_set
+set_break set column whole text left e so_far failed = sym so_far ∙ ap (λ r. r >>= λ k. type_set (with_type set k) column left) failed
+
+pub set_end : (set : TypeSet) (column : ℕ) (whole : Result TypeSet Fault) (rest : Option (Bor (List ℕ))) → rest ≡ None → type_set set column (elements_left (option_copied rest)) ≡ whole → whole ≡ Ok set
+unfolding type_set
+set_end set column whole rest none so_far = sym (rw none at so_far)
 
 position_or_len-map : (q : List ℕ → Bool) (names : List (Bor (List ℕ))) → position_or_len q (map (λ name. name.now) names) ≡ position_or_len (λ name. q name.now) names
 position_or_len-map q [] = refl

@@ -1,5 +1,5 @@
 -- Options, one after another, and the state among them.
-use Rattle.std.proofs.Common.{◌≡◌, ℕ, ◌+◌, zero, suc, Bool, true, false, if◌then◌else◌, Option, Some, None, is_some, ◌⊎◌, inl, inr, List, [], ◌∷◌, ◌++◌, Result, Ok, Err, length, refl, sym, ap, ◌∙◌, arith, append_assoc, length-append}
+use Rattle.std.proofs.Common.{◌≡◌, ℕ, ◌+◌, zero, suc, Bool, true, false, if◌then◌else◌, Option, Some, None, is_some, ◌⊎◌, inl, inr, List, ◌∷◌, ◌++◌, Result, Ok, Err, length, refl, sym, ap, ◌∙◌, arith, append_assoc, length-append, []}
 use Rattle.std.proofs.lemmas.List.{append-nil}
 use Rattle.fw_rule.specs.declared.opt.Opt.{Opt}
 use Rattle.fw_rule.specs.declared.state_opt.StateOpt.{StateOpt}

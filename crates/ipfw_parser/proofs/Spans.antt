@@ -1,5 +1,5 @@
 -- Tokens within a line.
-use Rattle.std.proofs.Common.{◌≡◌, ℕ, ◌+◌, ◌-◌, ◌<◌, ◌≤◌, ◌^◌, zero, suc, map, ap, ◌∙◌, List, [], ◌∷◌, length, take, drop, get_or, sym, subst, arith}
+use Rattle.std.proofs.Common.{◌≡◌, ℕ, ◌+◌, ◌-◌, ◌<◌, ◌≤◌, ◌^◌, zero, suc, map, ap, ◌∙◌, List, ◌∷◌, length, take, drop, get_or, sym, subst, arith, []}
 use Rattle.std.proofs.lemmas.List.{take_all, take_rest, length-take, length-drop, get_or-drop, drop-map}
 use Rattle.std.specs.List.{AllByRecursion}
 use Rattle.fw_lex.specs.Words.{words_of, words_in, before_comment, IsLongestRun}

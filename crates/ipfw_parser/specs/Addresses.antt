@@ -1,25 +1,19 @@
--- Addresses, prefixes and tables in a list of addresses (RFC 791 section 3.1, RFC 4632 section 3.1).
-use Rattle.std.specs.Prelude.{ℕ, ◌+◌, Bool, false, ◌||◌, ◌==◌, nat_eq, if◌then◌else◌, Option, Some, None, Result, Ok, List, [], ◌∷◌, length, take, drop, position, unwrap_or, codes}
+-- IPv4 addresses and prefixes, and the elements of a list of addresses (RFC 791 section 3.1, RFC 4632 section 3.1).
+use Rattle.std.specs.Prelude.{ℕ, Bool, false, ◌||◌, ◌==◌, nat_eq, if◌then◌else◌, Option, Some, None, Result, Ok, List, [], ◌∷◌, length, take, drop, position, unwrap_or, codes}
 use Rattle.std.specs.List.{starts_with}
-use Rattle.std.specs.Option.{option_map}
 use Rattle.std.specs.Int.{w32, from_be_bytes}
 use Rattle.fw_base.specs.Prefix.{Network, network}
+use Rattle.fw_base.specs.Prefix6.{Network6}
 use Rattle.fw_rule.specs.declared.addr_item.AddrItem.{AddrItem}
-use Rattle.fw_rule.specs.declared.addr_item.AddrItem.TheVariants.{Any, Me, Net, InTable, TableValue}
+use Rattle.fw_rule.specs.declared.addr_item.AddrItem.TheVariants.{Any, Me, Net, Net6, InTable, TableValue}
 use Rattle.fw_rule.specs.declared.addr_spec.AddrSpec.{AddrSpec}
 use Rattle.ipfw_parser.specs.declared.kind.Kind.TheVariants.{BadAddress, BadPrefix}
 use Rattle.ipfw_parser.specs.Reading.{Word, Fault, Reading, fault_at, ◌>>=◌, same, first, negation}
 use Rattle.ipfw_parser.specs.Numbers.{decimal, up_to, number}
 use Rattle.ipfw_parser.specs.Names.{table_name}
+pub use Rattle.ipfw_parser.specs.Parts.{before, behind, then_some}
+use Rattle.ipfw_parser.specs.Addresses6.{prefix6, has_colon}
 use Rattle.ipfw_parser.specs.Lists.{elements_outside, each}
-
--- the part before the first such byte
-unfoldable pub before : ℕ → List ℕ → List ℕ
-before byte text = take (unwrap_or (position (λ b. b == byte) text) (length text)) text
-
--- the part behind it, where it is there
-unfoldable pub behind : ℕ → List ℕ → Option (List ℕ)
-behind byte text = option_map (λ k. drop (k + 1) text) (position (λ b. b == byte) text)
 
 -- an octet, 0 to 255 of one to three digits
 unfoldable pub octet : List ℕ → Option ℕ
@@ -32,10 +26,6 @@ with_rest other more = None
 
 unfoldable pub octet_and_dot : List ℕ → Option (ℕ × List ℕ)
 octet_and_dot text = with_rest (octet (before 46 text)) (behind 46 text)
-
-abbrev pub then_some : {X Y : Type 0} → Option X → (X → Option Y) → Option Y
-then_some None f = None
-then_some (Some x) f = f x
 
 -- four octets with dots between them
 unfoldable pub address_in : List ℕ → Option ℕ
@@ -103,12 +93,16 @@ table_item word = do
 abbrev pub net_item : Result Network Fault → Result AddrItem Fault
 net_item reading = reading >>= λ n. Ok (Net n)
 
+abbrev pub net6_item : Result Network6 Fault → Result AddrItem Fault
+net6_item reading = reading >>= λ n. Ok (Net6 n)
+
 -- one element of a list of addresses
 unfoldable pub item : Word → Result AddrItem Fault
 item word =
     if same word.text (codes "any") then Ok Any
     else if same word.text (codes "me") then Ok Me
     else if starts_with nat_eq word.text (codes "table(") then table_item (record { column = word.column; text = drop 6 word.text })
+    else if has_colon word.text then net6_item (prefix6 word)
     else net_item (prefix word)
 
 -- a list of addresses, one word

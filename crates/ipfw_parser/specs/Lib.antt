@@ -1,4 +1,7 @@
+pub mod Parts
 pub mod Addresses
+pub mod Addresses6
+pub mod SideViews
 pub mod Lists
 pub mod Names
 pub mod Numbers
@@ -12,3 +15,4 @@ pub mod PlacedViews
 pub mod Laws
 pub mod Forms
 pub mod Sentences
+pub mod Places

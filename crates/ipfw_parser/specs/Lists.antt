@@ -1,6 +1,8 @@
 -- Lists in one word, their elements with commas between them.
 use Rattle.std.specs.Prelude.{ℕ, suc, ◌^◌, Bool, true, false, not, ◌&&◌, ◌==◌, if◌then◌else◌, Result, Ok, Option, Some, None, List, [], ◌∷◌, drop, bit_or, bit_and}
 use Rattle.std.specs.List.{slice_split, onto_first}
+use Rattle.fw_rule.specs.TypeSet.{no_types, with_type}
+use Rattle.fw_rule.specs.declared.type_set.TypeSet.{TypeSet}
 use Rattle.ipfw_parser.specs.declared.kind.Kind.TheVariants.{BadFlag}
 use Rattle.ipfw_parser.specs.Reading.{Word, Fault, fault_at, ◌>>=◌}
 use Rattle.ipfw_parser.specs.Numbers.{number}
@@ -51,6 +53,16 @@ type_mask mask column (text ∷ texts) = do
 
 unfoldable pub types : Word → Result ℕ Fault
 types word = type_mask 0 word.column (elements word.text)
+
+-- ICMPv6 types, 0 to 255, beside those of a set (RFC 4443)
+unfoldable pub type_set : TypeSet → ℕ → List (List ℕ) → Result TypeSet Fault
+type_set set column [] = Ok set
+type_set set column (text ∷ texts) = do
+  n ← number 0 255 (record { column = column; text = text })
+  type_set (with_type set n) column texts
+
+unfoldable pub types6 : Word → Result TypeSet Fault
+types6 word = type_set no_types word.column (elements word.text)
 
 -- two masks, of what is named as it is and behind a !
 pub record Masks : Type 0 where

@@ -1,5 +1,5 @@
--- Names of tables and interfaces, and words that stand for numbers (services: RFC 6335).
-use Rattle.std.specs.Prelude.{ℕ, ◌-◌, Bool, ◌&&◌, ◌||◌, ◌==◌, nat_le, if◌then◌else◌, Option, Some, None, Result, Ok, List, [], ◌∷◌, length, position, slice_get, slice_index, take, codes, option_and_then}
+-- Names of tables, flows and interfaces, and words that stand for numbers (services: RFC 6335).
+use Rattle.std.specs.Prelude.{ℕ, ◌-◌, Bool, false, ◌&&◌, ◌||◌, ◌==◌, nat_le, if◌then◌else◌, Option, Some, None, Result, Ok, List, [], ◌∷◌, length, position, slice_get, slice_index, take, drop, codes, option_and_then}
 use Rattle.std.specs.List.{list_all}
 use Rattle.fw_rule.specs.Canonical.{unreach_names}
 use Rattle.fw_rule.specs.declared.iface.Iface.{Iface}
@@ -18,6 +18,19 @@ is_name most text = list_all is_name_byte text && (nat_le 1 (length text) && nat
 
 unfoldable pub table_name : Word → Result (List ℕ) Fault
 table_name word = if is_name 63 word.text then Ok word.text else fault_at word.column BadName
+
+-- what stands for the name of a flow begins with a colon
+unfoldable pub starts_with_colon : List ℕ → Bool
+starts_with_colon [] = false
+starts_with_colon (byte ∷ bytes) = byte == 58
+
+-- the word stands for every flow
+unfoldable pub is_any_flow : List ℕ → Bool
+is_any_flow text = same (drop 1 text) (codes "any")
+
+-- the name behind the colon, by the rules of table names
+unfoldable pub flow_name : Word → Result (List ℕ) Fault
+flow_name word = if is_name 63 (drop 1 word.text) then Ok (drop 1 word.text) else fault_at word.column BadName
 
 unfoldable pub ends_with_star : List ℕ → Bool
 ends_with_star text = nat_le 1 (length text) && slice_index text (length text - 1) == 42

@@ -1,10 +1,11 @@
 -- The options of a rule's body, and how it makes states.
 use Rattle.std.specs.Prelude.{ℕ, ◌+◌, zero, suc, Bool, true, false, ◌||◌, if◌then◌else◌, Option, Some, None, Result, Ok, List, [], ◌∷◌, codes, is_some}
 use Rattle.fw_rule.specs.Canonical.{flag_names, option_names}
+use Rattle.fw_rule.specs.FlowName.{default_flow}
 use Rattle.fw_rule.specs.declared.field.Field.{Field}
 use Rattle.fw_rule.specs.declared.field.Field.TheVariants.{SrcIp, DstIp, SrcPort as SrcPortField, DstPort as DstPortField}
 use Rattle.fw_rule.specs.declared.test.Test.{Test}
-use Rattle.fw_rule.specs.declared.test.Test.TheVariants.{Inward, Outward, Established, Setup, Frag, Recv, Xmit, Via, TcpFlags, IcmpTypes, IpOptions, Lookup}
+use Rattle.fw_rule.specs.declared.test.Test.TheVariants.{Inward, Outward, Established, Setup, Frag, Recv, Xmit, Via, TcpFlags, IcmpTypes, Icmp6Types, IpOptions, Lookup}
 use Rattle.fw_rule.specs.declared.opt.Opt.{Opt}
 use Rattle.fw_rule.specs.declared.limit_mask.LimitMask.{LimitMask}
 use Rattle.fw_rule.specs.declared.limit_mask.LimitMask.TheVariants.{SrcAddr, SrcPort, DstAddr, DstPort}
@@ -13,8 +14,8 @@ use Rattle.fw_rule.specs.declared.state_opt.StateOpt.TheVariants.{Keep, Limit}
 use Rattle.ipfw_parser.specs.declared.kind.Kind.TheVariants.{UnknownWord, SecondState, Misplaced}
 use Rattle.ipfw_parser.specs.Reading.{Word, Fault, Reading, fault_at, ◌>>=◌, same, first}
 use Rattle.ipfw_parser.specs.Numbers.{number}
-use Rattle.ipfw_parser.specs.Names.{iface, table_name}
-use Rattle.ipfw_parser.specs.Lists.{types, signs}
+use Rattle.ipfw_parser.specs.Names.{iface, table_name, starts_with_colon, is_any_flow, flow_name}
+use Rattle.ipfw_parser.specs.Lists.{types, types6, signs}
 
 unfoldable pub field : Word → Result Field Fault
 field word =
@@ -65,11 +66,12 @@ test_of name word =
     else if same name (codes "via") then (iface word >>= λ i. Ok (Via i))
     else if same name (codes "tcpflags") then tcp_flags word
     else if same name (codes "icmptypes") then (types word >>= λ mask. Ok (IcmpTypes mask))
+    else if same name (codes "icmp6types") then (types6 word >>= λ set. Ok (Icmp6Types set))
     else ip_options word
 
 unfoldable pub has_argument : List ℕ → Bool
 has_argument text =
-    same text (codes "recv") || (same text (codes "xmit") || (same text (codes "via") || (same text (codes "tcpflags") || (same text (codes "icmptypes") || same text (codes "ipoptions")))))
+    same text (codes "recv") || (same text (codes "xmit") || (same text (codes "via") || (same text (codes "tcpflags") || (same text (codes "icmptypes") || (same text (codes "icmp6types") || same text (codes "ipoptions"))))))
 
 abbrev pub test_by : ℕ → Word → List Word → Option Test → Reading Test
 test_by end word words (Some test) = Ok (test, words)
@@ -100,16 +102,25 @@ option end word words =
       found ← test end word words
       Ok (record { negated = false; test = found.0 }, found.1))
 
+-- the flow that states are of, where a name follows: `default` where none does, and one flow alone
+unfoldable pub made_flow : List Word → Reading (List ℕ)
+made_flow [] = Ok (default_flow, [])
+made_flow (word ∷ words) =
+    if starts_with_colon word.text then
+    (if is_any_flow word.text then fault_at word.column Misplaced else (flow_name word >>= λ name. Ok (name, words)))
+    else Ok (default_flow, word ∷ words)
+
 -- how states are made, beginning with this word
 unfoldable pub state : ℕ → Word → List Word → Reading StateOpt
 state end word words =
-    if same word.text (codes "keep-state") then Ok (Keep, words)
+    if same word.text (codes "keep-state") then (made_flow words >>= λ flow. Ok (Keep flow.0, flow.1))
     else (do
       mask ← first end words
       found ← limit_mask mask.0
       most ← first end mask.1
       n ← number 1 65535 most.0
-      Ok (Limit found n, most.1))
+      flow ← made_flow most.1
+      Ok (Limit found n flow.0, flow.1))
 
 -- options, and the state with its place among them
 pub record Placed : Type 0 where

@@ -1,5 +1,5 @@
 -- Reading words from left to right: a value and the words behind it, or the first fault.
-use Rattle.std.specs.Prelude.{◌≡◌, ℕ, ◌+◌, ◌-◌, ◌<◌, ◌≤◌, Bool, true, false, if◌then◌else◌, Result, Ok, Err, Option, Some, None, List, [], ◌∷◌, length, slice_index_or, take, drop, nat_eq, codes}
+use Rattle.std.specs.Prelude.{◌≡◌, ℕ, ◌+◌, ◌-◌, ◌<◌, ◌≤◌, Bool, true, false, if◌then◌else◌, Result, Ok, Err, Option, Some, None, List, [], ◌∷◌, length, slice_index_or, take, drop, nat_eq, codes, ⊤}
 use Rattle.std.specs.Cmp.Lexicographic.{pointwise}
 use Rattle.fw_lex.specs.declared.token.Token.{Token}
 use Rattle.ipfw_parser.specs.declared.kind.Kind.{Kind}
@@ -37,6 +37,12 @@ Fails (At column kind) reading = reading ≡ fault_at column kind
 abbrev pub Gives : {X Y : Type 0} → (X → Y) → Result X ParseFault → Result Y Fault → Type 0
 Gives view (Ok x) reading = reading ≡ Ok (view x)
 Gives view (Err e) reading = Fails e reading
+
+-- a call that takes no memory doesn't answer that there was none
+abbrev pub NeedsNoMemory : {X : Type 0} → Result X ParseFault → Type 0
+NeedsNoMemory (Ok x) = ⊤
+NeedsNoMemory (Err (At column kind)) = ⊤
+NeedsNoMemory (Err OutOfMemory) = ⊥
 
 -- the word of a line that a token spans
 abbrev pub word_of : List ℕ → Token → Word

@@ -1,7 +1,10 @@
 -- The words of a rule (ipfw(8), "RULE FORMAT").
-use Rattle.std.specs.Prelude.{ℕ, ◌+◌, ◌-◌, false, ◌||◌, if◌then◌else◌, Option, Some, None, Result, Ok, List, [], ◌∷◌, length, codes, drop, map, slice_get}
+use Rattle.std.specs.Prelude.{ℕ, ◌+◌, ◌-◌, Bool, false, ◌||◌, if◌then◌else◌, Option, Some, None, Result, Ok, List, [], ◌∷◌, length, codes, drop, map, slice_get}
 use Rattle.fw_rule.specs.declared.action.Action.{Action}
 use Rattle.fw_rule.specs.declared.action.Action.TheVariants.{Allow, Deny, Reset, Unreach, Count, SkipTo, Call, Return, CheckState}
+use Rattle.fw_rule.specs.FlowName.{default_flow}
+use Rattle.fw_rule.specs.declared.family.Family.{Family}
+use Rattle.fw_rule.specs.declared.family.Family.TheVariants.{AnyIp, Four, Six}
 use Rattle.fw_rule.specs.declared.body.Body.{Body}
 use Rattle.fw_rule.specs.declared.rule_draft.RuleDraft.{RuleDraft}
 use Rattle.fw_lex.specs.declared.token.Token.{Token}
@@ -9,7 +12,7 @@ use Rattle.fw_lex.specs.Words.{before_comment}
 use Rattle.ipfw_parser.specs.declared.kind.Kind.TheVariants.{UnknownWord, ExtraWord}
 use Rattle.ipfw_parser.specs.Reading.{Word, Fault, Reading, fault_at, ◌>>=◌, same, first, expected, word_of}
 use Rattle.ipfw_parser.specs.Numbers.{number, starts_with_digit, set_number}
-use Rattle.ipfw_parser.specs.Names.{code}
+use Rattle.ipfw_parser.specs.Names.{code, starts_with_colon, is_any_flow, flow_name}
 use Rattle.ipfw_parser.specs.Addresses.{addr_spec}
 use Rattle.ipfw_parser.specs.Ports.{source_ports, destination_ports}
 use Rattle.ipfw_parser.specs.Options.{options}
@@ -82,14 +85,27 @@ log end words = do
   next ← first end words
   if same next.0.text (codes "log") then (amount end next.1 >>= λ found. Ok (Some found.0, found.1)) else Ok (None, words)
 
+-- the version of IP that the protocol's word asks for
+unfoldable pub family : List ℕ → Family
+family text =
+    if same text (codes "ip4") || same text (codes "ipv4") then Four
+    else if same text (codes "ip6") || same text (codes "ipv6") then Six
+    else AnyIp
+
+-- the text names one version of IP
+unfoldable pub names_version : List ℕ → Bool
+names_version text = same text (codes "ip4") || (same text (codes "ipv4") || (same text (codes "ip6") || same text (codes "ipv6")))
+
 -- a protocol by name or by number; 0 is every protocol
 unfoldable pub protocol : Word → Result ℕ Fault
 protocol word =
-    if starts_with_digit word.text then number 0 255 word
+    if names_version word.text then Ok 0
+    else if starts_with_digit word.text then number 0 255 word
     else if same word.text (codes "ip") || same word.text (codes "all") then Ok 0
     else if same word.text (codes "icmp") then Ok 1
     else if same word.text (codes "tcp") then Ok 6
     else if same word.text (codes "udp") then Ok 17
+    else if same word.text (codes "ipv6-icmp") then Ok 58
     else fault_at word.column UnknownWord
 
 -- the body, up to the line's end
@@ -105,6 +121,7 @@ body end words = do
   target_ports ← destination_ports end target.1
   placed ← options (length target_ports.1) end false target_ports.1
   Ok (record {
+    family = family next.0.text;
     protocol = protocol_number;
     source = source.0;
     source_ports = ports.0;
@@ -115,10 +132,22 @@ body end words = do
     state_at = placed.state_at;
   })
 
--- nothing stands behind `check-state`
+-- the flow that is looked up, where a name follows: `default` where none does, and None for every flow
+unfoldable pub looked_up : List Word → Reading (Option (List ℕ))
+looked_up [] = Ok (Some default_flow, [])
+looked_up (word ∷ words) =
+    if starts_with_colon word.text then
+    (if is_any_flow word.text then Ok (None, words) else (flow_name word >>= λ name. Ok (Some name, words)))
+    else Ok (Some default_flow, word ∷ words)
+
+-- nothing stands behind the flow
+unfoldable pub check_end : Option ℕ → ℕ → Option (List ℕ) → List Word → Result RuleDraft Fault
+check_end number_read set_read flow [] = Ok (record { number = number_read; set = set_read; action = CheckState flow; log = None; body = None })
+check_end number_read set_read flow (word ∷ words) = fault_at word.column ExtraWord
+
+-- behind `check-state`
 unfoldable pub check_state : Option ℕ → ℕ → List Word → Result RuleDraft Fault
-check_state number_read set_read [] = Ok (record { number = number_read; set = set_read; action = CheckState; log = None; body = None })
-check_state number_read set_read (word ∷ words) = fault_at word.column ExtraWord
+check_state number_read set_read words = looked_up words >>= λ flow. check_end number_read set_read flow.0 flow.1
 
 -- an action and a body
 unfoldable pub matching : Option ℕ → ℕ → ℕ → Word → List Word → Result RuleDraft Fault

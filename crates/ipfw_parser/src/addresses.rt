@@ -2,10 +2,11 @@ ghost use Rattle.std.specs.Prelude.{◌≡◌, ◌<◌, ◌≤◌, IfSome, IfOk,
 ghost use Rattle.std.specs.Bool.{OnTrue};
 ghost use Rattle.std.specs.Option.{option_map, option_copied};
 ghost use Rattle.std.specs.List.{starts_with};
-ghost use Rattle.ipfw_parser.specs.Reading.{Gives};
+ghost use Rattle.ipfw_parser.specs.Reading.{Gives, NeedsNoMemory};
 ghost use Rattle.ipfw_parser.specs.Views.{view, list_of};
 ghost use Rattle.ipfw_parser.specs.Addresses as spec;
 
+use crate::addresses6::{has_colon, prefix6};
 use crate::cut::{cut, first_address, part_len};
 use crate::negation::negation;
 use crate::numbers::{MOST_DIGITS, decimal, number, up_to};
@@ -49,7 +50,8 @@ fn address_in(text: &[u8]) -> Option<Addr>
 /// An address: four numbers of one to three digits, 0 to 255, with dots between them.
 #[tactic(auto, unfolding(crate::specs::Addresses::address))]
 pub fn address(word: Word<'_>) -> Result<Addr, ParseFault>
-    ensures { Gives (λ a. a.0) result (spec.address (view word.entry)) }
+    ensures value { Gives (λ a. a.0) result (spec.address (view word.entry)) }
+    ensures memory { NeedsNoMemory result }
 {
     match address_in(word.text) {
         Some(address) => Ok(address),
@@ -60,6 +62,7 @@ pub fn address(word: Word<'_>) -> Result<Addr, ParseFault>
 fn prefix_length<'a>(word: Word<'a>, text: Option<&'a [u8]>) -> Result<u8, ParseFault>
     ensures value { Gives (λ n. n) result (spec.prefix_length word.entry.column (option_copied text.entry)) }
     ensures within { IfOk result (λ n. n ≤ 32) }
+    ensures memory { NeedsNoMemory result }
 {
     match text {
         None => Ok(32),
@@ -74,7 +77,8 @@ fn prefix_length<'a>(word: Word<'a>, text: Option<&'a [u8]>) -> Result<u8, Parse
 /// bits are cleared.
 #[tactic(auto, unfolding(crate::specs::Addresses::prefix))]
 pub fn prefix(word: Word<'_>) -> Result<Prefix, ParseFault>
-    ensures { Gives (λ p. p) result (spec.prefix (view word.entry)) }
+    ensures value { Gives (λ p. p) result (spec.prefix (view word.entry)) }
+    ensures memory { NeedsNoMemory result }
 {
     let (front, rest) = cut(word.text, b'/');
     let address = address(Word {
@@ -173,6 +177,8 @@ fn item(alloc: Global, word: Word<'_>) -> Result<AddrItem, ParseFault>
                 text,
             },
         )
+    } else if has_colon(word.text) {
+        Ok(AddrItem::Net6(prefix6(word)?))
     } else {
         Ok(AddrItem::Net(prefix(word)?))
     }

@@ -2,6 +2,7 @@ ghost use Rattle.std.specs.Prelude.{◌≡◌, ◌==◌, ◌<◌, ◌≤◌, ◌
 ghost use Rattle.std.specs.List.{position_or_len};
 ghost use Rattle.std.specs.Option.{option_copied};
 ghost use Rattle.ipfw_parser.specs.Addresses as spec;
+ghost use Rattle.ipfw_parser.specs.Addresses6.{colon_parts, colon_parts_left};
 ghost use Rattle.ipfw_parser.specs.Lists as spec_lists;
 ghost use Rattle.ipfw_parser.specs.Lists.{elements, elements_left, elements_outside, elements_outside_left, element_end};
 
@@ -98,11 +99,11 @@ pub(crate) fn first_address(text: &[u8]) -> (&[u8], Option<&[u8]>)
     split_behind(text, element_len(text))
 }
 
-fn comma_place(text: &[u8]) -> usize
-    ensures len { result ≡ position_or_len (λ b. b == 44) text.now }
+fn place_or_end(text: &[u8], wanted: u8) -> usize
+    ensures len { result ≡ position_or_len (λ b. b == wanted) text.now }
     ensures within { result ≤ length text.now }
 {
-    match find_byte(text, 44) {
+    match find_byte(text, wanted) {
         Some(place) => place,
         None => text.len(),
     }
@@ -113,5 +114,13 @@ pub(crate) fn first_element(text: &[u8]) -> (&[u8], Option<&[u8]>)
     ensures elements { elements text.now ≡ result.0.now ∷ elements_left (option_copied result.1) }
     ensures shorter { IfSome result.1 (λ rest. length rest.now < length text.now) }
 {
-    split_behind(text, comma_place(text))
+    split_behind(text, place_or_end(text, b','))
+}
+
+/// The first group of an IPv6 address, and what stands behind its colon where there is one.
+pub(crate) fn first_group(text: &[u8]) -> (&[u8], Option<&[u8]>)
+    ensures groups { colon_parts text.now ≡ result.0.now ∷ colon_parts_left (option_copied result.1) }
+    ensures shorter { IfSome result.1 (λ rest. length rest.now < length text.now) }
+{
+    split_behind(text, place_or_end(text, b':'))
 }

@@ -18,7 +18,7 @@ pub enum Kind {
     NumberRange,
     /// An address is wanted, and the word or the element isn't one.
     BadAddress,
-    /// The length behind `/` isn't 0 to 32.
+    /// The length behind `/` isn't 0 to 32, or 0 to 128 behind an IPv6 address.
     BadPrefix,
     /// Neither a port number, 0 to 65535, nor a service.
     BadPort,
@@ -26,11 +26,11 @@ pub enum Kind {
     BadRange,
     /// An unknown flag or IP option, or one both named and negated.
     BadFlag,
-    /// The name of a table or an interface with a wrong byte or a wrong length.
+    /// The name of a table, a flow or an interface with a wrong byte or a wrong length.
     BadName,
     /// A second `keep-state` or `limit`.
     SecondState,
-    /// `not` before `keep-state` or `limit`, a second `live`, `after` before `live`.
+    /// `not` before `keep-state` or `limit`, `:any` behind them, a second `live`, `after` before `live`.
     Misplaced,
     /// A byte that is none of 32 to 126, tab and carriage return.
     BadByte,
@@ -47,7 +47,7 @@ impl Kind {
             Kind::BadNumber => "a number is wanted here",
             Kind::NumberRange => "the number is out of its range",
             Kind::BadAddress => "an address is wanted here",
-            Kind::BadPrefix => "the length of a prefix is 0 to 32",
+            Kind::BadPrefix => "the length of a prefix is 0 to 32, of an IPv6 prefix 0 to 128",
             Kind::BadPort => "a port or a service is wanted here",
             Kind::BadRange => "the range's low port is above its high port",
             Kind::BadFlag => "an unknown flag, or one both set and clear",

@@ -2,14 +2,10 @@
 #![tactic(auto)]
 
 pub use addresses::{address, prefix};
+pub use addresses6::prefix6;
 pub use cut::cut as cut_at;
 pub use kind::Kind;
-pub use laws::{
-    address_lists_are_read_again, canonical_texts_are_readable, canonical_texts_keep_their_words,
-    drafts_are_in_form, drafts_are_well_formed, masks_are_read_again, numbers_are_read_again,
-    port_lists_are_read_again, prefixes_are_read_again, rules_are_read_again,
-    rules_in_form_are_read_again, texts_tell_rules_apart, words_are_read_again,
-};
+pub use laws::{drafts_are_in_form, drafts_are_well_formed, faults_stand_at_words};
 pub use line::{line_end, parse_rule, skip, words_of};
 pub use names::table_name;
 pub use numbers::{number, set_number, starts_with_digit};
@@ -19,6 +15,7 @@ pub use word::Word;
 pub use words::Words;
 
 mod addresses;
+mod addresses6;
 mod cut;
 mod kind;
 mod laws;

@@ -9,6 +9,7 @@ use crate::cut::first_element;
 use crate::names::place as place_in;
 use crate::numbers::number;
 use crate::{Kind, ParseFault, Word};
+use fw_rule::TypeSet;
 
 /// A list of ICMP types, 0 to 31, as the bits of a mask.
 #[tactic(auto, unfolding(crate::specs::Lists::types))]
@@ -28,6 +29,25 @@ pub(crate) fn types(word: Word<'_>) -> Result<u32, ParseFault>
         rest = more;
     }
     Ok(mask)
+}
+
+/// A list of ICMPv6 types, 0 to 255, as a set.
+#[tactic(auto, unfolding(crate::specs::Lists::types6))]
+pub(crate) fn types6(word: Word<'_>) -> Result<TypeSet, ParseFault>
+    ensures { Gives (λ s. s) result (spec.types6 (view word.entry)) }
+{
+    let mut set = TypeSet::empty();
+    let mut rest = Some(word.text);
+    while let Some(text) = rest {
+        let (element, more) = first_element(text);
+        let element = Word {
+            column: word.column,
+            text: element,
+        };
+        set = set.with(number(element, 0, 255)? as u8);
+        rest = more;
+    }
+    Ok(set)
 }
 
 /// The bits of names as they are, and of names behind a `!`.

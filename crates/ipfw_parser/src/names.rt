@@ -1,4 +1,4 @@
-ghost use Rattle.std.specs.Prelude.{◌≡◌, ◌<◌, ◌≤◌, length, position, IfSome, IfOk};
+ghost use Rattle.std.specs.Prelude.{◌≡◌, ◌<◌, ◌≤◌, length, drop, position, IfSome, IfOk};
 ghost use Rattle.std.specs.Bool.{OnTrue};
 ghost use Rattle.std.specs.List.{list_all};
 ghost use Rattle.ipfw_parser.specs.Reading.{Gives, same};
@@ -57,6 +57,47 @@ pub fn table_name(alloc: Global, word: Word<'_>) -> Result<Name, ParseFault>
     } else {
         Err(word.fault(Kind::BadName))
     }
+}
+
+/// Whether the word stands for the name of a flow: it begins with a colon.
+#[tactic(auto, unfolding(crate::specs::Names::starts_with_colon))]
+pub(crate) fn starts_with_colon(text: &[u8]) -> bool
+    ensures { result ≡ spec.starts_with_colon text.now }
+{
+    match text {
+        [] => false,
+        [first, ..] => *first == b':',
+    }
+}
+
+/// The part of the word behind its first byte.
+fn behind_colon(word: Word<'_>) -> Word<'_>
+    ensures { view result ≡ record { column = word.entry.column; text = drop 1 word.entry.text.now } }
+{
+    let text = match word.text {
+        [] => word.text,
+        [_, name @ ..] => name,
+    };
+    Word {
+        column: word.column,
+        text,
+    }
+}
+
+/// Whether the word, which begins with a colon, stands for every flow.
+#[tactic(auto, unfolding(crate::specs::Names::is_any_flow))]
+pub(crate) fn is_any_flow(word: Word<'_>) -> bool
+    ensures { result ≡ spec.is_any_flow word.entry.text.now }
+{
+    behind_colon(word).is(b"any")
+}
+
+/// The name of a flow behind its colon, by the rules of table names.
+#[tactic(auto, unfolding(crate::specs::Names::flow_name, crate::specs::Names::table_name))]
+pub(crate) fn flow_name(alloc: Global, word: Word<'_>) -> Result<Name, ParseFault>
+    ensures { Gives (λ n. n) result (spec.flow_name (view word.entry)) }
+{
+    table_name(alloc, behind_colon(word))
 }
 
 #[tactic(auto, unfolding(crate::specs::Names::ends_with_star))]

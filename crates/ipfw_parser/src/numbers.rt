@@ -1,5 +1,5 @@
 ghost use Rattle.std.specs.Prelude.{◌≡◌, ◌<◌, ◌≤◌, ◌^◌, length, IfOk, IfSome};
-ghost use Rattle.ipfw_parser.specs.Reading.{Gives};
+ghost use Rattle.ipfw_parser.specs.Reading.{Gives, NeedsNoMemory};
 ghost use Rattle.ipfw_parser.specs.Views.{view};
 ghost use Rattle.ipfw_parser.specs.Numbers as numbers;
 
@@ -58,6 +58,7 @@ pub(crate) fn up_to(value: Option<u64>, most: u64) -> Option<u64>
 pub fn number(word: Word<'_>, least: u64, most: u64) -> Result<u64, ParseFault>
     ensures value { Gives (λ n. n) result (numbers.number least most (view word.entry)) }
     ensures within { IfOk result (λ n. n ≤ most) }
+    ensures memory { NeedsNoMemory result }
 {
     match decimal(word.text, MOST_DIGITS) {
         Some(value) if least <= value && value <= most => Ok(value),
@@ -80,7 +81,8 @@ pub fn starts_with_digit(text: &[u8]) -> bool
 /// The number of a set, 0 to 31.
 #[tactic(auto, unfolding(crate::specs::Numbers::set_number))]
 pub fn set_number(word: Word<'_>) -> Result<u8, ParseFault>
-    ensures { Gives (λ n. n) result (numbers.set_number (view word.entry)) }
+    ensures value { Gives (λ n. n) result (numbers.set_number (view word.entry)) }
+    ensures memory { NeedsNoMemory result }
 {
     if starts_with_digit(word.text) {
         Ok(number(word, 0, 31)? as u8)

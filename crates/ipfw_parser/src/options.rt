@@ -3,10 +3,11 @@ ghost use Rattle.ipfw_parser.specs.Reading.{Gives};
 ghost use Rattle.ipfw_parser.specs.Views.{view, list_of};
 ghost use Rattle.ipfw_parser.specs.Options as spec;
 
-use crate::masks::{signed_names, types};
-use crate::names::iface;
+use crate::masks::{signed_names, types, types6};
+use crate::names::{flow_name, iface, is_any_flow, starts_with_colon};
 use crate::numbers::number;
 use crate::{Kind, ParseFault, Word, Words, table_name};
+use fw_base::Name;
 use fw_rule::{FLAG_NAMES, Field, Items, LimitMask, OPTION_NAMES, Opt, StateOpt, Test};
 use std::alloc::Global;
 
@@ -89,6 +90,8 @@ fn test_of<'a>(alloc: Global, name: Word<'a>, word: Word<'a>) -> Result<Test, Pa
         tcp_flags(word)
     } else if name.is(b"icmptypes") {
         Ok(Test::IcmpTypes(types(word)?))
+    } else if name.is(b"icmp6types") {
+        Ok(Test::Icmp6Types(types6(word)?))
     } else {
         ip_options(word)
     }
@@ -125,6 +128,7 @@ fn has_argument(word: Word<'_>) -> bool
         || word.is(b"via")
         || word.is(b"tcpflags")
         || word.is(b"icmptypes")
+        || word.is(b"icmp6types")
         || word.is(b"ipoptions")
 }
 
@@ -182,9 +186,28 @@ pub(crate) fn option<'a>(
     Ok((Opt { negated, test }, words))
 }
 
+/// The flow that states are of: `default` where no name follows, and one flow alone.
+#[tactic(auto, unfolding(crate::specs::Options::made_flow))]
+fn made_flow(alloc: Global, words: Words<'_>) -> Result<(Name, Words<'_>), ParseFault>
+    ensures { Gives (λ r. (r.0, list_of r.1)) result (spec.made_flow (list_of words.entry)) }
+{
+    let Some((word, behind)) = words.next() else {
+        return Ok((Name::new(alloc, b"default")?, words));
+    };
+    if !starts_with_colon(word.text) {
+        return Ok((Name::new(alloc, b"default")?, words));
+    }
+    if is_any_flow(word) {
+        Err(word.fault(Kind::Misplaced))
+    } else {
+        Ok((flow_name(alloc, word)?, behind))
+    }
+}
+
 /// How states are made, beginning with the word.
 #[tactic(auto, unfolding(crate::specs::Options::state))]
 pub(crate) fn state<'a>(
+    alloc: Global,
     end: u32,
     word: Word<'a>,
     words: Words<'a>,
@@ -192,11 +215,13 @@ pub(crate) fn state<'a>(
     ensures { Gives (λ r. (r.0, list_of r.1)) result (spec.state end (view word.entry) (list_of words.entry)) }
 {
     if word.is(b"keep-state") {
-        return Ok((StateOpt::Keep, words));
+        let (flow, words) = made_flow(alloc, words)?;
+        return Ok((StateOpt::Keep(flow), words));
     }
     let (mask, words) = words.first(end)?;
     let mask = limit_mask(mask)?;
     let (most, words) = words.first(end)?;
     let most = number(most, 1, 65535)? as u16;
-    Ok((StateOpt::Limit(mask, most), words))
+    let (flow, words) = made_flow(alloc, words)?;
+    Ok((StateOpt::Limit(mask, most, flow), words))
 }

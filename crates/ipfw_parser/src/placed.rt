@@ -42,7 +42,7 @@ pub(crate) fn options(
         if made.is_some() {
             return Err(word.fault(Kind::SecondState));
         }
-        let (one, behind) = state(end, word, behind)?;
+        let (one, behind) = state(alloc, end, word, behind)?;
         made = Some(one);
         state_at = found.len();
         rest = behind;

@@ -1,22 +1,24 @@
 ghost use Rattle.std.specs.Prelude.{◌≡◌, ◌≤◌, length, drop, IfOk};
 ghost use Rattle.ipfw_parser.specs.Reading as reading;
-ghost use Rattle.ipfw_parser.specs.Reading.{Gives};
+ghost use Rattle.ipfw_parser.specs.Reading.{Gives, NeedsNoMemory};
 ghost use Rattle.ipfw_parser.specs.Views.{view, list_of};
 ghost use Rattle.ipfw_parser.specs.Rules as spec;
 
 use crate::addresses::addr_spec;
-use crate::names::code;
+use crate::names::{code, flow_name, is_any_flow, starts_with_colon};
 use crate::numbers::{number, set_number, starts_with_digit};
 use crate::placed::options;
 use crate::ports::{destination_ports, source_ports};
 use crate::{Kind, ParseFault, Word, Words};
-use fw_rule::{Action, Body, RuleDraft};
+use fw_base::Name;
+use fw_rule::{Action, Body, Family, RuleDraft};
 use std::alloc::Global;
 
 /// The words behind the next one, which is this word.
 #[tactic(auto, unfolding(crate::specs::Reading::expected))]
 pub fn expected<'a>(name: &'a [u8], end: u32, words: Words<'a>) -> Result<Words<'a>, ParseFault>
-    ensures { Gives (λ w. list_of w) result (reading.expected name.entry.now end (list_of words.entry)) }
+    ensures value { Gives (λ w. list_of w) result (reading.expected name.entry.now end (list_of words.entry)) }
+    ensures memory { NeedsNoMemory result }
 {
     let (next, words) = words.first(end)?;
     if next.is(name) {
@@ -43,7 +45,8 @@ fn rule_number(end: u32, words: Words<'_>) -> Result<(Option<u16>, Words<'_>), P
 /// The number of a set, and the words behind it.
 #[tactic(auto, unfolding(crate::specs::Rules::set_behind))]
 pub fn set_behind(end: u32, words: Words<'_>) -> Result<(u8, Words<'_>), ParseFault>
-    ensures { Gives (λ r. (r.0, list_of r.1)) result (spec.set_behind end (list_of words.entry)) }
+    ensures value { Gives (λ r. (r.0, list_of r.1)) result (spec.set_behind end (list_of words.entry)) }
+    ensures memory { NeedsNoMemory result }
 {
     let (which, words) = words.first(end)?;
     Ok((set_number(which)?, words))
@@ -140,12 +143,36 @@ fn log(end: u32, words: Words<'_>) -> Result<(Option<u32>, Words<'_>), ParseFaul
     }
 }
 
+/// The version of IP that the protocol's word asks for.
+#[tactic(auto, unfolding(crate::specs::Rules::family))]
+fn family(word: Word<'_>) -> Family
+    ensures { result ≡ spec.family word.entry.text.now }
+{
+    if word.is(b"ip4") || word.is(b"ipv4") {
+        Family::Four
+    } else if word.is(b"ip6") || word.is(b"ipv6") {
+        Family::Six
+    } else {
+        Family::AnyIp
+    }
+}
+
+/// Whether the word names one version of IP.
+#[tactic(auto, unfolding(crate::specs::Rules::names_version))]
+fn names_version(word: Word<'_>) -> bool
+    ensures { result ≡ spec.names_version word.entry.text.now }
+{
+    word.is(b"ip4") || word.is(b"ipv4") || word.is(b"ip6") || word.is(b"ipv6")
+}
+
 /// A protocol by name or by number; 0 stands for every protocol.
 #[tactic(auto, unfolding(crate::specs::Rules::protocol))]
 fn protocol(word: Word<'_>) -> Result<u8, ParseFault>
     ensures { Gives (λ n. n) result (spec.protocol (view word.entry)) }
 {
-    if starts_with_digit(word.text) {
+    if names_version(word) {
+        Ok(0)
+    } else if starts_with_digit(word.text) {
         Ok(number(word, 0, 255)? as u8)
     } else if word.is(b"ip") || word.is(b"all") {
         Ok(0)
@@ -155,6 +182,8 @@ fn protocol(word: Word<'_>) -> Result<u8, ParseFault>
         Ok(6)
     } else if word.is(b"udp") {
         Ok(17)
+    } else if word.is(b"ipv6-icmp") {
+        Ok(58)
     } else {
         Err(word.fault(Kind::UnknownWord))
     }
@@ -174,6 +203,7 @@ fn body(alloc: Global, end: u32, words: Words<'_>) -> Result<Body, ParseFault>
     let (destination_ports, words) = destination_ports(alloc, end, words)?;
     let placed = options(alloc, end, words)?;
     Ok(Body {
+        family: family(next),
         protocol,
         source,
         source_ports,
@@ -185,21 +215,57 @@ fn body(alloc: Global, end: u32, words: Words<'_>) -> Result<Body, ParseFault>
     })
 }
 
-/// Nothing stands behind `check-state`.
-#[tactic(auto, unfolding(crate::specs::Rules::check_state))]
-fn check_state(number: Option<u16>, set: u8, words: Words<'_>) -> Result<RuleDraft, ParseFault>
-    ensures { Gives (λ d. d) result (spec.check_state number set (list_of words.entry)) }
+/// The flow that is looked up: `default` where no name follows, and none for `:any`.
+#[tactic(auto, unfolding(crate::specs::Rules::looked_up))]
+fn looked_up(alloc: Global, words: Words<'_>) -> Result<(Option<Name>, Words<'_>), ParseFault>
+    ensures { Gives (λ r. (r.0, list_of r.1)) result (spec.looked_up (list_of words.entry)) }
+{
+    let Some((word, behind)) = words.next() else {
+        return Ok((Some(Name::new(alloc, b"default")?), words));
+    };
+    if !starts_with_colon(word.text) {
+        return Ok((Some(Name::new(alloc, b"default")?), words));
+    }
+    if is_any_flow(word) {
+        return Ok((None, behind));
+    }
+    Ok((Some(flow_name(alloc, word)?), behind))
+}
+
+/// Nothing stands behind the flow of `check-state`.
+#[tactic(auto, unfolding(crate::specs::Rules::check_end))]
+fn check_end(
+    number: Option<u16>,
+    set: u8,
+    flow: Option<Name>,
+    words: Words<'_>,
+) -> Result<RuleDraft, ParseFault>
+    ensures { Gives (λ d. d) result (spec.check_end number set flow (list_of words.entry)) }
 {
     match words.next() {
         Some((word, _rest)) => Err(word.fault(Kind::ExtraWord)),
         None => Ok(RuleDraft {
             number,
             set,
-            action: Action::CheckState,
+            action: Action::CheckState(flow),
             log: None,
             body: None,
         }),
     }
+}
+
+/// A rule without a body, behind `check-state`.
+#[tactic(auto, unfolding(crate::specs::Rules::check_state))]
+fn check_state(
+    alloc: Global,
+    number: Option<u16>,
+    set: u8,
+    words: Words<'_>,
+) -> Result<RuleDraft, ParseFault>
+    ensures { Gives (λ d. d) result (spec.check_state number set (list_of words.entry)) }
+{
+    let (flow, words) = looked_up(alloc, words)?;
+    check_end(number, set, flow, words)
 }
 
 /// A rule with a body, whose action begins with the word.
@@ -234,7 +300,7 @@ pub(crate) fn rule(alloc: Global, end: u32, words: Words<'_>) -> Result<RuleDraf
     let (set, words) = rule_set(end, words)?;
     let (next, words) = words.first(end)?;
     if next.is(b"check-state") {
-        check_state(number, set, words)
+        check_state(alloc, number, set, words)
     } else {
         matching(alloc, number, set, end, next, words)
     }

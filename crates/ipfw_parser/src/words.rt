@@ -18,7 +18,7 @@ impl<'a> Words<'a> {
     ghost use Rattle.ipfw_parser.specs.Reading as reading;
     ghost use Rattle.std.specs.Prelude.{◌∷◌};
     ghost use Rattle.std.specs.Option.{option_map};
-    ghost use Rattle.ipfw_parser.specs.Reading.{Gives, some_words};
+    ghost use Rattle.ipfw_parser.specs.Reading.{Gives, NeedsNoMemory, some_words};
     ghost use Rattle.ipfw_parser.specs.Views.{view, list_of};
 
     /// The next word, if there is one, and the words behind it.
@@ -44,7 +44,8 @@ impl<'a> Words<'a> {
     #[tactic(auto, unfolding(crate::specs::Reading::first))]
     /// The next word and the words behind it. `end` is the column one past the line's last word.
     pub fn first(self, end: u32) -> Result<(Word<'a>, Words<'a>), ParseFault>
-        ensures { Gives (λ r. (view r.0, list_of r.1)) result (reading.first end (list_of self.entry)) }
+        ensures value { Gives (λ r. (view r.0, list_of r.1)) result (reading.first end (list_of self.entry)) }
+        ensures memory { NeedsNoMemory result }
     {
         match self.next() {
             Some(found) => Ok(found),

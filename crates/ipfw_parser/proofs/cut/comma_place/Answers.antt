@@ -1,6 +1,0 @@
-use Rattle.std.proofs.Common.{sym}
-use Rattle.ipfw_parser.proofs.Cuts.{none_len}
-use Rattle.ipfw_parser.proofs.cut.comma_place.Goals as goal
-
-pub returns-in-None-clause-len : goal.returns-in-None-clause-len
-returns-in-None-clause-len c = none_len _ _ (sym c.in-None.ensures.found)

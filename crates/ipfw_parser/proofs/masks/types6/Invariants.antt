@@ -1,0 +1,12 @@
+use Rattle.std.proofs.Common.{◌≡◌}
+use Rattle.std.specs.Option.{option_copied}
+use Rattle.fw_rule.specs.TypeSet.{no_types}
+use Rattle.ipfw_parser.specs.Lists.{elements, elements_left, type_set}
+use Rattle.ipfw_parser.proofs.Listing.{left_len}
+use Rattle.ipfw_parser.proofs.masks.types6.Given as goal
+
+abbrev pub invariant-loop-rest : goal.invariant-loop-rest
+invariant-loop-rest l = type_set l.set l.word.column (elements_left (option_copied l.rest)) ≡ type_set no_types l.word.column (elements l.word.text.now)
+
+abbrev pub decreases-loop-rest : goal.decreases-loop-rest
+decreases-loop-rest l = left_len l.rest

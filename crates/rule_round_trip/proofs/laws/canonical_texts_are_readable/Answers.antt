@@ -1,0 +1,5 @@
+use Rattle.rule_round_trip.proofs.Again.{readable}
+use Rattle.rule_round_trip.proofs.laws.canonical_texts_are_readable.Goals as goal
+
+pub returns : goal.returns
+returns c = readable

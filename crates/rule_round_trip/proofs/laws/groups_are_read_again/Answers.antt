@@ -1,0 +1,5 @@
+use Rattle.rule_round_trip.proofs.Addresses6Again.{groups_again}
+use Rattle.rule_round_trip.proofs.laws.groups_are_read_again.Goals as goal
+
+pub returns : goal.returns
+returns c = groups_again

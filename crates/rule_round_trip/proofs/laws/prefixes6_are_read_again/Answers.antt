@@ -1,0 +1,5 @@
+use Rattle.rule_round_trip.proofs.Addresses6Again.{prefix6_again}
+use Rattle.rule_round_trip.proofs.laws.prefixes6_are_read_again.Goals as goal
+
+pub returns : goal.returns
+returns c = prefix6_again

@@ -1,0 +1,5 @@
+use Rattle.rule_round_trip.proofs.AddressesAgain.{prefix_again}
+use Rattle.rule_round_trip.proofs.laws.prefixes_are_read_again.Goals as goal
+
+pub returns : goal.returns
+returns c = prefix_again

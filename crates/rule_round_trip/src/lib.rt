@@ -1,0 +1,4 @@
+//! The canonical text of a rule is read as this rule: functions with no body, whose contracts are the laws.
+#![tactic(auto)]
+
+pub mod laws;
