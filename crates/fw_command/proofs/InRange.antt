@@ -1,34 +1,29 @@
 -- Each number of a command is in its range.
-use Rattle.std.proofs.Common.{◌≤◌, ◌<◌, ◌^◌, ℕ, Bool, true, false, Option, Some, None, List, [], ◌∷◌, Result, arith}
+use Rattle.std.proofs.Common.{◌<◌, ◌^◌, ℕ, Bool, true, false, Option, Some, None, List, [], ◌∷◌, Result, arith}
 use Rattle.std.specs.Prelude.{IfOk, bit_or, codes}
 use Rattle.std.specs.List.{AllByRecursion}
 use Rattle.std.proofs.lemmas.Nat.{or_of_32}
-use Rattle.std.proofs.lemmas.Bool.Decides.{leb_tells}
-use Rattle.std.proofs.Common.{inl, inr}
 use Rattle.std.proofs.Math.Pow.{pow_mono}
+use Rattle.fw_base.specs.Prefix.{IsNetwork}
 use Rattle.fw_rule.specs.declared.setting.Setting.{Setting}
-use Rattle.fw_rule.specs.declared.setting.Setting.TheVariants.{Ack, Syn, Fin, Rst, Udp, Short, Max}
+use Rattle.fw_rule.specs.declared.setting.Setting.TheVariants.{Ack, Syn, Fin, Rst, Udp, Short, Max, Keep}
 use Rattle.fw_rule.specs.declared.table_command.TableCommand.{TableCommand}
 use Rattle.fw_rule.specs.Settings.{IsInRange}
-use Rattle.fw_rule.specs.WellFormed.{IsFromTo, IsNumber, IsSet, IsValue, IsKey, IsPrefix, IsTableCommand, IsWellFormed}
+use Rattle.fw_rule.specs.WellFormed.{IsFromTo, IsNumber, IsSet, IsValue, IsKey, IsTableCommand, IsWellFormed}
 use Rattle.ipfw_parser.specs.Reading.{Word, Fault, ◌>>=◌, first, expected, same}
-use Rattle.ipfw_parser.specs.Numbers.{number, set_number, up_to, decimal}
+use Rattle.ipfw_parser.specs.Numbers.{number, set_number}
 use Rattle.ipfw_parser.specs.Names.{table_name}
-use Rattle.ipfw_parser.specs.Addresses.{prefix, prefix_length, found_length, address as address_number, before, behind}
+use Rattle.ipfw_parser.specs.Addresses.{prefix, before, behind}
 use Rattle.ipfw_parser.specs.Rules.{set_behind}
 use Rattle.fw_command.specs.Ends.{number_behind}
 use Rattle.fw_command.specs.SetCommands.{set_bit, ends_sets, more_sets, sets, enable, disable_end, disable, move_rule, move_set, move_words, swap_sets, set_command}
 use Rattle.fw_command.specs.TableCommands.{has_dot, key, table_type, typed, create, value, add_entry, remove_entry, swap_with, table_command, table}
-use Rattle.fw_command.specs.SettingCommands.{setting, most, without_prefix, set_to, assignment, sysctl}
+use Rattle.fw_command.specs.SettingCommands.{setting, least, most, without_prefix, set_to, assignment, sysctl}
 use Rattle.fw_command.specs.Commands.{numbers, delete_set, delete, zero_counters, addresses, local, command}
-use Rattle.fw_command.proofs.OnResults.{any, if_ok, on_bind, on_if, finished_on, each_on}
-use Rattle.fw_command.proofs.Ranges.{number_ranges, set_ranges}
-
-pub number_on : (least most : ℕ) (word : Word) → IfOk (number least most word) (IsFromTo least most)
-number_on least most word = if_ok (number least most word) (IsFromTo least most) (λ n e. number_ranges least most n word e)
-
-set_on : (word : Word) → IfOk (set_number word) IsSet
-set_on word = if_ok (set_number word) IsSet (λ n e. set_ranges n word e)
+use Rattle.fw_command.proofs.OnResults.{any, on_if, finished_on, each_on}
+use Rattle.ipfw_parser.proofs.NumbersRead.{number_on, set_on}
+use Rattle.ipfw_parser.proofs.ItemsRead.{prefix_on}
+use Rattle.ipfw_parser.proofs.Following.{on_bind}
 
 -- the first word, whatever it is
 after_first : {Y : Type 0} (end : ℕ) (words : List Word) (f : Word × List Word → Result Y Fault) (Q : Y → Type 0) → ((next : Word × List Word) → IfOk (f next) Q) → IfOk (first end words >>= f) Q
@@ -117,28 +112,11 @@ set_command_on end words =
     (on_if (same next.0.text (codes "move")) _ _ IsWellFormed (move_words_on end next.1)
     (on_if (same next.0.text (codes "swap")) _ _ IsWellFormed (swap_sets_on end next.1) tt))))
 
-length_on : (column : ℕ) (text : Option (List ℕ)) → IfOk (prefix_length column text) (λ bits. bits ≤ 32)
-length_on column None = omega arith
-length_on column (Some text) = within (decimal 10 text)
-  where
-    within : (d : Option ℕ) → IfOk (found_length column (up_to 32 d)) (λ bits. bits ≤ 32)
-    within None = tt
-    within (Some n) = elim (leb_tells n 32) [
-      | inl low ↦ rw low.0 low.1
-      | inr high ↦ rw high.0 tt
-    ]
-
-prefix_on : (word : Word) → IfOk (prefix word) IsPrefix
-unfolding prefix
-prefix_on word =
-    on_bind (address_number (record { column = word.column; text = before 47 word.text })) _ (λ _. Unit {0}) IsPrefix (any (address_number (record { column = word.column; text = before 47 word.text }))) (λ a u.
-    on_bind (prefix_length word.column (behind 47 word.text)) _ (λ bits. bits ≤ 32) IsPrefix (length_on word.column (behind 47 word.text)) (λ bits p. p))
-
 key_on : (word : Word) → IfOk (key word) IsKey
 unfolding key
 key_on word =
     on_if (has_dot word.text) _ _ IsKey
-    (on_bind (prefix word) _ IsPrefix IsKey (prefix_on word) (λ n p. p))
+    (on_bind (prefix word) _ (λ n. IsNetwork n × (n.address < 2 ^ 32)) IsKey (prefix_on word) (λ n p. p.0.within))
     (on_bind (number 0 4294967295 word) _ (IsFromTo 0 4294967295) IsKey (number_on 0 4294967295 word) (λ n p. p.most_ge))
 
 -- a command on a table, before the words that are left
@@ -195,7 +173,7 @@ table_on end words =
     on_bind (table_name named.0) _ (λ _. Unit {0}) IsWellFormed (any (table_name named.0)) (λ name u.
     on_bind (table_command end named.1) _ IsMade IsWellFormed (table_command_on end named.1) (λ made p. finished_on _ made.1 IsWellFormed p)))
 
-in_range : (which : Setting) (n : ℕ) → IsFromTo 1 (most which) n → IsInRange which n
+in_range : (which : Setting) (n : ℕ) → IsFromTo (least which) (most which) n → IsInRange which n
 in_range Ack n p = record { least = p.least_le; most = p.most_ge }
 in_range Syn n p = record { least = p.least_le; most = p.most_ge }
 in_range Fin n p = record { least = p.least_le; most = p.most_ge }
@@ -203,6 +181,7 @@ in_range Rst n p = record { least = p.least_le; most = p.most_ge }
 in_range Udp n p = record { least = p.least_le; most = p.most_ge }
 in_range Short n p = record { least = p.least_le; most = p.most_ge }
 in_range Max n p = record { least = p.least_le; most = p.most_ge }
+in_range Keep n p = p.most_ge
 
 abbrev IsAssigned : Setting × ℕ → Type 0
 IsAssigned found = IsInRange found.0 found.1
@@ -212,7 +191,7 @@ set_to_on column None None = tt
 set_to_on column None (Some text) = tt
 set_to_on column (Some which) None = tt
 set_to_on column (Some which) (Some text) =
-    on_bind (number 1 (most which) (record { column = column; text = text })) _ (IsFromTo 1 (most which)) IsAssigned (number_on 1 (most which) (record { column = column; text = text })) (λ n p. in_range which n p)
+    on_bind (number (least which) (most which) (record { column = column; text = text })) _ (IsFromTo (least which) (most which)) IsAssigned (number_on (least which) (most which) (record { column = column; text = text })) (λ n p. in_range which n p)
 
 pub sysctl_on : (end : ℕ) (words : List Word) → IfOk (sysctl end words) IsWellFormed
 unfolding sysctl assignment

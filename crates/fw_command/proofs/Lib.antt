@@ -1,10 +1,11 @@
 pub mod LineEnds
 pub mod WordLists
 pub mod SetSteps
-pub mod Ranges
 pub mod ScriptSteps
 pub mod OnResults
 pub mod InRange
 pub mod ScriptInRange
 pub mod Pieces
 pub mod Standing
+pub mod CommandPlaces
+pub mod AddLines

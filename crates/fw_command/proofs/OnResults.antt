@@ -1,21 +1,14 @@
 -- What holds of each value that reading gives.
-use Rattle.std.proofs.Common.{◌≡◌, Bool, true, false, if◌then◌else◌, List, [], ◌∷◌, Result, Ok, Err, refl}
+use Rattle.std.proofs.Common.{Bool, true, false, if◌then◌else◌, List, [], ◌∷◌, Result, Ok, Err}
 use Rattle.std.specs.Prelude.{IfOk}
 use Rattle.std.specs.List.{AllByRecursion}
-use Rattle.ipfw_parser.specs.Reading.{Word, Fault, ◌>>=◌}
+use Rattle.ipfw_parser.specs.Reading.{Word, Fault}
+use Rattle.ipfw_parser.proofs.Following.{on_bind}
 use Rattle.fw_command.specs.Ends.{each_word, finished}
 
 pub any : {X E : Type 0} (r : Result X E) → IfOk r (λ _. Unit {0})
 any (Ok x) = tt
 any (Err e) = tt
-
-pub if_ok : {X E : Type 0} (r : Result X E) (P : X → Type 0) → ((x : X) → r ≡ Ok x → P x) → IfOk r P
-if_ok (Ok x) P here = here x refl
-if_ok (Err e) P here = tt
-
-pub on_bind : {X Y : Type 0} (r : Result X Fault) (f : X → Result Y Fault) (P : X → Type 0) (Q : Y → Type 0) → IfOk r P → ((x : X) → P x → IfOk (f x) Q) → IfOk (r >>= f) Q
-on_bind (Ok x) f P Q p q = q x p
-on_bind (Err e) f P Q p q = tt
 
 pub on_if : {X E : Type 0} (b : Bool) (r s : Result X E) (P : X → Type 0) → IfOk r P → IfOk s P → IfOk (if b then r else s) P
 on_if true r s P p q = p

@@ -20,13 +20,15 @@ use Rattle.fw_command.specs.declared.statement.Statement.{Statement}
 use Rattle.fw_command.specs.declared.statement.Statement.TheVariants.{Nothing, Order, Live, After}
 use Rattle.fw_command.specs.declared.script.Script.{Script}
 use Rattle.fw_command.specs.declared.script_fault.ScriptFault.{ScriptFault}
-use Rattle.fw_command.proofs.OnResults.{on_bind, on_if, finished_on}
+use Rattle.ipfw_parser.proofs.Following.{on_bind}
+use Rattle.fw_command.proofs.OnResults.{on_if, finished_on}
 use Rattle.fw_command.proofs.InRange.{number_behind_on, command_on}
 
 abbrev IsStatement : Statement → Type 0
 IsStatement (Order command) = IsWellFormed command
 IsStatement (After column count) = count ≤ 33554432
-IsStatement other = Unit {0}
+IsStatement Nothing = Unit {0}
+IsStatement Live = Unit {0}
 
 live_line_on : (live : Bool) (word : Word) (words : List Word) → IfOk (live_line live word words) IsStatement
 unfolding live_line

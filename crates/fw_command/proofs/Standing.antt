@@ -1,58 +1,113 @@
--- Each command of a script is what the line of its number says.
-use Rattle.std.proofs.Common.{◌≡◌, ℕ, suc, ◌+◌, Bool, true, false, ◌&&◌, nat_le, nat_lt, List, [], ◌∷◌, Result, Ok, Err, length, refl, ap, arith}
-use Rattle.std.specs.Prelude.{IfOk, is_some}
+-- A script is its lines: what it has stands on them, and it has what they say.
+use Rattle.std.proofs.Common.{◌≡◌, ℕ, zero, suc, ◌+◌, ◌<◌, Bool, true, false, ◌&&◌, nat_le, nat_lt, Option, Some, None, List, [], ◌∷◌, Result, Ok, Err, length, map, codes, refl, sym, ap, ◌∙◌, subst, arith}
+use Rattle.std.specs.Prelude.{IfOk, IfSome, is_some, slice_get}
 use Rattle.std.specs.List.{AllByRecursion}
-use Rattle.ipfw_parser.specs.Reading.{Fault}
+use Rattle.std.proofs.lemmas.Bool.{lt-ltb, le-ltb}
+use Rattle.fw_lex.specs.Words.{before_comment, first_bad, words_of}
+use Rattle.ipfw_parser.specs.Reading.{Word, Fault, same, word_of}
+use Rattle.ipfw_parser.specs.Rules.{rule_in, end_column}
+use Rattle.fw_command.specs.Ends.{number_behind}
+use Rattle.fw_command.specs.Commands.{command}
 use Rattle.fw_command.specs.Lines.{lines_of}
-use Rattle.fw_command.specs.Statements.{says}
+use Rattle.fw_command.specs.Statements.{live_line, after_count, after_line, statement, addition, words_say, says_unless, says}
 use Rattle.fw_command.specs.Scripts as scripts
 use Rattle.fw_command.specs.Scripts.{on_line, allowed, line_at, next_place, ordered, joined, script_from, script_of, first_place}
-use Rattle.fw_command.specs.Laws.{Stands, StepStands, AreOnTheirLines, CommandsStandOnTheirLines}
+use Rattle.fw_command.specs.Laws.{Says, Stands, StepStands, LiveStands, AreOnTheirLines, is_behind, HasOrder, IsHeld, Holds, IsOfItsLines, CommandsStandOnTheirLines}
 use Rattle.fw_command.specs.declared.pace.Pace.{Pace}
 use Rattle.fw_command.specs.declared.pace.Pace.TheVariants.{Serial, Live as LivePace}
 use Rattle.fw_command.specs.declared.place.Place.{Place}
 use Rattle.fw_command.specs.declared.line.Line.{Line}
 use Rattle.fw_command.specs.declared.step.Step.{Step}
-use Rattle.fw_command.specs.declared.step.Step.TheVariants.{Run, After as AfterPackets}
+use Rattle.fw_command.specs.declared.step.Step.TheVariants.{Run, After as Wait}
 use Rattle.fw_command.specs.declared.statement.Statement.{Statement}
 use Rattle.fw_command.specs.declared.statement.Statement.TheVariants.{Nothing, Order, Live, After}
 use Rattle.fw_command.specs.declared.script.Script.{Script}
-use Rattle.fw_command.proofs.OnResults.{on_if}
+use Rattle.fw_command.specs.declared.script_fault.ScriptFault.{ScriptFault}
+use Rattle.ipfw_parser.proofs.Following.{on_bind}
+use Rattle.fw_command.proofs.OnResults.{any, on_if, finished_on}
 use Rattle.fw_command.proofs.ScriptSteps.{next_line}
 use Rattle.fw_command.proofs.ScriptInRange.{on_then}
+
+-- `live` stands where it didn't stand before, and `after` behind it
+abbrev IsPlaced : Bool → Statement → Type 0
+IsPlaced live Nothing = Unit {0}
+IsPlaced live (Order found) = Unit {0}
+IsPlaced live Live = live ≡ false
+IsPlaced live (After column count) = live ≡ true
+
+live_placed : (live : Bool) (word : Word) (words : List Word) → IfOk (live_line live word words) (IsPlaced live)
+unfolding live_line
+live_placed true word words = tt
+live_placed false word words = finished_on Live words (IsPlaced false) refl
+
+after_placed : (live : Bool) (end : ℕ) (word : Word) (words : List Word) → IfOk (after_line live end word words) (IsPlaced live)
+unfolding after_line after_count
+after_placed false end word words = tt
+after_placed true end word words =
+    on_bind (number_behind 0 33554432 end words) _ (λ _. Unit {0}) (IsPlaced true) (any (number_behind 0 33554432 end words)) (λ count u. finished_on _ count.1 (IsPlaced true) refl)
+
+statement_placed : (live : Bool) (end : ℕ) (word : Word) (words : List Word) → IfOk (statement live end word words) (IsPlaced live)
+unfolding statement
+statement_placed live end word words =
+    on_if (same word.text (codes "live")) _ _ (IsPlaced live) (live_placed live word words)
+    (on_if (same word.text (codes "after")) _ _ (IsPlaced live) (after_placed live end word words)
+    (on_bind (command end word words) _ (λ _. Unit {0}) (IsPlaced live) (any (command end word words)) (λ found u. tt)))
+
+addition_placed : (live : Bool) (line : List ℕ) → IfOk (addition line) (IsPlaced live)
+unfolding addition
+addition_placed live line = on_bind (rule_in line (words_of line) 1) _ (λ _. Unit {0}) (IsPlaced live) (any (rule_in line (words_of line) 1)) (λ draft u. tt)
+
+words_placed : (live : Bool) (line : List ℕ) (words : List Word) → IfOk (words_say live line words) (IsPlaced live)
+unfolding words_say
+words_placed live line [] = tt
+words_placed live line (word ∷ words) =
+    on_if (same word.text (codes "add")) _ _ (IsPlaced live) (addition_placed live line) (statement_placed live (end_column (length (before_comment line)) (words_of line)) word words)
+
+unless_placed : (live : Bool) (line : List ℕ) (bad : Option ℕ) → IfOk (says_unless live line bad) (IsPlaced live)
+unless_placed live line (Some at) = tt
+unless_placed live line None = words_placed live line (map (word_of line) (words_of line))
+
+says_placed : (live : Bool) (line : List ℕ) → IfOk (says live line) (IsPlaced live)
+unfolding says
+says_placed live line = unless_placed live line (first_bad (before_comment line))
+
+of_said : (live : Bool) (r : Result Statement Fault) (s : Statement) → IfOk r (IsPlaced live) → r ≡ Ok s → IsPlaced live s
+of_said live (Ok t) s placed e = let is : t ≡ s = cc in subst (IsPlaced live) is placed
+of_said live (Err f) s placed e = cc
 
 each_weaker : {X : Type 0} (P Q : X → Type 0) → ((x : X) → P x → Q x) → (xs : List X) → AllByRecursion P xs → AllByRecursion Q xs
 each_weaker P Q on [] all = tt
 each_weaker P Q on (x ∷ xs) all = (on x all.0, each_weaker P Q on xs all.1)
 
 -- one line more in front
-behind_one : (live : Bool) (from next : ℕ) (first : List ℕ) (lines : List (List ℕ)) (line : Line) → next ≡ from + 1 → Stands live next lines line → Stands live from (first ∷ lines) line
-behind_one live from next first lines line is stands =
-    record { place = suc stands.place; text = stands.text; number = omega (arith, stands.number); there = stands.there; command = stands.command }
+says_behind : (live : Bool) (from next : ℕ) (first : List ℕ) (lines : List (List ℕ)) (number : ℕ) (s : Statement) → next ≡ from + 1 → Says live next lines number s → Says live from (first ∷ lines) number s
+says_behind live from next first lines number s is told =
+    record { place = suc told.place; text = told.text; number_is = omega (arith, told.number_is); there = told.there; statement_is = told.statement_is }
 
-step_behind_one : (from next : ℕ) (first : List ℕ) (lines : List (List ℕ)) (step : Step) → next ≡ from + 1 → StepStands next lines step → StepStands from (first ∷ lines) step
-step_behind_one from next first lines (Run line) is stands = behind_one true from next first lines line is stands
-step_behind_one from next first lines (AfterPackets count) is stands = tt
+step_behind : (from next : ℕ) (first : List ℕ) (lines : List (List ℕ)) (step : Step) → next ≡ from + 1 → StepStands next lines step → StepStands from (first ∷ lines) step
+step_behind from next first lines (Run line) is told = says_behind true from next first lines line.line (Order line.command) is told
+step_behind from next first lines (Wait count) is told =
+    record { number = told.number; column = told.column; line = says_behind true from next first lines told.number (After told.column count) is told.line }
 
-all_behind_one : (from next : ℕ) (first : List ℕ) (lines : List (List ℕ)) (script : Script) → next ≡ from + 1 → AreOnTheirLines next lines script → AreOnTheirLines from (first ∷ lines) script
-all_behind_one from next first lines script is all = record {
-  before = each_weaker (Stands false next lines) (Stands false from (first ∷ lines)) (λ line stands. behind_one false from next first lines line is stands) script.before all.before;
-  live = each_weaker (StepStands next lines) (StepStands from (first ∷ lines)) (λ step stands. step_behind_one from next first lines step is stands) script.live all.live;
+all_behind : (from next : ℕ) (first : List ℕ) (lines : List (List ℕ)) (script : Script) → next ≡ from + 1 → AreOnTheirLines next lines script → AreOnTheirLines from (first ∷ lines) script
+all_behind from next first lines script is all = record {
+  before = each_weaker (Stands false next lines) (Stands false from (first ∷ lines)) (λ line told. says_behind false from next first lines line.line (Order line.command) is told) script.before all.before;
+  live = each_weaker (StepStands next lines) (StepStands from (first ∷ lines)) (λ step told. step_behind from next first lines step is told) script.live all.live;
 }
 
 allowed_same : (pace : Pace) (place : Place) (s : Statement) → IfOk (allowed pace place s) (λ t. s ≡ t)
 allowed_same Serial place Nothing = refl
-allowed_same Serial place (Order command) = on_if (is_some place.live && nat_le 4096 place.ran) _ _ (λ t. Order command ≡ t) tt refl
+allowed_same Serial place (Order found) = on_if (is_some place.live && nat_le 4096 place.ran) _ _ (λ t. Order found ≡ t) tt refl
 allowed_same Serial place Live = refl
 allowed_same Serial place (After column count) = refl
 allowed_same LivePace place Nothing = refl
-allowed_same LivePace place (Order command) = on_if (is_some place.live && nat_le 4096 place.ran) _ _ (λ t. Order command ≡ t) tt refl
+allowed_same LivePace place (Order found) = on_if (is_some place.live && nat_le 4096 place.ran) _ _ (λ t. Order found ≡ t) tt refl
 allowed_same LivePace place Live = refl
 allowed_same LivePace place (After column count) = tt
 
 ok_same : {E : Type 0} (r : Result Statement E) (s : Statement) → IfOk r (λ t. s ≡ t) → IfOk r (λ t. let a : Result Statement Fault = Ok s in let b : Result Statement Fault = Ok t in a ≡ b)
-ok_same (Ok t) s same = ap Ok same
-ok_same (Err e) s same = tt
+ok_same (Ok t) s same_one = ap Ok same_one
+ok_same (Err e) s same_one = tt
 
 placed_says : (pace : Pace) (place : Place) (said : Result Statement Fault) → IfOk (scripts.◌>>=◌ (on_line place.line said) (allowed pace place)) (λ s. said ≡ Ok s)
 placed_says pace place (Ok s) = ok_same (allowed pace place s) s (allowed_same pace place s)
@@ -62,29 +117,180 @@ line_at_says : (pace : Pace) (place : Place) (line : List ℕ) → IfOk (line_at
 unfolding line_at
 line_at_says pace place line = placed_says pace place (says (is_some place.live) line)
 
+-- what the line in front says
+first_says : (live : Bool) (from : ℕ) (text : List ℕ) (lines : List (List ℕ)) (s : Statement) → says live text ≡ Ok s → Says live from (text ∷ lines) from s
+first_says live from text lines s said = record { place = 0; text = text; number_is = omega arith; there = refl; statement_is = said }
+
 ordered_stands : (live : Bool) (from : ℕ) (lines : List (List ℕ)) (line : Line) (script : Script) → Stands live from lines line → AreOnTheirLines from lines script → AreOnTheirLines from lines (ordered live line script)
-ordered_stands false from lines line script stands all = record { before = (stands, all.before); live = all.live }
-ordered_stands true from lines line script stands all = record { before = all.before; live = (stands, all.live) }
+ordered_stands false from lines line script told all = record { before = (told, all.before); live = all.live }
+ordered_stands true from lines line script told all = record { before = all.before; live = (told, all.live) }
 
-joined_stands : (place : Place) (s : Statement) (text : List ℕ) (lines : List (List ℕ)) (script : Script) → says (is_some place.live) text ≡ Ok s → AreOnTheirLines place.line (text ∷ lines) script
+joined_stands : (place : Place) (s : Statement) (text : List ℕ) (lines : List (List ℕ)) (script : Script) → says (is_some place.live) text ≡ Ok s → IsPlaced (is_some place.live) s → AreOnTheirLines place.line (text ∷ lines) script
     → AreOnTheirLines place.line (text ∷ lines) (joined place s script)
-joined_stands place Nothing text lines script said all = all
-joined_stands place (Order command) text lines script said all =
-    ordered_stands (is_some place.live) place.line (text ∷ lines) (record { line = place.line; command = command }) script
-    (record { place = 0; text = text; number = omega arith; there = refl; command = said }) all
-joined_stands place Live text lines script said all = all
-joined_stands place (After column count) text lines script said all = record { before = all.before; live = (tt, all.live) }
+joined_stands place Nothing text lines script said placed all = all
+joined_stands place (Order found) text lines script said placed all =
+    ordered_stands (is_some place.live) place.line (text ∷ lines) (record { line = place.line; command = found }) script (first_says (is_some place.live) place.line text lines (Order found) said) all
+joined_stands place Live text lines script said placed all = all
+joined_stands place (After column count) text lines script said placed all = record {
+  before = all.before;
+  live = (record { number = place.line; column = column; line = first_says true place.line text lines (After column count) (ap (λ live. says live text) (sym placed) ∙ said) }, all.live);
+}
 
-from_stands : (pace : Pace) (place : Place) (lines : List (List ℕ)) → IfOk (script_from pace place lines) (AreOnTheirLines place.line lines)
+-- the line of `live`, where it stood before the first of the lines, or stands among them
+abbrev LiveFrom : Option ℕ → ℕ → List (List ℕ) → Option ℕ → Type 0
+LiveFrom (Some at) from lines live_at = live_at ≡ Some at
+LiveFrom None from lines live_at = LiveStands from lines live_at
+
+live_behind : (from next : ℕ) (first : List ℕ) (lines : List (List ℕ)) (live_at : Option ℕ) → next ≡ from + 1 → LiveStands next lines live_at → LiveStands from (first ∷ lines) live_at
+live_behind from next first lines None is told = tt
+live_behind from next first lines (Some number) is told = says_behind false from next first lines number Live is told
+
+from_behind : (live : Option ℕ) (from next : ℕ) (first : List ℕ) (lines : List (List ℕ)) (live_at : Option ℕ) → next ≡ from + 1 → LiveFrom live next lines live_at → LiveFrom live from (first ∷ lines) live_at
+from_behind (Some at) from next first lines live_at is told = told
+from_behind None from next first lines live_at is told = live_behind from next first lines live_at is told
+
+-- the line `live` itself
+live_here : (live : Option ℕ) (from : ℕ) (text : List ℕ) (lines : List (List ℕ)) (live_at : Option ℕ) → says (is_some live) text ≡ Ok Live → is_some live ≡ false → live_at ≡ Some from → LiveFrom live from (text ∷ lines) live_at
+live_here None from text lines live_at said none is = subst (LiveStands from (text ∷ lines)) (sym is) (first_says false from text lines Live said)
+live_here (Some at) from text lines live_at said none is = cc
+
+next_live : (place : Place) (s : Statement) (text : List ℕ) (lines : List (List ℕ)) (live_at : Option ℕ) → says (is_some place.live) text ≡ Ok s → IsPlaced (is_some place.live) s
+    → LiveFrom (next_place place s).live (next_place place s).line lines live_at → LiveFrom place.live place.line (text ∷ lines) live_at
+next_live place Nothing text lines live_at said placed told = from_behind place.live place.line (place.line + 1) text lines live_at refl told
+next_live place (Order found) text lines live_at said placed told = from_behind place.live place.line (place.line + 1) text lines live_at refl told
+next_live place Live text lines live_at said placed told = live_here place.live place.line text lines live_at said placed told
+next_live place (After column count) text lines live_at said placed told = from_behind place.live place.line (place.line + 1) text lines live_at refl told
+
+-- whether `live` stands on an earlier line is whether it stood before these lines
+behind_is : (live : Option ℕ) (from : ℕ) (lines : List (List ℕ)) (live_at : Option ℕ) → IfSome live (λ at. at < from) → LiveFrom live from lines live_at → is_behind live_at from ≡ is_some live
+behind_is (Some at) from lines live_at less told = ap (λ o. is_behind o from) told ∙ lt-ltb at from less
+behind_is None from lines None less told = refl
+behind_is None from lines (Some number) less told = le-ltb number from (omega (arith, told.number_is))
+
+-- the script has all that the other has
+record Extends (old new : Script) : Type 0 where
+  live_at : new.live_at ≡ old.live_at
+  before : (line : Line) (k : ℕ) → slice_get old.before k ≡ Some line → (j : ℕ) × (slice_get new.before j ≡ Some line)
+  live : (step : Step) (k : ℕ) → slice_get old.live k ≡ Some step → (j : ℕ) × (slice_get new.live j ≡ Some step)
+
+same_script : (script : Script) → Extends script script
+same_script script = record { live_at = refl; before = λ line k e. (k, e); live = λ step k e. (k, e) }
+
+ordered_extends : (live : Bool) (line : Line) (script : Script) → Extends script (ordered live line script)
+ordered_extends false line script = record { live_at = refl; before = λ other k e. (suc k, e); live = λ step k e. (k, e) }
+ordered_extends true line script = record { live_at = refl; before = λ other k e. (k, e); live = λ step k e. (suc k, e) }
+
+joined_extends : (place : Place) (s : Statement) (script : Script) → Extends script (joined place s script)
+joined_extends place Nothing script = same_script script
+joined_extends place (Order found) script = ordered_extends (is_some place.live) (record { line = place.line; command = found }) script
+joined_extends place Live script = same_script script
+joined_extends place (After column count) script = record { live_at = refl; before = λ line k e. (k, e); live = λ step k e. (suc k, e) }
+
+order_more : (live : Bool) (old new : Script) (line : Line) → Extends old new → HasOrder live old line → HasOrder live new line
+order_more false old new line more has = more.before line has.0 has.1
+order_more true old new line more has = more.live (Run line) has.0 has.1
+
+held_more : (old new : Script) (number : ℕ) (s : Statement) → Extends old new → IsHeld old number s → IsHeld new number s
+held_more old new number Nothing more held = tt
+held_more old new number (Order found) more held =
+    subst (λ at. HasOrder (is_behind at number) new (record { line = number; command = found })) (sym more.live_at) (order_more (is_behind old.live_at number) old new (record { line = number; command = found }) more held)
+held_more old new number Live more held = more.live_at ∙ held
+held_more old new number (After column count) more held = more.live (Wait count) held.0 held.1
+
+holds_more : (old new : Script) (number : ℕ) (text : List ℕ) → Extends old new → Holds old number text → Holds new number text
+holds_more old new number text more told = record {
+  statement = told.statement;
+  statement_is = ap (λ at. says (is_behind at number) text) more.live_at ∙ told.statement_is;
+  held = held_more old new number told.statement more told.held;
+}
+
+-- what the line in front says is in the script
+order_here : (live : Bool) (line : Line) (script : Script) → HasOrder live (ordered live line script) line
+order_here false line script = (0, refl)
+order_here true line script = (0, refl)
+
+held_here : (place : Place) (s : Statement) (script : Script) → is_behind script.live_at place.line ≡ is_some place.live → (s ≡ Live → script.live_at ≡ Some place.line) → IsHeld (joined place s script) place.line s
+held_here place Nothing script behind live = tt
+held_here place (Order found) script behind live =
+    let line : Line = record { line = place.line; command = found } in
+    subst (λ b. HasOrder b (joined place (Order found) script) line) (sym (ap (λ at. is_behind at place.line) (joined_extends place (Order found) script).live_at ∙ behind)) (order_here (is_some place.live) line script)
+held_here place Live script behind live = live refl
+held_here place (After column count) script behind live = (0, refl)
+
+live_next : (place : Place) (s : Statement) (lines : List (List ℕ)) (live_at : Option ℕ) → LiveFrom (next_place place s).live (next_place place s).line lines live_at → s ≡ Live → live_at ≡ Some place.line
+live_next place Nothing lines live_at told e = cc
+live_next place (Order found) lines live_at told e = cc
+live_next place Live lines live_at told e = told
+live_next place (After column count) lines live_at told e = cc
+
+-- what is read from this place on
+record IsRead (place : Place) (lines : List (List ℕ)) (script : Script) : Type 0 where
+  stands : AreOnTheirLines place.line lines script
+  live : LiveFrom place.live place.line lines script.live_at
+  holds : (k : ℕ) (text : List ℕ) → slice_get lines k ≡ Some text → Holds script (place.line + k) text
+
+holds_first : (place : Place) (s : Statement) (text : List ℕ) (lines : List (List ℕ)) (script : Script) → IfSome place.live (λ at. at < place.line) → says (is_some place.live) text ≡ Ok s → IsPlaced (is_some place.live) s
+    → IsRead (next_place place s) lines script → Holds (joined place s script) (place.line + 0) text
+holds_first place s text lines script less said placed read =
+    let behind = behind_is place.live place.line (text ∷ lines) script.live_at less (next_live place s text lines script.live_at said placed read.live) in
+    let same_live = (joined_extends place s script).live_at in
+    let number : place.line ≡ place.line + 0 = omega arith in
+    subst (λ n. Holds (joined place s script) n text) number (record {
+      statement = s;
+      statement_is = ap (λ at. says (is_behind at place.line) text) same_live ∙ ap (λ b. says b text) behind ∙ said;
+      held = held_here place s script behind (live_next place s lines script.live_at read.live);
+    })
+
+some_text : {P : Type 0} (text other : List ℕ) → Some text ≡ Some other → (text ≡ other → P) → P
+some_text text other e then_so = then_so cc
+
+holds_each : (place : Place) (s : Statement) (first : List ℕ) (lines : List (List ℕ)) (script : Script) → IfSome place.live (λ at. at < place.line) → says (is_some place.live) first ≡ Ok s → IsPlaced (is_some place.live) s
+    → IsRead (next_place place s) lines script → (k : ℕ) (text : List ℕ) → slice_get (first ∷ lines) k ≡ Some text → Holds (joined place s script) (place.line + k) text
+holds_each place s first lines script less said placed read zero text e =
+    some_text first text e (λ is. subst (λ t. Holds (joined place s script) (place.line + 0) t) is (holds_first place s first lines script less said placed read))
+holds_each place s first lines script less said placed read (suc k) text e =
+    let number : (next_place place s).line + k ≡ place.line + suc k = omega (arith, next_line place s) in
+    subst (λ n. Holds (joined place s script) n text) number (holds_more script (joined place s script) ((next_place place s).line + k) text (joined_extends place s script) (read.holds k text e))
+
+later : (live : Option ℕ) (line : ℕ) → IfSome live (λ at. at < line) → IfSome live (λ at. at < line + 1)
+later None line less = tt
+later (Some at) line less = omega (arith, less)
+
+next_less : (place : Place) (s : Statement) → IfSome place.live (λ at. at < place.line) → IfSome (next_place place s).live (λ at. at < (next_place place s).line)
+next_less place Nothing less = later place.live place.line less
+next_less place (Order found) less = later place.live place.line less
+next_less place Live less = omega arith
+next_less place (After column count) less = later place.live place.line less
+
+none_left : (live : Option ℕ) (from : ℕ) → LiveFrom live from [] live
+none_left None from = tt
+none_left (Some at) from = refl
+
+no_line : (script : Script) (number k : ℕ) (text : List ℕ) → slice_get [] k ≡ Some text → Holds script number text
+no_line script number k text e = cc
+
+from_read : (pace : Pace) (place : Place) (lines : List (List ℕ)) → IfSome place.live (λ at. at < place.line) → IfOk (script_from pace place lines) (IsRead place lines)
 unfolding script_from
-from_stands pace place [] = record { before = tt; live = tt }
-from_stands pace place (line ∷ lines) =
-    on_then (line_at pace place line) _ (λ s. says (is_some place.live) line ≡ Ok s) (AreOnTheirLines place.line (line ∷ lines)) (line_at_says pace place line) (λ s said.
-    on_then (script_from pace (next_place place s) lines) _ (AreOnTheirLines (next_place place s).line lines) (AreOnTheirLines place.line (line ∷ lines)) (from_stands pace (next_place place s) lines) (λ script all.
-    joined_stands place s line lines script said (all_behind_one place.line (next_place place s).line line lines script (next_line place s) all)))
+from_read pace place [] less = record { stands = record { before = tt; live = tt }; live = none_left place.live place.line; holds = λ k text e. no_line _ (place.line + k) k text e }
+from_read pace place (line ∷ lines) less =
+    on_then (line_at pace place line) _ (λ s. says (is_some place.live) line ≡ Ok s) (IsRead place (line ∷ lines)) (line_at_says pace place line) (λ s said.
+    let placed = of_said (is_some place.live) (says (is_some place.live) line) s (says_placed (is_some place.live) line) said in
+    on_then (script_from pace (next_place place s) lines) _ (IsRead (next_place place s) lines) (IsRead place (line ∷ lines)) (from_read pace (next_place place s) lines (next_less place s less)) (λ script read.
+    record {
+      stands = joined_stands place s line lines script said placed (all_behind place.line (next_place place s).line line lines script (next_line place s) read.stands);
+      live = subst (LiveFrom place.live place.line (line ∷ lines)) (sym (joined_extends place s script).live_at) (next_live place s line lines script.live_at said placed read.live);
+      holds = holds_each place s line lines script less said placed read;
+    }))
+
+of_first : (lines : List (List ℕ)) (script : Script) → IsRead first_place lines script → IsOfItsLines lines script
+of_first lines script read = record { stands = read.stands; live = read.live; holds = read.holds }
+
+read_first : (lines : List (List ℕ)) (r : Result Script ScriptFault) → IfOk r (IsRead first_place lines) → IfOk r (IsOfItsLines lines)
+read_first lines (Ok script) read = of_first lines script read
+read_first lines (Err e) read = tt
 
 pub commands_stand : CommandsStandOnTheirLines
 unfolding script_of
 commands_stand pace bytes =
-    on_if (nat_lt 1048576 (length bytes)) _ _ (AreOnTheirLines 1 (lines_of bytes)) tt
-    (on_if (nat_lt 65536 (length (lines_of bytes))) _ _ (AreOnTheirLines 1 (lines_of bytes)) tt (from_stands pace first_place (lines_of bytes)))
+    on_if (nat_lt 1048576 (length bytes)) _ _ (IsOfItsLines (lines_of bytes)) tt
+    (on_if (nat_lt 65536 (length (lines_of bytes))) _ _ (IsOfItsLines (lines_of bytes)) tt (read_first (lines_of bytes) (script_from pace first_place (lines_of bytes)) (from_read pace first_place (lines_of bytes) tt)))

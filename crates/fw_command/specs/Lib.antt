@@ -11,3 +11,4 @@ pub mod DraftViews
 pub mod WellFormed
 pub mod Texts
 pub mod Laws
+pub mod AddLines

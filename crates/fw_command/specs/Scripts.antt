@@ -8,7 +8,7 @@ use Rattle.fw_command.specs.Statements.{says}
 use Rattle.fw_command.specs.declared.statement.Statement.{Statement}
 use Rattle.fw_command.specs.declared.statement.Statement.TheVariants.{Nothing, Order, Live, After}
 use Rattle.fw_command.specs.declared.pace.Pace.{Pace}
-use Rattle.fw_command.specs.declared.pace.Pace.TheVariants.{Live as LivePace}
+use Rattle.fw_command.specs.declared.pace.Pace.TheVariants.{Serial, Live as LivePace}
 use Rattle.fw_command.specs.declared.place.Place.{Place}
 use Rattle.fw_command.specs.declared.line.Line.{Line}
 use Rattle.fw_command.specs.declared.step.Step.TheVariants.{Run, After as AfterPackets}
@@ -29,8 +29,10 @@ on_line number (Err fault) = Err (Parse number fault.column fault.kind)
 -- behind `live` no `after` stands at pace Live, and there are at most 4,096 commands
 abbrev pub allowed : Pace → Place → Statement → Result Statement ScriptFault
 allowed LivePace place (After column count) = Err (PaceInLive place.line column)
+allowed Serial place (After column count) = Ok (After column count)
 allowed pace place (Order command) = if is_some place.live && nat_le 4096 place.ran then Err TooManyLive else Ok (Order command)
-allowed pace place other = Ok other
+allowed pace place Nothing = Ok Nothing
+allowed pace place Live = Ok Live
 
 -- what a line at this place says, or its fault
 unfoldable pub line_at : Pace → Place → List ℕ → Result Statement ScriptFault

@@ -4,7 +4,7 @@ use Rattle.std.specs.List.{starts_with}
 use Rattle.fw_rule.specs.declared.command.Command.{Command}
 use Rattle.fw_rule.specs.declared.command.Command.TheVariants.{Sysctl}
 use Rattle.fw_rule.specs.declared.setting.Setting.{Setting}
-use Rattle.fw_rule.specs.declared.setting.Setting.TheVariants.{Ack, Syn, Fin, Rst, Udp, Short, Max}
+use Rattle.fw_rule.specs.declared.setting.Setting.TheVariants.{Ack, Syn, Fin, Rst, Udp, Short, Max, Keep}
 use Rattle.ipfw_parser.specs.declared.kind.Kind.TheVariants.{UnknownWord}
 use Rattle.ipfw_parser.specs.Reading.{Word, Fault, fault_at, ◌>>=◌, same, first}
 use Rattle.ipfw_parser.specs.Numbers.{number}
@@ -21,12 +21,30 @@ setting name =
     else if same name (codes "dyn_udp_lifetime") then Some Udp
     else if same name (codes "dyn_short_lifetime") then Some Short
     else if same name (codes "dyn_max") then Some Max
+    else if same name (codes "dyn_keep_states") then Some Keep
     else None
 
--- the greatest value: of how many states there may be, and of a lifetime in seconds
+-- the least value: of a lifetime in seconds, of how many states there may be, and of whether they are kept
+abbrev pub least : Setting → ℕ
+least Ack = 1
+least Syn = 1
+least Fin = 1
+least Rst = 1
+least Udp = 1
+least Short = 1
+least Max = 1
+least Keep = 0
+
+-- the greatest value
 abbrev pub most : Setting → ℕ
-most Max = 16384
-most lifetime = 86400
+most Ack = 86400
+most Syn = 86400
+most Fin = 86400
+most Rst = 86400
+most Udp = 86400
+most Short = 86400
+most Max = 65536
+most Keep = 1
 
 -- The name that the settings have may stand in front, once.
 unfoldable pub without_prefix : List ℕ → List ℕ
@@ -34,7 +52,7 @@ without_prefix text = if starts_with nat_eq text (codes "net.inet.ip.fw.") then 
 
 -- the setting of that name with its value
 abbrev pub set_to : ℕ → Option Setting → Option (List ℕ) → Result (Setting × ℕ) Fault
-set_to column (Some which) (Some text) = number 1 (most which) (record { column = column; text = text }) >>= λ n. Ok (which, n)
+set_to column (Some which) (Some text) = number (least which) (most which) (record { column = column; text = text }) >>= λ n. Ok (which, n)
 set_to column other more = fault_at column UnknownWord
 
 -- NAME=VALUE

@@ -1,11 +1,18 @@
-ghost use Rattle.fw_command.specs.Laws.{CommandsStandOnTheirLines, LinesArePieces};
+ghost use Rattle.fw_command.specs.Laws.{CommandsStandOnTheirLines, FaultsHaveTheirColumns, LinesArePieces};
 
 /// The lines of a script are the pieces between its bytes 10, the last one only where it isn't empty.
 pub fn lines_are_pieces()
     ensures { LinesArePieces }
 {}
 
-/// Each command of a script is what the line of its number says.
+/// Each command, `after` and `live` of a script is what a line says, that of its number where it has one;
+/// and what each line says is in the script.
 pub fn commands_stand_on_their_lines()
     ensures { CommandsStandOnTheirLines }
+{}
+
+/// The fault of a line stands at its first byte that may not stand there; else where one of its words begins,
+/// or one past its last word.
+pub fn faults_have_their_columns()
+    ensures { FaultsHaveTheirColumns }
 {}

@@ -1,7 +1,8 @@
 //! Reads a script of the packet filter: its commands (ipfw(8)), or the first fault.
 #![tactic(auto)]
 
-pub use laws::{commands_stand_on_their_lines, lines_are_pieces};
+pub use add_lines::add_lines_are_read_again;
+pub use laws::{commands_stand_on_their_lines, faults_have_their_columns, lines_are_pieces};
 pub use line::Line;
 pub use pace::Pace;
 pub use script::Script;
@@ -9,6 +10,7 @@ pub use script_fault::ScriptFault;
 pub use scripts::{LIVE_COMMANDS, SCRIPT_BYTES, SCRIPT_LINES, parse_script};
 pub use step::Step;
 
+mod add_lines;
 mod commands;
 mod ends;
 mod fault_text;

@@ -44,7 +44,8 @@ fn allowed(pace: Pace, place: Place, statement: Statement) -> Result<Statement, 
         (_, Statement::Order(_)) if place.live.is_some() && LIVE_COMMANDS <= place.ran => {
             Err(ScriptFault::TooManyLive)
         }
-        _ => Ok(statement),
+        (Pace::Serial, Statement::After { .. })
+        | (_, Statement::Nothing | Statement::Live | Statement::Order(_)) => Ok(statement),
     }
 }
 
@@ -76,7 +77,7 @@ fn next_place(place: Place, statement: &Statement) -> Place
             live: place.live,
             ran: place.ran + 1,
         },
-        _ => Place {
+        Statement::Nothing | Statement::Order(_) | Statement::After { .. } => Place {
             line,
             live: place.live,
             ran: place.ran,

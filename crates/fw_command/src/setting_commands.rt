@@ -28,8 +28,26 @@ fn setting(name: Word<'_>) -> Option<Setting>
         Some(Setting::Short)
     } else if name.is(b"dyn_max") {
         Some(Setting::Max)
+    } else if name.is(b"dyn_keep_states") {
+        Some(Setting::Keep)
     } else {
         None
+    }
+}
+
+/// The setting's least value.
+fn least(setting: Setting) -> u64
+    ensures { result ≡ spec.least setting }
+{
+    match setting {
+        Setting::Ack
+        | Setting::Syn
+        | Setting::Fin
+        | Setting::Rst
+        | Setting::Udp
+        | Setting::Short
+        | Setting::Max => 1,
+        Setting::Keep => 0,
     }
 }
 
@@ -38,8 +56,10 @@ fn most(setting: Setting) -> u64
     ensures { result ≡ spec.most setting }
 {
     match setting {
+        Setting::Ack | Setting::Syn | Setting::Fin | Setting::Rst | Setting::Udp | Setting::Short =>
+            u64::from(LONGEST_LIFETIME),
         Setting::Max => u64::from(MOST_STATES),
-        _ => u64::from(LONGEST_LIFETIME),
+        Setting::Keep => 1,
     }
 }
 
@@ -74,7 +94,7 @@ fn assignment(word: Word<'_>) -> Result<(Setting, u32), ParseFault>
                 column: word.column,
                 text,
             };
-            Ok((which, number(value, 1, most(which))? as u32))
+            Ok((which, number(value, least(which), most(which))? as u32))
         }
         _ => Err(word.fault(Kind::UnknownWord)),
     }

@@ -1,6 +1,6 @@
 use crate::{Line, Pace, Step, parse_script};
 use fw_base::Prefix;
-use fw_rule::{Command, Key, TableCommand};
+use fw_rule::{Action, Command, Key, TableCommand};
 use std::alloc::Global;
 use std::test::Fail;
 
@@ -55,6 +55,9 @@ table t swap u|Table t SwapWith u
 table table swap swap|Table table SwapWith swap
 sysctl dyn_max=1|Sysctl Max 1
 sysctl dyn_max=16384|Sysctl Max 16384
+sysctl dyn_max=65536|Sysctl Max 65536
+sysctl dyn_keep_states=0|Sysctl Keep 0
+sysctl net.inet.ip.fw.dyn_keep_states=01|Sysctl Keep 1
 sysctl net.inet.ip.fw.dyn_max=100|Sysctl Max 100
 sysctl dyn_ack_lifetime=86400|Sysctl Ack 86400
 sysctl dyn_syn_lifetime=1|Sysctl Syn 1
@@ -68,7 +71,9 @@ local 010.0.0.001 10.0.0.1|Local 10.0.0.1 10.0.0.1
 add 100 allow ip from any to any|Add 100 0 Allow
 add 0 set 5 deny log tcp from me to any 80|Add 0 5 Deny
 add 65535 set 31 skipto 500 ip from any to any|Add 65535 31 SkipTo(500)
-add check-state|Add none 0 CheckState
+add check-state|Add none 0 CheckState default
+add 5 check-state :web|Add 5 0 CheckState web
+add set 1 check-state :any # all|Add none 1 CheckState :any
 add unreach port udp from any to me|Add none 0 Unreach(3)
 ";
 
@@ -120,6 +125,17 @@ fn numbers_text(alloc: Global, name: &str, numbers: &[u16]) -> Result<String, Fa
 }
 
 /// A command in words of the tables.
+fn action_text(alloc: Global, action: &Action) -> Result<String, Fail> {
+    match action {
+        Action::CheckState(Some(name)) => {
+            let name = name_text(name.bytes())?;
+            Ok(format!(in alloc; "CheckState {name}")?)
+        }
+        Action::CheckState(None) => Ok(format!(in alloc; "CheckState :any")?),
+        told => Ok(format!(in alloc; "{told:?}")?),
+    }
+}
+
 fn command_text(alloc: Global, command: &Command) -> Result<String, Fail> {
     match command {
         Command::Add(draft) => {
@@ -128,8 +144,8 @@ fn command_text(alloc: Global, command: &Command) -> Result<String, Fail> {
                 None => format!(in alloc; "none")?,
             };
             let set = draft.set;
-            let action = draft.action;
-            Ok(format!(in alloc; "Add {number} {set} {action:?}")?)
+            let action = action_text(alloc, &draft.action)?;
+            Ok(format!(in alloc; "Add {number} {set} {action}")?)
         }
         Command::Delete(numbers) => numbers_text(alloc, "Delete", numbers.as_slice()),
         Command::DeleteSet(set) => Ok(format!(in alloc; "DeleteSet {set}")?),

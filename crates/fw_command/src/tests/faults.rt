@@ -156,7 +156,7 @@ NumberRange 13 table t add 4294967296
 NumberRange 22 table t add 10.0.0.1 4294967296
 NumberRange 16 table t delete 9999999999
 NumberRange 8 sysctl dyn_max=0
-NumberRange 8 sysctl dyn_max=16385
+NumberRange 8 sysctl dyn_max=65537
 NumberRange 8 sysctl dyn_ack_lifetime=0
 NumberRange 8 sysctl dyn_ack_lifetime=86401
 NumberRange 8 sysctl dyn_syn_lifetime=86401
@@ -207,6 +207,21 @@ Misplaced 1 after x
 Misplaced 1 after
 Misplaced 2  after 5 6
 Misplaced 31 add allow tcp from any to any not keep-state
+BadNumber 13 table t add ::1 5
+BadNumber 16 table t delete 2001:db8::/32
+BadAddress 13 table t add 10.0.0.1:80
+BadAddress 13 table t add ::ffff:10.0.0.1
+BadPrefix 13 table t add 10.0.0.0/8:8
+BadAddress 16 local 10.0.0.1 ::1
+BadAddress 7 local ::1
+NumberRange 8 sysctl dyn_keep_states=2
+NumberRange 8 sysctl net.inet.ip.fw.dyn_keep_states=10
+BadNumber 8 sysctl dyn_keep_states=
+BadNumber 8 sysctl dyn_keep_states=yes
+UnknownWord 8 sysctl dyn_keep_state=1
+ExtraWord 26 sysctl dyn_keep_states=1 1
+Misplaced 42 add allow udp from any to any keep-state :any
+BadName 17 add check-state :
 ";
 
 // The same of lines behind `live`.
