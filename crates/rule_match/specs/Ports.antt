@@ -3,15 +3,15 @@ use Rattle.std.specs.Prelude.{ℕ, Bool, false, ◌&&◌, nat_le, Option, Some, 
 use Rattle.std.specs.List.{list_any}
 use Rattle.std.specs.Option.{option_map}
 use Rattle.fw_base.specs.PortRange.{Ports}
-use Rattle.packet_headers.specs.Fields.{Fields}
-use Rattle.packet_headers.specs.Transport.{ports_of}
+use Rattle.ip6_headers.specs.declared.any_ip.AnyIp.{AnyIp}
+use Rattle.ip6_headers.specs.Either.{any_ports_of}
 
 -- those of TCP and UDP with their header; no other packet has one
-abbrev pub source_port : Fields → Option ℕ
-source_port packet = option_map (λ ports. ports.0) (ports_of packet)
+abbrev pub source_port : AnyIp → Option ℕ
+source_port packet = option_map (λ ports. ports.0) (any_ports_of packet)
 
-abbrev pub destination_port : Fields → Option ℕ
-destination_port packet = option_map (λ ports. ports.1) (ports_of packet)
+abbrev pub destination_port : AnyIp → Option ℕ
+destination_port packet = option_map (λ ports. ports.1) (any_ports_of packet)
 
 abbrev pub is_in_range : ℕ → Ports → Bool
 is_in_range port range = nat_le range.low port && nat_le port range.high

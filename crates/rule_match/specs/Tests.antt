@@ -3,12 +3,16 @@ use Rattle.std.specs.Prelude.{ℕ, Bool, false, not, ◌&&◌, ◌||◌, ◌==�
 use Rattle.fw_base.specs.declared.port.Port.{Port}
 use Rattle.fw_rule.specs.Canonical.{has_bit}
 use Rattle.fw_rule.specs.declared.test.Test.{Test}
-use Rattle.fw_rule.specs.declared.test.Test.TheVariants.{Inward, Outward, Established, Setup, Frag, Recv, Xmit, Via, TcpFlags, IcmpTypes, IpOptions, Lookup}
+use Rattle.fw_rule.specs.declared.test.Test.TheVariants.{Inward, Outward, Established, Setup, Frag, Recv, Xmit, Via, TcpFlags, IcmpTypes, Icmp6Types, IpOptions, Lookup}
+use Rattle.fw_rule.specs.declared.type_set.TypeSet.{TypeSet}
+use Rattle.fw_rule.specs.TypeSet as type_set
+use Rattle.ip6_headers.specs.declared.any_ip.AnyIp.{AnyIp}
+use Rattle.ip6_headers.specs.declared.any_ip.AnyIp.TheVariants.{Four, Six}
+use Rattle.ip6_headers.specs.Either.{offset_of, any_tcp_flags_of}
 use Rattle.lookup_tables.specs.Tables.{NamedTables}
-use Rattle.packet_headers.specs.Fields.{Fields}
 use Rattle.packet_headers.specs.Options.{has_option}
-use Rattle.packet_headers.specs.Transport.{tcp_flags_of, icmp_type_of}
 use Rattle.rule_match.specs.Interfaces.{is_in, is_out, holds_recv, holds_xmit, holds_via}
+use Rattle.rule_match.specs.Packet.{icmp_type_of, icmpv6_type_of}
 use Rattle.rule_match.specs.Tables.{field_value}
 
 -- the bits of TCP's flags (RFC 9293 section 3.1)
@@ -41,6 +45,11 @@ abbrev pub has_type : ℕ → Option ℕ → Bool
 has_type types None = false
 has_type types (Some type) = nat_lt type 32 && has_bit types type
 
+-- ICMPv6 of a type of the set
+abbrev pub has_icmpv6_type : TypeSet → Option ℕ → Bool
+has_icmpv6_type types None = false
+has_icmpv6_type types (Some type) = type_set.has_type types type
+
 -- the types of the options that a rule can ask for (RFC 791 section 3.1)
 abbrev pub strict_source_route : ℕ
 strict_source_route = 137
@@ -66,16 +75,22 @@ has_options present absent options =
     && (agrees (has_bit present 2) (has_bit absent 2) (has_option record_route options)
     && agrees (has_bit present 3) (has_bit absent 3) (has_option time_stamp options))
 
-abbrev pub holds_test : NamedTables → Fields → Port → Test → Bool
+-- an IPv6 header has no options of IPv4, present or absent
+abbrev pub holds_ip_options : ℕ → ℕ → AnyIp → Bool
+holds_ip_options present absent (Four packet) = has_options present absent packet.options
+holds_ip_options present absent (Six packet) = false
+
+abbrev pub holds_test : NamedTables → AnyIp → Port → Test → Bool
 holds_test tables packet port Inward = is_in port.direction
 holds_test tables packet port Outward = is_out port.direction
-holds_test tables packet port Established = is_established (tcp_flags_of packet)
-holds_test tables packet port Setup = is_setup (tcp_flags_of packet)
-holds_test tables packet port Frag = not (packet.offset == 0)
+holds_test tables packet port Established = is_established (any_tcp_flags_of packet)
+holds_test tables packet port Setup = is_setup (any_tcp_flags_of packet)
+holds_test tables packet port Frag = not (offset_of packet == 0)
 holds_test tables packet port (Recv asked) = holds_recv port asked
 holds_test tables packet port (Xmit asked) = holds_xmit port asked
 holds_test tables packet port (Via asked) = holds_via port asked
-holds_test tables packet port (TcpFlags set clear) = has_flags set clear (tcp_flags_of packet)
+holds_test tables packet port (TcpFlags set clear) = has_flags set clear (any_tcp_flags_of packet)
 holds_test tables packet port (IcmpTypes types) = has_type types (icmp_type_of packet)
-holds_test tables packet port (IpOptions present absent) = has_options present absent packet.options
+holds_test tables packet port (Icmp6Types types) = has_icmpv6_type types (icmpv6_type_of packet)
+holds_test tables packet port (IpOptions present absent) = holds_ip_options present absent packet
 holds_test tables packet port (Lookup field name) = is_some (field_value tables packet field name)

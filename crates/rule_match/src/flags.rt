@@ -1,7 +1,7 @@
 ghost use Rattle.std.specs.Prelude.{◌≡◌};
 ghost use Rattle.rule_match.specs.Tests as spec;
 
-use fw_rule::has_bit;
+use fw_rule::{TypeSet, has_bit};
 
 /// The bit of SYN among TCP's flags (RFC 9293 section 3.1).
 const SYN: u32 = 1;
@@ -46,6 +46,16 @@ pub fn has_type(types: u32, kind: Option<u8>) -> bool
 {
     match kind {
         Some(kind) => kind < 32 && has_bit(types, u32::from(kind)),
+        None => false,
+    }
+}
+
+/// Whether the ICMPv6 type, where the packet has one, is one of the set.
+pub fn has_icmpv6_type(types: TypeSet, kind: Option<u8>) -> bool
+    ensures { result ≡ spec.has_icmpv6_type types kind }
+{
+    match kind {
+        Some(kind) => types.contains(kind),
         None => false,
     }
 }

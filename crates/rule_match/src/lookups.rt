@@ -1,12 +1,13 @@
 ghost use Rattle.std.specs.Prelude.{◌≡◌};
 ghost use Rattle.std.specs.Option.{option_copied};
+ghost use Rattle.rule_match.specs.Packet.{source_of, destination_of};
 ghost use Rattle.rule_match.specs.Tables as spec;
 
 use crate::ports::{destination_port, source_port};
 use fw_base::{Addr, Name};
 use fw_rule::Field;
+use ip6_headers::AnyIp;
 use lookup_tables::{Table, Tables};
-use packet_headers::Ip4;
 
 /// What a table answers for an address; none that isn't there, or has numbers, does.
 pub fn address_value(table: Option<&Table>, address: Addr) -> Option<u32>
@@ -14,7 +15,7 @@ pub fn address_value(table: Option<&Table>, address: Addr) -> Option<u32>
 {
     match table {
         Some(Table::Addresses(entries)) => entries.find(address),
-        _ => None,
+        Some(Table::Numbers(_)) | None => None,
     }
 }
 
@@ -24,7 +25,7 @@ fn number_value(table: Option<&Table>, number: u32) -> Option<u32>
 {
     match table {
         Some(Table::Numbers(entries)) => entries.find(number),
-        _ => None,
+        Some(Table::Addresses(_)) | None => None,
     }
 }
 
@@ -37,14 +38,34 @@ fn port_value(table: Option<&Table>, port: Option<u16>) -> Option<u32>
     }
 }
 
+/// What a table answers for the packet's source address; it knows none of IPv6.
+fn source_value(table: Option<&Table>, packet: &AnyIp<'_>) -> Option<u32>
+    ensures { result ≡ spec.answer_for (option_copied table.entry) (source_of packet.now) }
+{
+    match packet {
+        AnyIp::Four(packet) => address_value(table, packet.source()),
+        AnyIp::Six(_) => None,
+    }
+}
+
+/// The same of its destination address.
+fn destination_value(table: Option<&Table>, packet: &AnyIp<'_>) -> Option<u32>
+    ensures { result ≡ spec.answer_for (option_copied table.entry) (destination_of packet.now) }
+{
+    match packet {
+        AnyIp::Four(packet) => address_value(table, packet.destination()),
+        AnyIp::Six(_) => None,
+    }
+}
+
 /// What the table of that name answers for the field of the packet.
-pub fn field_value(tables: &Tables, packet: &Ip4<'_>, field: Field, name: &Name) -> Option<u32>
+pub fn field_value(tables: &Tables, packet: &AnyIp<'_>, field: Field, name: &Name) -> Option<u32>
     ensures { result ≡ spec.field_value tables.now packet.now field name.now }
 {
     let table = tables.get(name);
     match field {
-        Field::SrcIp => address_value(table, packet.source()),
-        Field::DstIp => address_value(table, packet.destination()),
+        Field::SrcIp => source_value(table, packet),
+        Field::DstIp => destination_value(table, packet),
         Field::SrcPort => port_value(table, source_port(packet)),
         Field::DstPort => port_value(table, destination_port(packet)),
     }
