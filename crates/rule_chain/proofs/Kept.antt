@@ -12,9 +12,11 @@ use Rattle.rule_chain.specs.Chain.{IsRule, IsConfiguration}
 use Rattle.rule_chain.specs.Configuration.{Configuration}
 use Rattle.rule_chain.specs.Answers.{first_fault}
 use Rattle.rule_chain.specs.Apply.{deletion_fault, mask_after}
+use Rattle.rule_chain.specs.Names.{IsNamed}
 use Rattle.rule_chain.specs.declared.apply_fault.ApplyFault.TheVariants.{NoSuchRule, ReservedRule}
 use Rattle.rule_chain.specs.Rules.{last_rule, rule_of, insert_rule, renumber, count_of, in_set_for, move_rules, set_moved, set_of_number, set_swapped, is_among, is_named, has_rule}
 use Rattle.rule_chain.proofs.Chains.{filter_keeps, move_keeps, renumber_keeps, insert_keeps}
+use Rattle.rule_chain.proofs.FlowNames.{Keeps, stays_named}
 use Rattle.rule_chain.proofs.Ids.{filter_ids, move_ids, renumber_ids, insert_ids}
 use Rattle.rule_chain.proofs.Lists.{length-filter_le, all-filter, all-map, all-weaker}
 
@@ -23,6 +25,8 @@ filter_kept c p last h = record {
   ordered = filter_keeps p last 1 c.rules h.ordered;
   rules = all-filter (IsRule c.greatest_id c.greatest_counter) p c.rules h.rules;
   distinct = filter_ids p c.rules h.distinct;
+  names = h.names;
+  named = all-filter (IsNamed c.names) p c.rules h.named;
   held = let less = length-filter_le p c.rules in omega (arith, h.held, less);
   ids = h.ids;
   counters = h.counters;
@@ -49,6 +53,8 @@ move_kept c set_for last in_range h = record {
   ordered = move_keeps set_for last 1 c.rules h.ordered;
   rules = all-map (IsRule c.greatest_id c.greatest_counter) (in_set_for set_for) (rule_moved set_for in_range c.greatest_id c.greatest_counter) c.rules h.rules;
   distinct = move_ids set_for c.rules h.distinct;
+  names = h.names;
+  named = all-map (IsNamed c.names) (in_set_for set_for) (λ rule named. named) c.rules h.named;
   held = let same = length_moved set_for c.rules in omega (arith, h.held, same);
   ids = h.ids;
   counters = h.counters;
@@ -86,6 +92,16 @@ all_zeroed test i n m next (r ∷ rules) le room all =
       | false ↦ λ same. (rule_within i i n m (omega arith) le r all.0, all_zeroed test i n m next rules le same all.1)
     ] room
 
+-- a fresh counter number changes no rule's name
+all_named : (names : List (List ℕ)) (test : Rule → Bool) (next : ℕ) (rules : List Rule) → AllByRecursion (IsNamed names) rules → AllByRecursion (IsNamed names) (renumber test next rules)
+unfolding renumber
+all_named names test next [] all = tt
+all_named names test next (r ∷ rules) all =
+    elim (test r) as (λ b. AllByRecursion (IsNamed names) (cond b (record r { counter = next } ∷ renumber test (next + 1) rules) (r ∷ renumber test next rules))) [
+      | true ↦ (all.0, all_named names test (next + 1) rules all.1)
+      | false ↦ (all.0, all_named names test next rules all.1)
+    ]
+
 length_zeroed : (test : Rule → Bool) (next : ℕ) (rules : List Rule) → length (renumber test next rules) ≡ length rules
 unfolding renumber
 length_zeroed test next [] = refl
@@ -101,6 +117,8 @@ zero_kept c test room h = record {
   ordered = renumber_keeps test 1 (c.greatest_counter + 1) c.rules h.ordered;
   rules = all_zeroed test c.greatest_id c.greatest_counter (c.greatest_counter + count_of test c.rules) (c.greatest_counter + 1) c.rules (omega arith) (omega arith) h.rules;
   distinct = renumber_ids test (c.greatest_counter + 1) c.rules h.distinct;
+  names = h.names;
+  named = all_named c.names test (c.greatest_counter + 1) c.rules h.named;
   held = let same = length_zeroed test (c.greatest_counter + 1) c.rules in omega (arith, h.held, same);
   ids = omega (arith, h.ids);
   counters = room;
@@ -137,13 +155,15 @@ drafted draft number id counter least less h = record {
 }
 
 pub add_kept : (c d : Configuration) (rule : Rule) → rule.number < 65535 → c.greatest_id < rule.id → IsRule (c.greatest_id + 1) (c.greatest_counter + 1) rule → length c.rules < 65535 → c.greatest_counter + 1 < 16777216
-    → d.rules ≡ insert_rule rule c.rules → d.greatest_id ≡ c.greatest_id + 1 → d.greatest_counter ≡ c.greatest_counter + 1 → d.disabled ≡ c.disabled
+    → Keeps c.names d.names → IsNamed d.names rule → d.rules ≡ insert_rule rule c.rules → d.greatest_id ≡ c.greatest_id + 1 → d.greatest_counter ≡ c.greatest_counter + 1 → d.disabled ≡ c.disabled
     → IsConfiguration c → IsConfiguration d
-add_kept c d rule less new_id is room counters rules ids greatest disabled h = record {
+add_kept c d rule less new_id is room counters made named rules ids greatest disabled h = record {
   ordered = rw rules (insert_keeps rule less 1 c.rules is.number.least_le h.ordered);
   rules = rw (rules, ids, greatest) (all_inserted (IsRule (c.greatest_id + 1) (c.greatest_counter + 1)) rule is c.rules
       (all-weaker (IsRule c.greatest_id c.greatest_counter) (IsRule (c.greatest_id + 1) (c.greatest_counter + 1)) (rule_within c.greatest_id (c.greatest_id + 1) c.greatest_counter (c.greatest_counter + 1) (omega arith) (omega arith)) c.rules h.rules));
   distinct = rw rules (insert_ids c.greatest_id c.greatest_counter rule c.rules new_id h.rules h.distinct);
+  names = made.lawful;
+  named = rw rules (all_inserted (IsNamed d.names) rule named c.rules (all-weaker (IsNamed c.names) (IsNamed d.names) (stays_named c.names d.names made) c.rules h.named));
   held = let more = length_inserted rule c.rules in rw rules (omega arith);
   ids = omega (arith, h.ids);
   counters = omega arith;
@@ -155,6 +175,8 @@ mask_kept c disable enable low h = record {
   ordered = h.ordered;
   rules = h.rules;
   distinct = h.distinct;
+  names = h.names;
+  named = h.named;
   held = h.held;
   ids = h.ids;
   counters = h.counters;

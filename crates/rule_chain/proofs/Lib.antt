@@ -1,5 +1,6 @@
 pub mod Chains
 pub mod Chosen
+pub mod FlowNames
 pub mod Greatest
 pub mod Ids
 pub mod Kept

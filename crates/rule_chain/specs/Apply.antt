@@ -5,6 +5,7 @@ use Rattle.fw_base.specs.declared.address.Addr.{Addr}
 use Rattle.fw_rule.specs.Canonical.{has_bit}
 use Rattle.fw_rule.specs.declared.rule.Rule.{Rule}
 use Rattle.fw_rule.specs.declared.rule_draft.RuleDraft.{RuleDraft}
+use Rattle.fw_rule.specs.Values.{with_value}
 use Rattle.fw_rule.specs.declared.setting.Setting.{Setting}
 use Rattle.fw_rule.specs.declared.table_command.TableCommand.{TableCommand}
 use Rattle.fw_rule.specs.declared.command.Command.{Command}
@@ -12,8 +13,9 @@ use Rattle.fw_rule.specs.declared.command.Command.TheVariants.{Add, Delete, Dele
 use Rattle.rule_chain.specs.declared.apply_fault.ApplyFault.{ApplyFault}
 use Rattle.rule_chain.specs.declared.apply_fault.ApplyFault.TheVariants.{NoSuchRule, ReservedRule, ReservedSet, TooManyRules, TooManyCounters}
 use Rattle.rule_chain.specs.Answers.{Answer, ◌>>=◌, unless, first_fault}
-use Rattle.rule_chain.specs.Configuration.{Configuration, with_value}
+use Rattle.rule_chain.specs.Configuration.{Configuration}
 use Rattle.rule_chain.specs.Lookups.{with_uses, change_tables}
+use Rattle.rule_chain.specs.Names.{name_of, with_name_of}
 use Rattle.rule_chain.specs.Rules.{has_rule, chosen_number, rule_of, insert_rule, without_numbers, without_set, flushed, is_zeroed, renumber, count_of, move_rules, set_moved, set_of_number, set_swapped}
 use Rattle.rule_chain.specs.Uses.{uses_of}
 
@@ -34,7 +36,8 @@ add_rule c draft =
     if chosen_number c.rules draft.number == 65535 then Err ReservedRule
     else if nat_le 65535 (length c.rules) then Err TooManyRules
     else if not (has_counters c 1) then Err TooManyCounters
-    else (with_uses c.tables (uses_of draft.body) >>= λ made. Ok (record (with_rule c draft) { tables = made }))
+    else (with_name_of c.names (name_of draft.action draft.body) >>= λ names.
+    with_uses c.tables (uses_of draft.body) >>= λ made. Ok (record (with_rule c draft) { names = names; tables = made }))
 
 -- `delete` of a number
 abbrev pub deletion_fault : List Rule → ℕ → Option ApplyFault

@@ -4,6 +4,7 @@ use Rattle.std.specs.List.{AllByRecursion}
 use Rattle.fw_rule.specs.WellFormed.{IsNumber, IsSet, IsAction, IsValue, HasBody}
 use Rattle.fw_rule.specs.declared.rule.Rule.{Rule}
 use Rattle.rule_chain.specs.Configuration.{Configuration}
+use Rattle.rule_chain.specs.Names.{AreNames, IsNamed}
 use Rattle.rule_chain.specs.Rules.{last_rule}
 
 -- The numbers ascend from the least on, equal ones among them; the last rule is rule 65535, and no
@@ -28,12 +29,14 @@ pub record IsRule (greatest_id greatest_counter : ℕ) (rule : Rule) : Type 0 wh
   pub log : IfSome rule.log IsValue
   pub body : HasBody rule.action rule.body
 
--- rules in number order with rule 65535 at their end, each with an identity of its own, within the
--- limits; set 31 isn't disabled
+-- rules in number order with rule 65535 at their end, each with an identity of its own and a flow name
+-- that has a number, within the limits; set 31 isn't disabled
 pub record IsConfiguration (c : Configuration) : Type 0 where
   pub ordered : AscendsFrom 1 c.rules
   pub rules : AllByRecursion (IsRule c.greatest_id c.greatest_counter) c.rules
   pub distinct : HaveOwnIds c.rules
+  pub names : AreNames c.names
+  pub named : AllByRecursion (IsNamed c.names) c.rules
   pub held : length c.rules ≤ 65535
   pub ids : c.greatest_id ≤ c.greatest_counter
   pub counters : c.greatest_counter < 16777216

@@ -5,6 +5,7 @@ pub mod Configuration
 pub mod First
 pub mod Lookups
 pub mod Moves
+pub mod Names
 pub mod Rules
 pub mod Uses
 pub mod Words

@@ -58,12 +58,14 @@ removed there entries = if there then Ok entries else Err NoSuchEntry
 abbrev pub add_key : Table → Key → ℕ → Answer Table
 add_key (AddressTable entries) (Net prefix) value = added (is_some (value_of network_cmp entries prefix)) (AddressTable (with_entry network_cmp entries prefix value))
 add_key (NumberTable entries) (Number n) value = added (is_some (value_of nat_cmp entries n)) (NumberTable (with_entry nat_cmp entries n value))
-add_key table key value = Err WrongType
+add_key (AddressTable entries) (Number n) value = Err WrongType
+add_key (NumberTable entries) (Net prefix) value = Err WrongType
 
 abbrev pub remove_key : Table → Key → Answer Table
 remove_key (AddressTable entries) (Net prefix) = removed (is_some (value_of network_cmp entries prefix)) (AddressTable (without_key network_cmp entries prefix))
 remove_key (NumberTable entries) (Number n) = removed (is_some (value_of nat_cmp entries n)) (NumberTable (without_key nat_cmp entries n))
-remove_key table key = Err WrongType
+remove_key (AddressTable entries) (Number n) = Err WrongType
+remove_key (NumberTable entries) (Net prefix) = Err WrongType
 
 abbrev pub cleared : Table → Table
 cleared (AddressTable entries) = AddressTable []
@@ -73,7 +75,8 @@ cleared (NumberTable entries) = NumberTable []
 abbrev pub are_alike : Table → Table → Bool
 are_alike (AddressTable entries) (AddressTable others) = true
 are_alike (NumberTable entries) (NumberTable others) = true
-are_alike table other = false
+are_alike (AddressTable entries) (NumberTable others) = false
+are_alike (NumberTable entries) (AddressTable others) = false
 
 -- Commands
 

@@ -5,6 +5,7 @@ use Rattle.fw_rule.specs.declared.action.Action.TheVariants.{Deny}
 use Rattle.fw_rule.specs.declared.addr_item.AddrItem.TheVariants.{Any}
 use Rattle.fw_rule.specs.declared.addr_spec.AddrSpec.{AddrSpec}
 use Rattle.fw_rule.specs.declared.body.Body.{Body}
+use Rattle.fw_rule.specs.declared.family.Family.TheVariants.{AnyIp}
 use Rattle.fw_rule.specs.declared.rule.Rule.{Rule}
 use Rattle.fw_rule.specs.declared.rule_draft.RuleDraft.{RuleDraft}
 
@@ -30,6 +31,7 @@ any_address = record { negated = false; items = Any ∷ [] }
 -- ip from any to any
 abbrev pub any_body : Body
 any_body = record {
+  family = AnyIp;
   protocol = 0;
   source = any_address;
   source_ports = None;

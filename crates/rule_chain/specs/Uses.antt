@@ -4,7 +4,7 @@ use Rattle.std.specs.Prelude.{ℕ, Bool, nat_eq, Option, Some, None, List, [], �
 use Rattle.std.specs.List.{filter_map, list_any}
 use Rattle.std.specs.Cmp.Lexicographic.{pointwise}
 use Rattle.fw_rule.specs.declared.addr_item.AddrItem.{AddrItem}
-use Rattle.fw_rule.specs.declared.addr_item.AddrItem.TheVariants.{InTable, TableValue}
+use Rattle.fw_rule.specs.declared.addr_item.AddrItem.TheVariants.{Any, Me, Net, Net6, InTable, TableValue}
 use Rattle.fw_rule.specs.declared.body.Body.{Body}
 use Rattle.fw_rule.specs.declared.field.Field.{Field}
 use Rattle.fw_rule.specs.declared.field.Field.TheVariants.{SrcIp, DstIp, SrcPort, DstPort}
@@ -13,7 +13,7 @@ use Rattle.fw_rule.specs.declared.rule.Rule.{Rule}
 use Rattle.fw_rule.specs.declared.table_type.TableType.{TableType}
 use Rattle.fw_rule.specs.declared.table_type.TableType.TheVariants.{Addresses, Numbers}
 use Rattle.fw_rule.specs.declared.test.Test.{Test}
-use Rattle.fw_rule.specs.declared.test.Test.TheVariants.{Lookup}
+use Rattle.fw_rule.specs.declared.test.Test.TheVariants.{Inward, Outward, Established, Setup, Frag, Recv, Xmit, Via, TcpFlags, IcmpTypes, Icmp6Types, IpOptions, Lookup}
 
 -- a table's name, and what its keys have to be
 pub record Use : Type 0 where
@@ -23,7 +23,10 @@ pub record Use : Type 0 where
 abbrev pub item_use : AddrItem → Option Use
 item_use (InTable name) = Some (record { name = name; kind = Addresses })
 item_use (TableValue name value) = Some (record { name = name; kind = Addresses })
-item_use other = None
+item_use Any = None
+item_use Me = None
+item_use (Net prefix) = None
+item_use (Net6 prefix) = None
 
 -- ports are looked up in a table of numbers
 abbrev pub field_kind : Field → TableType
@@ -34,7 +37,18 @@ field_kind DstPort = Numbers
 
 abbrev pub test_use : Test → Option Use
 test_use (Lookup field name) = Some (record { name = name; kind = field_kind field })
-test_use other = None
+test_use Inward = None
+test_use Outward = None
+test_use Established = None
+test_use Setup = None
+test_use Frag = None
+test_use (Recv iface) = None
+test_use (Xmit iface) = None
+test_use (Via iface) = None
+test_use (TcpFlags set clear) = None
+test_use (IcmpTypes types) = None
+test_use (Icmp6Types types) = None
+test_use (IpOptions present absent) = None
 
 abbrev pub option_use : Opt → Option Use
 option_use option = test_use option.test

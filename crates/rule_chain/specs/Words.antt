@@ -1,7 +1,7 @@
 -- The refusals by their own names.
 use Rattle.std.specs.Prelude.{ℕ, List, codes}
 use Rattle.rule_chain.specs.declared.apply_fault.ApplyFault.{ApplyFault}
-use Rattle.rule_chain.specs.declared.apply_fault.ApplyFault.TheVariants.{NoSuchRule, ReservedRule, ReservedSet, NoSuchTable, EntryExists, NoSuchEntry, TableInUse, WrongType, TooManyRules, TooManyCounters, OutOfMemory}
+use Rattle.rule_chain.specs.declared.apply_fault.ApplyFault.TheVariants.{NoSuchRule, ReservedRule, ReservedSet, NoSuchTable, EntryExists, NoSuchEntry, TableInUse, WrongType, TooManyRules, TooManyCounters, TooManyNames, OutOfMemory}
 
 -- as the line about a refused command prints it
 abbrev pub word_of : ApplyFault → List ℕ
@@ -15,4 +15,5 @@ word_of TableInUse = codes "TableInUse"
 word_of WrongType = codes "WrongType"
 word_of TooManyRules = codes "TooManyRules"
 word_of TooManyCounters = codes "TooManyCounters"
+word_of TooManyNames = codes "TooManyNames"
 word_of OutOfMemory = codes "OutOfMemory"

@@ -7,6 +7,7 @@ ghost use Rattle.rule_chain.specs.Chain.{AscendsFrom};
 ghost use Rattle.rule_chain.specs.Rules as lists;
 
 use crate::config::{LAST_NUMBER, MOST_COUNTERS, MOST_RULES};
+use crate::names::add_name_of;
 use crate::uses::make_tables;
 use crate::{ApplyFault, Config};
 use fw_rule::{Rule, RuleDraft};
@@ -83,6 +84,7 @@ impl Config {
         if self.greatest_counter + 1 >= MOST_COUNTERS {
             return Err(ApplyFault::TooManyCounters);
         }
+        add_name_of(&mut self.names, &draft.action, &draft.body)?;
         make_tables(alloc, &mut self.tables, &draft.body)?;
         let rule = Rule {
             number,

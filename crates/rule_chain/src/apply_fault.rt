@@ -38,6 +38,9 @@ pub enum ApplyFault {
     /// The command would pass 16,777,216 counter numbers, number 0 among them.
     #[error("there are 16,777,216 counters")]
     TooManyCounters,
+    /// `add` names a new flow name where there are 64, `default` among them.
+    #[error("there are 64 flow names")]
+    TooManyNames,
     /// Memory ran out.
     #[error("out of memory")]
     OutOfMemory,
@@ -59,6 +62,7 @@ impl ApplyFault {
             ApplyFault::WrongType => "WrongType",
             ApplyFault::TooManyRules => "TooManyRules",
             ApplyFault::TooManyCounters => "TooManyCounters",
+            ApplyFault::TooManyNames => "TooManyNames",
             ApplyFault::OutOfMemory => "OutOfMemory",
         }
     }

@@ -1,15 +1,17 @@
 ghost use Rattle.std.specs.Prelude.{◌≡◌, ◌+◌, IfOk, map};
 ghost use Rattle.std.specs.Arc.{arc_value};
 ghost use Rattle.std.specs.Option.{option_copied};
+ghost use Rattle.fw_rule.specs.Values.{values_of};
 ghost use Rattle.lookup_tables.specs.Tables.{table_named};
 ghost use Rattle.rule_chain.specs.Chain.{IsConfiguration};
-ghost use Rattle.rule_chain.specs.Configuration.{Configuration, values_of};
+ghost use Rattle.rule_chain.specs.Configuration.{Configuration};
 ghost use Rattle.rule_chain.specs.First.{first_configuration};
 ghost use Rattle.rule_chain.specs.Rules as lists;
 
+use crate::names::{copy_names, first_names};
 use crate::values::default_settings;
 use fw_base::{Addr, Name, OutOfMemory};
-use fw_rule::{Action, AddrItem, AddrSpec, Body, Items, Rule, Settings};
+use fw_rule::{Action, AddrItem, AddrSpec, Body, Family, Items, Rule, Settings};
 use lookup_tables::{Table, Tables};
 use std::alloc::Global;
 use std::marker::Model;
@@ -27,7 +29,7 @@ pub const MOST_RULES: usize = 65_535;
 /// How many counter numbers may be given out, number 0 among them.
 pub const MOST_COUNTERS: u32 = 16_777_216;
 
-/// A configuration of the packet filter: its rules in order, its sets, tables and settings (ipfw(8),
+/// A configuration of the packet filter: its rules in order, its sets, tables, settings and flow names (ipfw(8),
 /// "RULESET"). Contracts see it as a plain `Configuration`.
 #[derive(Drop)]
 pub struct Config {
@@ -36,6 +38,7 @@ pub struct Config {
     pub(crate) tables: Tables,
     pub(crate) locals: Vec<Addr>,
     pub(crate) settings: Settings,
+    pub(crate) names: Vec<Name>,
     pub(crate) greatest_id: u32,
     pub(crate) greatest_counter: u32,
 }
@@ -43,14 +46,15 @@ pub struct Config {
 impl Model for Config {
     ghost use Rattle.std.specs.Prelude.{map};
     ghost use Rattle.std.specs.Arc.{arc_value};
+    ghost use Rattle.fw_rule.specs.Values.{values_of};
     ghost use Rattle.rule_chain.specs.Chain.{IsConfiguration};
-    ghost use Rattle.rule_chain.specs.Configuration.{Configuration, values_of};
+    ghost use Rattle.rule_chain.specs.Configuration.{Configuration};
 
     ghost Value = { Configuration };
 
-    ghost view = { λ c. record { rules = map arc_value c.rules.items; disabled = c.disabled; tables = c.tables; locals = c.locals.items; values = values_of c.settings; greatest_id = c.greatest_id; greatest_counter = c.greatest_counter } };
+    ghost view = { λ c. record { rules = map arc_value c.rules.items; disabled = c.disabled; tables = c.tables; locals = c.locals.items; values = values_of c.settings; names = c.names.items; greatest_id = c.greatest_id; greatest_counter = c.greatest_counter } };
 
-    ghost invariant = { λ c. IsConfiguration (record { rules = map arc_value c.rules.items; disabled = c.disabled; tables = c.tables; locals = c.locals.items; values = values_of c.settings; greatest_id = c.greatest_id; greatest_counter = c.greatest_counter }) };
+    ghost invariant = { λ c. IsConfiguration (record { rules = map arc_value c.rules.items; disabled = c.disabled; tables = c.tables; locals = c.locals.items; values = values_of c.settings; names = c.names.items; greatest_id = c.greatest_id; greatest_counter = c.greatest_counter }) };
 }
 
 impl Config {
@@ -66,6 +70,7 @@ impl Config {
             tables: Tables::new(alloc),
             locals: Vec::new(alloc),
             settings: default_settings(),
+            names: first_names(alloc)?,
             greatest_id: 0,
             greatest_counter: 0,
         })
@@ -91,6 +96,15 @@ impl Config {
         ensures { values_of result ≡ self.now.values }
     {
         self.settings
+    }
+
+    /// The flow names by their numbers: `default` first, and each other since the first `add` that named
+    /// it; 1 to 64, no two equal. That of each rule is among them.
+    pub fn names(&self) -> &[Name]
+        ensures value { result.now ≡ self.now.names }
+        ensures lawful { IsConfiguration self.now }
+    {
+        &self.names
     }
 
     /// The host's own addresses, no two equal, in the order in which they were added.
@@ -132,6 +146,7 @@ impl Config {
             tables: self.tables.copy(alloc)?,
             locals: self.locals.clone()?,
             settings: self.settings,
+            names: copy_names(alloc, &self.names)?,
             greatest_id: self.greatest_id,
             greatest_counter: self.greatest_counter,
         })
@@ -166,6 +181,7 @@ fn last_rule(alloc: Global) -> Result<Rule, OutOfMemory>
     ensures { IfOk result (λ rule. rule ≡ lists.last_rule 0) }
 {
     let body = Body {
+        family: Family::AnyIp,
         protocol: 0,
         source: any_address(alloc)?,
         source_ports: None,

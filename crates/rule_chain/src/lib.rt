@@ -3,6 +3,7 @@
 
 pub use apply_fault::ApplyFault;
 pub use config::{Config, LAST_NUMBER, LAST_SET, MOST_COUNTERS, MOST_RULES};
+pub use names::MOST_NAMES;
 
 mod add;
 mod apply;
@@ -10,6 +11,7 @@ mod apply_fault;
 mod config;
 mod delete;
 mod moves;
+mod names;
 mod numbers;
 mod owned;
 mod sets;

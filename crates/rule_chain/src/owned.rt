@@ -23,7 +23,7 @@ fn copy_rule(alloc: Global, rule: &Rule) -> Result<Rule, OutOfMemory>
         set: rule.set,
         id: rule.id,
         counter: rule.counter,
-        action: rule.action,
+        action: rule.action.copy()?,
         log: rule.log,
         body: copy_body(alloc, &rule.body)?,
     })

@@ -43,7 +43,9 @@ fn add_key(table: Table, key: Key, value: u32) -> Result<Table, ApplyFault>
     match (table, key) {
         (Table::Addresses(entries), Key::Net(prefix)) => add_prefix(entries, prefix, value),
         (Table::Numbers(entries), Key::Number(number)) => add_number(entries, number, value),
-        _ => Err(ApplyFault::WrongType),
+        (Table::Addresses(_), Key::Number(_)) | (Table::Numbers(_), Key::Net(_)) => {
+            Err(ApplyFault::WrongType)
+        }
     }
 }
 
@@ -74,7 +76,9 @@ fn remove_key(table: Table, key: Key) -> Result<Table, ApplyFault>
     match (table, key) {
         (Table::Addresses(entries), Key::Net(prefix)) => remove_prefix(entries, prefix),
         (Table::Numbers(entries), Key::Number(number)) => remove_number(entries, number),
-        _ => Err(ApplyFault::WrongType),
+        (Table::Addresses(_), Key::Number(_)) | (Table::Numbers(_), Key::Net(_)) => {
+            Err(ApplyFault::WrongType)
+        }
     }
 }
 
@@ -197,7 +201,9 @@ fn are_alike(table: &Table, other: &Table) -> bool
 {
     match (table, other) {
         (Table::Addresses(_), Table::Addresses(_)) | (Table::Numbers(_), Table::Numbers(_)) => true,
-        _ => false,
+        (Table::Addresses(_), Table::Numbers(_)) | (Table::Numbers(_), Table::Addresses(_)) => {
+            false
+        }
     }
 }
 

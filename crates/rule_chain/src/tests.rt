@@ -1,12 +1,13 @@
 ghost use Rattle.std.specs.Prelude.{◌≡◌, IfOk, [], ◌∷◌};
+ghost use Rattle.fw_rule.specs.FlowName.{IsFlowName};
 ghost use Rattle.fw_rule.specs.WellFormed.{IsBody, IsItem, IsKey, IsNumber, IsTableCommand, IsTest, IsWellFormed};
 ghost use Rattle.std.specs.List.{AllByRecursion};
 
 use crate::{ApplyFault, Config};
 use fw_base::{Addr, Name, Prefix};
 use fw_rule::{
-    Action, AddrItem, AddrSpec, Body, Command, Field, Items, Key, Opt, RuleDraft, Setting,
-    TableCommand, TableType, Test,
+    Action, AddrItem, AddrSpec, Body, Command, Family, Field, Items, Key, Opt, RuleDraft, Setting,
+    StateOpt, TableCommand, TableType, Test,
 };
 use std::alloc::{AllocError, Global};
 use std::test::Fail;
@@ -37,6 +38,11 @@ enum Step {
     SwapTables(u8, u8),
     Local(u32, u32),
     Most(u32),
+    KeepStates(bool),
+    /// `add check-state :nNAME`, the name's second byte being this one
+    Check(u8),
+    /// `add count ip from any to any keep-state :nNAME`
+    Keep(u8),
 }
 
 fn one<T: Drop>(alloc: Global, item: T) -> Result<Items<T>, AllocError>
@@ -67,6 +73,7 @@ fn body(alloc: Global, source: AddrItem, options: Items<Opt>) -> Result<Body, Fa
     ensures { IfOk result (λ body. IsBody body) }
 {
     Ok(Body {
+        family: Family::AnyIp,
         protocol: 0,
         source: spec(alloc, source)?,
         source_ports: None,
@@ -106,6 +113,39 @@ fn lookup(alloc: Global, number: u16, first: u8, second: u8) -> Result<Command, 
         action: Action::Count,
         log: None,
         body: Some(body),
+    }))
+}
+
+/// The flow name of `n` and this byte.
+fn flow(alloc: Global, byte: u8) -> Result<Name, Fail>
+    ensures { IfOk result (λ name. IsFlowName name) }
+{
+    Ok(Name::new(alloc, &[b'n', byte])?)
+}
+
+fn check_state(alloc: Global, name: u8) -> Result<Command, Fail>
+    ensures { IfOk result (λ command. IsWellFormed command) }
+{
+    Ok(Command::Add(RuleDraft {
+        number: None,
+        set: 0,
+        action: Action::CheckState(Some(flow(alloc, name)?)),
+        log: None,
+        body: None,
+    }))
+}
+
+fn keep_state(alloc: Global, name: u8) -> Result<Command, Fail>
+    ensures { IfOk result (λ command. IsWellFormed command) }
+{
+    let mut kept = body(alloc, AddrItem::Any, Items::from_vec(Vec::new(alloc)))?;
+    kept.state = Some(StateOpt::Keep(flow(alloc, name)?));
+    Ok(Command::Add(RuleDraft {
+        number: None,
+        set: 0,
+        action: Action::Count,
+        log: None,
+        body: Some(kept),
     }))
 }
 
@@ -190,6 +230,12 @@ fn other_command(alloc: Global, step: Step) -> Result<Command, Fail>
             setting: Setting::Max,
             value: value.max(1).min(16384),
         }),
+        Step::KeepStates(keep) => Ok(Command::Sysctl {
+            setting: Setting::Keep,
+            value: u32::from(keep),
+        }),
+        Step::Check(name) => check_state(alloc, name),
+        Step::Keep(name) => keep_state(alloc, name),
         _ => rule_command(alloc, step),
     }
 }
@@ -431,6 +477,62 @@ fn settings_and_addresses(rt: HostRuntime) -> Result<(), Fail> {
     )?;
     assert_eq!(rt; config.locals(), [Addr(2), Addr(1)].as_slice());
     assert_eq!(rt; (config.settings().max, config.settings().syn), (1, 20));
+    assert!(rt; !config.settings().keep);
+    let kept = after(alloc, &[Step::KeepStates(true)])?;
+    assert_eq!(rt; (kept.settings().max, kept.settings().keep), (16384, true));
+    Ok(())
+}
+
+/// A configuration of that many flow names.
+fn named(alloc: Global, count: u8) -> Result<Config, Fail> {
+    let mut config = Config::new(alloc)?;
+    for name in 1..count {
+        let command = check_state(alloc, name)?;
+        config = config.apply_owned(alloc, &command)?;
+    }
+    Ok(config)
+}
+
+#[test]
+fn too_many_names(rt: HostRuntime) -> Result<(), Fail> {
+    let alloc = rt.alloc();
+    let config = named(alloc, 64)?;
+    assert_eq!(rt; config.names().len(), 64);
+    for (step, fault) in [
+        (Step::Check(64), Some(ApplyFault::TooManyNames)),
+        (Step::Keep(64), Some(ApplyFault::TooManyNames)),
+        (Step::Check(63), None),
+        (Step::Keep(1), None),
+        (Step::Add(65535, 0), Some(ApplyFault::ReservedRule)),
+    ] {
+        let command = other_command(alloc, step)?;
+        assert_eq!(rt; config.apply(alloc, &command).err(), fault);
+    }
+    assert_eq!(rt; ApplyFault::TooManyNames.word(), "TooManyNames");
+    Ok(())
+}
+
+#[test]
+fn names_have_numbers(rt: HostRuntime) -> Result<(), Fail> {
+    let alloc = rt.alloc();
+    let steps = [
+        Step::Keep(7),
+        Step::Check(5),
+        Step::Keep(7),
+        Step::Delete(100, 100),
+    ];
+    let config = after(alloc, &steps)?;
+    let [first, second, third] = config.names() else {
+        return Err("three names")?;
+    };
+    assert_eq!(rt;
+        (first.bytes(), second.bytes(), third.bytes()),
+        (
+            b"default".as_slice(),
+            [b'n', 7].as_slice(),
+            [b'n', 5].as_slice()
+        )
+    );
     Ok(())
 }
 

@@ -19,7 +19,7 @@ fn item_use(item: &AddrItem) -> Option<(&Name, TableType)>
         AddrItem::InTable(name) | AddrItem::TableValue(name, _) => {
             Some((name, TableType::Addresses))
         }
-        _ => None,
+        AddrItem::Any | AddrItem::Me | AddrItem::Net(_) | AddrItem::Net6(_) => None,
     }
 }
 
@@ -38,7 +38,18 @@ fn option_use(option: &Opt) -> Option<(&Name, TableType)>
 {
     match &option.test {
         Test::Lookup(field, name) => Some((name, field_kind(*field))),
-        _ => None,
+        Test::Inward
+        | Test::Outward
+        | Test::Established
+        | Test::Setup
+        | Test::Frag
+        | Test::Recv(_)
+        | Test::Xmit(_)
+        | Test::Via(_)
+        | Test::TcpFlags { .. }
+        | Test::IcmpTypes(_)
+        | Test::Icmp6Types(_)
+        | Test::IpOptions { .. } => None,
     }
 }
 
@@ -60,7 +71,9 @@ fn is_of(kind: TableType, table: &Table) -> bool
         (TableType::Addresses, Table::Addresses(_)) | (TableType::Numbers, Table::Numbers(_)) => {
             true
         }
-        _ => false,
+        (TableType::Addresses, Table::Numbers(_)) | (TableType::Numbers, Table::Addresses(_)) => {
+            false
+        }
     }
 }
 

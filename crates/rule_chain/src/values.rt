@@ -1,8 +1,8 @@
 ghost use Rattle.std.specs.Prelude.{◌≡◌};
 ghost use Rattle.fw_rule.specs.Settings.{IsInRange};
-ghost use Rattle.rule_chain.specs.Configuration.{values_of, default_values, with_value};
+ghost use Rattle.fw_rule.specs.Values.{values_of, default_values, with_value};
 
-use fw_rule::{MOST_STATES, Setting, Settings};
+use fw_rule::{Setting, Settings, USUAL_MOST_STATES};
 
 /// The settings that hold before any command.
 pub(crate) fn default_settings() -> Settings
@@ -15,7 +15,8 @@ pub(crate) fn default_settings() -> Settings
         rst: 1,
         udp: 10,
         short: 5,
-        max: MOST_STATES,
+        max: USUAL_MOST_STATES,
+        keep: false,
     }
 }
 
@@ -33,6 +34,7 @@ pub(crate) fn changed(settings: Settings, setting: Setting, value: u32) -> Setti
         Setting::Udp => changed.udp = value,
         Setting::Short => changed.short = value,
         Setting::Max => changed.max = value,
+        Setting::Keep => changed.keep = value == 1,
     }
     changed
 }

@@ -1,0 +1,118 @@
+ghost use Rattle.std.specs.Prelude.{◌≡◌, [], ◌∷◌, Ok, IfOk, IfErr, OnOk};
+ghost use Rattle.std.specs.Option.{option_copied};
+ghost use Rattle.fw_rule.specs.FlowName.{default_flow};
+ghost use Rattle.rule_chain.specs.Answers.{IsRefusal};
+ghost use Rattle.rule_chain.specs.Names as spec;
+
+use crate::ApplyFault;
+use fw_base::{Name, OutOfMemory};
+use fw_rule::{Action, Body, DEFAULT_FLOW, StateOpt};
+use std::alloc::Global;
+
+/// How many flow names a configuration may have, `default` among them.
+pub const MOST_NAMES: usize = 64;
+
+/// The flow names before any command: `default` alone.
+pub(crate) fn first_names(alloc: Global) -> Result<Vec<Name>, OutOfMemory>
+    ensures { IfOk result (λ names. names.items ≡ default_flow ∷ []) }
+{
+    let mut names = Vec::new(alloc);
+    names.push(Name::new(alloc, DEFAULT_FLOW)?)?;
+    Ok(names)
+}
+
+/// The same flow names, a second time.
+pub(crate) fn copy_names(alloc: Global, names: &[Name]) -> Result<Vec<Name>, OutOfMemory>
+    ensures { IfOk result (λ copied. copied.items ≡ names.now) }
+{
+    let mut copied = Vec::with_capacity(alloc, names.len())?;
+    for name in names {
+        copied.push(name.copy()?)?;
+    }
+    Ok(copied)
+}
+
+fn action_name(action: &Action) -> Option<&Name>
+    ensures { option_copied result ≡ spec.action_name action.now }
+{
+    match action {
+        Action::CheckState(Some(name)) => Some(name),
+        Action::CheckState(None)
+        | Action::Allow
+        | Action::Deny
+        | Action::Reset
+        | Action::Unreach(_)
+        | Action::Count
+        | Action::SkipTo(_)
+        | Action::Call(_)
+        | Action::Return => None,
+    }
+}
+
+fn state_name(state: &StateOpt) -> &Name
+    ensures { result.now ≡ spec.state_name state.now }
+{
+    match state {
+        StateOpt::Keep(name) | StateOpt::Limit(_, _, name) => name,
+    }
+}
+
+fn body_name(body: &Option<Body>) -> Option<&Name>
+    ensures { option_copied result ≡ spec.body_name body.now }
+{
+    match body {
+        Some(asked) => match &asked.state {
+            Some(state) => Some(state_name(state)),
+            None => None,
+        },
+        None => None,
+    }
+}
+
+/// The flow name that a rule of this action and body names, if any.
+fn name_of<'x>(action: &'x Action, body: &'x Option<Body>) -> Option<&'x Name>
+    ensures { option_copied result ≡ spec.name_of action.now body.now }
+{
+    match action_name(action) {
+        Some(name) => Some(name),
+        None => body_name(body),
+    }
+}
+
+/// Whether the name has a number.
+fn has_number(names: &[Name], name: &Name) -> bool
+    ensures { result ≡ spec.is_listed names.now name.now }
+{
+    names.iter().any(|other| other == name)
+}
+
+/// Gives the name the next number where it has none.
+fn add_name(names: &mut Vec<Name>, name: &Name) -> Result<(), ApplyFault>
+    ensures ok { OnOk result (spec.with_name names.old.items name.now ≡ Ok names.new.items) }
+    ensures err { IfErr result (λ fault. IsRefusal fault (spec.with_name names.old.items name.now)) }
+{
+    if has_number(names, name) {
+        return Ok(());
+    }
+    if names.len() >= MOST_NAMES {
+        return Err(ApplyFault::TooManyNames);
+    }
+    names.push(name.copy()?)?;
+    Ok(())
+}
+
+/// Gives the flow name that a rule of this action and body names the next number, where it has none.
+#[tactic(auto, unfolding(crate::specs::Names::with_name_of))]
+pub(crate) fn add_name_of(
+    names: &mut Vec<Name>,
+    action: &Action,
+    body: &Option<Body>,
+) -> Result<(), ApplyFault>
+    ensures ok { OnOk result (spec.with_name_of names.old.items (spec.name_of action.now body.now) ≡ Ok names.new.items) }
+    ensures err { IfErr result (λ fault. IsRefusal fault (spec.with_name_of names.old.items (spec.name_of action.now body.now))) }
+{
+    match name_of(action, body) {
+        Some(name) => add_name(names, name),
+        None => Ok(()),
+    }
+}
