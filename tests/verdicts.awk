@@ -7,7 +7,8 @@
 # 'add NUMBER allow|deny PROTOCOL from ADDRESSES [PORTS] to ADDRESSES [PORTS] [OPTION ..]'. A line of FIELDS.tsv has
 # the fields that its first line names: the 1st is the packet's number, the 4th and 5th its addresses, the 6th its
 # protocol's number, the 8th its fragment offset, the 9th and 10th its ports, the 11th its TCP flags, the 12th its
-# ICMP type, the 13th its kind (ip, other, or malformed with a number), the 17th the types of its IP options.
+# ICMP type, the 13th its kind (ip, ip6, other, or malformed with a number), the 17th the types of its IP options.
+# An address of IPv6 is one of no table, of no prefix of IPv4 and not the host's own.
 
 BEGIN {
     FS = "\t"
@@ -33,7 +34,7 @@ BEGIN {
 
 {
     records++
-    print "1." $1 " " ($13 == "ip" ? judgement() : $13)
+    print "1." $1 " " ($13 ~ /^ip6?$/ ? judgement() : $13)
 }
 
 END { print "end 1 records " records + 0 }
@@ -233,6 +234,8 @@ function type_holds(list,    element, count, n) {
 }
 
 function ip_options_hold(list,    element, count, n, name) {
+    if ($13 == "ip6")
+        return 0
     count = split(list, element, ",")
     for (n = 1; n <= count; n++) {
         name = element[n]
@@ -245,6 +248,8 @@ function ip_options_hold(list,    element, count, n, name) {
 function has_ip_option(type) { return index("," $17 ",", "," type ",") != 0 }
 
 function within(address, prefix,    parts, size) {
+    if (address ~ /:/)
+        return 0
     size = split(prefix, parts, "/") == 2 ? 2 ^ (32 - parts[2]) : 1
     return int(value(address) / size) == int(value(parts[1]) / size)
 }

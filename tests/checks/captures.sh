@@ -19,7 +19,7 @@ bytes "d4c3b2a1 0200 0400 00000000 00000000 00000400 00000000" "$(record 100 "02
 check loopback_family_in_either_order 0 serial empty in:lo0:loopback <<'END'
 1.1 deny 65535 at 1
 1.2 deny 65535 at 1
-1.3 other
+1.3 malformed 3
 end 1 records 3
 END
 
@@ -44,7 +44,7 @@ check malformed_kinds 0 serial empty in:em0:kinds <<'END'
 1.3 malformed 4
 1.4 malformed 2
 1.5 malformed 5
-1.6 other
+1.6 malformed 2
 1.7 deny 65535 at 1
 end 1 records 7
 END

@@ -8,7 +8,7 @@ recorded() {
 }
 
 # networks CAPTURE: the /24 networks of its packets' sources.
-networks() { awk -F '\t' '$4 != "" && !/^#/ { sub(/[0-9]+$/, "0", $4); print $4 }' "$tests/captures/$1.tsv" | sort -u; }
+networks() { awk -F '\t' '$4 ~ /\./ && !/^#/ { sub(/[0-9]+$/, "0", $4); print $4 }' "$tests/captures/$1.tsv" | sort -u; }
 
 for capture in day_c0_in day_c0_out dns_any_sll icmp_c0; do
     : >script

@@ -137,8 +137,11 @@ table t list|script line 2 NoSuchTable
 table t add 10/8|script line 2 column 13 BadNumber
 table t add 80|script line 2 WrongType
 sysctl dyn_max=16384|1.1 deny 00100 at 1
-sysctl net.inet.ip.fw.dyn_max=16385|script line 2 column 8 NumberRange
-sysctl dyn_keep_states=1|script line 2 column 8 UnknownWord
+sysctl net.inet.ip.fw.dyn_max=65536|1.1 deny 00100 at 1
+sysctl net.inet.ip.fw.dyn_max=65537|script line 2 column 8 NumberRange
+sysctl dyn_keep_states=1|1.1 deny 00100 at 1
+sysctl dyn_keep_states=2|script line 2 column 8 NumberRange
+sysctl dyn_kept_states=1|script line 2 column 8 UnknownWord
 local 10.0.0.2 10.0.0.3|1.1 deny 00100 at 1
 local any|script line 2 column 7 BadAddress
 list|1.1 deny 00100 at 1

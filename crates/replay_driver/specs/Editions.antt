@@ -1,8 +1,9 @@
 -- Edition 1 of a script: the configuration that its commands give, and the answers to its listings.
 use Rattle.std.specs.Prelude.{◌≡◌, ℕ, Bool, true, false, is_some, if◌then◌else◌, Option, Some, None, Result, Ok, Err, List, [], ◌∷◌, ◌++◌}
 use Rattle.fw_rule.specs.declared.command.Command.{Command}
-use Rattle.fw_rule.specs.declared.command.Command.TheVariants.{ListRules, Table}
-use Rattle.fw_rule.specs.declared.table_command.TableCommand.TheVariants.{ListEntries}
+use Rattle.fw_rule.specs.declared.command.Command.TheVariants.{Add, Delete, DeleteSet, Flush, Zero, ListRules, SetMask, MoveSet, MoveRule, SwapSets, Table, Sysctl, Local}
+use Rattle.fw_rule.specs.declared.table_command.TableCommand.{TableCommand}
+use Rattle.fw_rule.specs.declared.table_command.TableCommand.TheVariants as entries
 use Rattle.fw_command.specs.declared.line.Line.{Line}
 use Rattle.fw_command.specs.declared.pace.Pace.TheVariants.{Serial}
 use Rattle.fw_command.specs.declared.script.Script.{Script}
@@ -47,10 +48,29 @@ table_listed config line name =
     if is_some (table_named config.tables name) then Ok (listed line (Some name))
     else Err (Refused (record { line = line; fault = NoSuchTable }))
 
+abbrev pub listing_of_table : Configuration → ℕ → List ℕ → TableCommand → Result (Option LineAnswer) ScriptError
+listing_of_table config line name (entries.Create type) = Ok None
+listing_of_table config line name entries.Destroy = Ok None
+listing_of_table config line name (entries.Add key value) = Ok None
+listing_of_table config line name (entries.Remove key) = Ok None
+listing_of_table config line name entries.Clear = Ok None
+listing_of_table config line name (entries.SwapWith other) = Ok None
+listing_of_table config line name entries.ListEntries = table_listed config line name
+
 abbrev pub listing : Configuration → ℕ → Command → Result (Option LineAnswer) ScriptError
+listing config line (Add draft) = Ok None
+listing config line (Delete numbers) = Ok None
+listing config line (DeleteSet set) = Ok None
+listing config line Flush = Ok None
+listing config line (Zero numbers) = Ok None
 listing config line ListRules = Ok (listed line None)
-listing config line (Table name ListEntries) = table_listed config line name
-listing config line other = Ok None
+listing config line (SetMask disable enable) = Ok None
+listing config line (MoveSet from to) = Ok None
+listing config line (MoveRule number to) = Ok None
+listing config line (SwapSets first second) = Ok None
+listing config line (Table name command) = listing_of_table config line name command
+listing config line (Sysctl setting value) = Ok None
+listing config line (Local addresses) = Ok None
 
 abbrev pub with_answer : Option LineAnswer → List LineAnswer → List LineAnswer
 with_answer None answers = answers

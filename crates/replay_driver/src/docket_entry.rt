@@ -13,9 +13,9 @@ pub struct Judgement {
 /// What is entered for a record of a capture.
 #[derive(Clone, Copy, Debug, PartialEq, Eq)]
 pub enum DocketEntry {
-    /// No IPv4 packet.
+    /// No IPv4 or IPv6 packet.
     Other,
-    /// An IPv4 packet whose header can't be read, with the kind of its fault, 1 to 5.
+    /// An IPv4 or IPv6 packet whose header can't be read, with the kind of its fault, 1 to 5.
     Malformed(u8),
     Judged(Judgement),
 }

@@ -75,14 +75,44 @@ fn list_table(config: &Config, line: u32, name: &Name) -> Result<Option<LineAnsw
     }
 }
 
+/// The answer to a command on that table, if it is a listing.
+fn list_entries(
+    config: &Config,
+    line: u32,
+    name: &Name,
+    command: &TableCommand,
+) -> Result<Option<LineAnswer>, ScriptError>
+    ensures { Gives (λ a. a) result (spec.listing_of_table config.now line name.now command.now) }
+{
+    match command {
+        TableCommand::ListEntries => list_table(config, line, name),
+        TableCommand::Create(_)
+        | TableCommand::Destroy
+        | TableCommand::Add(_, _)
+        | TableCommand::Remove(_)
+        | TableCommand::Clear
+        | TableCommand::SwapWith(_) => Ok(None),
+    }
+}
+
 /// The answer to a command on this line, if it is a listing.
 fn listing(config: &Config, line: &Line) -> Result<Option<LineAnswer>, ScriptError>
     ensures { Gives (λ a. a) result (spec.listing config.now line.now.line line.now.command) }
 {
     match &line.command {
         Command::ListRules => Ok(listed(line.line, None)),
-        Command::Table(name, TableCommand::ListEntries) => list_table(config, line.line, name),
-        _ => Ok(None),
+        Command::Table(name, command) => list_entries(config, line.line, name, command),
+        Command::Add(_)
+        | Command::Delete(_)
+        | Command::DeleteSet(_)
+        | Command::Flush
+        | Command::Zero(_)
+        | Command::SetMask { .. }
+        | Command::MoveSet { .. }
+        | Command::MoveRule { .. }
+        | Command::SwapSets { .. }
+        | Command::Sysctl { .. }
+        | Command::Local(_) => Ok(None),
     }
 }
 

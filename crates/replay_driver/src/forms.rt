@@ -5,12 +5,16 @@ ghost use Rattle.replay_driver.specs.Forms as spec;
 use fw_command::{Line, Script};
 use fw_rule::{Action, Body, Command, RuleDraft};
 
-fn ends_the_search(action: Action) -> bool
-    ensures { result ≡ spec.ends_the_search action }
+fn ends_the_search(action: &Action) -> bool
+    ensures { result ≡ spec.ends_the_search action.now }
 {
     match action {
         Action::Allow | Action::Deny | Action::Reset | Action::Unreach(_) => true,
-        _ => false,
+        Action::Count
+        | Action::SkipTo(_)
+        | Action::Call(_)
+        | Action::Return
+        | Action::CheckState(_) => false,
     }
 }
 
@@ -28,7 +32,7 @@ fn makes_states(body: &Option<Body>) -> bool
 fn is_plain(draft: &RuleDraft) -> bool
     ensures { result ≡ spec.is_plain draft.now }
 {
-    ends_the_search(draft.action) && !makes_states(&draft.body)
+    ends_the_search(&draft.action) && !makes_states(&draft.body)
 }
 
 fn is_carried_out(command: &Command) -> bool
@@ -36,7 +40,18 @@ fn is_carried_out(command: &Command) -> bool
 {
     match command {
         Command::Add(draft) => is_plain(draft),
-        _ => true,
+        Command::Delete(_)
+        | Command::DeleteSet(_)
+        | Command::Flush
+        | Command::Zero(_)
+        | Command::ListRules
+        | Command::SetMask { .. }
+        | Command::MoveSet { .. }
+        | Command::MoveRule { .. }
+        | Command::SwapSets { .. }
+        | Command::Table(_, _)
+        | Command::Sysctl { .. }
+        | Command::Local(_) => true,
     }
 }
 

@@ -6,21 +6,25 @@ ghost use Rattle.replay_driver.specs.Rules as spec;
 use crate::{Judgement, Verdict};
 use fw_base::Port;
 use fw_rule::{Action, Rule, has_bit};
-use packet_headers::Ip4;
+use ip6_headers::AnyIp;
 use rule_chain::{Config, LAST_NUMBER};
 use rule_match::matches;
 use std::sync::Arc;
 
 /// The verdict of an action that ends the search.
-fn verdict_of(action: Action) -> Option<Verdict>
-    ensures { result ≡ spec.verdict_of action }
+fn verdict_of(action: &Action) -> Option<Verdict>
+    ensures { result ≡ spec.verdict_of action.now }
 {
     match action {
         Action::Allow => Some(Verdict::Allow),
         Action::Deny => Some(Verdict::Deny),
         Action::Reset => Some(Verdict::Reset),
-        Action::Unreach(code) => Some(Verdict::Unreach(code)),
-        _ => None,
+        Action::Unreach(code) => Some(Verdict::Unreach(*code)),
+        Action::Count
+        | Action::SkipTo(_)
+        | Action::Call(_)
+        | Action::Return
+        | Action::CheckState(_) => None,
     }
 }
 
@@ -31,7 +35,7 @@ fn is_passed_over(rule: &Rule, disabled: u32) -> bool
     rule.set < 32 && has_bit(disabled, u32::from(rule.set))
 }
 
-fn has_holding_body(rule: &Rule, config: &Config, port: &Port, packet: &Ip4<'_>) -> bool
+fn has_holding_body(rule: &Rule, config: &Config, port: &Port, packet: &AnyIp<'_>) -> bool
     ensures { result ≡ spec.has_holding_body config.now port.now packet.now rule.now.body }
 {
     match &rule.body {
@@ -42,11 +46,11 @@ fn has_holding_body(rule: &Rule, config: &Config, port: &Port, packet: &Ip4<'_>)
 
 /// Whether the rule decides the packet: its set isn't disabled, its body holds, its action ends the
 /// search.
-fn decides(rule: &Rule, config: &Config, port: &Port, packet: &Ip4<'_>) -> bool
+fn decides(rule: &Rule, config: &Config, port: &Port, packet: &AnyIp<'_>) -> bool
     ensures { result ≡ spec.decides config.now port.now packet.now rule.now }
 {
     !is_passed_over(rule, config.disabled())
-        && (has_holding_body(rule, config, port, packet) && verdict_of(rule.action).is_some())
+        && (has_holding_body(rule, config, port, packet) && verdict_of(&rule.action).is_some())
 }
 
 /// The first of the rules that decides the packet.
@@ -54,7 +58,7 @@ fn first_deciding<'a>(
     rules: &'a [Arc<Rule>],
     config: &Config,
     port: &Port,
-    packet: &Ip4<'_>,
+    packet: &AnyIp<'_>,
 ) -> Option<&'a Arc<Rule>>
     ensures { option_copied result ≡ find (λ rule. spec.decides config.now port.now packet.now (arc_value rule)) rules.now }
 {
@@ -69,14 +73,14 @@ fn judged_by(rule: &Rule) -> Judgement
 {
     Judgement {
         edition: 1,
-        verdict: verdict_of(rule.action).unwrap_or(Verdict::Deny),
+        verdict: verdict_of(&rule.action).unwrap_or(Verdict::Deny),
         rule: rule.number,
     }
 }
 
 /// How a packet of a capture that was taken there is judged, by the first rule of the configuration that
 /// decides it.
-pub(crate) fn judge(config: &Config, port: &Port, packet: &Ip4<'_>) -> Judgement
+pub(crate) fn judge(config: &Config, port: &Port, packet: &AnyIp<'_>) -> Judgement
     ensures { result ≡ spec.judgement config.now port.now packet.now }
 {
     match first_deciding(config.rules(), config, port, packet) {

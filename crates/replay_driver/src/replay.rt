@@ -1,5 +1,5 @@
 ghost use Rattle.std.specs.Prelude.{◌≡◌, ◌≤◌, ◌<◌, ◌^◌, IfOk, length};
-ghost use Rattle.packet_headers.specs.Reading.{read};
+ghost use Rattle.ip6_headers.specs.Reading as reading;
 ghost use Rattle.pcap_read.specs.Capture.{captured, source_of, IsOpened, IsRefused};
 ghost use Rattle.replay_driver.specs.Docket as spec;
 ghost use Rattle.replay_driver.specs.Replay as ends;
@@ -8,7 +8,7 @@ ghost use Rattle.replay_driver.specs.Replay.{IsReplay, Judges};
 use crate::judging::judge;
 use crate::{CaptureEnd, Docket, DocketEntry};
 use fw_base::{Link, OutOfMemory, Port, Source};
-use packet_headers::{Packet, read_packet};
+use ip6_headers::{AnyPacket, read_any};
 use pcap_read::{Capture, CaptureFault, OpenFault, Record};
 use rule_chain::Config;
 use std::alloc::Global;
@@ -24,12 +24,12 @@ pub(crate) struct Replayed<S> {
 /// What is entered for a record.
 fn entry_of(link: Link, port: &Port, config: &Config, bytes: &[u8]) -> DocketEntry
     requires { length bytes.now < 2 ^ 32 }
-    ensures { result ≡ spec.entry_for port.now config.now (read link bytes.now) }
+    ensures { result ≡ spec.entry_for port.now config.now (reading.read_any link bytes.now) }
 {
-    match read_packet(link, bytes) {
-        Packet::Other => DocketEntry::Other,
-        Packet::Malformed(kind) => DocketEntry::Malformed(kind),
-        Packet::Ip(packet) => DocketEntry::Judged(judge(config, port, &packet)),
+    match read_any(link, bytes) {
+        AnyPacket::Other => DocketEntry::Other,
+        AnyPacket::Malformed(kind) => DocketEntry::Malformed(kind),
+        AnyPacket::Ip(packet) => DocketEntry::Judged(judge(config, port, &packet)),
     }
 }
 

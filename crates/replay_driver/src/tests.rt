@@ -8,6 +8,7 @@ use std::thread::Threads;
 mod bodies;
 mod captures;
 mod cuts;
+mod ipv6;
 mod rows;
 mod scripts;
 mod words;

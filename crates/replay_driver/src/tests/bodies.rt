@@ -25,7 +25,7 @@ const DATAGRAM: [u8; 28] = [
 ];
 
 /// An ICMP echo request from 10.0.0.1 to 192.0.2.1.
-const ECHO: [u8; 28] = [
+pub const ECHO: [u8; 28] = [
     0x45, 0, 0, 0x1c, 0, 0, 0, 0, 0x40, 1, 0, 0, 10, 0, 0, 1, 0xc0, 0, 2, 1, 8, 0, 0, 0, 0, 0, 0, 0,
 ];
 
@@ -54,11 +54,11 @@ const BEFORE: &[u8] = b"local 10.0.0.1\n\
     table ports add 80 1\n\
     add 100 allow ";
 
-/// A rule's body, and of which of the eight packets it holds: `+` where it does. The packets are the
-/// SYN, its answer, the reset, the datagram, the echo request, the fragment, the short SYN, and GRE.
-type Row = (&'static str, &'static str);
+/// A rule's body, and of which of the packets it holds: `+` where it does.
+pub type Row = (&'static str, &'static str);
 
-/// For packets that come in by em0.
+/// For the SYN, its answer, the reset, the datagram, the echo request, the fragment, the short SYN and GRE,
+/// which come in by em0.
 const INCOMING: [Row; 57] = [
     ("ip from any to any", "++++++++"),
     ("all from any to any", "++++++++"),
@@ -122,7 +122,7 @@ const INCOMING: [Row; 57] = [
     ),
 ];
 
-/// For packets that go out by em0.
+/// For the same packets, which go out by em0.
 const OUTGOING: [Row; 6] = [
     ("ip from any to any out", "++++++++"),
     ("ip from any to any in", "--------"),
@@ -144,29 +144,35 @@ fn text_of(alloc: Global, holds: &str) -> Result<Vec<u8>, Fail> {
         };
         text.extend_from_slice(line.as_bytes())?;
     }
-    text.extend_from_slice(b"end 1 records 8\n")?;
+    let end = format!(in alloc; "end 1 records {}\n", holds.len())?;
+    text.extend_from_slice(end.as_bytes())?;
     Ok(text)
 }
 
-/// Runs each rule over the eight packets, with this word for their capture.
-fn check<R: Threads + Wait + Abort>(
-    rt: &R,
-    alloc: Global,
-    word: &str,
-    rows: &[Row],
-) -> Result<(), Fail> {
-    let capture = raw(
+/// A capture of the eight packets.
+fn packets(alloc: Global) -> Result<Vec<u8>, Fail> {
+    raw(
         alloc,
         &[
             &SYN, &SYN_ACK, &RESET, &DATAGRAM, &ECHO, &FRAGMENT, &SHORT_SYN, &RECORDED,
         ],
-    )?;
+    )
+}
+
+/// Runs each rule over the packets of a capture, with this word for it.
+pub fn check<R: Threads + Wait + Abort>(
+    rt: &R,
+    alloc: Global,
+    word: &str,
+    capture: &[u8],
+    rows: &[Row],
+) -> Result<(), Fail> {
     for (body, holds) in rows {
         let mut script = Vec::from_slice(alloc, BEFORE)?;
         script.extend_from_slice(body.as_bytes())?;
         let case = Case {
             word,
-            ..whole(&script, &capture)
+            ..whole(&script, capture)
         };
         let seen = replay(rt, alloc, &case)?;
         assert_eq!(rt;
@@ -181,12 +187,24 @@ fn check<R: Threads + Wait + Abort>(
 
 #[test]
 fn bodies_hold_of_incoming_packets(rt: HostRuntime) -> Result<(), Fail> {
-    check(&rt, rt.alloc(), "in:em0:c", &INCOMING)
+    check(
+        &rt,
+        rt.alloc(),
+        "in:em0:c",
+        &packets(rt.alloc())?,
+        &INCOMING,
+    )
 }
 
 #[test]
 fn bodies_hold_of_outgoing_packets(rt: HostRuntime) -> Result<(), Fail> {
-    check(&rt, rt.alloc(), "out:em0:c", &OUTGOING)
+    check(
+        &rt,
+        rt.alloc(),
+        "out:em0:c",
+        &packets(rt.alloc())?,
+        &OUTGOING,
+    )
 }
 
 #[test]
@@ -259,11 +277,8 @@ fn cooked_big_endian_nanoseconds(rt: HostRuntime) -> Result<(), Fail> {
     let alloc = rt.alloc();
     let mut capture = Vec::from_slice(alloc, &COOKED)?;
     capture.extend_from_slice(&SYN)?;
-    let script = b"add allow tcp from any to any 80\nlist\n";
-    let text = b"1.1 allow 00100 at 1\nend 1 records 1\n\
-        list line 2 edition 1\nrules 2\n\
-        00100 allow tcp from any to any 80\n\
-        65535 set 31 deny ip from any to any\n";
+    let script = b"add allow tcp from any to any 80\n";
+    let text = b"1.1 allow 00100 at 1\nend 1 records 1\n";
     let seen = replay(&rt, alloc, &whole(script, &capture))?;
     assert_eq!(rt; seen.text.as_slice(), text.as_slice());
     assert_eq!(rt; seen.status, 0);

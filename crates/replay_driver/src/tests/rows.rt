@@ -127,7 +127,7 @@ fn malformed_kinds(rt: HostRuntime) -> Result<(), Fail> {
     unsized_syn[3] = 0;
     let packets: [&[u8]; 7] = [&[], version, words, short, total, six, &unsized_syn];
     let text = "1.1 malformed 2\n1.2 malformed 3\n1.3 malformed 4\n1.4 malformed 2\n\
-        1.5 malformed 5\n1.6 other\n1.7 deny 65535 at 1\nend 1 records 7\n";
+        1.5 malformed 5\n1.6 malformed 2\n1.7 deny 65535 at 1\nend 1 records 7\n";
     check(&rt, alloc, b"", &raw(alloc, &packets)?, 0, text)
 }
 

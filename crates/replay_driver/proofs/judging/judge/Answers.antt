@@ -4,14 +4,14 @@ use Rattle.std.specs.Arc.{arc_value}
 use Rattle.std.specs.Option.{option_copied, option_map}
 use Rattle.fw_rule.specs.declared.rule.Rule.{Rule}
 use Rattle.fw_base.specs.declared.port.Port.{Port}
-use Rattle.packet_headers.specs.Fields.{Fields}
+use Rattle.ip6_headers.specs.declared.any_ip.AnyIp.{AnyIp}
 use Rattle.rule_chain.specs.Configuration.{Configuration}
 use Rattle.replay_driver.specs.Rules.{decides, judged_by}
 use Rattle.replay_driver.proofs.Lists.{find_map}
 use Rattle.replay_driver.proofs.judging.judge.Goals as goal
 
 -- the first deciding rule of a list of shared rules is that of their values
-found_by : (list : List Rule) (rules : List (Arc Rule Global)) (config : Configuration) (port : Port) (packet : Fields) (o : Option (Arc Rule Global)) → map arc_value rules ≡ list
+found_by : (list : List Rule) (rules : List (Arc Rule Global)) (config : Configuration) (port : Port) (packet : AnyIp) (o : Option (Arc Rule Global)) → map arc_value rules ≡ list
     → o ≡ find (λ rule. decides config port packet (arc_value rule)) rules → find (decides config port packet) list ≡ option_map arc_value o
 found_by list rules config port packet o are found =
     ap (find (decides config port packet)) (sym are)
