@@ -1,0 +1,2 @@
+pub mod FirstChanged
+pub mod Mapped

@@ -1,0 +1,30 @@
+//! The dynamic states of the packet filter (ipfw(8), "STATEFUL FIREWALL"): what a packet's ask answers,
+//! and what a publication leaves.
+#![tactic(auto)]
+
+pub use facts::{Facts, is_ordered};
+pub use flow_name::FlowName;
+pub use op::Op;
+pub use reply::Reply;
+pub use rule_ref::RuleRef;
+pub use scanned_states::ScannedStates;
+pub use state::State;
+pub use state_texts::write_states;
+pub use way::Way;
+
+/// The states that a book keeps.
+pub type States = ScannedStates;
+
+mod facts;
+mod flow_name;
+mod flows;
+mod lifetimes;
+mod op;
+mod reply;
+mod rule_ref;
+mod scanned_states;
+mod state;
+mod state_texts;
+#[cfg(test)]
+mod tests;
+mod way;

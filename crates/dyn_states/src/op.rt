@@ -1,0 +1,25 @@
+use crate::{FlowName, RuleRef};
+use fw_rule::LimitMask;
+use packet_headers::Flow;
+
+/// What the states are asked for a packet: its flow, its TCP flags, and its second, which raises the
+/// clock. Of the flags FIN 1, SYN 2 and RST 4 are kept (RFC 9293 section 3.1), the others passed over.
+#[derive(Clone, Copy, Debug, PartialEq, Eq, Hash)]
+pub enum Op {
+    /// Is there a state for it, of this flow name?
+    Lookup {
+        flow: Flow,
+        flags: u8,
+        second: u32,
+        name: FlowName,
+    },
+    /// A rule with `keep-state` or, where there is a limit, with `limit` makes a state for it.
+    Install {
+        flow: Flow,
+        flags: u8,
+        second: u32,
+        rule: RuleRef,
+        limit: Option<(LimitMask, u16)>,
+        name: u8,
+    },
+}

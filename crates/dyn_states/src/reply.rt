@@ -1,0 +1,17 @@
+use crate::{RuleRef, Way};
+
+/// What the states answer. `Found` and `NotFound` answer a lookup, the others an install.
+#[derive(Clone, Copy, Debug, PartialEq, Eq, Hash)]
+pub enum Reply {
+    /// A live state matches; it was made by this rule, and the packet goes this way.
+    Found(RuleRef, Way),
+    NotFound,
+    /// A state was made.
+    Created,
+    /// A live state of that name matches the flow already; nothing changed.
+    Exists,
+    /// So many live states of the rule have the same parameter, and the limit isn't above it.
+    LimitReached(u32),
+    /// So many live states are there, and `dyn_max` isn't above it.
+    TableFull(u32),
+}

@@ -1,0 +1,108 @@
+ghost use Rattle.std.specs.Prelude.{◌≡◌, ◌<◌, ◌∷◌, [], All, length, flat_map, slice_index_or};
+ghost use Rattle.std.specs.Fmt.{decimal};
+ghost use Rattle.fw_base.specs.Addr.{address_text};
+ghost use Rattle.fw_rule.specs.Canonical.{spaced};
+ghost use Rattle.fw_base.specs.Texts.{WritesText};
+ghost use Rattle.dyn_states.specs.StateTexts as text;
+
+use crate::{ScannedStates, State};
+use fw_base::{Addr, Failed, Name, Sink, write_pieces, write_text};
+use fw_rule::{WriteFault, write_address, write_five_digits, write_protocol};
+use itoa::Buffer;
+use packet_headers::Flow;
+
+/// Writes an address and a port, each behind a space.
+fn write_end<K: Sink>(out: &mut K, address: Addr, port: u16) -> Result<(), Failed>
+    ensures { WritesText (K.written out.old) (K.written out.new) (K.faults out.old) (K.faults out.new) (spaced (address_text address.0 ∷ decimal port ∷ [])) result }
+{
+    let mut digits = Buffer::new();
+    write_text(out, b" ")?;
+    write_address(out, address)?;
+    write_pieces(out, &[b" ", digits.format(port).as_bytes()])
+}
+
+/// Writes a flow, each part behind a space.
+fn write_flow<K: Sink>(out: &mut K, flow: &Flow) -> Result<(), Failed>
+    ensures { WritesText (K.written out.old) (K.written out.new) (K.faults out.old) (K.faults out.new) (text.flow_text flow.now) result }
+{
+    write_protocol(out, flow.protocol)?;
+    write_end(out, flow.source, flow.source_port)?;
+    write_end(out, flow.destination, flow.destination_port)
+}
+
+/// The flow name of that number.
+fn name_at(names: &[Name], name: u8) -> &[u8]
+    requires { name < length names.now }
+    ensures { result.now ≡ slice_index_or names.now name [] }
+{
+    names[usize::from(name)].bytes()
+}
+
+/// Writes when a state expires, its flow name, and the line's end.
+#[tactic(auto, unfolding(crate::specs::StateTexts::expiry_text))]
+fn write_expiry<K: Sink>(out: &mut K, names: &[Name], state: &State) -> Result<(), Failed>
+    requires { state.now.name < length names.now }
+    ensures { WritesText (K.written out.old) (K.written out.new) (K.faults out.old) (K.faults out.new) (text.expiry_text names.now state.now) result }
+{
+    let mut digits = Buffer::new();
+    let expiry = digits.format(state.expiry).as_bytes();
+    if state.name == 0 {
+        return write_pieces(out, &[b" expires ", expiry, b"\n"]);
+    }
+    let name = name_at(names, state.name);
+    write_pieces(out, &[b" expires ", expiry, b" :", name, b"\n"])
+}
+
+/// Writes the line of a state.
+fn write_state<K: Sink>(out: &mut K, names: &[Name], state: &State) -> Result<(), Failed>
+    requires { state.now.name < length names.now }
+    ensures { WritesText (K.written out.old) (K.written out.new) (K.faults out.old) (K.faults out.new) (text.state_line names.now state.now) result }
+{
+    write_five_digits(out, state.rule.number)?;
+    write_flow(out, &state.flow)?;
+    write_expiry(out, names, state)
+}
+
+/// Writes the lines of states.
+fn write_lines<K: Sink>(out: &mut K, names: &[Name], states: &[State]) -> Result<(), Failed>
+    requires { All (λ s. s.name < length names.now) states.now }
+    ensures { WritesText (K.written out.old) (K.written out.new) (K.faults out.old) (K.faults out.new) (flat_map (text.state_line names.now) states.now) result }
+{
+    for state in states {
+        write_state(out, names, state)?;
+    }
+    Ok(())
+}
+
+/// Writes the clock and the number of states, each on a line.
+#[tactic(auto, unfolding(crate::specs::StateTexts::states_heading))]
+fn write_heading<K: Sink>(out: &mut K, states: &ScannedStates) -> Result<(), Failed>
+    ensures { WritesText (K.written out.old) (K.written out.new) (K.faults out.old) (K.faults out.new) (text.states_heading states.now.object) result }
+{
+    let mut clock_digits = Buffer::new();
+    let mut count_digits = Buffer::new();
+    let clock = clock_digits.format(states.clock()).as_bytes();
+    let count = count_digits.format(states.states().len()).as_bytes();
+    write_pieces(out, &[b"clock ", clock, b"\nstates ", count, b"\n"])
+}
+
+fn write_section<K: Sink>(out: &mut K, names: &[Name], states: &ScannedStates) -> Result<(), Failed>
+    requires { All (λ s. s.name < length names.now) states.now.object.states }
+    ensures { WritesText (K.written out.old) (K.written out.new) (K.faults out.old) (K.faults out.new) (text.states_text names.now states.now.object) result }
+{
+    write_heading(out, states)?;
+    write_lines(out, names, states.states())
+}
+
+/// Writes the clock, the number of states, and a line for each in order of making, with the flow names by
+/// their numbers. It takes no memory. Where the sink fails, a front of the text was written.
+pub fn write_states<K: Sink>(
+    states: &ScannedStates,
+    names: &[Name],
+    out: &mut K,
+) -> Result<(), WriteFault>
+    requires { All (λ s. s.name < length names.now) states.now.object.states }
+    ensures { WritesText (K.written out.old) (K.written out.new) (K.faults out.old) (K.faults out.new) (text.states_text names.now states.now.object) result }
+{
+    write_section(out, names, states).map_err(|_| WriteFault)
+}
