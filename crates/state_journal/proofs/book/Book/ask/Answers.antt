@@ -1,0 +1,25 @@
+use Rattle.std.proofs.Common.{◌≡◌, List, ap, sym, subst, arith}
+use Rattle.dyn_states.specs.declared.facts.Facts.{Facts}
+use Rattle.dyn_states.specs.StateObject.{reply_of}
+use Rattle.state_journal.specs.Journal.{Journal, NamesRuleOf, IsFoundOf, last_rules}
+use Rattle.state_journal.proofs.Growing.{IsJournal-ask, IsFoundOf-ask}
+use Rattle.state_journal.proofs.book.Book.ask.Goals as goal
+
+pub invariant_of-self-2 : goal.invariant_of-self-2
+invariant_of-self-2 c =
+    let facts : c.args.self.now.facts ≡ c.self.inside.facts.items = sym (ap (λ (j : Journal). j.facts) c.self.view_is) in
+    let names = subst (λ (all : List Facts). NamesRuleOf (last_rules all) c.args.op) facts c.requires.rule in (
+      rw (c.push_reserved.ensures.items, c.in_ok-reserve.ensures.items, c.step-reply.ensures.after, c.step-reply.ensures.reply)
+          (IsJournal-ask _ c.args.lane c.args.at c.args.op c.self.invariant.0 names),
+      omega (arith, c.step-reply.ensures.room, c.self.invariant.1),
+      λ ready. (
+        (c.self.invariant.2 ready).0,
+        omega (arith, c.in_ok-reserve.ensures.ok, c.push_reserved.ensures.len, c.push_reserved.ensures.capacity),
+      ),
+    )
+
+pub returns-clause-found : goal.returns-clause-found
+returns-clause-found c =
+    let facts : c.self.inside.facts.items ≡ c.args.self.now.facts = ap (λ (j : Journal). j.facts) c.self.view_is in
+    rw c.step-reply.ensures.reply
+    (subst (λ (all : List Facts). IsFoundOf (last_rules all) (reply_of c.self.inside.states.object c.args.op)) facts (IsFoundOf-ask _ c.args.op c.self.invariant.0))

@@ -1,0 +1,13 @@
+//! The journal of the dynamic states: every ask with its answer and every publication, in the order in
+//! which the one state object met them.
+#![tactic(auto)]
+
+pub use book::Book;
+pub use entry::Entry;
+pub use item::Item;
+
+mod book;
+mod entry;
+mod item;
+#[cfg(test)]
+mod tests;
