@@ -8,13 +8,19 @@ failed=0
 # The line where the words are no command.
 usage='usage: ipfw_replay serial|live [--journal] SCRIPT in|out:IF:CAPTURE .. | load N'
 
-# replay WORD..: runs the program with these words, and prints what it prints, then its status, then what it says
-# on standard error, which is to be nothing.
-replay() {
+# replay_whole WORD..: runs the program with these words, and prints what it prints, then its status, then what it
+# says on standard error, which is to be nothing.
+replay_whole() {
     timeout 100 "$program" "$@" </dev/null 2>"$work/errors"
     echo "status $?"
     cat "$work/errors"
 }
+
+# verdicts_and_answers: of a report the sections before that of the editions; all else as it is.
+verdicts_and_answers() { awk '/^editions [0-9]+$/ { is_behind = 1 } /^status [0-9]+$/ { is_behind = 0 } !is_behind'; }
+
+# replay WORD..: the same, but of a report only the verdicts, the ends and the answers.
+replay() { replay_whole "$@" | verdicts_and_answers; }
 
 # same NAME: the check of that name passes where the texts in the files wanted and got are the same.
 same() {
@@ -29,12 +35,32 @@ same() {
     fi
 }
 
-# check NAME STATUS WORD..: the program prints what comes on standard input, nothing else, and ends with STATUS.
+# check NAME STATUS WORD..: the program prints what comes on standard input and ends with STATUS; of a report its
+# verdicts, ends and answers are compared.
 check() {
     local name=$1 status=$2
     shift 2
     { cat && echo "status $status"; } >"$work/wanted"
     replay "$@" >"$work/got"
+    same "$name"
+}
+
+# check_whole NAME STATUS WORD..: the same with the whole report.
+check_whole() {
+    local name=$1 status=$2
+    shift 2
+    { cat && echo "status $status"; } >"$work/wanted"
+    replay_whole "$@" >"$work/got"
+    same "$name"
+}
+
+# check_reference NAME WORD..: the program's whole report and status are those of tests/reference.py, a reading of
+# docs/RULES.md of its own. The words are those behind 'serial'.
+check_reference() {
+    local name=$1
+    shift
+    { "$tests/reference.py" "$@"; echo "status $?"; } >"$work/wanted"
+    replay_whole serial "$@" >"$work/got"
     same "$name"
 }
 

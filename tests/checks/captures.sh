@@ -117,7 +117,7 @@ END
 
 # 4,194,304 records are the most: of no bytes each, at second 0.
 summary() { # summary CAPTURE: how many lines the report has, its last line, and the status
-    timeout 100 "$program" serial empty in:em0:"$1" 2>&1 | awk 'END { print NR " lines"; print }'
+    timeout 100 "$program" serial empty in:em0:"$1" 2>&1 | verdicts_and_answers | awk 'END { print NR " lines"; print }'
     echo "status ${PIPESTATUS[0]}"
 }
 { bytes "$ethernet_capture" && head -c $((4194304 * 16)) /dev/zero; } >most

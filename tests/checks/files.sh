@@ -28,7 +28,7 @@ END
     timeout 100 "$program" serial <(echo 'add 100 allow ip from any to any') \
         in:em0:<(head -c 30 syn.pcap && sleep 0.2 && tail -c +31 syn.pcap) 2>&1
     echo "status $?"
-} >"$work/got"
+} | verdicts_and_answers >"$work/got"
 same pipes_as_script_and_capture
 
 # lost NAME WORD..: the program ends with status 5 where standard output is closed, full, or a pipe that nobody

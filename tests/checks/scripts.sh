@@ -1,4 +1,4 @@
-# Scripts: what lines say, their faults, refusals, listings, what isn't carried out yet, and the limits of a script.
+# Scripts: what lines say, their faults, refusals, listings, live edits, and the limits of a script.
 # shellcheck shell=bash disable=SC2154,SC2238
 
 # script_line NAME STATUS LINES..: what the first packet meets, by the lines, given as printf gives them.
@@ -25,10 +25,24 @@ script_line number_0_is_no_number 0 'add 0 pass 6 from any to any\n' <<<"$allowe
 script_line misspelt_action_in_script 2 'add 100 alow ip from any to any' <<<'script line 1 column 9 UnknownWord'
 script_line last_rule_is_reserved 2 'delete 65535\n' <<<'script line 1 ReservedRule'
 script_line delete_of_no_rule 2 'delete 7\n' <<<'script line 1 NoSuchRule'
-script_line form_not_built_yet 2 'add 100 count ip from any to any\n' <<<'script line 1 NotYet'
-script_line live_is_not_built_yet 2 'add 100 allow ip from any to any\nlive\n' <<<'script line 2 NotYet'
-script_line fault_before_what_is_not_built 2 'live\nadd 2\n' <<<'script line 2 column 6 MissingWord'
-script_line what_is_not_built_before_refusals 2 'delete 7\nlive\n' <<<'script line 2 NotYet'
+script_line refusal_before_live 2 'delete 7\nlive\ndelete 8\n' <<<'script line 1 NoSuchRule'
+script_line fault_behind_live 2 'live\nadd 2\n' <<<'script line 2 column 6 MissingWord'
+script_line refusal_behind_live 2 'add 100 allow ip from any to any\nlive\ndelete 7\n' <<'END'
+1.1 allow 00100 at 1
+end 1 records 1
+refused line 3 NoSuchRule
+END
+script_line live_edit_before_the_first_record 0 'add 100 allow ip from any to any\nlive\ndelete 100\n' <<'END'
+1.1 deny 65535 at 2
+end 1 records 1
+END
+script_line live_edit_behind_the_last_record 0 'add 100 allow ip from any to any\nlive\nafter 1\ndelete 100\nlist\n' <<'END'
+1.1 allow 00100 at 1
+end 1 records 1
+list line 5 edition 2
+rules 1
+65535 set 31 deny ip from any to any
+END
 
 printf '%s\n' 'add 65434 deny ip from any to any' 'add deny ip from any to any' 'add deny ip from any to any' list >script
 head -c 24 syn.pcap >none.pcap
@@ -96,7 +110,10 @@ add 1 allow ip from any|script line 2 column 24 MissingWord
 add 1 allow ip from any to|script line 2 column 27 MissingWord
 add 1 allow tcp from any to any 80|1.1 allow 00001 at 1
 add 1 allow tcp from any 80 to any|1.1 deny 00100 at 1
-add 1 allow tcp from any to any keep-state|script line 2 NotYet
+add 1 allow tcp from any to any keep-state|1.1 allow 00001 at 1
+add 1 count tcp from any to any|1.1 deny 00100 at 1
+add 1 skipto 200 tcp from any to any|1.1 deny 65535 at 1
+add 1 check-state :any|1.1 deny 00100 at 1
 add 1 allow tcp from any to any 80-70|script line 2 column 33 BadRange
 add 1 allow ip from any to any in|1.1 allow 00001 at 1
 add 1 allow ip from any to any out|1.1 deny 00100 at 1

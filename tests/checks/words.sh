@@ -35,11 +35,20 @@ check mode_that_is_no_text 1 $'serial\x80' empty in:em0:syn.pcap <<<"$usage"
 check help_is_no_command 1 serial --help <<<"$usage"
 check divider_twice 1 serial -- empty -- in:em0:syn.pcap <<<"$usage"
 
-# Modes that a later version reads.
+# A mode that a later version carries out.
 check mode_live 1 live empty in:em0:syn.pcap <<<"$usage"
-check mode_load 1 load 1 <<<"$usage"
-check journal 1 serial --journal empty in:em0:syn.pcap <<<"$usage"
-check two_captures 1 serial empty in:em0:syn.pcap in:em0:syn.pcap <<<"$usage"
+
+check journal_twice 1 serial --journal --journal empty in:em0:syn.pcap <<<"$usage"
+check journal_with_a_value 1 serial --journal=1 empty in:em0:syn.pcap <<<"$usage"
+check load_of_nothing 1 load 0 <<<"$usage"
+check load_of_too_many 1 load 1000001 <<<"$usage"
+check load_with_eight_digits 1 load 00000001 <<<"$usage"
+check load_with_a_sign 1 load +1 <<<"$usage"
+check load_with_a_journal 1 load --journal 1 <<<"$usage"
+check load_of_two_numbers 1 load 1 2 <<<"$usage"
+sixteen=()
+for _ in {1..16}; do sixteen+=(in:em0:syn.pcap); done
+check seventeen_captures 1 serial empty "${sixteen[@]}" in:em0:syn.pcap <<<"$usage"
 
 one_syn_denied='1.1 deny 65535 at 1
 end 1 records 1'
@@ -54,3 +63,34 @@ check divider_before_the_script 0 serial -- empty in:em0:syn.pcap <<<"$one_syn_d
 check divider_behind_the_capture 0 serial empty in:em0:syn.pcap -- <<<"$one_syn_denied"
 cp empty ./--script
 check script_that_looks_like_an_option_behind_the_divider 0 serial -- --script in:em0:syn.pcap <<<"$one_syn_denied"
+
+one_syn_whole='1.1 deny 65535 at 1
+end 1 records 1
+editions 1
+rules 1
+65535 1 40 set 31 deny ip from any to any
+clock 0
+states 0'
+check_whole empty_script_denies_one_syn 0 serial empty in:em0:syn.pcap <<<"$one_syn_whole"
+journal='journal 2 1
+publish 1
+lane 1 refused 0 tracker 2'
+check_whole journal_before_the_script 0 serial --journal empty in:em0:syn.pcap <<<"$one_syn_whole"$'\n'"$journal"
+check_whole journal_behind_the_capture 0 serial empty in:em0:syn.pcap --journal <<<"$one_syn_whole"$'\n'"$journal"
+: >./--journal
+check journal_behind_the_divider_is_a_name 1 serial -- --journal empty in:em0:syn.pcap <<<"$usage"
+
+head -c 24 syn.pcap >no_record
+none=()
+for _ in {1..16}; do none+=(out:em1:no_record); done
+for capture in {1..16}; do echo "end $capture records 0"; done >printed
+check sixteen_captures 0 serial empty "${none[@]}" <printed
+
+check_whole load_of_one_record 0 load 0000001 <<'END'
+records 1
+allow 0
+deny 1
+editions 2
+entries 3
+states 0
+END

@@ -1,2 +1,12 @@
 pub mod FirstChanged
 pub mod Mapped
+pub mod Pairs
+pub mod LineLaws
+pub mod CountLaws
+pub mod SlotLaws
+pub mod LeadsLaws
+pub mod TableLaws
+pub mod Options
+pub mod ApartLaws
+pub mod PlaceLaws
+pub mod SlotTexts

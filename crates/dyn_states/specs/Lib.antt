@@ -6,5 +6,12 @@ pub mod Facts
 pub mod RuleLists
 -- the state object: what an ask and a publication do
 pub mod StateObject
+-- the parts of the hashed body, each against its slots
+pub mod Slots
+pub mod Lines
+pub mod ExpiryQueue
+pub mod LimitCounts
+pub mod Tallies
+pub mod StateTable
 -- the printed states
 pub mod StateTexts

@@ -6,6 +6,7 @@ use Rattle.fw_base.specs.Addr.{address_text}
 use Rattle.fw_rule.specs.Canonical.{five_digits, spaced, protocol_word}
 use Rattle.packet_headers.specs.declared.flows.Flow.{Flow}
 use Rattle.dyn_states.specs.declared.state.State.{State}
+use Rattle.dyn_states.specs.Slots.{is_held}
 use Rattle.dyn_states.specs.StateObject.{StateObject}
 
 -- protocol, source and its port, destination and its port, each behind a space
@@ -26,6 +27,10 @@ expiry_text names s = codes " expires " ++ (decimal s.expiry ++ name_end names s
 -- the number of its rule, its flow, and when it expires
 unfoldable pub state_line : List (List ℕ) → State → List ℕ
 state_line names s = five_digits s.rule.number ++ (flow_text s.flow ++ expiry_text names s)
+
+-- the line of the state that a slot holds, if it holds one
+unfoldable pub slot_text : List (List ℕ) → State → List ℕ
+slot_text names s = if is_held s then state_line names s else []
 
 -- the clock, and how many states there are
 unfoldable pub states_heading : StateObject → List ℕ

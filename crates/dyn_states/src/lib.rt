@@ -4,6 +4,7 @@
 
 pub use facts::{Facts, is_ordered};
 pub use flow_name::FlowName;
+pub use hashed_states::HashedStates;
 pub use op::Op;
 pub use reply::Reply;
 pub use rule_ref::RuleRef;
@@ -13,18 +14,25 @@ pub use state_texts::write_states;
 pub use way::Way;
 
 /// The states that a book keeps.
-pub type States = ScannedStates;
+pub type States = HashedStates;
 
+mod expiry_queue;
 mod facts;
 mod flow_name;
 mod flows;
+mod hashed_states;
 mod lifetimes;
+mod limit_counts;
+mod lines;
 mod op;
 mod reply;
 mod rule_ref;
 mod scanned_states;
 mod state;
+mod state_table;
 mod state_texts;
+mod table_asks;
+mod tallies;
 #[cfg(test)]
 mod tests;
 mod way;

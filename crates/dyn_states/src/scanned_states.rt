@@ -51,13 +51,13 @@ fn is_named(asked: FlowName, name: u8) -> bool
 }
 
 /// Whether a lookup considers the state.
-fn is_considered(state: &State, flow: &Flow, name: FlowName) -> bool
+pub(crate) fn is_considered(state: &State, flow: &Flow, name: FlowName) -> bool
     ensures { result ≡ object.considers flow.now name state.now }
 {
     is_named(name, state.name) && is_matching(&state.flow, flow)
 }
 
-fn parameter(mask: LimitMask, flow: &Flow) -> u32
+pub(crate) fn parameter(mask: LimitMask, flow: &Flow) -> u32
     ensures { result ≡ object.parameter mask flow.now }
 {
     match mask {
@@ -76,7 +76,7 @@ fn is_counted(state: &State, rule: RuleRef, mask: LimitMask, flow: &Flow) -> boo
 }
 
 /// The state as it lives from now on.
-fn renewed(settings: &Settings, clock: u32, state: State) -> State
+pub(crate) fn renewed(settings: &Settings, clock: u32, state: State) -> State
     ensures { result ≡ object.renewed (values_of settings.now) clock state }
 {
     let seconds = lifetime(settings, state.flow.protocol, state.forward, state.reverse);
@@ -86,7 +86,7 @@ fn renewed(settings: &Settings, clock: u32, state: State) -> State
     }
 }
 
-fn with_flags(way: Way, flags: u8, state: State) -> State
+pub(crate) fn with_flags(way: Way, flags: u8, state: State) -> State
     ensures { result ≡ object.with_flags way flags state }
 {
     match way {
@@ -388,7 +388,7 @@ fn hand_over(states: &mut [State], rules: &[u32])
 }
 
 /// Drops the states whose rule isn't in the publication or, where they are kept, gives them rule 65535.
-fn take_over(states: &mut Vec<State>, facts: &Facts)
+pub(crate) fn take_over(states: &mut Vec<State>, facts: &Facts)
     ensures items { states.new.items ≡ object.states_after facts.now.settings.keep facts.now.rules states.old.items }
     ensures bound { vec_len states.new ≤ vec_len states.old }
     ensures capacity { vec_capacity states.new ≡ vec_capacity states.old }

@@ -1,11 +1,11 @@
-ghost use Rattle.std.specs.Prelude.{◌≡◌, ◌<◌, ◌∷◌, [], All, length, flat_map, slice_index_or};
+ghost use Rattle.std.specs.Prelude.{◌≡◌, ◌∷◌, [], flat_map, slice_index_or};
 ghost use Rattle.std.specs.Fmt.{decimal};
 ghost use Rattle.fw_base.specs.Addr.{address_text};
 ghost use Rattle.fw_rule.specs.Canonical.{spaced};
 ghost use Rattle.fw_base.specs.Texts.{WritesText};
 ghost use Rattle.dyn_states.specs.StateTexts as text;
 
-use crate::{ScannedStates, State};
+use crate::{State, States};
 use fw_base::{Addr, Failed, Name, Sink, write_pieces, write_text};
 use fw_rule::{WriteFault, write_address, write_five_digits, write_protocol};
 use itoa::Buffer;
@@ -30,18 +30,19 @@ fn write_flow<K: Sink>(out: &mut K, flow: &Flow) -> Result<(), Failed>
     write_end(out, flow.destination, flow.destination_port)
 }
 
-/// The flow name of that number.
+/// The flow name of that number; no bytes where there is none.
 fn name_at(names: &[Name], name: u8) -> &[u8]
-    requires { name < length names.now }
     ensures { result.now ≡ slice_index_or names.now name [] }
 {
-    names[usize::from(name)].bytes()
+    match names.get(usize::from(name)) {
+        Some(found) => found.bytes(),
+        None => b"",
+    }
 }
 
 /// Writes when a state expires, its flow name, and the line's end.
 #[tactic(auto, unfolding(crate::specs::StateTexts::expiry_text))]
 fn write_expiry<K: Sink>(out: &mut K, names: &[Name], state: &State) -> Result<(), Failed>
-    requires { state.now.name < length names.now }
     ensures { WritesText (K.written out.old) (K.written out.new) (K.faults out.old) (K.faults out.new) (text.expiry_text names.now state.now) result }
 {
     let mut digits = Buffer::new();
@@ -55,7 +56,6 @@ fn write_expiry<K: Sink>(out: &mut K, names: &[Name], state: &State) -> Result<(
 
 /// Writes the line of a state.
 fn write_state<K: Sink>(out: &mut K, names: &[Name], state: &State) -> Result<(), Failed>
-    requires { state.now.name < length names.now }
     ensures { WritesText (K.written out.old) (K.written out.new) (K.faults out.old) (K.faults out.new) (text.state_line names.now state.now) result }
 {
     write_five_digits(out, state.rule.number)?;
@@ -63,45 +63,49 @@ fn write_state<K: Sink>(out: &mut K, names: &[Name], state: &State) -> Result<()
     write_expiry(out, names, state)
 }
 
-/// Writes the lines of states.
-fn write_lines<K: Sink>(out: &mut K, names: &[Name], states: &[State]) -> Result<(), Failed>
-    requires { All (λ s. s.name < length names.now) states.now }
-    ensures { WritesText (K.written out.old) (K.written out.new) (K.faults out.old) (K.faults out.new) (flat_map (text.state_line names.now) states.now) result }
+/// Writes the line of the state that the slot holds, if it holds one.
+#[tactic(auto, unfolding(crate::specs::StateTexts::slot_text))]
+fn write_slot<K: Sink>(out: &mut K, names: &[Name], slot: &State) -> Result<(), Failed>
+    ensures { WritesText (K.written out.old) (K.written out.new) (K.faults out.old) (K.faults out.new) (text.slot_text names.now slot.now) result }
 {
-    for state in states {
-        write_state(out, names, state)?;
+    if slot.expiry == 0 {
+        return write_text(out, b"");
+    }
+    write_state(out, names, slot)
+}
+
+/// Writes the lines of the states that the slots hold.
+fn write_lines<K: Sink>(out: &mut K, names: &[Name], slots: &[State]) -> Result<(), Failed>
+    ensures { WritesText (K.written out.old) (K.written out.new) (K.faults out.old) (K.faults out.new) (flat_map (text.slot_text names.now) slots.now) result }
+{
+    for slot in slots {
+        write_slot(out, names, slot)?;
     }
     Ok(())
 }
 
 /// Writes the clock and the number of states, each on a line.
 #[tactic(auto, unfolding(crate::specs::StateTexts::states_heading))]
-fn write_heading<K: Sink>(out: &mut K, states: &ScannedStates) -> Result<(), Failed>
+fn write_heading<K: Sink>(out: &mut K, states: &States) -> Result<(), Failed>
     ensures { WritesText (K.written out.old) (K.written out.new) (K.faults out.old) (K.faults out.new) (text.states_heading states.now.object) result }
 {
     let mut clock_digits = Buffer::new();
     let mut count_digits = Buffer::new();
     let clock = clock_digits.format(states.clock()).as_bytes();
-    let count = count_digits.format(states.states().len()).as_bytes();
+    let count = count_digits.format(states.count()).as_bytes();
     write_pieces(out, &[b"clock ", clock, b"\nstates ", count, b"\n"])
 }
 
-fn write_section<K: Sink>(out: &mut K, names: &[Name], states: &ScannedStates) -> Result<(), Failed>
-    requires { All (λ s. s.name < length names.now) states.now.object.states }
+fn write_section<K: Sink>(out: &mut K, names: &[Name], states: &States) -> Result<(), Failed>
     ensures { WritesText (K.written out.old) (K.written out.new) (K.faults out.old) (K.faults out.new) (text.states_text names.now states.now.object) result }
 {
     write_heading(out, states)?;
-    write_lines(out, names, states.states())
+    write_lines(out, names, states.slots())
 }
 
 /// Writes the clock, the number of states, and a line for each in order of making, with the flow names by
-/// their numbers. It takes no memory. Where the sink fails, a front of the text was written.
-pub fn write_states<K: Sink>(
-    states: &ScannedStates,
-    names: &[Name],
-    out: &mut K,
-) -> Result<(), WriteFault>
-    requires { All (λ s. s.name < length names.now) states.now.object.states }
+/// their numbers, of which one that isn't there has no bytes. It takes no memory. Where the sink fails, a front of the text was written.
+pub fn write_states<K: Sink>(states: &States, names: &[Name], out: &mut K) -> Result<(), WriteFault>
     ensures { WritesText (K.written out.old) (K.written out.new) (K.faults out.old) (K.faults out.new) (text.states_text names.now states.now.object) result }
 {
     write_section(out, names, states).map_err(|_| WriteFault)

@@ -1,7 +1,9 @@
-ghost use Rattle.std.specs.Prelude.{◌≡◌};
+ghost use Rattle.std.specs.Prelude.{◌≡◌, ◌+◌, ◌<◌, ◌≤◌, ◌^◌};
 ghost use Rattle.fw_rule.specs.Settings.{IsLifetime, IsMostStates};
 
-use crate::{Facts, FlowName, Op, Reply, RuleRef, ScannedStates, Way, is_ordered, write_states};
+use crate::{
+    Facts, FlowName, Op, Reply, RuleRef, ScannedStates, States, Way, is_ordered, write_states,
+};
 use fw_base::{Addr, MemorySink, Name};
 use fw_rule::{Items, LimitMask, Settings, USUAL_MOST_STATES};
 use packet_headers::Flow;
@@ -105,7 +107,7 @@ fn limited(flow: Flow, second: u32, rule: RuleRef, limit: (LimitMask, u16)) -> O
     }
 }
 
-fn assert_answers(rt: &impl Abort, states: &mut ScannedStates, rows: &[(Op, Reply)]) {
+fn assert_answers(rt: &impl Abort, states: &mut States, rows: &[(Op, Reply)]) {
     for (op, reply) in rows {
         assert_eq!(rt; states.step(op), *reply, "{op:?}");
     }
@@ -120,7 +122,7 @@ fn facts(rt: &impl Abort, number: u64, rules: Vec<u32>, keep: bool) -> Facts {
     }
 }
 
-fn publish(rt: &impl Abort, states: &mut ScannedStates, facts: &Facts) {
+fn publish(rt: &impl Abort, states: &mut States, facts: &Facts) {
     assert!(rt; facts.settings.max as usize <= states.room());
     states.publish(facts);
 }
@@ -129,13 +131,13 @@ fn publish(rt: &impl Abort, states: &mut ScannedStates, facts: &Facts) {
 fn assert_printed(
     rt: &impl Abort,
     alloc: Global,
-    states: &ScannedStates,
+    states: &States,
     names: &[Name],
     text: &str,
 ) -> Result<(), Fail> {
     let mut out = MemorySink::new(alloc, 1024)?;
     assert!(rt; names.len() == 3);
-    assert!(rt; states.states().iter().all(|state| state.name < 3));
+    assert!(rt; states.slots().iter().all(|state| state.name < 3));
     write_states(states, names, &mut out).or(Err("not written"))?;
     assert_eq!(rt; out.written(), text.as_bytes());
     Ok(())
@@ -156,7 +158,7 @@ fn worked_rows(rt: HostRuntime) -> Result<(), Fail> {
     let found = Reply::Found(RULE, Way::Forward);
     let answered = Reply::Found(RULE, Way::Reverse);
 
-    let mut tcp_state_lives_and_dies = ScannedStates::open(rt.alloc(), USUAL_MOST_STATES, usual())?;
+    let mut tcp_state_lives_and_dies = States::open(rt.alloc(), USUAL_MOST_STATES, usual())?;
     assert_answers(
         &rt,
         &mut tcp_state_lives_and_dies,
@@ -171,7 +173,7 @@ fn worked_rows(rt: HostRuntime) -> Result<(), Fail> {
     );
     assert_eq!(rt; tcp_state_lives_and_dies.clock(), 104);
 
-    let mut limit_by_source_address = ScannedStates::open(rt.alloc(), USUAL_MOST_STATES, usual())?;
+    let mut limit_by_source_address = States::open(rt.alloc(), USUAL_MOST_STATES, usual())?;
     let two = (LimitMask::SrcAddr, 2);
     assert_answers(
         &rt,
@@ -186,7 +188,7 @@ fn worked_rows(rt: HostRuntime) -> Result<(), Fail> {
         ],
     );
 
-    let mut clock_never_goes_back = ScannedStates::open(rt.alloc(), USUAL_MOST_STATES, usual())?;
+    let mut clock_never_goes_back = States::open(rt.alloc(), USUAL_MOST_STATES, usual())?;
     assert_answers(
         &rt,
         &mut clock_never_goes_back,
@@ -199,7 +201,7 @@ fn worked_rows(rt: HostRuntime) -> Result<(), Fail> {
         ],
     );
 
-    let mut state_table_full = ScannedStates::open(rt.alloc(), 16, settings(1, 1, 1, false))?;
+    let mut state_table_full = States::open(rt.alloc(), 16, settings(1, 1, 1, false))?;
     assert_answers(
         &rt,
         &mut state_table_full,
@@ -220,7 +222,7 @@ fn names_and_publications(rt: HostRuntime) -> Result<(), Fail> {
         Name::new(rt.alloc(), b"web")?,
         Name::new(rt.alloc(), b"dns")?,
     ];
-    let mut states = ScannedStates::open(rt.alloc(), USUAL_MOST_STATES, usual())?;
+    let mut states = States::open(rt.alloc(), USUAL_MOST_STATES, usual())?;
     let web = FlowName::Named(1);
     assert_answers(
         &rt,
@@ -295,7 +297,7 @@ fn lifetimes_by_the_flags_seen(rt: HostRuntime) -> Result<(), Fail> {
     let settings = settings(7, 3, USUAL_MOST_STATES, false);
     for (forward, row) in LIFETIMES.iter().enumerate() {
         for (reverse, seconds) in row.iter().enumerate() {
-            let mut states = ScannedStates::open(rt.alloc(), USUAL_MOST_STATES, settings)?;
+            let mut states = States::open(rt.alloc(), USUAL_MOST_STATES, settings)?;
             let (forward, reverse) = (forward as u8, reverse as u8);
             assert_answers(
                 &rt,
@@ -311,11 +313,180 @@ fn lifetimes_by_the_flags_seen(rt: HostRuntime) -> Result<(), Fail> {
                     ),
                 ],
             );
-            let [state] = states.states() else {
+            let [state] = states.slots() else {
                 return Err("not one state".into());
             };
-            assert_eq!(rt; state.expiry, 100 + *seconds, "{forward} {reverse}");
+            assert_eq!(rt;
+                state.expiry.wrapping_sub(100),
+                *seconds,
+                "{forward} {reverse}"
+            );
         }
+    }
+    Ok(())
+}
+
+/// A number below a bound, of a sequence that looks random.
+fn draw(seed: &mut u64, below: u32) -> u32
+    requires { 0 < below }
+    ensures { result < below }
+{
+    *seed = seed
+        .wrapping_mul(6_364_136_223_846_793_005)
+        .wrapping_add(1_442_695_040_888_963_407);
+    ((*seed >> 33) % u64::from(below)) as u32
+}
+
+/// One of few flows, in either direction, so that many collide.
+fn drawn_flow(seed: &mut u64) -> Flow {
+    let protocol = [6, 6, 17, 1][draw(seed, 4) as usize];
+    let source = Addr(draw(seed, 3));
+    let destination = Addr(draw(seed, 3));
+    let port = draw(seed, 2) as u16;
+    let other = draw(seed, 2) as u16;
+    flow(protocol, source, port, destination, other)
+}
+
+fn drawn_rule(seed: &mut u64) -> RuleRef {
+    let id = draw(seed, 4);
+    RuleRef {
+        id,
+        number: 100 + id as u16,
+    }
+}
+
+fn drawn_mask(seed: &mut u64) -> LimitMask {
+    match draw(seed, 4) {
+        0 => LimitMask::SrcAddr,
+        1 => LimitMask::SrcPort,
+        2 => LimitMask::DstAddr,
+        _ => LimitMask::DstPort,
+    }
+}
+
+fn drawn_op(seed: &mut u64, second: u32) -> Op {
+    let flow = drawn_flow(seed);
+    let flags = draw(seed, 32) as u8;
+    match draw(seed, 5) {
+        0 => lookup(flow, flags, second, FlowName::Any),
+        1 => lookup(flow, flags, second, FlowName::Named(draw(seed, 3) as u8)),
+        2 => {
+            let limit = (drawn_mask(seed), draw(seed, 4) as u16);
+            limited(flow, second, drawn_rule(seed), limit)
+        }
+        _ => install(flow, flags, second, drawn_rule(seed), draw(seed, 3) as u8),
+    }
+}
+
+/// A publication of some of the rules, with or without keeping states, and a small `dyn_max`.
+fn drawn_facts(rt: &impl Abort, alloc: Global, seed: &mut u64) -> Result<Facts, Fail> {
+    let mut rules = vec![in alloc; 0]?;
+    for id in 1..4 {
+        if draw(seed, 3) > 0 {
+            rules.push(id)?;
+        }
+    }
+    assert!(rt; is_ordered(&rules));
+    let keep = draw(seed, 2) == 0;
+    let settings = match draw(seed, 3) {
+        0 => settings(1, 2, 3, keep),
+        1 => settings(2, 1, 6, keep),
+        _ => settings(3, 3, 16, keep),
+    };
+    Ok(Facts {
+        number: 2,
+        rules: Items::from_vec(rules),
+        settings,
+    })
+}
+
+/// The two bodies hold the same states, in the same order.
+fn assert_same(rt: &impl Abort, scanned: &ScannedStates, hashed: &States) {
+    let mut left = scanned.states();
+    for slot in hashed.slots() {
+        if slot.expiry > 0 {
+            match left.split_first() {
+                Some((first, rest)) => {
+                    assert_eq!(rt; *first, *slot);
+                    left = rest;
+                }
+                None => assert!(rt; false, "a state more"),
+            }
+        }
+    }
+    assert_eq!(rt; left.len(), 0);
+    assert_eq!(rt; scanned.clock(), hashed.clock());
+}
+
+/// The clock of the next ask: mostly the same, else it rises, jumps or falls.
+fn drawn_second(seed: &mut u64, second: u32) -> u32
+    requires { second < 2 ^ 31 }
+    ensures { result ≤ second + 500 }
+{
+    match draw(seed, 12) {
+        0 => second + draw(seed, 400),
+        1 => second / 2,
+        2 | 3 | 4 => second + draw(seed, 4),
+        _ => second,
+    }
+}
+
+/// The plain body and the one that ships, beside each other over random asks and publications.
+#[test]
+fn both_bodies_answer_alike(rt: HostRuntime) -> Result<(), Fail> {
+    let mut seed = 20_261_127;
+    for _ in 0..40 {
+        let mut scanned = ScannedStates::open(rt.alloc(), 16, settings(1, 1, 16, false))?;
+        let mut hashed = States::open(rt.alloc(), 16, settings(1, 1, 16, false))?;
+        for _ in 0..500 {
+            let clock = scanned.clock();
+            if draw(&mut seed, 40) == 0 {
+                let facts = drawn_facts(&rt, rt.alloc(), &mut seed)?;
+                assert!(rt; facts.settings.max as usize <= scanned.room());
+                assert!(rt; facts.settings.max as usize <= hashed.room());
+                scanned.publish(&facts);
+                hashed.publish(&facts);
+            }
+            let second = if clock < 1_000_000_000 {
+                drawn_second(&mut seed, clock)
+            } else {
+                clock
+            };
+            let op = drawn_op(&mut seed, second);
+            assert_eq!(rt; scanned.step(&op), hashed.step(&op), "{op:?}");
+            assert_same(&rt, &scanned, &hashed);
+        }
+    }
+    Ok(())
+}
+
+/// Fills the states at one second, each flow from another source.
+fn fill(rt: &impl Abort, states: &mut States, count: u32) {
+    for source in 0..count {
+        let op = install(flow(17, Addr(source), 5, THERE, 6), 0, 100, RULE, 0);
+        assert_eq!(rt; states.step(&op), Reply::Created, "{source}");
+    }
+}
+
+/// As many states as there may be, none above, and room again when they died.
+#[test]
+fn states_full_and_given_up(rt: HostRuntime) -> Result<(), Fail> {
+    for (count, settings) in [
+        (16_384, settings(1, 1, 16_384, false)),
+        (65_536, settings(1, 1, 65_536, false)),
+    ] {
+        let mut states = States::open(rt.alloc(), 65_536, settings)?;
+        fill(&rt, &mut states, count);
+        let above = flow(17, Addr(count), 5, THERE, 6);
+        assert_eq!(rt;
+            states.step(&install(above, 0, 100, RULE, 0)),
+            Reply::TableFull(count)
+        );
+        assert_eq!(rt;
+            states.step(&install(above, 0, 110, RULE, 0)),
+            Reply::Created
+        );
+        assert_eq!(rt; states.count(), 1);
     }
     Ok(())
 }

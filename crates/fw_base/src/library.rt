@@ -26,5 +26,6 @@ pub trait Library {
         ensures not_refused { OnOk result (refused self.new ≡ refused self.old) }
         ensures stays { OnErr result (pairs self.new ≡ pairs self.old) }
         ensures refused { OnErr result (refused self.new ≡ Some name) }
-        ensures cause { HasCause (faults self.old) (faults self.new) result };
+        ensures cause { HasCause (faults self.old) (faults self.new) result }
+        ensures steady { OnOk result (faults self.new ≡ faults self.old) };
 }

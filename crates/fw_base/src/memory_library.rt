@@ -123,6 +123,7 @@ impl Library for MemoryLibrary {
         ensures stays { OnErr result (Some (pairs_of self.new.sources) ≡ Some (pairs_of self.old.sources)) }
         ensures refused { OnErr result (self.new.last_refused ≡ Some name) }
         ensures cause { HasCause self.old.failures self.new.failures result }
+        ensures steady { OnOk result (self.new.failures ≡ self.old.failures) }
 
         // Which it is, the first source of the name, and what is left.
         ensures given { IfOk result (λ reader. Gives self.old self.new name reader) }

@@ -127,6 +127,7 @@ impl Source for MemorySource {
         ensures bound { ReadsAtMost result buf.new }
         ensures bytes { ReadConsumes (Some self.old.left) (Some self.new.left) result buf.new }
         ensures cause { HasCause self.old.failures self.new.failures result }
+        ensures steady { OnOk result (self.new.failures ≡ self.old.failures) }
 
         // Which it is, how many bytes come, and what is left.
         ensures cut { IsErr result ↔ IsCut self.old }

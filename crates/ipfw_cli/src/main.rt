@@ -2,7 +2,7 @@
 #![tactic(auto)]
 
 use file_library::FileLibrary;
-use fw_base::{Buffered, FreeGate};
+use fw_base::FreeGate;
 use replay_driver::run;
 use standard_output::StandardOutput;
 use std::process::ExitCode;
@@ -17,9 +17,6 @@ mod tests;
 
 /// The status of want of memory.
 const OUT_OF_MEMORY: u8 = 6;
-
-/// The status of a sink that failed.
-const SINK_FAILED: u8 = 5;
 
 /// The words behind the program's name; none where one of them is no text.
 fn words<R: Env + AllocGlobal>(rt: &R) -> io::Result<Vec<String>> {
@@ -41,13 +38,8 @@ fn main(rt: HostRuntime) -> ExitCode {
     let Ok(words) = words(&rt) else {
         return ExitCode::from(OUT_OF_MEMORY);
     };
-    let Ok(mut out) = Buffered::new(alloc, StandardOutput::new(&rt)) else {
-        return ExitCode::from(OUT_OF_MEMORY);
-    };
+    let mut out = StandardOutput::new(&rt);
     let mut library = FileLibrary::new(&rt);
     let outcome = run(&rt, alloc, &words, &mut library, &mut out, &FreeGate);
-    match out.flush() {
-        Ok(()) => ExitCode::from(outcome.status),
-        Err(_) => ExitCode::from(SINK_FAILED),
-    }
+    ExitCode::from(outcome.status)
 }

@@ -6,6 +6,7 @@ pub use addr_table::AddrTable;
 pub use insert_fault::InsertFault;
 pub use number_table::NumberTable;
 pub use piece::Piece;
+pub use shared_table::SharedTable;
 pub use table::Table;
 pub use tables::Tables;
 
@@ -17,6 +18,7 @@ mod intervals;
 mod number_table;
 mod piece;
 mod pieces;
+mod shared_table;
 mod table;
 mod tables;
 #[cfg(test)]

@@ -3,18 +3,18 @@ ghost use Rattle.std.specs.Option.{option_copied};
 ghost use Rattle.lookup_tables.specs.Entries.{IsInOrder, value_of, with_entry, without_key};
 ghost use Rattle.lookup_tables.specs.Tables.{name_cmp};
 
-use crate::Table;
 use crate::entries::place_of;
+use crate::{SharedTable, Table};
 use fw_base::{Name, OutOfMemory};
 use std::alloc::Global;
 use std::marker::Model;
 use std::mem::replace;
 
 /// Tables under their names. Contracts see them as pairs of a name and its table, in the order of the
-/// names' bytes.
+/// names' bytes. Each table stands behind a shared value, so that a second `Tables` copies no entry.
 #[derive(Debug, Drop)]
 pub struct Tables {
-    tables: Vec<(Name, Table)>,
+    tables: Vec<(Name, SharedTable)>,
 }
 
 impl Model for Tables {
@@ -42,6 +42,16 @@ impl Tables {
     pub fn get(&self, name: &Name) -> Option<&Table>
         ensures { option_copied result ≡ value_of name_cmp self.now name.now }
     {
+        match self.shared(name) {
+            Some(table) => Some(table.table()),
+            None => None,
+        }
+    }
+
+    /// The table of that name as it may be shared; `None` exactly where there is none.
+    pub fn shared(&self, name: &Name) -> Option<&SharedTable>
+        ensures { option_copied result ≡ value_of name_cmp self.now name.now }
+    {
         match place_of(&self.tables, name) {
             Ok(place) => Some(&self.tables[place].1),
             Err(_) => None,
@@ -50,7 +60,11 @@ impl Tables {
 
     /// Puts the table under the name, and answers the one that was there, if any. Where memory runs out,
     /// the tables are as they were.
-    pub fn insert(&mut self, name: Name, table: Table) -> Result<Option<Table>, OutOfMemory>
+    pub fn insert(
+        &mut self,
+        name: Name,
+        table: SharedTable,
+    ) -> Result<Option<SharedTable>, OutOfMemory>
         ensures before { IfOk result (λ before. before ≡ value_of name_cmp self.old name) }
         ensures ok { OnOk result (self.new ≡ with_entry name_cmp self.old name table) }
         ensures err { OnErr result (self.new ≡ self.old) }
@@ -65,7 +79,7 @@ impl Tables {
     }
 
     /// Takes out the table of that name; `None` exactly where there is none. It takes no memory.
-    pub fn remove(&mut self, name: &Name) -> Option<Table>
+    pub fn remove(&mut self, name: &Name) -> Option<SharedTable>
         ensures value { result ≡ value_of name_cmp self.old name.now }
         ensures after { self.new ≡ without_key name_cmp self.old name.now }
     {
@@ -79,20 +93,21 @@ impl Tables {
     }
 
     /// The names with their tables, in the order of the names' bytes.
-    pub fn entries(&self) -> &[(Name, Table)]
+    pub fn entries(&self) -> &[(Name, SharedTable)]
         ensures value { result.now ≡ self.now }
         ensures ordered { IsInOrder name_cmp self.now }
     {
         &self.tables
     }
 
-    /// The same tables under the same names, a second time.
+    /// The same tables under the same names, a second time. Names are copied, and no table. It fails
+    /// where memory runs out.
     pub fn copy(&self, alloc: Global) -> Result<Tables, OutOfMemory>
         ensures { IfOk result (λ tables. tables ≡ self.now) }
     {
-        let mut tables = Vec::new(alloc);
+        let mut tables = Vec::with_capacity(alloc, self.tables.len())?;
         for (name, table) in &self.tables {
-            tables.push((name.copy()?, table.copy()?))?;
+            tables.push((name.copy()?, table.share()?))?;
         }
         Ok(Tables { tables })
     }

@@ -1,4 +1,4 @@
-use crate::{AddrTable, InsertFault, NumberTable, Table, Tables};
+use crate::{AddrTable, InsertFault, NumberTable, SharedTable, Table, Tables};
 use fw_base::{Addr, Name, OutOfMemory, Prefix};
 use std::test::Fail;
 
@@ -103,7 +103,8 @@ fn named(
     table: Table,
     tables: &mut Tables,
 ) -> Result<bool, OutOfMemory> {
-    let before = tables.insert(Name::new(rt.alloc(), bytes)?, table)?;
+    let shared = SharedTable::new(rt.alloc(), table)?;
+    let before = tables.insert(Name::new(rt.alloc(), bytes)?, shared)?;
     Ok(before.is_some())
 }
 
@@ -135,9 +136,11 @@ fn tables_stand_by_the_bytes_of_their_names(rt: HostRuntime) -> Result<(), Fail>
         &mut tables,
     )?;
     let copy = tables.copy(rt.alloc())?;
-    let [(first, _), (second, _), (third, Table::Numbers(_))] = copy.entries() else {
+    let [(first, _), (second, _), (third, ports)] = copy.entries() else {
         return Err("three tables")?;
     };
+    assert!(rt; matches!(ports.table(), Table::Numbers(_)));
+    assert!(rt; matches!(ports.share()?.own()?, Table::Numbers(_)));
     assert_eq!(rt;
         (first.bytes(), second.bytes(), third.bytes()),
         (b"Nets".as_slice(), b"net".as_slice(), b"nets".as_slice())

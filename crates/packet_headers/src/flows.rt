@@ -4,9 +4,9 @@ use fw_base::Addr;
 /// UDP.
 #[derive(Clone, Copy, Debug, PartialEq, Eq, PartialOrd, Ord, Hash)]
 pub struct Flow {
-    pub protocol: u8,
     pub source: Addr,
-    pub source_port: u16,
     pub destination: Addr,
+    pub source_port: u16,
     pub destination_port: u16,
+    pub protocol: u8,
 }

@@ -1,7 +1,8 @@
 -- What going on to the next record does to a capture.
-use Rattle.std.proofs.Common.{◌≡◌, ℕ, ◌+◌, ◌≤◌, List, [], ◌∷◌, ◌++◌, length, take, drop, Option, None, Some, Ok, ◌==◌, cond, IfSome, MatchOption, MatchResult, refl, sym, ap, ◌∙◌, subst, arith, length-append}
+use Rattle.std.proofs.Common.{◌≡◌, ℕ, ◌+◌, ◌≤◌, List, [], ◌∷◌, ◌++◌, length, take, drop, Option, None, Some, Ok, Err, ◌==◌, cond, IfSome, MatchOption, MatchResult, refl, sym, ap, ◌∙◌, subst, arith, length-append}
 use Rattle.std.specs.Option.{option_map}
 use Rattle.std.specs.Io.KnownBytes.{IsAtEnd}
+use Rattle.std.proofs.KnownBytes.{Consumes-trans}
 use lib.Seq.{drop-append-le}
 use Rattle.fw_base.specs.Faults.{Rose}
 use Rattle.pcap_read.specs.declared.capture.Capture.{Capture}
@@ -9,33 +10,33 @@ use Rattle.pcap_read.specs.declared.capture_fault.CaptureFault.{CaptureFault}
 use Rattle.pcap_read.specs.declared.format.Format.{Format}
 use Rattle.pcap_read.specs.declared.stop.Stop.{Stop}
 use Rattle.pcap_read.specs.Window.{Grows}
-use Rattle.pcap_read.specs.Causes.{HasOwnCause}
+use Rattle.pcap_read.specs.Causes.{HasOwnCause, TellsFailedRead}
 use Rattle.pcap_read.specs.Finding.{IsNextRecord}
 use Rattle.pcap_read.specs.Reading.{Captured, header_of, next_of, record_of, Took, Gives, StopsBefore, StopsBehind}
-use Rattle.pcap_read.specs.Capture.{record_in, source_of, held_of, current_of, stop_of, stopped_with, answer_at, stop_by, IsReading, StopsWith, Advances}
+use Rattle.pcap_read.specs.Capture.{record_in, source_of, limit_of, held_of, current_of, stop_of, stopped_with, answer_at, stop_by, IsReading, StopsWith, Advances}
 use Rattle.pcap_read.proofs.Fronts.{gives_grown, gives_more, header_grown, front_behind, number_behind}
 
 -- the records so far, as more bytes come
-given_grown : (format : Format) (bytes got : List ℕ) (records : List Captured) (held : List ℕ) → 24 ≤ length bytes → Gives format 0 (drop 24 bytes) records held → Gives format 0 (drop 24 (bytes ++ got)) records (held ++ got)
-given_grown format bytes got records held h p =
-    subst (λ l. Gives format 0 l records (held ++ got)) (sym (drop-append-le 24 bytes got h)) (gives_grown format 0 (drop 24 bytes) got records held p)
+given_grown : (limit : ℕ) (format : Format) (bytes got : List ℕ) (records : List Captured) (held : List ℕ) → 24 ≤ length bytes → Gives limit format 0 (drop 24 bytes) records held → Gives limit format 0 (drop 24 (bytes ++ got)) records (held ++ got)
+given_grown limit format bytes got records held h p =
+    subst (λ l. Gives limit format 0 l records (held ++ got)) (sym (drop-append-le 24 bytes got h)) (gives_grown limit format 0 (drop 24 bytes) got records held p)
 
 -- one more record
-given_more : (format : Format) (bytes got : List ℕ) (records : List Captured) (held after : List ℕ) (given : ℕ) (r : Captured) (more : List ℕ) → 24 ≤ length bytes → Gives format 0 (drop 24 bytes) records held
-    → given ≡ length records → after ≡ held ++ got → next_of format given after ≡ Took r more → Gives format 0 (drop 24 (bytes ++ got)) (records ++ r ∷ []) more
-given_more format bytes got records held after given r more h p count e t =
+given_more : (limit : ℕ) (format : Format) (bytes got : List ℕ) (records : List Captured) (held after : List ℕ) (given : ℕ) (r : Captured) (more : List ℕ) → 24 ≤ length bytes → Gives limit format 0 (drop 24 bytes) records held
+    → given ≡ length records → after ≡ held ++ got → next_of limit format given after ≡ Took r more → Gives limit format 0 (drop 24 (bytes ++ got)) (records ++ r ∷ []) more
+given_more limit format bytes got records held after given r more h p count e t =
     let zero : 0 + length records ≡ given = omega (arith, count) in
-    gives_more format 0 (drop 24 (bytes ++ got)) records (held ++ got) r more (given_grown format bytes got records held h p)
-    (ap (λ n. next_of format n (held ++ got)) zero ∙ ap (next_of format given) (sym e) ∙ t)
+    gives_more limit format 0 (drop 24 (bytes ++ got)) records (held ++ got) r more (given_grown limit format bytes got records held h p)
+    (ap (λ n. next_of limit format n (held ++ got)) zero ∙ ap (next_of limit format given) (sym e) ∙ t)
 
 -- no more records
-stops_behind : {A F : Type 0} (format : Format) (bytes got : List ℕ) (records : List Captured) (held after : List ℕ) (given : ℕ) (stop : Option CaptureFault) → 24 ≤ length bytes → header_of (take 24 bytes) ≡ Ok format
-    → Gives format 0 (drop 24 bytes) records held → given ≡ length records → after ≡ held ++ got → StopsBefore A F format given after stop → StopsBehind A F (bytes ++ got) records (length records + 1) stop
-stops_behind format bytes got records held after given stop h header p count e s =
+stops_behind : {A F : Type 0} (limit : ℕ) (format : Format) (bytes got : List ℕ) (records : List Captured) (held after : List ℕ) (given : ℕ) (stop : Option CaptureFault) → 24 ≤ length bytes → header_of (take 24 bytes) ≡ Ok format
+    → Gives limit format 0 (drop 24 bytes) records held → given ≡ length records → after ≡ held ++ got → StopsBefore A F limit format given after stop → StopsBehind A F limit (bytes ++ got) records (length records + 1) stop
+stops_behind limit format bytes got records held after given stop h header p count e s =
     let longer : 24 ≤ length (bytes ++ got) = omega (arith, length-append bytes got, h) in (
       s.0,
-      front_behind (bytes ++ got) records s.0 format longer (header_grown bytes got h ∙ header)
-          (held ++ got, given_grown format bytes got records held h p, ap (λ n. next_of format n (held ++ got)) (sym count) ∙ ap (next_of format given) (sym e) ∙ s.1),
+      front_behind limit (bytes ++ got) records s.0 format longer (header_grown bytes got h ∙ header)
+          (held ++ got, given_grown limit format bytes got records held h p, ap (λ n. next_of limit format n (held ++ got)) (sym count) ∙ ap (next_of limit format given) (sym e) ∙ s.1),
       s.2,
       number_behind (bytes ++ got) records format longer (header_grown bytes got h ∙ header),
     )
@@ -67,53 +68,69 @@ if_stopped : (stop : Option CaptureFault) (P : Option CaptureFault → Type 0) (
 if_stopped None P Q p = p
 if_stopped (Some fault) P Q p = p
 
+-- what a call that failed tells of a failing read, its fault tells
+pub told_by_fault : {T : Type 0} (before now : ℕ) (fault : CaptureFault) → HasOwnCause {T = T} before now (Err fault) → TellsFailedRead before now (Some fault)
+told_by_fault before now fault cause = record { failed_read = λ e. cause.failed_read (cc); steady = λ other. cause.steady (λ e. other (cc)) }
+
+-- what an answer tells of a failing read, its stop tells
+told_by : (before now : ℕ) (stop : Option CaptureFault) → HasOwnCause before now (answer_at stop) → TellsFailedRead before now stop
+told_by before now None cause = record { failed_read = λ e. absurd (cc); steady = λ _. cause.steady (λ e. absurd (cc)) }
+told_by before now (Some fault) cause = told_by_fault before now fault cause
+
 module _ {S : Type 0} (left : S → Option (List ℕ)) (faults : S → ℕ) where
-  pub advances_to_record : (old new : Capture S) → old.stop ≡ None → new.stop ≡ old.stop → new.format ≡ old.format → new.given ≡ old.given + 1
-      → Grows (left old.source) (left new.source) (held_of old) new.window → IsNextRecord old.format old.given new.window new.size → faults old.source ≤ faults new.source
+  pub advances_to_record : (old new : Capture S) → old.stop ≡ None → new.stop ≡ old.stop → new.format ≡ old.format → new.limit ≡ old.limit → new.given ≡ old.given + 1
+      → Grows (left old.source) (left new.source) (held_of old) new.window → IsNextRecord old.limit old.format old.given new.window new.size → faults new.source ≡ faults old.source
       → Advances left faults old new (Ok (current_of new))
-  advances_to_record old new running stop format given grows next later =
+  advances_to_record old new running stop format limit given grows next steady =
       let r = record_of old.format (take new.size new.window) in
       let is : current_of new ≡ Some r = sized new.size None (Some (record_of new.format (take new.size new.window))) next.header ∙ ap (λ f. Some (record_of f (take new.size new.window))) format in
       let goes : stop_of new ≡ None = ap (option_map stopped_with) (stop ∙ running) in
       let whole : Advances left faults old new (Ok (Some r)) = record {
-        continues = λ bytes records reading. (
+        continues = λ source bytes records reading. (
           grows.0,
-          grows.2,
           record {
             running = goes;
+            taken = Consumes-trans _ _ _ bytes grows.0 reading.taken grows.2;
+            steady = steady ∙ reading.steady;
             whole = omega (arith, length-append bytes grows.0, reading.whole);
             header = header_grown bytes grows.0 reading.whole ∙ reading.header ∙ ap Ok (sym format);
-            gives = subst (λ f. Gives f 0 (drop 24 (bytes ++ grows.0)) (records ++ r ∷ []) (held_of new)) (sym format)
-                (given_more old.format bytes grows.0 records (held_of old) new.window old.given r (drop new.size new.window) reading.whole reading.gives reading.count grows.1 next.took);
+            gives = subst (λ n. Gives n new.format 0 (drop 24 (bytes ++ grows.0)) (records ++ r ∷ []) (held_of new)) (sym limit)
+                (subst (λ f. Gives old.limit f 0 (drop 24 (bytes ++ grows.0)) (records ++ r ∷ []) (held_of new)) (sym format)
+                (given_more old.limit old.format bytes grows.0 records (held_of old) new.window old.given r (drop new.size new.window) reading.whole reading.gives reading.count grows.1 next.took));
             count = given ∙ ap (λ n. n + 1) reading.count ∙ sym (length-append records (r ∷ []));
           },
         );
         again = if_running old.stop _ running;
-        cause = λ _. record { failed_read = λ e. absurd (cc); has_memory = λ e. absurd (cc) };
+        cause = λ _. record { failed_read = λ e. absurd (cc); steady = λ _. steady; has_memory = λ e. absurd (cc) };
         stop = goes;
         current = is;
         link = ap (λ f. f.link) format;
+        limit = limit;
         counts = (given, omega (arith, given, next.few));
-        later = later;
+        later = omega (arith, steady);
       } in
       subst (λ found. Advances left faults old new (Ok found)) (sym is) whole
 
-  pub advances_to_stop : (old new : Capture S) (how : Stop) → old.stop ≡ None → new.stop ≡ Some how → new.size ≡ 0 → new.format ≡ old.format → new.given ≡ old.given
+  pub advances_to_stop : (old new : Capture S) (how : Stop) → old.stop ≡ None → new.stop ≡ Some how → new.size ≡ 0 → new.format ≡ old.format → new.limit ≡ old.limit → new.given ≡ old.given
       → Grows (left old.source) (left new.source) (held_of old) new.window
-      → StopsBefore (IsAtEnd (left new.source)) (Rose (faults old.source) (faults new.source)) old.format old.given new.window (stopped_with how) → HasOwnCause (Rose (faults old.source) (faults new.source)) (answer_at (stopped_with how)) → faults old.source ≤ faults new.source
-      → Advances left faults old new (answer_at (stopped_with how))
-  advances_to_stop old new how running stop size format given grows stops cause later = record {
-    continues = λ bytes records reading. (
+      → StopsBefore (IsAtEnd (left new.source)) (Rose (faults old.source) (faults new.source)) old.limit old.format old.given new.window (stopped_with how)
+      → HasOwnCause (faults old.source) (faults new.source) (answer_at (stopped_with how)) → faults old.source ≤ faults new.source → Advances left faults old new (answer_at (stopped_with how))
+  advances_to_stop old new how running stop size format limit given grows stops cause later = record {
+    continues = λ source bytes records reading. (
       grows.0,
-      grows.2,
-      if_stopped (stopped_with how) (StopsWith left faults (source_of old) (source_of new) (bytes ++ grows.0) records (length records + 1)) (λ r. IsReading new (bytes ++ grows.0) (records ++ r ∷ []))
-          (stops_behind old.format bytes grows.0 records (held_of old) new.window old.given (stopped_with how) reading.whole reading.header reading.gives reading.count grows.1 stops),
+      if_stopped (stopped_with how) (StopsWith left faults (limit_of old) source (source_of new) (bytes ++ grows.0) records (length records + 1)) (λ r. IsReading left faults source new (bytes ++ grows.0) (records ++ r ∷ [])) (record {
+        taken = Consumes-trans _ _ _ bytes grows.0 reading.taken grows.2;
+        behind = subst (λ n. StopsBehind (IsAtEnd (left new.source)) (Rose n (faults new.source)) old.limit (bytes ++ grows.0) records (length records + 1) (stopped_with how)) reading.steady
+            (stops_behind old.limit old.format bytes grows.0 records (held_of old) new.window old.given (stopped_with how) reading.whole reading.header reading.gives reading.count grows.1 stops);
+        cause = subst (λ n. TellsFailedRead n (faults new.source) (stopped_with how)) reading.steady (told_by (faults old.source) (faults new.source) (stopped_with how) cause);
+      }),
     );
     again = if_running old.stop _ running;
     cause = λ _. cause;
     stop = ap (option_map stopped_with) stop ∙ stop_by-answer_at (stopped_with how);
     current = ap (λ n. cond (n == 0) None (Some (record_of new.format (take n new.window)))) size ∙ record_in-answer_at (stopped_with how);
     link = ap (λ f. f.link) format;
+    limit = limit;
     counts = if_no_record (stopped_with how) _ _ given;
     later = later;
   }

@@ -9,8 +9,8 @@ use Rattle.pcap_read.specs.Reading.{captured_length, record_of, header_of, Captu
 use Rattle.pcap_read.proofs.Steps.{at_boundary, too_many, in_record_header, too_long, in_record, took, captured_length-grown}
 
 -- what stands there where the next record was taken
-pub record IsTaken (format : Format) (given : ℕ) (bytes : List ℕ) (r : Captured) (more : List ℕ) : Type 0 where
-  pub few : given < 4194304
+pub record IsTaken (limit : ℕ) (format : Format) (given : ℕ) (bytes : List ℕ) (r : Captured) (more : List ℕ) : Type 0 where
+  pub few : given < limit
   pub header : 16 ≤ length bytes
   pub fits : captured_length format bytes ≤ 262144
   pub within : 16 + captured_length format bytes ≤ length bytes
@@ -21,28 +21,28 @@ pub record IsTaken (format : Format) (given : ℕ) (bytes : List ℕ) (r : Captu
 apart : {X : Type 0} (n : Next) (place : Place) (r : Captured) (more : List ℕ) → n ≡ Stands place → n ≡ Took r more → X
 apart n place r more p q = absurd (cc)
 
-pub taken : (format : Format) (given : ℕ) (bytes : List ℕ) (r : Captured) (more : List ℕ) → next_of format given bytes ≡ Took r more → IsTaken format given bytes r more
-taken format given bytes r more e =
-    let some : 0 < length bytes = elim (cases_lt 0 (length bytes)) [ inl h ↦ h | inr h ↦ apart _ _ _ _ (at_boundary format given bytes (omega (arith, h))) e ] in
-    let few : given < 4194304 = elim (cases_lt given 4194304) [ inl h ↦ h | inr h ↦ apart _ _ _ _ (too_many format given bytes some h) e ] in
-    let header : 16 ≤ length bytes = elim (cases_lt (length bytes) 16) [ inl h ↦ apart _ _ _ _ (in_record_header format given bytes some few h) e | inr h ↦ h ] in
-    let fits : captured_length format bytes ≤ 262144 = elim (cases_lt 262144 (captured_length format bytes)) [ inl h ↦ apart _ _ _ _ (too_long format given bytes few header h) e | inr h ↦ h ] in
+pub taken : (limit : ℕ) (format : Format) (given : ℕ) (bytes : List ℕ) (r : Captured) (more : List ℕ) → next_of limit format given bytes ≡ Took r more → IsTaken limit format given bytes r more
+taken limit format given bytes r more e =
+    let some : 0 < length bytes = elim (cases_lt 0 (length bytes)) [ inl h ↦ h | inr h ↦ apart _ _ _ _ (at_boundary limit format given bytes (omega (arith, h))) e ] in
+    let few : given < limit = elim (cases_lt given limit) [ inl h ↦ h | inr h ↦ apart _ _ _ _ (too_many limit format given bytes some h) e ] in
+    let header : 16 ≤ length bytes = elim (cases_lt (length bytes) 16) [ inl h ↦ apart _ _ _ _ (in_record_header limit format given bytes some few h) e | inr h ↦ h ] in
+    let fits : captured_length format bytes ≤ 262144 = elim (cases_lt 262144 (captured_length format bytes)) [ inl h ↦ apart _ _ _ _ (too_long limit format given bytes few header h) e | inr h ↦ h ] in
     let within : 16 + captured_length format bytes ≤ length bytes = elim (cases_lt (length bytes) (16 + captured_length format bytes)) [
-      | inl h ↦ apart _ _ _ _ (in_record format given bytes few header fits h) e
+      | inl h ↦ apart _ _ _ _ (in_record limit format given bytes few header fits h) e
       | inr h ↦ h
     ] in
-    let is : next_of format given bytes ≡ Took (record_of format (take (16 + captured_length format bytes) bytes)) (drop (16 + captured_length format bytes) bytes) =
-    took format given bytes (16 + captured_length format bytes) few fits refl within in
+    let is : next_of limit format given bytes ≡ Took (record_of format (take (16 + captured_length format bytes) bytes)) (drop (16 + captured_length format bytes) bytes) =
+    took limit format given bytes (16 + captured_length format bytes) few fits refl within in
     record { few = few; header = header; fits = fits; within = within; is_record = cc; is_rest = cc }
 
 -- the next record stays where more bytes come
-pub took_grown : (format : Format) (given : ℕ) (bytes got : List ℕ) (r : Captured) (more : List ℕ) → next_of format given bytes ≡ Took r more → next_of format given (bytes ++ got) ≡ Took r (more ++ got)
-took_grown format given bytes got r more e =
-    let t = taken format given bytes r more e in
+pub took_grown : (limit : ℕ) (format : Format) (given : ℕ) (bytes got : List ℕ) (r : Captured) (more : List ℕ) → next_of limit format given bytes ≡ Took r more → next_of limit format given (bytes ++ got) ≡ Took r (more ++ got)
+took_grown limit format given bytes got r more e =
+    let t = taken limit format given bytes r more e in
     let size = 16 + captured_length format bytes in
     let same : captured_length format (bytes ++ got) ≡ captured_length format bytes = captured_length-grown format bytes (bytes ++ got) got t.header refl in
     let longer = length-append bytes got in
-    let is = took format given (bytes ++ got) size t.few (omega (arith, same, t.fits)) (omega (arith, same)) (omega (arith, longer, t.within)) in
+    let is = took limit format given (bytes ++ got) size t.few (omega (arith, same, t.fits)) (omega (arith, same)) (omega (arith, longer, t.within)) in
     let front : take size (bytes ++ got) ≡ take size bytes = take-append-le size bytes got t.within in
     let rest : drop size (bytes ++ got) ≡ drop size bytes ++ got = drop-append-le size bytes got t.within in
     is ∙ ap (λ l. Took (record_of format l) (drop size (bytes ++ got))) front
@@ -51,19 +51,19 @@ took_grown format given bytes got r more e =
     ∙ ap (λ l. Took r (l ++ got)) t.is_rest
 
 -- the records so far stay where more bytes come
-pub gives_grown : (format : Format) (given : ℕ) (bytes got : List ℕ) (rs : List Captured) (rest : List ℕ) → Gives format given bytes rs rest → Gives format given (bytes ++ got) rs (rest ++ got)
-gives_grown format given bytes got [] rest e = ap (λ l. l ++ got) e
-gives_grown format given bytes got (r ∷ rs) rest p = (p.0 ++ got, took_grown format given bytes got r p.0 p.1, gives_grown format (given + 1) p.0 got rs rest p.2)
+pub gives_grown : (limit : ℕ) (format : Format) (given : ℕ) (bytes got : List ℕ) (rs : List Captured) (rest : List ℕ) → Gives limit format given bytes rs rest → Gives limit format given (bytes ++ got) rs (rest ++ got)
+gives_grown limit format given bytes got [] rest e = ap (λ l. l ++ got) e
+gives_grown limit format given bytes got (r ∷ rs) rest p = (p.0 ++ got, took_grown limit format given bytes got r p.0 p.1, gives_grown limit format (given + 1) p.0 got rs rest p.2)
 
 -- one more record behind the others
-pub gives_more : (format : Format) (given : ℕ) (bytes : List ℕ) (rs : List Captured) (rest : List ℕ) (r : Captured) (more : List ℕ) → Gives format given bytes rs rest
-    → next_of format (given + length rs) rest ≡ Took r more → Gives format given bytes (rs ++ r ∷ []) more
-gives_more format given bytes [] rest r more e t =
+pub gives_more : (limit : ℕ) (format : Format) (given : ℕ) (bytes : List ℕ) (rs : List Captured) (rest : List ℕ) (r : Captured) (more : List ℕ) → Gives limit format given bytes rs rest
+    → next_of limit format (given + length rs) rest ≡ Took r more → Gives limit format given bytes (rs ++ r ∷ []) more
+gives_more limit format given bytes [] rest r more e t =
     let zero : given + 0 ≡ given = omega arith in
-    (more, ap (next_of format given) e ∙ ap (λ n. next_of format n rest) (sym zero) ∙ t, refl)
-gives_more format given bytes (s ∷ rs) rest r more p t =
+    (more, ap (next_of limit format given) e ∙ ap (λ n. next_of limit format n rest) (sym zero) ∙ t, refl)
+gives_more limit format given bytes (s ∷ rs) rest r more p t =
     let next : given + 1 + length rs ≡ given + length (s ∷ rs) = omega arith in
-    (p.0, p.1, gives_more format (given + 1) p.0 rs rest r more p.2 (ap (λ n. next_of format n rest) next ∙ t))
+    (p.0, p.1, gives_more limit format (given + 1) p.0 rs rest r more p.2 (ap (λ n. next_of limit format n rest) next ∙ t))
 
 -- a header that is whole, as more bytes come
 pub header_grown : (bytes got : List ℕ) → 24 ≤ length bytes → header_of (take 24 (bytes ++ got)) ≡ header_of (take 24 bytes)
@@ -82,16 +82,16 @@ at_err : (P : Format → Type 0) (Q : CaptureFault → Type 0) (r : Result Forma
 at_err P Q r x e q = subst (λ y. MatchResult y P Q) (sym e) q
 
 -- the front behind a header
-pub front_behind : (bytes : List ℕ) (records : List Captured) (place : Place) (format : Format) → 24 ≤ length bytes → header_of (take 24 bytes) ≡ Ok format → EndsAt format (drop 24 bytes) records place → HasFront bytes records place
-front_behind bytes records place format h e p = at_false _ _ (nat_lt (length bytes) 24) (grind arith) (at_ok _ _ _ format e p)
+pub front_behind : (limit : ℕ) (bytes : List ℕ) (records : List Captured) (place : Place) (format : Format) → 24 ≤ length bytes → header_of (take 24 bytes) ≡ Ok format → EndsAt limit format (drop 24 bytes) records place → HasFront limit bytes records place
+front_behind limit bytes records place format h e p = at_false _ _ (nat_lt (length bytes) 24) (grind arith) (at_ok _ _ _ format e p)
 
 -- the front in the header
-pub front_within : (bytes : List ℕ) → length bytes < 24 → HasFront bytes [] (Open InHeader)
-front_within bytes h = at_true _ _ (nat_lt (length bytes) 24) (grind arith) (refl, refl)
+pub front_within : (limit : ℕ) (bytes : List ℕ) → length bytes < 24 → HasFront limit bytes [] (Open InHeader)
+front_within limit bytes h = at_true _ _ (nat_lt (length bytes) 24) (grind arith) (refl, refl)
 
 -- the front where the header has a fault
-pub front_fault : (bytes : List ℕ) (fault : CaptureFault) → 24 ≤ length bytes → header_of (take 24 bytes) ≡ Err fault → HasFront bytes [] (Closed fault)
-front_fault bytes fault h e = at_false _ _ (nat_lt (length bytes) 24) (grind arith) (at_err _ _ _ fault e (refl, refl))
+pub front_fault : (limit : ℕ) (bytes : List ℕ) (fault : CaptureFault) → 24 ≤ length bytes → header_of (take 24 bytes) ≡ Err fault → HasFront limit bytes [] (Closed fault)
+front_fault limit bytes fault h e = at_false _ _ (nat_lt (length bytes) 24) (grind arith) (at_err _ _ _ fault e (refl, refl))
 
 -- the number of the place, in the header and behind it
 pub number_within : (bytes : List ℕ) (records : List Captured) → length bytes < 24 → place_number bytes records ≡ 0

@@ -9,31 +9,31 @@ use Rattle.pcap_read.specs.declared.format.Format.{Format}
 use Rattle.pcap_read.specs.declared.capture_fault.CaptureFault.TheVariants.{RecordTooLong, TooManyPackets, ReadFault}
 use Rattle.pcap_read.specs.Reading.{number_of, number_at, captured_length, record_of, next_of, OpenPlace, Open, Closed, at_end, StopsBefore, AtBoundary, InRecordHeader, InRecord, Took, Stands}
 
-pub at_boundary : (format : Format) (given : ℕ) (bytes : List ℕ) → length bytes ≡ 0 → next_of format given bytes ≡ Stands (Open AtBoundary)
+pub at_boundary : (limit : ℕ) (format : Format) (given : ℕ) (bytes : List ℕ) → length bytes ≡ 0 → next_of limit format given bytes ≡ Stands (Open AtBoundary)
 unfolding next_of
-at_boundary format given bytes none = grind (arith, common_steps)
+at_boundary limit format given bytes none = grind (arith, common_steps)
 
-pub too_many : (format : Format) (given : ℕ) (bytes : List ℕ) → 0 < length bytes → 4194304 ≤ given → next_of format given bytes ≡ Stands (Closed TooManyPackets)
+pub too_many : (limit : ℕ) (format : Format) (given : ℕ) (bytes : List ℕ) → 0 < length bytes → limit ≤ given → next_of limit format given bytes ≡ Stands (Closed TooManyPackets)
 unfolding next_of
-too_many format given bytes some many = grind (arith, common_steps)
+too_many limit format given bytes some many = grind (arith, common_steps)
 
-pub in_record_header : (format : Format) (given : ℕ) (bytes : List ℕ) → 0 < length bytes → given < 4194304 → length bytes < 16 → next_of format given bytes ≡ Stands (Open InRecordHeader)
+pub in_record_header : (limit : ℕ) (format : Format) (given : ℕ) (bytes : List ℕ) → 0 < length bytes → given < limit → length bytes < 16 → next_of limit format given bytes ≡ Stands (Open InRecordHeader)
 unfolding next_of
-in_record_header format given bytes some few short = grind (arith, common_steps)
+in_record_header limit format given bytes some few short = grind (arith, common_steps)
 
-pub too_long : (format : Format) (given : ℕ) (bytes : List ℕ) → given < 4194304 → 16 ≤ length bytes → 262144 < captured_length format bytes → next_of format given bytes ≡ Stands (Closed RecordTooLong)
+pub too_long : (limit : ℕ) (format : Format) (given : ℕ) (bytes : List ℕ) → given < limit → 16 ≤ length bytes → 262144 < captured_length format bytes → next_of limit format given bytes ≡ Stands (Closed RecordTooLong)
 unfolding next_of
-too_long format given bytes few whole long = grind (arith, common_steps)
+too_long limit format given bytes few whole long = grind (arith, common_steps)
 
-pub in_record : (format : Format) (given : ℕ) (bytes : List ℕ) → given < 4194304 → 16 ≤ length bytes → captured_length format bytes ≤ 262144 → length bytes < 16 + captured_length format bytes
-    → next_of format given bytes ≡ Stands (Open InRecord)
+pub in_record : (limit : ℕ) (format : Format) (given : ℕ) (bytes : List ℕ) → given < limit → 16 ≤ length bytes → captured_length format bytes ≤ 262144 → length bytes < 16 + captured_length format bytes
+    → next_of limit format given bytes ≡ Stands (Open InRecord)
 unfolding next_of
-in_record format given bytes few whole fits short = grind (arith, common_steps)
+in_record limit format given bytes few whole fits short = grind (arith, common_steps)
 
-pub took : (format : Format) (given : ℕ) (bytes : List ℕ) (size : ℕ) → given < 4194304 → captured_length format bytes ≤ 262144 → size ≡ 16 + captured_length format bytes → size ≤ length bytes
-    → next_of format given bytes ≡ Took (record_of format (take size bytes)) (drop size bytes)
+pub took : (limit : ℕ) (format : Format) (given : ℕ) (bytes : List ℕ) (size : ℕ) → given < limit → captured_length format bytes ≤ 262144 → size ≡ 16 + captured_length format bytes → size ≤ length bytes
+    → next_of limit format given bytes ≡ Took (record_of format (take size bytes)) (drop size bytes)
 unfolding next_of
-took format given bytes size few fits is whole = grind (arith, common_steps)
+took limit format given bytes size few fits is whole = grind (arith, common_steps)
 
 -- a number stays where more bytes come behind it
 pub number_at-append : (order : ByteOrder) (at : ℕ) (xs ys : List ℕ) → at + 4 ≤ length xs → number_at order w32 at (xs ++ ys) ≡ number_at order w32 at xs
@@ -47,11 +47,11 @@ pub captured_length-grown : (format : Format) (held heldAfter got : List ℕ) �
 captured_length-grown format held heldAfter got h e = ap (captured_length format) e ∙ number_at-append format.order 8 held got (omega arith)
 
 -- how a reader stops there
-pub stops_failed : {atEnd failed : Type 0} (format : Format) (given : ℕ) (bytes : List ℕ) (place : OpenPlace) → next_of format given bytes ≡ Stands (Open place) → failed → StopsBefore atEnd failed format given bytes (Some ReadFault)
-stops_failed format given bytes place e h = (Open place, e, inr (h, refl))
+pub stops_failed : {atEnd failed : Type 0} (limit : ℕ) (format : Format) (given : ℕ) (bytes : List ℕ) (place : OpenPlace) → next_of limit format given bytes ≡ Stands (Open place) → failed → StopsBefore atEnd failed limit format given bytes (Some ReadFault)
+stops_failed limit format given bytes place e h = (Open place, e, inr (h, refl))
 
-pub stops_at_end : {atEnd failed : Type 0} (format : Format) (given : ℕ) (bytes : List ℕ) (place : OpenPlace) → next_of format given bytes ≡ Stands (Open place) → atEnd → StopsBefore atEnd failed format given bytes (at_end place)
-stops_at_end format given bytes place e h = (Open place, e, inl (h, refl))
+pub stops_at_end : {atEnd failed : Type 0} (limit : ℕ) (format : Format) (given : ℕ) (bytes : List ℕ) (place : OpenPlace) → next_of limit format given bytes ≡ Stands (Open place) → atEnd → StopsBefore atEnd failed limit format given bytes (at_end place)
+stops_at_end limit format given bytes place e h = (Open place, e, inl (h, refl))
 
 -- a wish that was granted or not
 pub granted : (P Q : Type 0) (b : Bool) → MatchBool b P Q → b ≡ true → P

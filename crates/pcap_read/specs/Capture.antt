@@ -5,14 +5,14 @@ use Rattle.std.specs.Io.KnownBytes.{Consumes, IsAtEnd}
 use Rattle.fw_base.specs.Faults.{Rose}
 use Rattle.fw_base.specs.declared.link.Link.{Link}
 use Rattle.pcap_read.specs.declared.capture_fault.CaptureFault.{CaptureFault}
-use Rattle.pcap_read.specs.declared.capture_fault.CaptureFault.TheVariants.{ReadFault, OutOfMemory}
+use Rattle.pcap_read.specs.declared.capture_fault.CaptureFault.TheVariants.{OutOfMemory}
 use Rattle.pcap_read.specs.declared.capture.Capture.{Capture}
 use Rattle.pcap_read.specs.declared.format.Format.{Format}
 use Rattle.pcap_read.specs.declared.open_fault.OpenFault.{OpenFault}
 use Rattle.pcap_read.specs.declared.record.Record.{Record}
 use Rattle.pcap_read.specs.declared.stop.Stop.{Stop}
 use Rattle.pcap_read.specs.declared.stop.Stop.TheVariants.{End, Fault}
-use Rattle.pcap_read.specs.Causes.{HasOwnCause}
+use Rattle.pcap_read.specs.Causes.{HasOwnCause, TellsFailedRead}
 use Rattle.pcap_read.specs.Reading.{Captured, header_of, record_of, Gives, StopsBehind}
 
 -- a record that was lent, as its bytes told it
@@ -62,6 +62,10 @@ module _ {S : Type 0} where
   abbrev pub link_of : Capture S → Link
   link_of c = c.format.link
 
+  -- how many records it gives at most
+  abbrev pub limit_of : Capture S → ℕ
+  limit_of c = c.limit
+
   -- how many records it gave
   abbrev pub given_of : Capture S → ℕ
   given_of c = c.given
@@ -78,57 +82,65 @@ module _ {S : Type 0} where
   abbrev pub stop_of : Capture S → Option (Option CaptureFault)
   stop_of c = option_map stopped_with c.stop
 
-  -- It goes on. These are all the bytes that it took from its source, and these all the records it gave.
-  pub record IsReading (c : Capture S) (bytes : List ℕ) (records : List Captured) : Type 0 where
-    pub running : stop_of c ≡ None
-    pub whole : 24 ≤ length bytes
-    pub header : header_of (take 24 bytes) ≡ Ok (format_of c)
-    pub gives : Gives (format_of c) 0 (drop 24 bytes) records (held_of c)
-    pub count : given_of c ≡ length records
-
   module _ (left : S → Option (List ℕ)) (faults : S → ℕ) where
-    -- a reader with a source stops so, behind these bytes and records; the source was this one at its last call
-    abbrev pub StopsWith : S → S → List ℕ → List Captured → ℕ → Option CaptureFault → Type 0
-    StopsWith before now bytes records number stop = StopsBehind (IsAtEnd (left now)) (Rose (faults before) (faults now)) bytes records number stop
+    -- It was opened on that source and goes on. These are all the bytes that it took, and these all the
+    -- records it gave. No read failed.
+    pub record IsReading (source : S) (c : Capture S) (bytes : List ℕ) (records : List Captured) : Type 0 where
+      pub running : stop_of c ≡ None
+      pub taken : Consumes (left source) (left (source_of c)) bytes
+      pub steady : faults (source_of c) ≡ faults source
+      pub whole : 24 ≤ length bytes
+      pub header : header_of (take 24 bytes) ≡ Ok (format_of c)
+      pub gives : Gives (limit_of c) (format_of c) 0 (drop 24 bytes) records (held_of c)
+      pub count : given_of c ≡ length records
+
+    -- A reader of at most `limit` records that was opened on the source as it was `before` took these bytes,
+    -- gave these records and stopped so, at the record of that number. It leaves the source as it is `now`.
+    pub record StopsWith (limit : ℕ) (before now : S) (bytes : List ℕ) (records : List Captured) (number : ℕ) (stop : Option CaptureFault) : Type 0 where
+      pub taken : Consumes (left before) (left now) bytes
+      pub behind : StopsBehind (IsAtEnd (left now)) (Rose (faults before) (faults now)) limit bytes records number stop
+      pub cause : TellsFailedRead (faults before) (faults now) stop
 
     -- a capture was opened: it took a header from the source and gave no record
-    pub record IsOpened (source : S) (c : Capture S) : Type 0 where
-      pub reading : (bytes : List ℕ) × Consumes (left source) (left (source_of c)) bytes × IsReading c bytes []
+    pub record IsOpened (most : ℕ) (source : S) (c : Capture S) : Type 0 where
+      pub reading : (bytes : List ℕ) × IsReading source c bytes []
+      pub limit : limit_of c ≡ most
       pub current : current_of c ≡ None
-      pub later : faults source ≤ faults (source_of c)
 
     -- a source is no capture, for the fault that stands in its header; or there was no memory, and then nothing was read
-    pub record IsRefused (source : S) (refused : OpenFault S) : Type 0 where
+    pub record IsRefused (limit : ℕ) (source : S) (refused : OpenFault S) : Type 0 where
       pub cause : ((refused.fault ≡ OutOfMemory) × (refused.source ≡ source))
-          ⊎ ((bytes : List ℕ) × Consumes (left source) (left refused.source) bytes × StopsWith source refused.source bytes [] 0 (Some refused.fault))
-      pub failed_read : refused.fault ≡ ReadFault → Rose (faults source) (faults refused.source)
+          ⊎ ((bytes : List ℕ) × StopsWith limit source refused.source bytes [] 0 (Some refused.fault))
       pub no_memory : refused.fault ≡ OutOfMemory → refused.source ≡ source
+      pub failed_read : TellsFailedRead (faults source) (faults refused.source) (Some refused.fault)
       pub later : faults source ≤ faults refused.source
 
     -- one more record of the bytes so far and those that came, or the place where they end
     abbrev pub Continues : Capture S → Capture S → Result (Option Captured) CaptureFault → Type 0
-    Continues old new answer = (bytes : List ℕ) (records : List Captured) → IsReading old bytes records
-        → (got : List ℕ) × Consumes (left (source_of old)) (left (source_of new)) got × MatchResult answer
+    Continues old new answer = (source : S) (bytes : List ℕ) (records : List Captured) → IsReading source old bytes records
+        → (got : List ℕ) × MatchResult answer
         (λ found. MatchOption found
-        (StopsWith (source_of old) (source_of new) (bytes ++ got) records (length records + 1) None)
-        (λ r. IsReading new (bytes ++ got) (records ++ r ∷ [])))
-        (λ fault. StopsWith (source_of old) (source_of new) (bytes ++ got) records (length records + 1) (Some fault))
+        (StopsWith (limit_of old) source (source_of new) (bytes ++ got) records (length records + 1) None)
+        (λ r. IsReading source new (bytes ++ got) (records ++ r ∷ [])))
+        (λ fault. StopsWith (limit_of old) source (source_of new) (bytes ++ got) records (length records + 1) (Some fault))
 
     -- what `next` does
     pub record Advances (old new : Capture S) (answer : Result (Option Captured) CaptureFault) : Type 0 where
       pub continues : Continues old new answer
       -- a capture that stopped answers the same again, and leaves its source
       pub again : IfSome (stop_of old) (λ stop. (answer ≡ answer_at stop) × (source_of new ≡ source_of old))
-      -- one that goes on tells a failing read only where there was one, and never want of memory
-      pub cause : stop_of old ≡ None → HasOwnCause (Rose (faults (source_of old)) (faults (source_of new))) answer
+      -- One that goes on tells a failing read exactly where a read failed: a record, an end or another fault
+      -- comes only where the source's count of faults stood still. It never tells want of memory.
+      pub cause : stop_of old ≡ None → HasOwnCause (faults (source_of old)) (faults (source_of new)) answer
       pub stop : stop_of new ≡ stop_by answer
       pub current : current_of new ≡ record_in answer
       pub link : link_of new ≡ link_of old
-      pub counts : MatchOption (record_in answer) (given_of new ≡ given_of old) (λ _. (given_of new ≡ given_of old + 1) × (given_of new ≤ 4194304))
+      pub limit : limit_of new ≡ limit_of old
+      pub counts : MatchOption (record_in answer) (given_of new ≡ given_of old) (λ _. (given_of new ≡ given_of old + 1) × (given_of new ≤ limit_of old))
       pub later : faults (source_of old) ≤ faults (source_of new)
 
     -- The bytes behind those of a capture that goes on were read to the place where they end, and gave so many more records.
     abbrev pub Finishes : Capture S → Capture S → ℕ → Option CaptureFault → Type 0
-    Finishes old new count stop = (bytes : List ℕ) (records : List Captured) → IsReading old bytes records
-        → (got : List ℕ) × Consumes (left (source_of old)) (left (source_of new)) got × (more : List Captured) × (length more ≡ count)
-        × StopsWith (source_of old) (source_of new) (bytes ++ got) (records ++ more) (length (records ++ more) + 1) stop
+    Finishes old new count stop = (source : S) (bytes : List ℕ) (records : List Captured) → IsReading source old bytes records
+        → (got : List ℕ) × (more : List Captured) × (length more ≡ count)
+        × StopsWith (limit_of old) source (source_of new) (bytes ++ got) (records ++ more) (length (records ++ more) + 1) stop

@@ -15,4 +15,4 @@ pub record HasHeader (bytes held : List ℕ) (format : Format) : Type 0 where
 abbrev pub TakesHeader : (left leftAfter : Option (List ℕ)) (failed : Type 0) → List ℕ → Result Format CaptureFault → Type 0
 TakesHeader left leftAfter failed held result = (bytes : List ℕ) × Consumes left leftAfter bytes × MatchResult result
     (HasHeader bytes held)
-    (λ fault. StopsBehind (IsAtEnd leftAfter) failed bytes [] 0 (Some fault))
+    (λ fault. (limit : ℕ) → StopsBehind (IsAtEnd leftAfter) failed limit bytes [] 0 (Some fault))

@@ -102,31 +102,32 @@ pub data Next : Type 0 where
   Took : Captured → List ℕ → Next
   Stands : Place → Next
 
--- Behind the header or a record, of which there were `given` so far.
-unfoldable pub next_of : Format → ℕ → List ℕ → Next
-next_of format given bytes =
+-- Behind the header or a record, of which there were `given` so far. No more than `limit` records are read.
+unfoldable pub next_of : ℕ → Format → ℕ → List ℕ → Next
+next_of limit format given bytes =
     if length bytes == 0 then Stands (Open AtBoundary)
-    else if nat_le 4194304 given then Stands (Closed TooManyPackets)
+    else if nat_le limit given then Stands (Closed TooManyPackets)
     else if nat_lt (length bytes) 16 then Stands (Open InRecordHeader)
     else if nat_lt 262144 (captured_length format bytes) then Stands (Closed RecordTooLong)
     else if nat_lt (length bytes) (16 + captured_length format bytes) then Stands (Open InRecord)
     else Took (record_of format (take (16 + captured_length format bytes) bytes)) (drop (16 + captured_length format bytes) bytes)
 
 -- these are the next records, and `rest` are the bytes behind them
-abbrev pub Gives : Format → ℕ → List ℕ → List Captured → List ℕ → Type 0
-Gives format given bytes [] rest = bytes ≡ rest
-Gives format given bytes (r ∷ rs) rest = (more : List ℕ) × (next_of format given bytes ≡ Took r more) × Gives format (given + 1) more rs rest
+abbrev pub Gives : ℕ → Format → ℕ → List ℕ → List Captured → List ℕ → Type 0
+Gives limit format given bytes [] rest = bytes ≡ rest
+Gives limit format given bytes (r ∷ rs) rest = (more : List ℕ) × (next_of limit format given bytes ≡ Took r more) × Gives limit format (given + 1) more rs rest
 
 -- the records behind a header, and the place where they end
-abbrev pub EndsAt : Format → List ℕ → List Captured → Place → Type 0
-EndsAt format bytes records place = (rest : List ℕ) × Gives format 0 bytes records rest × (next_of format (length records) rest ≡ Stands place)
+abbrev pub EndsAt : ℕ → Format → List ℕ → List Captured → Place → Type 0
+EndsAt limit format bytes records place = (rest : List ℕ) × Gives limit format 0 bytes records rest × (next_of limit format (length records) rest ≡ Stands place)
 
--- The front of a string of bytes: its records, and the place where they end.
-abbrev pub HasFront : List ℕ → List Captured → Place → Type 0
-HasFront bytes records place = MatchBool (nat_lt (length bytes) 24)
+-- The front of a string of bytes, of which no more than `limit` records are read: its records, and the
+-- place where they end.
+abbrev pub HasFront : ℕ → List ℕ → List Captured → Place → Type 0
+HasFront limit bytes records place = MatchBool (nat_lt (length bytes) 24)
     ((records ≡ []) × (place ≡ Open InHeader))
     (MatchResult (header_of (take 24 bytes))
-    (λ format. EndsAt format (drop 24 bytes) records place)
+    (λ format. EndsAt limit format (drop 24 bytes) records place)
     (λ fault. (records ≡ []) × (place ≡ Closed fault)))
 
 -- what an open place is at the end of the input; None is the end of a whole capture
@@ -143,8 +144,8 @@ Stops atEnd failed (Closed fault) stop = stop ≡ Some fault
 Stops atEnd failed (Open place) stop = (atEnd × (stop ≡ at_end place)) ⊎ (failed × (stop ≡ Some ReadFault))
 
 -- a reader whose next bytes are these, behind so many records, stops so
-abbrev pub StopsBefore : (atEnd failed : Type 0) → Format → ℕ → List ℕ → Option CaptureFault → Type 0
-StopsBefore atEnd failed format given bytes stop = (place : Place) × (next_of format given bytes ≡ Stands place) × Stops atEnd failed place stop
+abbrev pub StopsBefore : (atEnd failed : Type 0) → ℕ → Format → ℕ → List ℕ → Option CaptureFault → Type 0
+StopsBefore atEnd failed limit format given bytes stop = (place : Place) × (next_of limit format given bytes ≡ Stands place) × Stops atEnd failed place stop
 
 -- the number of the record at whose place they end: 0 in the header, else one more than there are records
 unfoldable pub place_number : List ℕ → List Captured → ℕ
@@ -155,5 +156,5 @@ place_number bytes records = if nat_lt (length bytes) 24 then 0 else behind (hea
     behind (Ok format) = length records + 1
 
 -- a reader that took these bytes and gave these records stops so, at the record of that number
-abbrev pub StopsBehind : (atEnd failed : Type 0) → List ℕ → List Captured → ℕ → Option CaptureFault → Type 0
-StopsBehind atEnd failed bytes records number stop = (place : Place) × HasFront bytes records place × Stops atEnd failed place stop × (place_number bytes records ≡ number)
+abbrev pub StopsBehind : (atEnd failed : Type 0) → ℕ → List ℕ → List Captured → ℕ → Option CaptureFault → Type 0
+StopsBehind atEnd failed limit bytes records number stop = (place : Place) × HasFront limit bytes records place × Stops atEnd failed place stop × (place_number bytes records ≡ number)

@@ -25,13 +25,15 @@ pub struct Capture<S> {
     window: Window,
     /// How many bytes the record that was given last takes; 0 where the last call gave none.
     size: usize,
+    /// How many records are given at most.
+    limit: u32,
     /// How many records were given.
     given: u32,
     stop: Option<Stop>,
     ghost within: { size ≤ length window },
     ghost most: { size ≤ 262160 },
     ghost header: { 0 < size → 16 ≤ size },
-    ghost few: { given ≤ 4194304 },
+    ghost few: { given ≤ limit },
     ghost stopped: { is_some stop ≡ true → size ≡ 0 },
 }
 
@@ -41,16 +43,21 @@ impl<S: Source> Capture<S> {
     ghost use Rattle.pcap_read.specs.contracts.capture.Capture.{the_row};
     ghost use Rattle.pcap_read.specs.Capture.{IsOpened, IsRefused, Advances, captured, told, answered, source_of, current_of, link_of};
 
-    /// Takes the buffer and reads the header. On a fault the source is given back.
+    /// Takes the buffer and reads the header; `limit`, 1 to 4,194,304, is how many records are given at
+    /// most. On a fault the source is given back.
     ///
     /// Faults, tested in this order: fewer than 24 bytes, an unknown magic number, a version other than
     /// 2.4, an unknown link type. Besides, the source may fail, and memory may run out before anything
     /// is read.
-    pub fn open(alloc: Global, source: S) -> Result<Capture<S>, OpenFault<S>>
-        ensures { MatchResult result (IsOpened S.left S.faults source) (IsRefused S.left S.faults source) }
+    pub fn open(alloc: Global, source: S, limit: u32) -> Result<Capture<S>, OpenFault<S>>
+        requires some { 1 ≤ limit }
+        requires most { limit ≤ 4194304 }
+        ensures { MatchResult result
+            (IsOpened S.left S.faults limit source)
+            (IsRefused S.left S.faults limit source) }
     {
         match Window::new(alloc) {
-            Ok(window) => Capture::begin(window, source),
+            Ok(window) => Capture::begin(window, source, limit),
             Err(error) => Err(OpenFault {
                 fault: CaptureFault::from(error),
                 source,
@@ -59,9 +66,11 @@ impl<S: Source> Capture<S> {
     }
 
     /// Reads the header into an empty window.
-    fn begin(mut window: Window, mut source: S) -> Result<Capture<S>, OpenFault<S>>
+    fn begin(mut window: Window, mut source: S, limit: u32) -> Result<Capture<S>, OpenFault<S>>
         requires { window ≡ [] }
-        ensures { MatchResult result (IsOpened S.left S.faults source) (IsRefused S.left S.faults source) }
+        ensures { MatchResult result
+            (IsOpened S.left S.faults limit source)
+            (IsRefused S.left S.faults limit source) }
     {
         match take_header(&mut window, &mut source) {
             Ok(format) => Ok(Capture {
@@ -69,6 +78,7 @@ impl<S: Source> Capture<S> {
                 format,
                 window,
                 size: 0,
+                limit,
                 given: 0,
                 stop: None,
             }),
@@ -80,9 +90,10 @@ impl<S: Source> Capture<S> {
     /// lent from the buffer. After a fault each further call answers the same fault, and after the end
     /// each answers `None`.
     ///
-    /// Faults, tested in this order: a byte behind the 4,194,304th record, an end 1 to 15 bytes into a
-    /// record's header, a captured length above 262,144, an end in a record's bytes. Besides, the source
-    /// may fail: records that were read whole before are given first.
+    /// Faults, tested in this order: a byte behind as many records as are given at most, an end 1 to 15
+    /// bytes into a record's header, a captured length above 262,144, an end in a record's bytes. Besides,
+    /// the source may fail: records that were read whole before are given first, and no read is made
+    /// after a failing one.
     pub fn next(&mut self) -> Result<Option<Record<'_>>, CaptureFault>
         ensures small { IfOk result (λ found. IfSome found (λ r. length r.bytes.now ≤ 262144)) }
         ensures* advances { sem 𝓛 (Rests (the_row S.row) self.entry (λ new. Advances S.left S.faults self.old new (told result))) }
@@ -115,7 +126,13 @@ impl<S: Source> Capture<S> {
         }
         self.window.skip(self.size);
         self.size = 0;
-        match find_record(&mut self.window, &mut self.source, self.format, self.given) {
+        match find_record(
+            &mut self.window,
+            &mut self.source,
+            self.format,
+            self.limit,
+            self.given,
+        ) {
             Ok(Some(size)) => {
                 self.size = size;
                 self.given += 1;

@@ -23,7 +23,7 @@ pub enum CaptureFault {
     RecordTooLong,
     /// The capture ends before a record's captured bytes do.
     ShortRecord,
-    /// A byte follows the 4,194,304th record.
+    /// A byte follows the last of the records that are read at most.
     TooManyPackets,
     /// The source failed: its count of faults rose.
     ReadFault,
@@ -63,9 +63,9 @@ impl fmt::Display for CaptureFault {
             CaptureFault::ShortRecordHeader => f.write_str("the capture ends in a record's header"),
             CaptureFault::RecordTooLong => f.write_str("a record is longer than 262,144 bytes"),
             CaptureFault::ShortRecord => f.write_str("the capture ends in a record"),
-            CaptureFault::TooManyPackets => {
-                f.write_str("the capture has more than 4,194,304 records")
-            }
+            CaptureFault::TooManyPackets => f.write_str(
+                "the capture has more records than are read",
+            ),
             CaptureFault::ReadFault => f.write_str("the capture could not be read"),
             CaptureFault::OutOfMemory => f.write_str("out of memory"),
         }

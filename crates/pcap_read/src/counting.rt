@@ -1,4 +1,4 @@
-ghost use Rattle.std.specs.Prelude.{◌≡◌, ℕ, List, Some, IfOk, IfErr};
+ghost use Rattle.std.specs.Prelude.{◌≡◌, ◌≤◌, ℕ, List, Some, IfOk, IfErr};
 ghost use Rattle.pcap_read.specs.Capture.{Finishes, IsRefused};
 ghost use Rattle.pcap_read.specs.Counting.{IsCounted, IsExact, IsExactFault};
 
@@ -9,17 +9,25 @@ use crate::open_fault::OpenFault;
 use fw_base::Source;
 use std::alloc::Global;
 
-/// Reads a source as a capture to the place where its records end, and counts them.
-pub fn count_records<S: Source>(alloc: Global, source: S) -> Result<Counted<S>, OpenFault<S>>
+/// Reads a source as a capture of at most `limit` records, 1 to 4,194,304, to the place where they end, and
+/// counts them.
+pub fn count_records<S: Source>(
+    alloc: Global,
+    source: S,
+    limit: u32,
+) -> Result<Counted<S>, OpenFault<S>>
+    requires some { 1 ≤ limit }
+    requires most { limit ≤ 4194304 }
+
     // The bytes that it took have so many records, and a reader stops so behind them.
-    ensures counted { IfOk result (IsCounted S.left S.faults source) }
-    ensures refused { IfErr result (IsRefused S.left S.faults source) }
+    ensures counted { IfOk result (IsCounted S.left S.faults limit source) }
+    ensures refused { IfErr result (IsRefused S.left S.faults limit source) }
 
     // Where the source tells its bytes and didn't fail, the count and the fault are those of all of them.
-    ensures exact { (whole : List ℕ) → S.left source ≡ Some whole → IfOk result (IsExact whole) }
-    ensures exact_fault { (whole : List ℕ) → S.left source ≡ Some whole → IfErr result (IsExactFault whole) }
+    ensures exact { (whole : List ℕ) → S.left source ≡ Some whole → IfOk result (IsExact limit whole) }
+    ensures exact_fault { (whole : List ℕ) → S.left source ≡ Some whole → IfErr result (IsExactFault limit whole) }
 {
-    match Capture::open(alloc, source) {
+    match Capture::open(alloc, source, limit) {
         Ok(mut capture) => {
             let (records, fault) = count_rest(&mut capture);
             Ok(Counted {

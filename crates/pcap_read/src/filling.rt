@@ -1,4 +1,4 @@
-ghost use Rattle.std.specs.Prelude.{◌≡◌, ◌≤◌, length, true, IfOk};
+ghost use Rattle.std.specs.Prelude.{◌≡◌, ◌≤◌, length, true, IfOk, OnOk};
 ghost use Rattle.fw_base.specs.Faults.{HasCause};
 ghost use Rattle.pcap_read.specs.Window.{Fills};
 
@@ -16,6 +16,7 @@ pub(crate) fn fill<S: Source>(
     ensures fills { Fills (S.left source.old) (S.left source.new) window.old window.new wanted result }
     ensures enough { IfOk result (λ enough. enough ≡ true → wanted ≤ length window.new) }
     ensures cause { HasCause (S.faults source.old) (S.faults source.new) result }
+    ensures steady { OnOk result (S.faults source.new ≡ S.faults source.old) }
 {
     while window.len() < wanted {
         if window.refill(source)? == 0 {

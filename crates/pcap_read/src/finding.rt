@@ -15,29 +15,28 @@ use fw_base::Source;
 /// The length of a record's header.
 pub(crate) const RECORD_HEADER_LENGTH: usize = 16;
 
-/// How many records a capture has at most.
-const MOST_RECORDS: u32 = 4_194_304;
-
 /// How many captured bytes a record has at most.
 const MOST_CAPTURED: u32 = 262_144;
 
 /// Reads until the next record is whole at the front of the window. Answers how many bytes it takes
-/// with its header, or `None` at the end of the capture.
+/// with its header, or `None` at the end of the capture. Of `limit` records `given` were given before.
 pub(crate) fn find_record<S: Source>(
     window: &mut Window,
     source: &mut S,
     format: Format,
+    limit: u32,
     given: u32,
 ) -> Result<Option<usize>, CaptureFault>
     ensures grows { Grows (S.left source.old) (S.left source.new) window.old window.new }
     ensures later { S.faults source.old ≤ S.faults source.new }
-    ensures cause { HasOwnCause (Rose (S.faults source.old) (S.faults source.new)) result }
-    ensures finds { Finds (IsAtEnd (S.left source.new)) (Rose (S.faults source.old) (S.faults source.new)) format given window.new result }
+    ensures cause { HasOwnCause (S.faults source.old) (S.faults source.new) result }
+    ensures finds { Finds (IsAtEnd (S.left source.new)) (Rose (S.faults source.old) (S.faults source.new))
+        limit format given window.new result }
 {
     if !fill(window, source, 1)? {
         return Ok(None);
     }
-    if given >= MOST_RECORDS {
+    if given >= limit {
         return Err(CaptureFault::TooManyPackets);
     }
     if !fill(window, source, RECORD_HEADER_LENGTH)? {

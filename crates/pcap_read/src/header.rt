@@ -1,5 +1,5 @@
 ghost use Rattle.std.specs.Prelude.{◌≡◌, ◌≤◌, length, take};
-ghost use Rattle.pcap_read.specs.Causes.{HasOwnCause};
+ghost use Rattle.pcap_read.specs.Causes.{IsFaultOfBytes};
 ghost use Rattle.pcap_read.specs.Reading as spec;
 
 use crate::byte_order::ByteOrder;
@@ -45,7 +45,7 @@ fn link_of(number: u32) -> Option<Link>
 fn header_in(order: ByteOrder, fraction: Fraction, bytes: &[u8]) -> Result<Format, CaptureFault>
     requires { 24 ≤ length bytes.now }
     ensures value { result ≡ spec.header_in order fraction bytes.now }
-    ensures cause { HasOwnCause ⊥ result }
+    ensures cause { IsFaultOfBytes result }
 {
     if u16_at(order, 4, bytes) == 2 && u16_at(order, 6, bytes) == 4 {
         match link_of(u32_at(order, 20, bytes)) {
@@ -65,7 +65,7 @@ fn header_in(order: ByteOrder, fraction: Fraction, bytes: &[u8]) -> Result<Forma
 pub(crate) fn read_header(bytes: &[u8]) -> Result<Format, CaptureFault>
     requires { 24 ≤ length bytes.now }
     ensures value { result ≡ spec.header_of (take 24 bytes.now) }
-    ensures cause { HasOwnCause ⊥ result }
+    ensures cause { IsFaultOfBytes result }
 {
     let (header, _) = bytes.split_at(HEADER_LENGTH);
     header_of(header)
@@ -76,7 +76,7 @@ pub(crate) fn read_header(bytes: &[u8]) -> Result<Format, CaptureFault>
 fn header_of(bytes: &[u8]) -> Result<Format, CaptureFault>
     requires { 24 ≤ length bytes.now }
     ensures value { result ≡ spec.header_of bytes.now }
-    ensures cause { HasOwnCause ⊥ result }
+    ensures cause { IsFaultOfBytes result }
 {
     match fraction_of(u32_at(ByteOrder::Little, 0, bytes)) {
         Some(fraction) => header_in(ByteOrder::Little, fraction, bytes),

@@ -17,8 +17,9 @@ pub(crate) fn take_header<S: Source>(
     source: &mut S,
 ) -> Result<Format, CaptureFault>
     requires { window.old ≡ [] }
-    ensures takes { TakesHeader (S.left source.old) (S.left source.new) (Rose (S.faults source.old) (S.faults source.new)) window.new result }
-    ensures cause { HasOwnCause (Rose (S.faults source.old) (S.faults source.new)) result }
+    ensures takes { TakesHeader (S.left source.old) (S.left source.new)
+        (Rose (S.faults source.old) (S.faults source.new)) window.new result }
+    ensures cause { HasOwnCause (S.faults source.old) (S.faults source.new) result }
     ensures later { S.faults source.old ≤ S.faults source.new }
 {
     if !fill(window, source, HEADER_LENGTH)? {

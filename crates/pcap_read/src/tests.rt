@@ -8,6 +8,9 @@ use std::test::Fail;
 /// The sizes in which sources give their bytes.
 const PIECES: [&[usize]; 3] = [&[1], &[7, 16], &[]];
 
+/// How many records a capture has at most, where a test says nothing else.
+const MOST: u32 = 4_194_304;
+
 /// The number of the record at which a capture stops, and its fault, or none at the end.
 type Stopped = (u32, Option<CaptureFault>);
 
@@ -95,7 +98,7 @@ fn stop_of(
     pieces: &[usize],
     cut: Option<u64>,
 ) -> Result<Stopped, AllocError> {
-    match count_records(alloc, source_of(alloc, bytes, pieces, cut)?) {
+    match count_records(alloc, source_of(alloc, bytes, pieces, cut)?, MOST) {
         Ok(counted) => Ok((counted.records.saturating_add(1), counted.fault)),
         Err(refused) => Ok((0, Some(refused.fault))),
     }
@@ -161,7 +164,7 @@ fn cooked_capture_is_read(rt: HostRuntime) -> Result<(), Fail> {
     let bytes = cooked_capture(rt.alloc())?;
     for pieces in PIECES {
         let source = source_of(rt.alloc(), &bytes, pieces, None)?;
-        let capture = Capture::open(rt.alloc(), source).map_err(|refused| refused.fault)?;
+        let capture = Capture::open(rt.alloc(), source, MOST).map_err(|refused| refused.fault)?;
         assert_eq!(rt; capture.link(), Link::Cooked);
         has_one_record(&rt, capture, &cooked(rt.alloc())?)?;
     }
@@ -188,13 +191,45 @@ fn has_one_record<S: Source>(
     Ok(())
 }
 
+/// A raw capture of three records of one byte.
+fn three_raw_records(alloc: Global) -> Result<Vec<u8>, AllocError> {
+    let mut bytes = Vec::from_slice(
+        alloc,
+        b"\xd4\xc3\xb2\xa1\x02\x00\x04\x00\x00\x00\x00\x00\x00\x00\x00\x00\x00\x00\x04\x00\x65\x00\x00\x00".as_slice(),
+    )?;
+    for _ in 0..3 {
+        bytes.extend_from_slice(b"\x64\0\0\0\0\0\0\0\x01\0\0\0\x01\0\0\0\x45".as_slice())?;
+    }
+    Ok(bytes)
+}
+
+#[test]
+fn capture_limit_of_two(rt: HostRuntime) -> Result<(), Fail> {
+    let bytes = three_raw_records(rt.alloc())?;
+    for (limit, records, fault) in [
+        (1, 1, Some(CaptureFault::TooManyPackets)),
+        (2, 2, Some(CaptureFault::TooManyPackets)),
+        (3, 3, None),
+        (MOST, 3, None),
+    ] {
+        let source = source_of(rt.alloc(), &bytes, &[7, 16], None)?;
+        let counted = count_records(rt.alloc(), source, limit).map_err(|refused| refused.fault)?;
+        assert_eq!(rt;
+            (counted.records, counted.fault),
+            (records, fault),
+            "limit {limit}"
+        );
+    }
+    Ok(())
+}
+
 #[test]
 fn read_fault_between_records(rt: HostRuntime) -> Result<(), Fail> {
     let bytes = two_records(rt.alloc())?;
     let frame = frame(rt.alloc())?;
     for pieces in PIECES {
         let source = source_of(rt.alloc(), &bytes, pieces, Some(94))?;
-        let mut capture = Capture::open(rt.alloc(), source).map_err(|refused| refused.fault)?;
+        let mut capture = Capture::open(rt.alloc(), source, MOST).map_err(|refused| refused.fault)?;
         let record = capture.next()?.ok_or("a record")?;
         assert_eq!(rt; record.bytes, frame.as_slice());
         for _ in 0..2 {
@@ -236,7 +271,7 @@ fn greatest_nanos(alloc: Global, magic: &[u8]) -> Result<u64, Fail> {
         b"\x02\0\x04\0\0\0\0\0\0\0\0\0\0\0\x04\0\x65\0\0\0\x09\0\0\0\xff\xff\xff\xff\0\0\0\0\0\0\0\0".as_slice(),
     )?;
     let source = source_of(alloc, &bytes, &[], None)?;
-    let mut capture = Capture::open(alloc, source).map_err(|refused| refused.fault)?;
+    let mut capture = Capture::open(alloc, source, MOST).map_err(|refused| refused.fault)?;
     Ok(capture.next()?.ok_or("a record")?.nanos)
 }
 

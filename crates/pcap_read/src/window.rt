@@ -1,4 +1,4 @@
-ghost use Rattle.std.specs.Prelude.{◌≡◌, ◌+◌, ◌-◌, ◌<◌, ◌≤◌, [], length, take, drop, slice_range, IfOk, OnErr, vec_len};
+ghost use Rattle.std.specs.Prelude.{◌≡◌, ◌+◌, ◌-◌, ◌<◌, ◌≤◌, [], length, take, drop, slice_range, IfOk, OnOk, OnErr, vec_len};
 ghost use Rattle.std.specs.Io.KnownBytes.{Keeps, Consumes, IsAtEnd};
 ghost use Rattle.fw_base.specs.Faults.{HasCause};
 ghost use Rattle.pcap_read.specs.Window.{Refills};
@@ -79,6 +79,7 @@ impl Window {
         requires { length self.old < 262160 }
         ensures refills { Refills (S.left source.old) (S.left source.new) self.old self.new result }
         ensures cause { HasCause (S.faults source.old) (S.faults source.new) result }
+        ensures steady { OnOk result (S.faults source.new ≡ S.faults source.old) }
     {
         let (start, end) = make_room(&mut self.buffer, self.start, self.end);
         self.start = start;
@@ -121,6 +122,7 @@ fn read_behind<S: Source>(source: &mut S, buffer: &mut Vec<u8>, end: usize) -> R
     ensures last { IfOk result (λ n. n ≡ 0 → IsAtEnd (S.left source.new)) }
     ensures err { OnErr result (Keeps (S.left source.old) (S.left source.new)) }
     ensures cause { HasCause (S.faults source.old) (S.faults source.new) result }
+    ensures steady { OnOk result (S.faults source.new ≡ S.faults source.old) }
 {
     source.read(&mut buffer[end..])
 }

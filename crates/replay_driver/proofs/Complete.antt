@@ -1,30 +1,57 @@
 -- Where all is as it should be, a run answers 0.
-use Rattle.std.proofs.Common.{◌≡◌, ℕ, ◌+◌, ◌≤◌, List, [], ◌∷◌, ◌++◌, length, Option, None, Some, Ok, Err, refl, sym, ap, ◌∙◌, subst, arith, inl, inr, ◌⊎◌, append-nil, length-append}
-use Rattle.std.specs.Prelude.{IfSome, MatchOption, All}
+use Rattle.std.proofs.Common.{◌≡◌, ℕ, ◌+◌, ◌≤◌, Bool, true, false, List, [], ◌∷◌, ◌++◌, length, Option, None, Some, Result, Ok, Err, refl, sym, ap, ◌∙◌, subst, arith, inl, inr, ◌⊎◌, append-nil, length-append}
+use Rattle.std.specs.Prelude.{IfSome, MatchOption, ◌||◌, is_some, if◌then◌else◌}
+use Rattle.lookup_tables.specs.Tables.{table_named}
+use Rattle.rule_chain.specs.declared.apply_fault.ApplyFault.TheVariants.{NoSuchTable}
+use Rattle.replay_driver.specs.declared.script_error.ScriptError.TheVariants.{Refused}
+use Rattle.std.specs.List.{list_any, AllByRecursion}
 use Rattle.std.specs.Io.KnownBytes.{Consumes, IsAtEnd}
+use Rattle.command_words.specs.Words.{CaptureNames}
 use Rattle.fw_base.specs.Faults.{Rose}
+use Rattle.fw_base.specs.Memory.{MemoryBytes}
 use Rattle.fw_base.specs.Pairs.{Pair, take_named, TakesOut}
-use Rattle.pcap_read.specs.declared.capture_fault.CaptureFault.{CaptureFault}
+use Rattle.fw_command.specs.declared.line.Line.{Line}
+use Rattle.fw_command.specs.declared.pace.Pace.TheVariants.{Serial}
+use Rattle.fw_command.specs.declared.script.Script.{Script}
+use Rattle.fw_command.specs.Scripts.{script_of}
+use Rattle.fw_report.specs.declared.capture_end.CaptureEnd.{CaptureEnd}
+use Rattle.fw_report.specs.declared.capture_end.CaptureEnd.TheVariants.{Read, Stopped}
+use Rattle.fw_report.specs.declared.ends.Ends.{Ends}
+use Rattle.fw_report.specs.declared.line_answer.LineAnswer.{LineAnswer}
+use Rattle.fw_world.specs.RecordValue.{RecordValue}
+use Rattle.load_maker.specs.Load as load
 use Rattle.pcap_read.specs.Reading.{Captured, Place, Open, Closed, AtBoundary, HasFront, Stops, at_end}
+use Rattle.pcap_read.specs.declared.capture_fault.CaptureFault.{CaptureFault}
+use Rattle.pcap_read.specs.declared.capture_fault.CaptureFault.TheVariants.{ReadFault}
 use Rattle.pcap_read.proofs.OneFront.{front_unique, front_stays}
-use Rattle.replay_driver.specs.Words.{Named, port_of}
-use Rattle.replay_driver.specs.Finding.{finding_status, end_status}
-use Rattle.replay_driver.specs.Editions.{edition_of}
-use Rattle.replay_driver.specs.Replay.{IsEnd}
+use Rattle.rule_chain.specs.Configuration.{Configuration}
+use Rattle.rule_chain.specs.First.{first_configuration}
+use Rattle.serial_replay.specs.Commands.{Listing, Rules, Entries, listing_of}
+use Rattle.serial_replay.specs.Reading.{Track, IsRead, AllRead, IsEnd}
+use Rattle.serial_replay.specs.Replay.{limit_for, outcome_of}
+use Rattle.serial_replay.specs.declared.opened_capture.OpenedCapture.{OpenedCapture}
+use Rattle.replay_driver.specs.FirstEdition.{◌>>=◌, first_edition, configured, listings_of, listed_first, table_shown, shown, with_answer, read_script}
+use Rattle.replay_driver.specs.Found.{FailsEarly, ReadsScript, Finds, FindsReplay, FindsLoad, IsReplayOf, known_left, failures_of, capture_over}
+use Rattle.replay_driver.specs.Openings.{OpensAll, sources_of}
+use Rattle.replay_driver.specs.Promises.{AllWhole, IsAccepted, IsComplete, IsCompleteLoad, IsCompleteJob}
+use Rattle.replay_driver.specs.Run.{IsRun, IsAnswered}
+use Rattle.replay_driver.specs.RunResult.{result_status, result_ends, report_status, is_unread, is_stopped, is_refused}
+use Rattle.replay_driver.specs.Served.{ReplayNames, Job, Replays, Loads}
 use Rattle.replay_driver.specs.WholeSource.{ReadsAll}
-use Rattle.replay_driver.specs.Run.{ReadsScript, ReadsBoth, Judges, Finds, IsRun}
-use Rattle.replay_driver.specs.Promises.{IsComplete}
-use Rattle.replay_driver.proofs.Promised.{IfSome-map}
-use Rattle.replay_driver.specs.declared.capture_end.CaptureEnd.{CaptureEnd}
-use Rattle.replay_driver.specs.declared.capture_end.CaptureEnd.TheVariants.{Read, Stopped}
-use Rattle.replay_driver.specs.declared.finding.Finding.{Finding}
-use Rattle.replay_driver.specs.declared.finding.Finding.TheVariants.{Unread, Unready, Replayed}
+use Rattle.replay_driver.specs.declared.first_edition.FirstEdition.{FirstEdition}
 use Rattle.replay_driver.specs.declared.outcome.Outcome.{Outcome}
+use Rattle.replay_driver.specs.declared.run_result.RunResult.{RunResult}
+use Rattle.replay_driver.specs.declared.run_result.RunResult.TheVariants.{Usage, Unread, Unready, Reported, Summed}
+use Rattle.replay_driver.specs.declared.script_error.ScriptError.{ScriptError}
+use Rattle.replay_driver.proofs.Openings.{opens_length}
+use Rattle.replay_driver.proofs.Promised.{IfSome-map}
+use Rattle.replay_driver.proofs.Statuses.{all_well}
+use Rattle.replay_driver.proofs.Told.{names_steady}
 
 -- what an opening takes out of a told list
 took_from : (a b : Option (List Pair)) (name : List ℕ) (left : Option (List ℕ)) (ps : List Pair) (p : Pair) (rest : List Pair) → TakesOut a b name left
     → a ≡ Some ps → take_named name ps ≡ Some (p, rest) → (left ≡ Some p.1) × (b ≡ Some rest)
-took_from None b name left ps p rest took is stands = cc
+took_from None b name left ps p rest took is stands = absurd (cc)
 took_from (Some qs) b name left ps p rest took is stands =
     let same : qs ≡ ps = cc in
     let found : take_named name qs ≡ Some (p, rest) = ap (take_named name) same ∙ stands in
@@ -44,95 +71,255 @@ not_risen : (before now : ℕ) → before ≡ 0 → now ≡ 0 → Rose before no
 not_risen before now zero still rose = omega arith
 
 -- a capture that ends behind a whole record was read to its end
-ends_well : (whole bytes : List ℕ) (left : Option (List ℕ)) (records read : List Captured) (F : Type 0) (place : Place) (stop : Option CaptureFault) → HasFront whole records (Open AtBoundary)
-    → Consumes (Some whole) left bytes → HasFront bytes read place → Stops (IsAtEnd left) F place stop → (F → ⊥) → stop ≡ None
-ends_well whole bytes None records read F place stop front taken here stops quiet = absurd taken
-ends_well whole bytes (Some ys) records read F (Closed fault) stop front taken here stops quiet =
-    let stays = front_stays bytes ys read fault here in
-    let same = front_unique whole records read (Open AtBoundary) (Closed fault) front (subst (λ (b : List ℕ). HasFront b read (Closed fault)) (sym taken) stays) in
-    let no = same.1 in cc
-ends_well whole bytes (Some ys) records read F (Open place) stop front taken here (inr failed) quiet = absurd (quiet failed.0)
-ends_well whole bytes (Some ys) records read F (Open place) stop front taken here (inl ended) quiet =
+ends_well : (limit : ℕ) (whole bytes : List ℕ) (left : Option (List ℕ)) (records read : List Captured) (F : Type 0) (place : Place) (stop : Option CaptureFault) → HasFront limit whole records (Open AtBoundary)
+    → Consumes (Some whole) left bytes → HasFront limit bytes read place → Stops (IsAtEnd left) F place stop → (F → stop ≡ Some ReadFault → ⊥) → stop ≡ None
+ends_well limit whole bytes None records read F place stop front taken here stops quiet = absurd taken
+ends_well limit whole bytes (Some ys) records read F (Closed fault) stop front taken here stops quiet =
+    let stays = front_stays limit bytes ys read fault here in
+    let same = front_unique limit whole records read (Open AtBoundary) (Closed fault) front (subst (λ (b : List ℕ). HasFront limit b read (Closed fault)) (sym taken) stays) in
+    let no = same.1 in absurd (cc)
+ends_well limit whole bytes (Some ys) records read F (Open place) stop front taken here (inr failed) quiet = absurd (quiet failed.0 failed.1)
+ends_well limit whole bytes (Some ys) records read F (Open place) stop front taken here (inl ended) quiet =
     let all : whole ≡ bytes = taken ∙ ap (λ l. bytes ++ l) ended.0 ∙ append-nil bytes in
-    let same = front_unique whole records read (Open AtBoundary) (Open place) front (subst (λ (b : List ℕ). HasFront b read (Open place)) (sym all) here) in
+    let same = front_unique limit whole records read (Open AtBoundary) (Open place) front (subst (λ (b : List ℕ). HasFront limit b read (Open place)) (sym all) here) in
     let opened : AtBoundary ≡ place = let e = same.1 in cc in
     ended.1 ∙ ap at_end (sym opened)
 
--- an end that tells no fault has status 0
-quiet_end : (end : CaptureEnd) (records : List Captured) (number : ℕ) (stop : Option CaptureFault) (faults : ℕ) → IsEnd end records number stop faults → stop ≡ None → end_status end ≡ 0
-quiet_end (Read count) records number stop faults is none = refl
-quiet_end (Stopped at fault count) records number stop faults is none = let some = is.0 in cc
+-- an end that tells no fault
+quiet_end : (end : CaptureEnd) (records : List Captured) (number : ℕ) (stop : Option CaptureFault) (faults : ℕ) → IsEnd end records number stop faults → stop ≡ None → (is_unread end ≡ false) × (is_stopped end ≡ false)
+quiet_end (Read count) records number stop faults is none = (refl, refl)
+quiet_end (Stopped at fault count) records number stop faults is none = let some = is.0 in absurd (cc)
+
+-- neither of two tests
+neither : (a b : Bool) → a ≡ false → b ≡ false → (a || b) ≡ false
+neither true b p q = absurd (cc)
+neither false b p q = q
+
+none_of_both : {X : Type 0} (test : X → Bool) (xs ys : List X) → list_any test xs ≡ false → list_any test ys ≡ false → list_any test (xs ++ ys) ≡ false
+none_of_both test [] ys p q = q
+none_of_both test (x ∷ xs) ys p q = by_first (test x) refl p (λ more. none_of_both test xs ys more q)
+  where
+    by_first : (b : Bool) → test x ≡ b → list_any test (x ∷ xs) ≡ false → (list_any test xs ≡ false → list_any test (xs ++ ys) ≡ false) → list_any test ((x ∷ xs) ++ ys) ≡ false
+    by_first true is p behind = let t : (true || list_any test xs) ≡ false = sym (ap (λ (b : Bool). b || list_any test xs) is) ∙ p in absurd (cc)
+    by_first false is p behind = neither (test x) (list_any test (xs ++ ys)) is (behind (sym (ap (λ (b : Bool). b || list_any test xs) is) ∙ p))
+
+-- ---- the answers before `live`
+
+ok_same : {X E : Type 0} (x y : X) → ◌≡◌ {A = Result X E} (Ok x) (Ok y) → x ≡ y
+ok_same x y e = cc
+
+-- none of them is a refusal
+shown_well : (config : Configuration) (line : ℕ) (name : List ℕ) (a : Option LineAnswer) → table_shown config line name ≡ Ok a → list_any is_refused (with_answer a []) ≡ false
+shown_well config line name a is = by_test (is_some (table_named config.tables name)) is
+  where
+    by_test : (b : Bool) → (if b then Ok (shown line (Some name)) else Err (Refused (record { line = line; fault = NoSuchTable }))) ≡ Ok a → list_any is_refused (with_answer a []) ≡ false
+    by_test true e = subst (λ (o : Option LineAnswer). list_any is_refused (with_answer o []) ≡ false) (ok_same (shown line (Some name)) a e) refl
+    by_test false e = absurd (cc)
+
+first_well : (config : Configuration) (line : ℕ) (listing : Option Listing) (a : Option LineAnswer) → listed_first config line listing ≡ Ok a → list_any is_refused (with_answer a []) ≡ false
+first_well config line None a is = subst (λ (o : Option LineAnswer). list_any is_refused (with_answer o []) ≡ false) (ok_same None a is) refl
+first_well config line (Some Rules) a is = subst (λ (o : Option LineAnswer). list_any is_refused (with_answer o []) ≡ false) (ok_same (shown line None) a is) refl
+first_well config line (Some (Entries name)) a is = shown_well config line name a is
+
+before_others : (a : Option LineAnswer) (others : List LineAnswer) → with_answer a others ≡ with_answer a [] ++ others
+before_others None others = refl
+before_others (Some x) others = refl
+
+listed_well : (config : Configuration) (lines : List Line) (answers : List LineAnswer) → listings_of config lines ≡ Ok answers → list_any is_refused answers ≡ false
+unfolding listings_of
+listed_well config [] answers is = subst (λ (l : List LineAnswer). list_any is_refused l ≡ false) (ok_same [] answers is) refl
+listed_well config (line ∷ lines) answers is = by_first (listed_first config line.line (listing_of line.command)) refl is (λ others q. listed_well config lines others q)
+  where
+    by_rest : (a : Option LineAnswer) (q : Result (List LineAnswer) ScriptError) → ((others : List LineAnswer) → listings_of config lines ≡ Ok others → list_any is_refused others ≡ false) → list_any is_refused (with_answer a []) ≡ false → listings_of config lines ≡ q
+        → (q >>= λ (others : List LineAnswer). let r : Result (List LineAnswer) ScriptError = Ok (with_answer a others) in r) ≡ Ok answers → list_any is_refused answers ≡ false
+    by_rest a (Err e) behind one q is = absurd (cc)
+    by_rest a (Ok others) behind one q is =
+        subst (λ (l : List LineAnswer). list_any is_refused l ≡ false) (sym (before_others a others) ∙ ok_same (with_answer a others) answers is)
+        (none_of_both is_refused (with_answer a []) others one (behind others q))
+
+    by_first : (r : Result (Option LineAnswer) ScriptError) → listed_first config line.line (listing_of line.command) ≡ r
+        → (r >>= λ (a : Option LineAnswer). listings_of config lines >>= λ (others : List LineAnswer). Ok (with_answer a others)) ≡ Ok answers
+        → ((others : List LineAnswer) → listings_of config lines ≡ Ok others → list_any is_refused others ≡ false) → list_any is_refused answers ≡ false
+    by_first (Err e) one is behind = absurd (cc)
+    by_first (Ok a) one is behind = by_rest a (listings_of config lines) behind (first_well config line.line (listing_of line.command) a one) refl is
+
+edition_well : (bytes : List ℕ) (edition : FirstEdition) → first_edition bytes ≡ Ok edition → list_any is_refused edition.answers ≡ false
+unfolding first_edition
+edition_well bytes edition is = by_script (read_script (script_of Serial bytes)) is
+  where
+    by_listings : (script : Script) (config : Configuration) (r : Result (List LineAnswer) ScriptError) → listings_of config script.before ≡ r
+        → (r >>= λ (answers : List LineAnswer). let q : Result FirstEdition ScriptError = Ok (record { config = config; answers = answers; live = script.live }) in q) ≡ Ok edition → list_any is_refused edition.answers ≡ false
+    by_listings script config (Err e) one is = absurd (cc)
+    by_listings script config (Ok answers) one is =
+        subst (λ (e : FirstEdition). list_any is_refused e.answers ≡ false) (ok_same (record { config = config; answers = answers; live = script.live }) edition is) (listed_well config script.before answers one)
+
+    by_config : (script : Script) (r : Result Configuration ScriptError) → (r >>= λ (config : Configuration). listings_of config script.before >>= λ (answers : List LineAnswer).
+        let q : Result FirstEdition ScriptError = Ok (record { config = config; answers = answers; live = script.live }) in q) ≡ Ok edition → list_any is_refused edition.answers ≡ false
+    by_config script (Err e) is = absurd (cc)
+    by_config script (Ok config) is = by_listings script config (listings_of config script.before) refl is
+
+    by_script : (r : Result Script ScriptError) → (r >>= λ (script : Script). configured first_configuration script.before >>= λ (config : Configuration). listings_of config script.before >>= λ (answers : List LineAnswer).
+        let q : Result FirstEdition ScriptError = Ok (record { config = config; answers = answers; live = script.live }) in q) ≡ Ok edition → list_any is_refused edition.answers ≡ false
+    by_script (Err e) is = absurd (cc)
+    by_script (Ok script) is = by_config script (configured first_configuration script.before) is
+
+-- ---- captures
+
+module _ {S : Type 0} (left : S → Option (List ℕ)) (failures : S → ℕ) where
+  -- what is known of an opened capture whose bytes are told and whole
+  abbrev pub IsWhole : ℕ → OpenedCapture S → Type 0
+  IsWhole limit opened = (bytes : List ℕ) × (left opened.source ≡ Some bytes) × (failures opened.source ≡ 0) × ((records : List Captured) × HasFront limit bytes records (Open AtBoundary))
+
+  read_by : (limit : ℕ) (opened : OpenedCapture S) (after : S) (track : Track) (end : CaptureEnd) → IsWhole limit opened → (read : IsRead left failures limit opened.source after track end)
+      → (Rose (failures opened.source) (failures after) → read.stop ≡ Some ReadFault → ⊥) → (is_unread end ≡ false) × (is_stopped end ≡ false)
+  read_by limit opened after track end (bytes, told, fresh, whole) read quiet =
+      let (place, here, stops, numbered) = read.stopped.behind in
+      let taken : Consumes (Some bytes) (left after) track.bytes = subst (λ (l : Option (List ℕ)). Consumes l (left after) track.bytes) told read.stopped.taken in
+      let none = ends_well limit bytes track.bytes (left after) whole.0 track.records (Rose (failures opened.source) (failures after)) place read.stop whole.1 taken here stops quiet in
+      quiet_end end track.records read.number read.stop (failures after) read.told none
+
+  read_well : (limit : ℕ) (opened : OpenedCapture S) (after : S) (track : Track) (end : CaptureEnd) → IsWhole limit opened → IsRead left failures limit opened.source after track end → failures after ≡ 0
+      → (is_unread end ≡ false) × (is_stopped end ≡ false)
+  read_well limit opened after track end whole read quiet =
+      let fresh = whole.2 in
+      read_by limit opened after track end whole read (λ rose stop. not_risen (failures opened.source) (failures after) fresh quiet rose)
+
+  -- the same of a capture that didn't end unread
+  told_well : (limit : ℕ) (opened : OpenedCapture S) (after : S) (track : Track) (end : CaptureEnd) → IsWhole limit opened → IsRead left failures limit opened.source after track end → is_unread end ≡ false
+      → is_stopped end ≡ false
+  told_well limit opened after track end whole read quiet = (read_by limit opened after track end whole read (λ rose stop. no_stop end read.told stop quiet)).1
+    where
+      no_stop : (end : CaptureEnd) → IsEnd end track.records read.number read.stop (failures after) → read.stop ≡ Some ReadFault → is_unread end ≡ false → ⊥
+      no_stop (Read count) told stop quiet = let none = told.0 in cc
+      no_stop (Stopped at fault count) told stop quiet =
+          let some = told.0 in
+          let is : fault ≡ ReadFault = cc in
+          let yes : is_unread (Stopped at fault count) ≡ true = ap (λ (f : CaptureFault). is_unread (Stopped at f count)) is in
+          let no : true ≡ false = sym yes ∙ quiet in cc
+
+  all_read_well : (limit : ℕ) (opened : List (OpenedCapture S)) (sources : List S) (tracks : List Track) (ends : List CaptureEnd) → AllByRecursion (IsWhole limit) opened → AllRead left failures limit opened sources tracks ends
+      → AllByRecursion (λ s. failures s ≡ 0) sources → (list_any is_unread ends ≡ false) × (list_any is_stopped ends ≡ false)
+  all_read_well limit [] [] [] [] whole read quiet = (refl, refl)
+  all_read_well limit [] [] [] (end ∷ ends) whole read quiet = absurd read
+  all_read_well limit [] [] (track ∷ tracks) ends whole read quiet = absurd read
+  all_read_well limit [] (source ∷ sources) tracks ends whole read quiet = absurd read
+  all_read_well limit (o ∷ os) [] tracks ends whole read quiet = absurd read
+  all_read_well limit (o ∷ os) (source ∷ sources) [] ends whole read quiet = absurd read
+  all_read_well limit (o ∷ os) (source ∷ sources) (track ∷ tracks) [] whole read quiet = absurd read
+  all_read_well limit (o ∷ os) (source ∷ sources) (track ∷ tracks) (end ∷ ends) whole read quiet =
+      let (port, here, behind) = read in
+      let one = read_well limit o source track end whole.0 here quiet.0 in
+      let others = all_read_well limit os sources tracks ends whole.1 behind quiet.1 in
+      (neither (is_unread end) (list_any is_unread ends) one.0 others.0, neither (is_stopped end) (list_any is_stopped ends) one.1 others.1)
+
+  -- a replay of whole captures beside an accepted script has status 0
+  replayed_well : (script : List ℕ) (opened : List (OpenedCapture S)) (kept : RecordValue) (ends : Ends) (sources : List S) → IsAccepted script → AllByRecursion (IsWhole (limit_for (length opened))) opened
+      → IsReplayOf left failures script opened kept ends sources → AllByRecursion (λ s. failures s ≡ 0) sources → report_status ends.captures ends.answers ≡ 0
+  replayed_well script opened kept ends sources accepted whole of quiet =
+      let still : AllByRecursion (λ s. failures s ≡ 0) of.replayed.sources.items = subst (AllByRecursion (λ s. failures s ≡ 0)) of.given_back quiet in
+      let read = all_read_well (limit_for (length opened)) opened of.replayed.sources.items of.replay.tracks of.replayed.ends.captures whole of.replay.read still in
+      let is : ◌≡◌ {A = Result FirstEdition ScriptError} (Ok of.edition) (Ok accepted.edition) = sym of.first ∙ accepted.first in
+      let same : of.edition ≡ accepted.edition = cc in
+      let live : list_any is_refused of.replayed.ends.answers ≡ false =
+      ap (list_any is_refused) (of.replay.answered ∙ ap (λ (e : FirstEdition). (outcome_of e.config e.live).answers) same) ∙ accepted.accepted in
+      let answers : list_any is_refused ends.answers ≡ false =
+      ap (list_any is_refused) of.lines_answered ∙ none_of_both is_refused of.edition.answers of.replayed.ends.answers (edition_well script of.edition of.first) live in
+      all_well ends.captures ends.answers (ap (list_any is_unread) of.captures_ended ∙ read.0) (ap (list_any is_stopped) of.captures_ended ∙ read.1) answers
+
+-- the end of the one made capture
+one_told : (limit : ℕ) (opened : OpenedCapture MemoryBytes) (sources : List MemoryBytes) (tracks : List Track) (ends : List CaptureEnd) → IsWhole known_left failures_of limit opened
+    → AllRead known_left failures_of limit (opened ∷ []) sources tracks ends → list_any is_unread ends ≡ false → list_any is_stopped ends ≡ false
+one_told limit opened [] tracks ends whole read quiet = absurd read
+one_told limit opened (s ∷ ss) [] ends whole read quiet = absurd read
+one_told limit opened (s ∷ ss) (t ∷ ts) [] whole read quiet = absurd read
+one_told limit opened (s ∷ []) (t ∷ []) (end ∷ []) whole (port, here, behind) quiet = by_first (is_unread end) refl quiet
+  where
+    by_first : (b : Bool) → is_unread end ≡ b → (is_unread end || false) ≡ false → (is_stopped end || false) ≡ false
+    by_first true is e = let t : (true || false) ≡ false = sym (ap (λ (b : Bool). b || false) is) ∙ e in absurd (cc)
+    by_first false is e = neither (is_stopped end) false (told_well known_left failures_of limit opened s t end whole here is) refl
+one_told limit opened (s ∷ []) (t ∷ []) (end ∷ e ∷ es) whole (port, here, behind) quiet = absurd behind
+one_told limit opened (s ∷ []) (t ∷ u ∷ us) (end ∷ ends) whole (port, here, behind) quiet = absurd behind
+one_told limit opened (s ∷ v ∷ vs) (t ∷ ts) (end ∷ ends) whole (port, here, behind) quiet = absurd behind
+
+module _ {L S : Type 0} (pairs : L → Option (List Pair)) (faults : L → ℕ) (refused : L → Option (List ℕ)) (left : S → Option (List ℕ)) (failures : S → ℕ) where
+  -- the captures of a told list are whole where their names stand
+  all_whole : (limit : ℕ) (old new : L) (captures : List CaptureNames) (opened : List (OpenedCapture S)) (told : List Pair) → OpensAll pairs faults refused left failures old new captures opened
+      → pairs old ≡ Some told → AllWhole limit captures told → AllByRecursion (IsWhole left failures limit) opened
+  all_whole limit old new [] [] told all is whole = tt
+  all_whole limit old new [] (o ∷ os) told all is whole = absurd all
+  all_whole limit old new (c ∷ cs) [] told all is whole = absurd all
+  all_whole limit old new (c ∷ cs) (o ∷ os) told all is (bytes, behind, stands, front, others) =
+      let (port, between, opens, more) = all in
+      let took = took_from (pairs old) (pairs between) c.name (left o.source) told (c.name, bytes) behind opens.took is stands in
+      ((bytes, took.0, opens.fresh, front), all_whole limit between new cs os behind more took.1 others)
 
 module _ {K S L : Type 0} (written : K → Option (List ℕ)) (sink_faults : K → ℕ) (pairs : L → Option (List Pair)) (faults : L → ℕ) (refused : L → Option (List ℕ)) (left : S → Option (List ℕ)) (failures : S → ℕ)
-    (names : Named) (library libraryAfter : L) (sink sinkAfter : K) (outcome : Outcome S) where
-  abbrev Complete : Type 0
-  Complete = IsComplete written sink_faults pairs faults refused left failures names library libraryAfter sink sinkAfter outcome
-
+    (library libraryAfter : L) (sink sinkAfter : K) (outcome : Outcome S) where
   -- a script that was opened and read has the told bytes
-  reads_script_of : (complete : Complete) (between : L) (script : S) (bytes : List ℕ) → ReadsScript pairs faults refused left failures library between names.script script bytes
-      → (bytes ≡ complete.script) × (pairs between ≡ Some complete.behind)
-  reads_script_of complete between script bytes reads =
+  reads_told : (names : ReplayNames) (complete : IsComplete written sink_faults pairs faults refused left failures names library libraryAfter sink sinkAfter outcome) (between : L) (script : S) (bytes : List ℕ)
+      → ReadsScript pairs faults refused left failures library between names.script script bytes → (bytes ≡ complete.script) × (pairs between ≡ Some complete.behind)
+  reads_told names complete between script bytes reads =
       let opened = took_from _ _ names.script _ complete.before _ _ reads.opens.took complete.told complete.script_stands in
       (all_bytes complete.script bytes (left script) (subst (λ (l : Option (List ℕ)). ReadsAll l (left script) 1048577 bytes) opened.0 reads.reads) complete.script_short, opened.1)
 
-  quiet_of : (complete : Complete) (sources : List S) → outcome.sources.items ≡ sources → All (λ source. failures source ≡ 0) sources
-  quiet_of complete sources is = subst (λ (l : List S). All (λ source. failures source ≡ 0) l) is complete.sources_quiet
+  replay_status : (names : ReplayNames) → IsComplete written sink_faults pairs faults refused left failures names library libraryAfter sink sinkAfter outcome → (result : RunResult)
+      → FindsReplay pairs faults refused left failures names library libraryAfter result outcome.sources.items → result_status result ≡ 0
+  replay_status names complete Usage finds = absurd finds
+  replay_status names complete (Unread name) (inl found) = absurd (complete.library_quiet found.refuses.rose)
+  replay_status names complete (Unread name) (inr (inl found)) =
+      let quiet = subst (AllByRecursion (λ s. failures s ≡ 0)) found.given_back complete.sources_quiet in
+      absurd (not_risen (failures found.opened) (failures found.script) found.opens.fresh quiet.0 found.fails.rose)
+  replay_status names complete (Unread name) (inr (inr found)) =
+      let still = names_steady pairs faults refused left failures names.script found.before library found.between found.script found.bytes found.opened found.reads in
+      absurd (complete.library_quiet (subst (λ (n : ℕ). Rose n (faults libraryAfter)) still found.refuses.rose))
+  replay_status names complete (Unready error) found =
+      let read = reads_told names complete found.reads.between found.script found.bytes found.reads.script_read in
+      let ok : first_edition found.bytes ≡ Ok complete.accepted.edition = ap first_edition read.0 ∙ complete.accepted.first in
+      let bad : first_edition found.bytes ≡ Err error = found.first in
+      absurd (cc)
+  replay_status names complete (Reported kept ends journal) (asked, found) =
+      let read = reads_told names complete found.reads.between found.script found.bytes found.reads.script_read in
+      let quiet = subst (AllByRecursion (λ s. failures s ≡ 0)) found.given_back complete.sources_quiet in
+      let many = opens_length pairs faults refused left failures found.reads.between libraryAfter names.captures found.opened found.reads.captures_opened in
+      let whole = all_whole pairs faults refused left failures (limit_for (length names.captures)) found.reads.between libraryAfter names.captures found.opened complete.behind found.reads.captures_opened read.1 complete.captures_whole in
+      replayed_well left failures found.bytes found.opened kept ends found.captures (subst IsAccepted (sym read.0) complete.accepted)
+      (subst (λ (n : ℕ). AllByRecursion (IsWhole left failures (limit_for n)) found.opened) (sym many) whole) found.replay quiet.1
+  replay_status names complete (Summed kept ends) finds = absurd finds
 
-  -- what was read of both has status 0
-  judged_0 : (complete : Complete) (finding : Finding) (script capture opened : S) (bytes : List ℕ) → failures capture ≡ 0
-      → ReadsBoth pairs faults refused left failures names library libraryAfter script opened bytes → Judges left failures (port_of names) bytes opened finding capture → finding_status finding ≡ 0
-  judged_0 complete (Unread name) script capture opened bytes quiet both judged = absurd judged
-  judged_0 complete (Unready error) script capture opened bytes quiet both judged =
-      let read = reads_script_of complete both.between script bytes both.reads_script in
-      let ok : edition_of bytes ≡ Ok complete.edition = ap edition_of read.0 ∙ complete.script_read in
-      let bad : edition_of bytes ≡ Err error = judged.1 in
-      cc
-  judged_0 complete (Replayed trace end answers) script capture opened bytes quiet both judged =
-      let replay = judged.1 in
-      let read = reads_script_of complete both.between script bytes both.reads_script in
-      let told = took_from _ _ names.capture _ complete.behind _ _ both.opens_capture.took read.1 complete.capture_stands in
-      let (place, front, stops, numbered) = replay.stopped in
-      let taken : Consumes (Some complete.capture) (left capture) replay.bytes = subst (λ (l : Option (List ℕ)). Consumes l (left capture) replay.bytes) told.0 replay.taken in
-      let none = ends_well complete.capture replay.bytes (left capture) complete.records replay.records (Rose (failures opened) (failures capture)) place replay.stop
-      complete.capture_whole taken front stops (not_risen (failures opened) (failures capture) both.opens_capture.fresh quiet) in
-      quiet_end end replay.records replay.number replay.stop (failures capture) replay.told none
+  -- a source over memory that isn't cut doesn't fail
+  load_status : (n : ℕ) → IsCompleteLoad written sink_faults pairs faults refused left failures n sink sinkAfter outcome → (result : RunResult) → FindsLoad n result → outcome.ends.captures ≡ result_ends result → result_status result ≡ 0
+  load_status n complete Usage finds same = absurd finds
+  load_status n complete (Unread name) finds same = absurd finds
+  load_status n complete (Unready error) found same =
+      let ok = complete.accepted.first in
+      absurd (cc)
+  load_status n complete (Reported kept ends journal) finds same = absurd finds
+  load_status n complete (Summed kept ends) found ended =
+      let of = found.replay in
+      let is : ◌≡◌ {A = Result FirstEdition ScriptError} (Ok of.edition) (Ok complete.accepted.edition) = sym of.first ∙ complete.accepted.first in
+      let same : of.edition ≡ complete.accepted.edition = cc in
+      let live : list_any is_refused of.replayed.ends.answers ≡ false =
+      ap (list_any is_refused) (of.replay.answered ∙ ap (λ (e : FirstEdition). (outcome_of e.config e.live).answers) same) ∙ complete.accepted.accepted in
+      let answers : list_any is_refused ends.answers ≡ false =
+      ap (list_any is_refused) of.lines_answered ∙ none_of_both is_refused of.edition.answers of.replayed.ends.answers (edition_well (load.script_of n) of.edition of.first) live in
+      let read : list_any is_unread ends.captures ≡ false = ap (list_any is_unread) (sym ended) ∙ complete.source_quiet in
+      let told : list_any is_unread of.replayed.ends.captures ≡ false = ap (list_any is_unread) (sym of.captures_ended) ∙ read in
+      let stopped = one_told (limit_for 1) (capture_over (load.capture_of n)) of.replayed.sources.items of.replay.tracks of.replayed.ends.captures
+      (load.capture_of n, refl, refl, complete.capture_whole) of.replay.read told in
+      all_well ends.captures ends.answers read (ap (list_any is_stopped) of.captures_ended ∙ stopped) answers
 
-  status_0 : (complete : Complete) (finding : Finding) (sources : List S) → outcome.sources.items ≡ sources → Finds pairs faults refused left failures names library libraryAfter finding sources → finding_status finding ≡ 0
-  status_0 complete (Unread name) [] is finds = absurd (complete.library_quiet finds.1.rose)
-  status_0 complete (Unread name) (script ∷ []) is (inl finds) =
-      let (same, opened, opens, fails) = finds in
-      absurd (not_risen (failures opened) (failures script) opens.fresh (quiet_of complete (script ∷ []) is 0 script (omega arith)) fails.rose)
-  status_0 complete (Unread name) (script ∷ []) is (inr finds) =
-      let (same, between, bytes, reads, refuses) = finds in
-      let later : faults library ≤ faults between = reads.opens.later in
-      let rose : Rose (faults between) (faults libraryAfter) = refuses.rose in
-      absurd (complete.library_quiet (omega arith))
-  status_0 complete (Unready error) [] is finds = absurd finds
-  status_0 complete (Unready error) (script ∷ []) is finds = absurd finds
-  status_0 complete (Replayed trace end answers) [] is finds = absurd finds
-  status_0 complete (Replayed trace end answers) (script ∷ []) is finds = absurd finds
-  status_0 complete (Unread name) (script ∷ capture ∷ []) is finds = let (bytes, opened, both, judged) = finds in absurd judged
-  status_0 complete (Unready error) (script ∷ capture ∷ []) is finds =
-      let (bytes, opened, both, judged) = finds in
-      judged_0 complete (Unready error) script capture opened bytes (quiet_of complete (script ∷ capture ∷ []) is 1 script (omega arith)) both judged
-  status_0 complete (Replayed trace end answers) (script ∷ capture ∷ []) is finds =
-      let (bytes, opened, both, judged) = finds in
-      judged_0 complete (Replayed trace end answers) script capture opened bytes (quiet_of complete (script ∷ capture ∷ []) is 1 script (omega arith)) both judged
-  status_0 complete (Unread name) (script ∷ capture ∷ more ∷ others) is finds = absurd finds
-  status_0 complete (Unready error) (script ∷ capture ∷ more ∷ others) is finds = absurd finds
-  status_0 complete (Replayed trace end answers) (script ∷ capture ∷ more ∷ others) is finds = absurd finds
+  pub ends_0 : (job : Job) → IsRun written sink_faults pairs faults refused left failures job library libraryAfter sink sinkAfter outcome
+      → IsCompleteJob written sink_faults pairs faults refused left failures job library libraryAfter sink sinkAfter outcome → (outcome.status ≡ 0) ⊎ (outcome.status ≡ 6)
+  ends_0 job (inl memory) complete = inr memory.status
+  ends_0 (Replays names) (inr a) complete = elim a.written_result.writes.answered [
+    | inl h ↦ inl (h.0 ∙ replay_status names complete a.result a.finds)
+    | inr h ↦ absurd (complete.sink_quiet h.2)
+  ]
+  ends_0 (Loads n) (inr a) complete = elim a.written_result.writes.answered [
+    | inl h ↦ inl (h.0 ∙ load_status n complete a.result a.finds.2 a.written_result.ends)
+    | inr h ↦ absurd (complete.sink_quiet h.2)
+  ]
 
-  ends_0 : IsRun written sink_faults pairs faults refused left failures names library libraryAfter sink sinkAfter outcome → Complete → (outcome.status ≡ 0) ⊎ (outcome.status ≡ 6)
-  ends_0 (inl memory) complete = inr memory.status
-  ends_0 (inr answered) complete =
-      let zero = status_0 complete answered.finding outcome.sources.items refl answered.finds in
-      elim answered.written_found.writes.answered [
-        | inl h ↦ inl (h.0 ∙ zero)
-        | inr h ↦ absurd (complete.sink_quiet h.2)
-      ]
-
-module _ {K S L : Type 0} (written : K → Option (List ℕ)) (sink_faults : K → ℕ) (pairs : L → Option (List Pair)) (faults : L → ℕ) (refused : L → Option (List ℕ)) (left : S → Option (List ℕ)) (failures : S → ℕ)
-    (command : Option Named) (library libraryAfter : L) (sink sinkAfter : K) (outcome : Outcome S)
-    (found : IfSome command (λ names. IsRun written sink_faults pairs faults refused left failures names library libraryAfter sink sinkAfter outcome)) where
-  pub all_complete : IfSome command (λ names. IsComplete written sink_faults pairs faults refused left failures names library libraryAfter sink sinkAfter outcome → (outcome.status ≡ 0) ⊎ (outcome.status ≡ 6))
-  all_complete = IfSome-map command _ _ (λ names run complete. ends_0 written sink_faults pairs faults refused left failures names library libraryAfter sink sinkAfter outcome run complete) found
+  pub all_complete : (command : Option Job) → IfSome command (λ job. IsRun written sink_faults pairs faults refused left failures job library libraryAfter sink sinkAfter outcome)
+      → IfSome command (λ job. IsCompleteJob written sink_faults pairs faults refused left failures job library libraryAfter sink sinkAfter outcome → (outcome.status ≡ 0) ⊎ (outcome.status ≡ 6))
+  all_complete command found = IfSome-map command _ _ (λ job run complete. ends_0 job run complete) found

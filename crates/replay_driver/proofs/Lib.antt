@@ -1,9 +1,9 @@
 pub mod Complete
-pub mod Entering
-pub mod Lists
-pub mod Operands
+pub mod Openings
+pub mod Pieces
 pub mod Promised
-pub mod Replays
-pub mod ReportLines
 pub mod ScriptLines
 pub mod ScriptReading
+pub mod SomeEditions
+pub mod Statuses
+pub mod Told

@@ -1,76 +1,31 @@
 -- What a run promises follows from what it does exactly.
-use Rattle.std.proofs.Common.{◌≡◌, ◌≢◌, ℕ, List, [], ◌∷◌, Option, None, Some, Result, Ok, refl, ap, ◌∙◌, sym, subst, arith, inl, inr, ◌⊎◌}
+use Rattle.std.proofs.Common.{◌≡◌, ◌≢◌, ℕ, ◌+◌, ◌≤◌, Bool, true, false, List, [], ◌∷◌, Option, None, Some, refl, ap, ◌∙◌, sym, subst, arith, inl, inr, ◌⊎◌, take, length, suc, Vec, Global}
 use Rattle.std.specs.Prelude.{IfSome, IfNone, IsSome}
+use Rattle.std.specs.List.{list_any}
+use Rattle.std.proofs.lemmas.List.{length-map}
 use Rattle.std.specs.Io.KnownBytes.{Appends}
+use Rattle.fw_base.specs.Faults.{Rose}
+use Rattle.fw_base.specs.Memory.{MemoryBytes}
 use Rattle.fw_base.specs.Pairs.{Pair}
-use Rattle.pcap_read.specs.declared.capture_fault.CaptureFault.{CaptureFault}
-use Rattle.pcap_read.specs.declared.capture_fault.CaptureFault.TheVariants as fault
-use Rattle.replay_driver.specs.Words.{Named}
-use Rattle.replay_driver.proofs.Lists.{IsSome-from}
-use Rattle.replay_driver.specs.Finding.{finding_status, finding_text, finding_kept, end_status}
-use Rattle.fw_base.specs.declared.port.Direction.TheVariants.{In}
-use Rattle.replay_driver.specs.Run.{Writes, Opens, Refuses, Finds, IsUsage, IsNoCommand, IsRun, IsAnswered, IsWithoutMemory, WritesFound}
-use Rattle.replay_driver.specs.Promises.{IsReported, IsStopped, IsUnready, IsUnread}
-use Rattle.replay_driver.specs.Report.{report_text}
-use Rattle.replay_driver.specs.declared.edition.Edition.{Edition}
-use Rattle.replay_driver.specs.declared.script_error.ScriptError.{ScriptError}
-use Rattle.replay_driver.specs.declared.line_answer.LineAnswer.{LineAnswer}
-use Rattle.replay_driver.specs.declared.capture_end.CaptureEnd.{CaptureEnd}
-use Rattle.replay_driver.specs.declared.capture_end.CaptureEnd.TheVariants.{Read, Stopped}
-use Rattle.replay_driver.specs.declared.finding.Finding.{Finding}
-use Rattle.replay_driver.specs.declared.finding.Finding.TheVariants.{Unread, Unready, Replayed}
+use Rattle.fw_report.specs.Report.{report_text}
+use Rattle.fw_report.specs.declared.capture_end.CaptureEnd.{CaptureEnd}
+use Rattle.fw_report.specs.declared.ends.Ends.{Ends}
+use Rattle.fw_report.specs.declared.line_answer.LineAnswer.{LineAnswer}
+use Rattle.fw_world.specs.RecordValue.{RecordValue}
+use Rattle.serial_replay.specs.Reading.{Track, AllRead}
+use Rattle.serial_replay.specs.declared.opened_capture.OpenedCapture.{OpenedCapture}
+use Rattle.replay_driver.specs.Found.{Finds, FindsWords, FindsReplay, IsReplayOf, ReplaysNames, ReplaysLoad, known_left, failures_of}
+use Rattle.replay_driver.specs.Openings.{without, sources_of}
+use Rattle.replay_driver.specs.Promises.{IsKept, IsReported, IsSummed, IsUnreadJob, IsUnreadyJob, IsQuiet, IsRefused, IsFaulty, HasFailedRead, in_order}
+use Rattle.replay_driver.specs.Run.{Writes, WritesResult, IsUsage, IsNoCommand, IsRun, IsAnswered, IsWithoutMemory, IsFoundRun}
+use Rattle.replay_driver.specs.RunResult.{result_status, result_text, usage_text, recorded, report_status, is_unread, is_stopped, is_refused}
+use Rattle.replay_driver.specs.Served.{ReplayNames, Job, Replays, Loads}
+use Rattle.replay_driver.specs.declared.found.Found.{Found}
 use Rattle.replay_driver.specs.declared.outcome.Outcome.{Outcome}
-use Rattle.replay_driver.specs.declared.trace.Trace.{Trace}
-
--- the statuses of a capture's end are 0, 3 and 4
-end_statuses : (end : CaptureEnd) → (end_status end ≡ 0) ⊎ ((end_status end ≡ 3) ⊎ (end_status end ≡ 4))
-end_statuses (Read records) = inl refl
-end_statuses (Stopped at fault.ReadFault count) = inr (inr refl)
-end_statuses (Stopped at fault.ShortHeader count) = inr (inl refl)
-end_statuses (Stopped at fault.BadMagic count) = inr (inl refl)
-end_statuses (Stopped at fault.BadVersion count) = inr (inl refl)
-end_statuses (Stopped at fault.UnknownLink count) = inr (inl refl)
-end_statuses (Stopped at fault.ShortRecordHeader count) = inr (inl refl)
-end_statuses (Stopped at fault.RecordTooLong count) = inr (inl refl)
-end_statuses (Stopped at fault.ShortRecord count) = inr (inl refl)
-end_statuses (Stopped at fault.TooManyPackets count) = inr (inl refl)
-end_statuses (Stopped at fault.OutOfMemory count) = inr (inl refl)
-
--- those of a finding are 0, 2, 3 and 4
-pub finding_statuses : (finding : Finding) → (finding_status finding ≡ 0) ⊎ ((finding_status finding ≡ 2) ⊎ ((finding_status finding ≡ 3) ⊎ (finding_status finding ≡ 4)))
-finding_statuses (Unread name) = inr (inr (inr refl))
-finding_statuses (Unready error) = inr (inl refl)
-finding_statuses (Replayed trace end answers) = elim (end_statuses end) [
-  | inl h ↦ inl h
-  | inr h ↦ inr (inr h)
-]
-
--- a capture that ended with status 3 has a fault, and not that of its source; with status 4 its source's
-pub stopped_3 : (end : CaptureEnd) → end_status end ≡ 3 → (at : ℕ) × (f : CaptureFault) × (count : ℕ) × (end ≡ Stopped at f count) × (f ≢ fault.ReadFault)
-stopped_3 (Read records) e = absurd (omega arith)
-stopped_3 (Stopped at fault.ReadFault count) e = absurd (omega arith)
-stopped_3 (Stopped at fault.ShortHeader count) e = (at, fault.ShortHeader, count, refl, λ no. cc)
-stopped_3 (Stopped at fault.BadMagic count) e = (at, fault.BadMagic, count, refl, λ no. cc)
-stopped_3 (Stopped at fault.BadVersion count) e = (at, fault.BadVersion, count, refl, λ no. cc)
-stopped_3 (Stopped at fault.UnknownLink count) e = (at, fault.UnknownLink, count, refl, λ no. cc)
-stopped_3 (Stopped at fault.ShortRecordHeader count) e = (at, fault.ShortRecordHeader, count, refl, λ no. cc)
-stopped_3 (Stopped at fault.RecordTooLong count) e = (at, fault.RecordTooLong, count, refl, λ no. cc)
-stopped_3 (Stopped at fault.ShortRecord count) e = (at, fault.ShortRecord, count, refl, λ no. cc)
-stopped_3 (Stopped at fault.TooManyPackets count) e = (at, fault.TooManyPackets, count, refl, λ no. cc)
-stopped_3 (Stopped at fault.OutOfMemory count) e = (at, fault.OutOfMemory, count, refl, λ no. cc)
-
-pub stopped_4 : (end : CaptureEnd) → end_status end ≡ 4 → (at : ℕ) × (f : CaptureFault) × (count : ℕ) × (end ≡ Stopped at f count) × (f ≡ fault.ReadFault)
-stopped_4 (Read records) e = absurd (omega arith)
-stopped_4 (Stopped at fault.ReadFault count) e = (at, fault.ReadFault, count, refl, refl)
-stopped_4 (Stopped at fault.ShortHeader count) e = absurd (omega arith)
-stopped_4 (Stopped at fault.BadMagic count) e = absurd (omega arith)
-stopped_4 (Stopped at fault.BadVersion count) e = absurd (omega arith)
-stopped_4 (Stopped at fault.UnknownLink count) e = absurd (omega arith)
-stopped_4 (Stopped at fault.ShortRecordHeader count) e = absurd (omega arith)
-stopped_4 (Stopped at fault.RecordTooLong count) e = absurd (omega arith)
-stopped_4 (Stopped at fault.ShortRecord count) e = absurd (omega arith)
-stopped_4 (Stopped at fault.TooManyPackets count) e = absurd (omega arith)
-stopped_4 (Stopped at fault.OutOfMemory count) e = absurd (omega arith)
+use Rattle.replay_driver.specs.declared.run_result.RunResult.{RunResult}
+use Rattle.replay_driver.specs.declared.run_result.RunResult.TheVariants.{Usage, Unread, Unready, Reported, Summed}
+use Rattle.replay_driver.proofs.Statuses.{quiet_ends, refused_lines, faulty_ends, unread_ends, few, AreFresh, failed_read}
+use Rattle.replay_driver.proofs.Told.{names_steady, all_fresh, all_named, script_refused, script_failed, capture_refused}
 
 pub IfSome-by : {A : Type 0} (o : Option A) (P : A → Type 0) → ((x : A) → o ≡ Some x → P x) → IfSome o P
 IfSome-by None P f = tt
@@ -89,184 +44,378 @@ pub by_option : {A : Type 0} (o : Option A) (P : A → Type 0) (R : Type 0) → 
 by_option None P R none h some = none refl
 by_option (Some x) P R none h some = some x h
 
+only_none : {A : Type 0} (o : Option A) (P : A → Type 0) → IfSome o P → ((x : A) → P x → ⊥) → o ≡ None
+only_none None P h never = refl
+only_none (Some x) P h never = absurd (never x h)
+
+IsSome-from : {X : Type 0} (o : Option X) (x : X) → o ≡ Some x → IsSome o
+IsSome-from None x e = cc
+IsSome-from (Some y) x e = refl
+
+ends_same : (a b : Ends) → a.captures ≡ b.captures → a.answers ≡ b.answers → a ≡ b
+ends_same a b p q =
+    ap (λ (c : List CaptureEnd). let e : Ends = record { captures = c; answers = a.answers } in e) p
+    ∙ ap (λ (l : List LineAnswer). let e : Ends = record { captures = b.captures; answers = l } in e) q
+
+-- the status of what is found is at most 4; it is 1 only of words that are no command
+statuses : (result : RunResult) → (result_status result ≤ 4) × (result_status result ≡ 1 → result ≡ Usage)
+statuses Usage = (omega arith, λ e. refl)
+statuses (Unread name) = (omega arith, λ e. absurd (omega arith))
+statuses (Unready error) = (omega arith, λ e. absurd (omega arith))
+statuses (Reported kept ends journal) = let f = few ends.captures ends.answers in (f.0, λ e. absurd (f.1 e))
+statuses (Summed kept ends) = let f = few ends.captures ends.answers in (f.0, λ e. absurd (f.1 e))
+
+-- as many sources are given back as captures were opened
+as_read : {T : Type 0} (left : T → Option (List ℕ)) (failures : T → ℕ) (limit : ℕ) (opened : List (OpenedCapture T)) (sources : List T) (tracks : List Track) (ends : List CaptureEnd)
+    → AllRead left failures limit opened sources tracks ends → length sources ≡ length opened
+as_read left failures limit [] [] tracks ends read = refl
+as_read left failures limit [] (s ∷ ss) tracks ends read = absurd read
+as_read left failures limit (o ∷ os) [] tracks ends read = absurd read
+as_read left failures limit (o ∷ os) (s ∷ ss) [] ends read = absurd read
+as_read left failures limit (o ∷ os) (s ∷ ss) (t ∷ ts) [] read = absurd read
+as_read left failures limit (o ∷ os) (s ∷ ss) (t ∷ ts) (e ∷ es) read = let (port, here, behind) = read in ap suc (as_read left failures limit os ss ts es behind)
+
+as_many : {T : Type 0} (left : T → Option (List ℕ)) (failures : T → ℕ) (script : List ℕ) (opened : List (OpenedCapture T)) (kept : RecordValue) (ends : Ends) (sources : List T)
+    → IsReplayOf left failures script opened kept ends sources → length sources ≡ length opened
+as_many left failures script opened kept ends sources of = ap length of.given_back ∙ as_read left failures _ opened of.replayed.sources.items of.replay.tracks of.replayed.ends.captures of.replay.read
+
 module _ {K S L : Type 0} (written : K → Option (List ℕ)) (sink_faults : K → ℕ) (pairs : L → Option (List Pair)) (faults : L → ℕ) (refused : L → Option (List ℕ)) (left : S → Option (List ℕ)) (failures : S → ℕ) where
-  -- with another status than 5 the text is whole, and the status the wanted one
-  whole_text : (sink sinkAfter : K) (wanted got : ℕ) (text : List ℕ) → Writes written sink_faults sink sinkAfter wanted got text → got ≢ 5 → (got ≡ wanted) × Appends (written sink) (written sinkAfter) text
-  whole_text sink sinkAfter wanted got text writes other = elim writes.answered [
-    | inl h ↦ h
-    | inr h ↦ absurd (other h.0)
-  ]
-
-  -- the status is the wanted one or 5
-  either_status : (sink sinkAfter : K) (wanted got : ℕ) (text : List ℕ) → Writes written sink_faults sink sinkAfter wanted got text → (got ≡ wanted) ⊎ (got ≡ 5)
-  either_status sink sinkAfter wanted got text writes = elim writes.answered [
-    | inl h ↦ inl h.0
-    | inr h ↦ inr h.0
-  ]
-
-  module _ (names : Named) (library libraryAfter : L) (sink sinkAfter : K) (outcome : Outcome S) where
-    abbrev Run : Type 0
-    Run = IsRun written sink_faults pairs faults refused left failures names library libraryAfter sink sinkAfter outcome
-
-    reported : (finding : Finding) (sources : List S) → outcome.sources.items ≡ sources → Finds pairs faults refused left failures names library libraryAfter finding sources
-        → WritesFound written sink_faults sink sinkAfter finding outcome → (trace : Trace) → outcome.kept ≡ Some trace
-        → IsReported written sink_faults pairs faults refused left failures names library libraryAfter sink sinkAfter outcome trace
-    unfolding finding_text
-    reported (Unread name) sources is finds found trace kept = let no = found.kept in cc
-    reported (Unready error) sources is finds found trace kept = let no = found.kept in cc
-    reported (Replayed t end answers) [] is finds found trace kept = absurd finds
-    reported (Replayed t end answers) (script ∷ []) is finds found trace kept = absurd finds
-    reported (Replayed t end answers) (script ∷ capture ∷ []) is finds found trace kept =
-        let had = found.kept in
-        let same : t ≡ trace = cc in
-        let (bytes, opened, both, judged) = finds in
-        subst (λ (u : Trace). IsReported written sink_faults pairs faults refused left failures names library libraryAfter sink sinkAfter outcome u) same (record {
-          script = script;
-          opened = opened;
-          capture = capture;
-          sources = is;
-          bytes = bytes;
-          reads = both;
-          script_read = judged.0 ∙ ap (λ (l : List LineAnswer). let e : Edition = record { config = t.config; answers = l } in let r : Result Edition ScriptError = Ok e in r) (sym found.answers);
-          end = end;
-          replayed = judged.1;
-          ends = found.ends;
-          writes = subst (λ (l : List LineAnswer). Writes written sink_faults sink sinkAfter (end_status end) outcome.status (report_text t.config t.docket end l)) (sym found.answers) found.writes;
-        })
-    reported (Replayed t end answers) (script ∷ capture ∷ more ∷ others) is finds found trace kept = absurd finds
-
-    pub is_reported : Run → (trace : Trace) → outcome.kept ≡ Some trace → IsReported written sink_faults pairs faults refused left failures names library libraryAfter sink sinkAfter outcome trace
-    is_reported (inl memory) trace kept = let no = memory.nothing_kept in cc
-    is_reported (inr answered) trace kept = reported answered.finding outcome.sources.items refl answered.finds answered.written_found trace kept
-
-    unready : (finding : Finding) (sources : List S) → outcome.sources.items ≡ sources → Finds pairs faults refused left failures names library libraryAfter finding sources
-        → WritesFound written sink_faults sink sinkAfter finding outcome → outcome.status ≡ 2
-        → IsUnready written sink_faults pairs faults refused left failures names library libraryAfter sink sinkAfter outcome
-    unfolding finding_text
-    unready (Unread name) sources is finds found two = elim (either_status sink sinkAfter _ _ _ found.writes) [
-      | inl h ↦ absurd (omega arith)
-      | inr h ↦ absurd (omega arith)
-    ]
-    unready (Unready error) [] is finds found two = absurd finds
-    unready (Unready error) (script ∷ []) is finds found two = absurd finds
-    unready (Unready error) (script ∷ capture ∷ []) is finds found two =
-        let (bytes, opened, both, judged) = finds in
-        let whole = whole_text sink sinkAfter _ _ _ found.writes (λ five. omega arith) in
-        record {
-          script = script;
-          capture = capture;
-          sources = is;
-          bytes = bytes;
-          reads = subst (λ (c : S). Rattle.replay_driver.specs.Run.ReadsBoth pairs faults refused left failures names library libraryAfter script c bytes) (sym judged.0) both;
-          error = error;
-          first = judged.1;
-          text = whole.1;
+  module _ (library libraryAfter : L) (sink sinkAfter : K) where
+    -- words that are no command
+    pub usage_run : (command : Option Job) (found : Found S) (outcome : Outcome S) → command ≡ None → FindsWords pairs faults refused left failures command library libraryAfter found.result found.sources.items
+        → IsFoundRun written sink_faults found sink sinkAfter outcome → IsNoCommand written sink_faults library libraryAfter sink sinkAfter outcome
+    unfolding result_text
+    usage_run (Some job) found outcome none finds run = absurd (cc)
+    usage_run None found outcome none finds (inl memory) = inl memory
+    usage_run None found outcome none (usage, kept, nothing) (inr (writes, sources)) = inr (by_usage found.result usage writes)
+      where
+        by_usage : (result : RunResult) → result ≡ Usage → WritesResult written sink_faults sink sinkAfter result outcome → IsUsage written sink_faults library libraryAfter sink sinkAfter outcome
+        by_usage Usage is w = record {
+          library_kept = kept;
+          nothing_opened = ap (λ (v : Vec S Global). v.items) sources ∙ nothing;
+          nothing_kept = w.kept;
+          no_end = w.ends;
+          no_answer = w.answers;
+          writes = w.writes;
         }
-    unready (Unready error) (script ∷ capture ∷ more ∷ others) is finds found two = absurd finds
-    unready (Replayed trace end answers) sources is finds found two = elim (either_status sink sinkAfter _ _ _ found.writes) [
-      | inl h ↦ elim (end_statuses end) [
-        | inl k ↦ absurd (omega arith)
-        | inr (inl k) ↦ absurd (omega arith)
-        | inr (inr k) ↦ absurd (omega arith)
-      ]
-      | inr h ↦ absurd (omega arith)
+        by_usage (Unread name) is w = absurd (cc)
+        by_usage (Unready error) is w = absurd (cc)
+        by_usage (Reported k ends journal) is w = absurd (cc)
+        by_usage (Summed k ends) is w = absurd (cc)
+
+    -- words that are a command
+    pub found_run : (command : Option Job) (found : Found S) (outcome : Outcome S) → FindsWords pairs faults refused left failures command library libraryAfter found.result found.sources.items
+        → IsFoundRun written sink_faults found sink sinkAfter outcome → IfSome command (λ job. IsRun written sink_faults pairs faults refused left failures job library libraryAfter sink sinkAfter outcome)
+    found_run None found outcome finds run = tt
+    found_run (Some job) found outcome finds (inl memory) = inl memory
+    found_run (Some job) found outcome finds (inr (writes, sources)) = inr (record {
+      result = found.result;
+      finds = subst (λ (v : Vec S Global). Finds pairs faults refused left failures job library libraryAfter found.result v.items) (sym sources) finds;
+      written_result = writes;
+    })
+
+  module _ (library libraryAfter : L) (sink sinkAfter : K) (outcome : Outcome S) where
+    abbrev Run : Job → Type 0
+    Run job = IsRun written sink_faults pairs faults refused left failures job library libraryAfter sink sinkAfter outcome
+
+    -- what was found, with another status than 5 and 6: the status is its, and the whole text was written
+    record Answered (job : Job) (status : ℕ) : Type 0 where
+      result : RunResult
+      finds : Finds pairs faults refused left failures job library libraryAfter result outcome.sources.items
+      writes : WritesResult written sink_faults sink sinkAfter result outcome
+      is : result_status result ≡ status
+      text : Appends (written sink) (written sinkAfter) (result_text result)
+
+    answered : (job : Job) → Run job → (status : ℕ) → outcome.status ≡ status → status ≤ 4 → Answered job status
+    answered job (inl memory) status is small = let six = memory.status in absurd (omega arith)
+    answered job (inr a) status is small = elim a.written_result.writes.answered [
+      | inl h ↦ record { result = a.result; finds = a.finds; writes = a.written_result; is = sym h.0 ∙ is; text = h.1 }
+      | inr h ↦ let five = h.0 in absurd (omega arith)
     ]
 
-    pub is_unready : Run → outcome.status ≡ 2 → IsUnready written sink_faults pairs faults refused left failures names library libraryAfter sink sinkAfter outcome
-    is_unready (inl memory) two = let no = memory.status in absurd (omega arith)
-    is_unready (inr answered) two = unready answered.finding outcome.sources.items refl answered.finds answered.written_found two
+    -- ---- the headline
 
-    -- the end of a capture with a fault
-    stopped : (cause : CaptureFault → Type 0) (t : Trace) (end : CaptureEnd) (answers : List LineAnswer) → WritesFound written sink_faults sink sinkAfter (Replayed t end answers) outcome
-        → (at : ℕ) × (f : CaptureFault) × (count : ℕ) × (end ≡ Stopped at f count) × cause f → IsStopped cause outcome
-    stopped cause t end answers found (at, f, count, same, caused) = record {
-      begun = IsSome-from outcome.kept t found.kept;
-      at = at;
-      fault = f;
-      count = count;
-      end = found.ends ∙ ap (λ (e : CaptureEnd). e ∷ []) same;
-      caused = caused;
-    }
+    reported : (names : ReplayNames) (result : RunResult) (kept : RecordValue) → FindsReplay pairs faults refused left failures names library libraryAfter result outcome.sources.items
+        → WritesResult written sink_faults sink sinkAfter result outcome → outcome.kept ≡ Some kept
+        → IsReported written sink_faults pairs faults refused left failures names library libraryAfter sink sinkAfter outcome kept
+    unfolding result_text
+    reported names Usage kept finds w e = absurd finds
+    reported names (Unread name) kept finds w e = let no = w.kept in absurd (cc)
+    reported names (Unready error) kept finds w e = let no = w.kept in absurd (cc)
+    reported names (Reported k ends journal) kept (told, found) w e =
+        let had = w.kept in
+        let same : k ≡ kept = cc in
+        let ended : ends ≡ outcome.ends = ends_same ends outcome.ends (sym w.ends) (sym w.answers) in
+        subst (λ (r : RecordValue). IsReported written sink_faults pairs faults refused left failures names library libraryAfter sink sinkAfter outcome r) same (record {
+          script = found.script;
+          bytes = found.bytes;
+          opened = found.opened;
+          reads = found.reads;
+          captures = found.captures;
+          replay = subst (λ (f : Ends). IsReplayOf left failures found.bytes found.opened k f found.captures) ended found.replay;
+          given_back = found.given_back;
+          writes = subst (λ (b : Bool). Writes written sink_faults sink sinkAfter (report_status outcome.ends.captures outcome.ends.answers) outcome.status (report_text (recorded k) outcome.ends.captures outcome.ends.answers b)) told
+              (subst (λ (f : Ends). Writes written sink_faults sink sinkAfter (report_status f.captures f.answers) outcome.status (report_text (recorded k) f.captures f.answers journal)) ended w.writes);
+        })
+    reported names (Summed k ends) kept finds w e = absurd finds
 
-    by_form : (finding : Finding) → WritesFound written sink_faults sink sinkAfter finding outcome → outcome.status ≡ 3 → IsStopped (λ f. f ≢ fault.ReadFault) outcome
-    by_form finding found three = elim (either_status sink sinkAfter _ _ _ found.writes) [
-      | inl h ↦ go finding found (sym h ∙ three)
-      | inr h ↦ absurd (omega arith)
-    ]
+    summed : (n : ℕ) (result : RunResult) (kept : RecordValue) → Finds pairs faults refused left failures (Loads n) library libraryAfter result outcome.sources.items
+        → WritesResult written sink_faults sink sinkAfter result outcome → outcome.kept ≡ Some kept
+        → IsSummed written sink_faults pairs faults refused left failures n library libraryAfter sink sinkAfter outcome kept
+    unfolding result_text
+    summed n Usage kept (same, none, found) w e = absurd found
+    summed n (Unread name) kept (same, none, found) w e = absurd found
+    summed n (Unready error) kept finds w e = let no = w.kept in absurd (cc)
+    summed n (Reported k ends journal) kept (same, none, found) w e = absurd found
+    summed n (Summed k ends) kept (library_same, none, found) w e =
+        let had = w.kept in
+        let same : k ≡ kept = cc in
+        let ended : ends ≡ outcome.ends = ends_same ends outcome.ends (sym w.ends) (sym w.answers) in
+        subst (λ (r : RecordValue). IsSummed written sink_faults pairs faults refused left failures n library libraryAfter sink sinkAfter outcome r) same (record {
+          replay = subst (λ (f : Ends). ReplaysLoad n k f) ended found;
+          library_kept = library_same;
+          nothing_opened = none;
+          writes = subst (λ (f : Ends). Writes written sink_faults sink sinkAfter (report_status f.captures f.answers) outcome.status (Rattle.replay_driver.specs.RunResult.summary_of k)) ended w.writes;
+        })
+
+    -- ---- how the captures ended
+
+    pub is_quiet : (job : Job) → Run job → outcome.status ≡ 0 → IsQuiet outcome
+    is_quiet job run zero = let a = answered job run 0 zero (omega arith) in go a.result a.finds a.writes a.is
       where
-        go : (finding : Finding) → WritesFound written sink_faults sink sinkAfter finding outcome → finding_status finding ≡ 3 → IsStopped (λ f. f ≢ fault.ReadFault) outcome
-        go (Unread name) found e = absurd (omega arith)
-        go (Unready error) found e = absurd (omega arith)
-        go (Replayed t end answers) found e = stopped (λ f. f ≢ fault.ReadFault) t end answers found (stopped_3 end e)
+        go : (result : RunResult) → Finds pairs faults refused left failures job library libraryAfter result outcome.sources.items → WritesResult written sink_faults sink sinkAfter result outcome → result_status result ≡ 0 → IsQuiet outcome
+        go Usage finds w e = absurd (omega arith)
+        go (Unread name) finds w e = absurd (omega arith)
+        go (Unready error) finds w e = absurd (omega arith)
+        go (Reported k ends journal) finds w e =
+            let (whole, accepted) = quiet_ends ends.captures ends.answers e in
+            record { begun = IsSome-from outcome.kept k w.kept; whole = ap (list_any is_stopped) w.ends ∙ whole; accepted = ap (list_any is_refused) w.answers ∙ accepted }
+        go (Summed k ends) finds w e =
+            let (whole, accepted) = quiet_ends ends.captures ends.answers e in
+            record { begun = IsSome-from outcome.kept k w.kept; whole = ap (list_any is_stopped) w.ends ∙ whole; accepted = ap (list_any is_refused) w.answers ∙ accepted }
 
-    pub is_stopped_3 : Run → outcome.status ≡ 3 → IsStopped (λ f. f ≢ fault.ReadFault) outcome
-    is_stopped_3 (inl memory) three = let no = memory.status in absurd (omega arith)
-    is_stopped_3 (inr answered) three = by_form answered.finding answered.written_found three
-
-    by_source : (finding : Finding) → WritesFound written sink_faults sink sinkAfter finding outcome → outcome.status ≡ 4 → (trace : Trace) → outcome.kept ≡ Some trace → IsStopped (λ f. f ≡ fault.ReadFault) outcome
-    by_source finding found four trace kept = elim (either_status sink sinkAfter _ _ _ found.writes) [
-      | inl h ↦ go finding found (sym h ∙ four)
-      | inr h ↦ absurd (omega arith)
-    ]
+    pub is_refused_run : (job : Job) → Run job → outcome.status ≡ 2 → (kept : RecordValue) → outcome.kept ≡ Some kept → IsRefused outcome
+    is_refused_run job run two kept had = let a = answered job run 2 two (omega arith) in go a.result a.writes a.is
       where
-        go : (finding : Finding) → WritesFound written sink_faults sink sinkAfter finding outcome → finding_status finding ≡ 4 → IsStopped (λ f. f ≡ fault.ReadFault) outcome
-        go (Unread name) found e = let none = found.kept in cc
-        go (Unready error) found e = absurd (omega arith)
-        go (Replayed t end answers) found e = stopped (λ f. f ≡ fault.ReadFault) t end answers found (stopped_4 end e)
+        go : (result : RunResult) → WritesResult written sink_faults sink sinkAfter result outcome → result_status result ≡ 2 → IsRefused outcome
+        go Usage w e = absurd (omega arith)
+        go (Unread name) w e = absurd (omega arith)
+        go (Unready error) w e = let no = w.kept in absurd (cc)
+        go (Reported k ends journal) w e =
+            let (whole, some) = refused_lines ends.captures ends.answers e in
+            record { whole = ap (list_any is_stopped) w.ends ∙ whole; refused = ap (list_any is_refused) w.answers ∙ some }
+        go (Summed k ends) w e =
+            let (whole, some) = refused_lines ends.captures ends.answers e in
+            record { whole = ap (list_any is_stopped) w.ends ∙ whole; refused = ap (list_any is_refused) w.answers ∙ some }
 
-    pub is_stopped_4 : Run → outcome.status ≡ 4 → (trace : Trace) → outcome.kept ≡ Some trace → IsStopped (λ f. f ≡ fault.ReadFault) outcome
-    is_stopped_4 (inl memory) four trace kept = let no = memory.status in absurd (omega arith)
-    is_stopped_4 (inr answered) four trace kept = by_source answered.finding answered.written_found four trace kept
+    pub is_faulty : (job : Job) → Run job → outcome.status ≡ 3 → IsFaulty outcome
+    is_faulty job run three = let a = answered job run 3 three (omega arith) in go a.result a.writes a.is
+      where
+        go : (result : RunResult) → WritesResult written sink_faults sink sinkAfter result outcome → result_status result ≡ 3 → IsFaulty outcome
+        go Usage w e = absurd (omega arith)
+        go (Unread name) w e = absurd (omega arith)
+        go (Unready error) w e = absurd (omega arith)
+        go (Reported k ends journal) w e =
+            let (read, stopped) = faulty_ends ends.captures ends.answers e in
+            record { begun = IsSome-from outcome.kept k w.kept; read = ap (list_any is_unread) w.ends ∙ read; stopped = ap (list_any is_stopped) w.ends ∙ stopped }
+        go (Summed k ends) w e =
+            let (read, stopped) = faulty_ends ends.captures ends.answers e in
+            record { begun = IsSome-from outcome.kept k w.kept; read = ap (list_any is_unread) w.ends ∙ read; stopped = ap (list_any is_stopped) w.ends ∙ stopped }
+
+    -- the end of a capture that was unread, where its source was opened in this run
+    failed_by : {T : Type 0} (left : T → Option (List ℕ)) (failures : T → ℕ) (script : List ℕ) (opened : List (OpenedCapture T)) (kept : RecordValue) (ends : Ends) (sources : List T)
+        → IsReplayOf left failures script opened kept ends sources → AreFresh left failures opened → list_any is_unread ends.captures ≡ true → HasFailedRead ends.captures
+    failed_by left failures script opened kept ends sources of fresh e =
+        subst HasFailedRead (sym of.captures_ended)
+        (failed_read left failures _ opened of.replayed.sources.items of.replay.tracks of.replayed.ends.captures of.replay.read fresh (ap (list_any is_unread) (sym of.captures_ended) ∙ e))
+
+    pub is_failed_run : (job : Job) → Run job → outcome.status ≡ 4 → (kept : RecordValue) → outcome.kept ≡ Some kept → HasFailedRead outcome.ends.captures
+    is_failed_run job run four kept had = let a = answered job run 4 four (omega arith) in go job a.result a.finds a.writes a.is
+      where
+        go : (job : Job) (result : RunResult) → Finds pairs faults refused left failures job library libraryAfter result outcome.sources.items → WritesResult written sink_faults sink sinkAfter result outcome
+            → result_status result ≡ 4 → HasFailedRead outcome.ends.captures
+        go job Usage finds w e = absurd (omega arith)
+        go job (Unread name) finds w e = let no = w.kept in absurd (cc)
+        go job (Unready error) finds w e = let no = w.kept in absurd (cc)
+        go (Replays names) (Reported k ends journal) (told, found) w e =
+            subst HasFailedRead (sym w.ends) (failed_by left failures found.bytes found.opened k ends found.captures found.replay
+            (all_fresh pairs faults refused left failures found.reads.between libraryAfter names.captures found.opened found.reads.captures_opened) (unread_ends ends.captures ends.answers e))
+        go (Replays names) (Summed k ends) finds w e = absurd finds
+        go (Loads n) (Reported k ends journal) (same, none, found) w e = absurd found
+        go (Loads n) (Summed k ends) (same, none, found) w e =
+            subst HasFailedRead (sym w.ends) (failed_by known_left failures_of _ _ k ends found.sources found.replay (refl, tt) (unread_ends ends.captures ends.answers e))
+
+    -- ---- before a replay
+
+    pub is_unready : (job : Job) → Run job → outcome.status ≡ 2 → outcome.kept ≡ None → IsUnreadyJob written sink_faults pairs faults refused left failures job library libraryAfter sink sinkAfter outcome
+    unfolding result_text
+    is_unready job run two none = let a = answered job run 2 two (omega arith) in go job a.result a.finds a.writes a.is a.text
+      where
+        go : (job : Job) (result : RunResult) → Finds pairs faults refused left failures job library libraryAfter result outcome.sources.items → WritesResult written sink_faults sink sinkAfter result outcome
+            → result_status result ≡ 2 → Appends (written sink) (written sinkAfter) (result_text result)
+            → IsUnreadyJob written sink_faults pairs faults refused left failures job library libraryAfter sink sinkAfter outcome
+        go job Usage finds w e text = absurd (omega arith)
+        go job (Unread name) finds w e text = absurd (omega arith)
+        go (Replays names) (Unready error) finds w e text = record { error = error; cause = finds; text = text }
+        go (Loads n) (Unready error) (same, nothing, found) w e text = (error, found)
+        go job (Reported k ends journal) finds w e text = let some = w.kept in absurd (cc)
+        go job (Summed k ends) finds w e text = let some = w.kept in absurd (cc)
+
+    pub is_unread_run : (job : Job) → Run job → outcome.status ≡ 4 → outcome.kept ≡ None → IsUnreadJob written sink_faults pairs faults refused left failures job library libraryAfter sink sinkAfter outcome
+    unfolding result_text
+    is_unread_run job run four none = let a = answered job run 4 four (omega arith) in go job a.result a.finds a.writes a.is a.text
+      where
+        go : (job : Job) (result : RunResult) → Finds pairs faults refused left failures job library libraryAfter result outcome.sources.items → WritesResult written sink_faults sink sinkAfter result outcome
+            → result_status result ≡ 4 → Appends (written sink) (written sinkAfter) (result_text result)
+            → IsUnreadJob written sink_faults pairs faults refused left failures job library libraryAfter sink sinkAfter outcome
+        go job Usage finds w e text = absurd (omega arith)
+        go (Replays names) (Unread name) finds w e text = record { name = name; cause = finds; text = text }
+        go (Loads n) (Unread name) (same, nothing, found) w e text = absurd found
+        go job (Unready error) finds w e text = absurd (omega arith)
+        go job (Reported k ends journal) finds w e text = let some = w.kept in absurd (cc)
+        go job (Summed k ends) finds w e text = let some = w.kept in absurd (cc)
+
+    -- ---- statuses
+
+    pub is_kept : (job : Job) → Run job → (kept : RecordValue) → outcome.kept ≡ Some kept → IsKept written sink_faults pairs faults refused left failures job library libraryAfter sink sinkAfter outcome kept
+    is_kept job (inl memory) kept had = let none = memory.nothing_kept in absurd (cc)
+    is_kept (Replays names) (inr a) kept had = reported names a.result kept a.finds a.written_result had
+    is_kept (Loads n) (inr a) kept had = summed n a.result kept a.finds a.written_result had
+
+    -- a command doesn't end with status 1
+    pub not_1 : (job : Job) → Run job → outcome.status ≡ 1 → ⊥
+    not_1 job run one = let a = answered job run 1 one (omega arith) in go job a.result a.finds ((statuses a.result).1 a.is)
+      where
+        go : (job : Job) (result : RunResult) → Finds pairs faults refused left failures job library libraryAfter result outcome.sources.items → result ≡ Usage → ⊥
+        go (Replays names) Usage finds e = finds
+        go (Loads n) Usage (same, none, found) e = found
+        go job (Unread name) finds e = absurd (cc)
+        go job (Unready error) finds e = absurd (cc)
+        go job (Reported k ends journal) finds e = absurd (cc)
+        go job (Summed k ends) finds e = absurd (cc)
+
+    risen : (wanted : ℕ) (text : List ℕ) → wanted ≤ 4 → Writes written sink_faults sink sinkAfter wanted outcome.status text → outcome.status ≡ 5 → Rose (sink_faults sink) (sink_faults sinkAfter)
+    risen wanted text small w five = elim w.answered [
+      | inl h ↦ let got = h.0 in absurd (omega arith)
+      | inr h ↦ h.2
+    ]
+
+    pub has_risen : (job : Job) → Run job → outcome.status ≡ 5 → Rose (sink_faults sink) (sink_faults sinkAfter)
+    has_risen job (inl memory) five = let six = memory.status in absurd (omega arith)
+    has_risen job (inr a) five = risen _ _ (statuses a.result).0 a.written_result.writes five
+
+    silent_text : (wanted : ℕ) (text : List ℕ) → wanted ≤ 4 → Writes written sink_faults sink sinkAfter wanted outcome.status text → outcome.status ≡ 6 → ⊥
+    silent_text wanted text small w six = elim w.answered [
+      | inl h ↦ let got = h.0 in omega arith
+      | inr h ↦ let five = h.0 in omega arith
+    ]
+
+    pub is_silent : (job : Job) → Run job → outcome.status ≡ 6 → sinkAfter ≡ sink
+    is_silent job (inl memory) six = memory.nothing_written
+    is_silent job (inr a) six = absurd (silent_text _ _ (statuses a.result).0 a.written_result.writes six)
+
+    -- ---- openings
+
+    pub has_openings : (job : Job) (told : List Pair) → Run job → pairs library ≡ Some told → outcome.status ≢ 6 → pairs libraryAfter ≡ without (take (length outcome.sources.items) (in_order job)) told
+    has_openings job told (inl memory) is other = absurd (other memory.status)
+    has_openings job told (inr a) is other = go job a.result outcome.sources.items a.finds
+      where
+        go : (job : Job) (result : RunResult) (sources : List S) → Finds pairs faults refused left failures job library libraryAfter result sources → pairs libraryAfter ≡ without (take (length sources) (in_order job)) told
+        go (Loads n) result sources (same, none, found) = rw none (ap pairs same ∙ is)
+        go (Replays names) Usage sources finds = absurd finds
+        go (Replays names) (Unread name) sources (inl found) = script_refused pairs faults refused left failures names library libraryAfter name sources told found is
+        go (Replays names) (Unread name) sources (inr (inl found)) = script_failed pairs faults refused left failures names library libraryAfter name sources told found is
+        go (Replays names) (Unread name) sources (inr (inr found)) = capture_refused pairs faults refused left failures names library libraryAfter name sources told found is
+        go (Replays names) (Unready error) sources found =
+            rw (found.given_back) (all_named pairs faults refused left failures names.script names.captures library libraryAfter found.script found.bytes found.opened (sources_of found.opened) told found.reads is (length-map found.opened (λ o. o.source)))
+        go (Replays names) (Reported k ends journal) sources (asked, found) =
+            rw (found.given_back) (all_named pairs faults refused left failures names.script names.captures library libraryAfter found.script found.bytes found.opened found.captures told found.reads is (as_many left failures found.bytes found.opened k ends found.captures found.replay))
+        go (Replays names) (Summed k ends) sources finds = absurd finds
+
+    -- no opening failed where the run went on
+    pub steady : (job : Job) → Run job → (kept : RecordValue) → outcome.kept ≡ Some kept → faults libraryAfter ≡ faults library
+    steady job (inl memory) kept had = let none = memory.nothing_kept in absurd (cc)
+    steady job (inr a) kept had = go job a.result a.finds a.written_result
+      where
+        go : (job : Job) (result : RunResult) → Finds pairs faults refused left failures job library libraryAfter result outcome.sources.items → WritesResult written sink_faults sink sinkAfter result outcome → faults libraryAfter ≡ faults library
+        go (Loads n) result (same, none, found) w = ap faults same
+        go (Replays names) Usage finds w = absurd finds
+        go (Replays names) (Unread name) finds w = let no = w.kept in absurd (cc)
+        go (Replays names) (Unready error) finds w = let no = w.kept in absurd (cc)
+        go (Replays names) (Reported k ends journal) (asked, found) w = names_steady pairs faults refused left failures names.script names.captures library libraryAfter found.script found.bytes found.opened found.reads
+        go (Replays names) (Summed k ends) finds w = absurd finds
 
     -- words that are no command have status 1, 5 or 6
-    pub no_command : IsNoCommand written sink_faults library libraryAfter sink sinkAfter outcome → (outcome.status ≡ 1) ⊎ ((outcome.status ≡ 5) ⊎ (outcome.status ≡ 6))
+    no_command : IsNoCommand written sink_faults library libraryAfter sink sinkAfter outcome → (outcome.status ≡ 1) ⊎ ((outcome.status ≡ 5) ⊎ (outcome.status ≡ 6))
     no_command (inl memory) = inr (inr memory.status)
-    no_command (inr usage) = elim (either_status sink sinkAfter _ _ _ usage.writes) [
-      | inl h ↦ inl h
-      | inr h ↦ inr (inl h)
+    no_command (inr usage) = elim usage.writes.answered [
+      | inl h ↦ inl h.0
+      | inr h ↦ inr (inl h.0)
     ]
 
-    unread : (finding : Finding) → Finds pairs faults refused left failures names library libraryAfter finding outcome.sources.items
-        → WritesFound written sink_faults sink sinkAfter finding outcome → outcome.status ≡ 4 → outcome.kept ≡ None
-        → IsUnread written sink_faults pairs faults refused left failures names library libraryAfter sink sinkAfter outcome
-    unfolding finding_text
-    unread (Unread name) finds found four none =
-        let whole = whole_text sink sinkAfter _ _ _ found.writes (λ five. omega arith) in
-        record { name = name; cause = finds; text = whole.1 }
-    unread (Unready error) finds found four none = elim (either_status sink sinkAfter _ _ _ found.writes) [
-      | inl h ↦ absurd (omega arith)
-      | inr h ↦ absurd (omega arith)
-    ]
-    unread (Replayed trace end answers) finds found four none = let some = found.kept in cc
+    pub usage_keeps_nothing : IsNoCommand written sink_faults library libraryAfter sink sinkAfter outcome → outcome.kept ≡ None
+    usage_keeps_nothing (inl memory) = memory.nothing_kept
+    usage_keeps_nothing (inr usage) = usage.nothing_kept
 
-    pub is_unread : Run → outcome.status ≡ 4 → outcome.kept ≡ None → IsUnread written sink_faults pairs faults refused left failures names library libraryAfter sink sinkAfter outcome
-    is_unread (inl memory) four none = let no = memory.status in absurd (omega arith)
-    is_unread (inr answered) four none = unread answered.finding answered.finds answered.written_found four none
+    pub usage_risen : IsNoCommand written sink_faults library libraryAfter sink sinkAfter outcome → outcome.status ≡ 5 → Rose (sink_faults sink) (sink_faults sinkAfter)
+    usage_risen (inl memory) five = let six = memory.status in absurd (omega arith)
+    usage_risen (inr usage) five = risen 1 _ (omega arith) usage.writes five
 
-  module _ (command : Option Named) (library libraryAfter : L) (sink sinkAfter : K) (outcome : Outcome S)
-      (found : IfSome command (λ names. IsRun written sink_faults pairs faults refused left failures names library libraryAfter sink sinkAfter outcome)) where
-    pub all_reported : IfSome outcome.kept (λ trace. IfSome command (λ names. IsReported written sink_faults pairs faults refused left failures names library libraryAfter sink sinkAfter outcome trace))
-    all_reported = IfSome-by outcome.kept _ (λ trace kept. IfSome-map command _ _ (λ names run. is_reported names library libraryAfter sink sinkAfter outcome run trace kept) found)
+    pub usage_silent : IsNoCommand written sink_faults library libraryAfter sink sinkAfter outcome → outcome.status ≡ 6 → sinkAfter ≡ sink
+    usage_silent (inl memory) six = memory.nothing_written
+    usage_silent (inr usage) six = absurd (silent_text 1 _ (omega arith) usage.writes six)
 
-    pub all_unready : outcome.status ≡ 2 → IfSome command (λ names. IsUnready written sink_faults pairs faults refused left failures names library libraryAfter sink sinkAfter outcome)
-    all_unready two = IfSome-map command _ _ (λ names run. is_unready names library libraryAfter sink sinkAfter outcome run two) found
-
-    pub all_unread : outcome.status ≡ 4 → IfNone outcome.kept (IfSome command (λ names. IsUnread written sink_faults pairs faults refused left failures names library libraryAfter sink sinkAfter outcome))
-    all_unread four = IfNone-by outcome.kept _ (λ none. IfSome-map command _ _ (λ names run. is_unread names library libraryAfter sink sinkAfter outcome run four none) found)
-
-    module _ (usage : command ≡ None → IsNoCommand written sink_faults library libraryAfter sink sinkAfter outcome) where
-      other : (status : ℕ) → outcome.status ≡ status → (status ≡ 3) ⊎ (status ≡ 4) → command ≡ None → ⊥
-      other status is which none = elim (no_command (record { script = []; direction = In; interface = []; capture = [] }) library libraryAfter sink sinkAfter outcome (usage none)) [
-        | inl h ↦ elim which [ inl k ↦ omega arith | inr k ↦ omega arith ]
-        | inr h ↦ elim h [
-          | inl five ↦ elim which [ inl k ↦ omega arith | inr k ↦ omega arith ]
-          | inr six ↦ elim which [ inl k ↦ omega arith | inr k ↦ omega arith ]
-        ]
+    -- so it is none of 0, 2, 3 and 4
+    pub usage_status : IsNoCommand written sink_faults library libraryAfter sink sinkAfter outcome → (status : ℕ) → outcome.status ≡ status → status ≤ 4 → status ≢ 1 → ⊥
+    usage_status run status is small other = elim (no_command run) [
+      | inl h ↦ other (sym is ∙ h)
+      | inr h ↦ elim h [
+        | inl five ↦ omega arith
+        | inr six ↦ omega arith
       ]
+    ]
 
-      pub all_stopped_3 : outcome.status ≡ 3 → IsStopped (λ f. f ≢ fault.ReadFault) outcome
-      all_stopped_3 three = by_option command _ _ (λ none. absurd (other 3 three (inl refl) none)) found (λ names run. is_stopped_3 names library libraryAfter sink sinkAfter outcome run three)
+    module _ (command : Option Job) (found : IfSome command (λ job. IsRun written sink_faults pairs faults refused left failures job library libraryAfter sink sinkAfter outcome))
+        (usage : command ≡ None → IsNoCommand written sink_faults library libraryAfter sink sinkAfter outcome) where
+      -- a fact of each job, which is so of no words that are no command
+      of_each : (R : Type 0) → (IsNoCommand written sink_faults library libraryAfter sink sinkAfter outcome → R) → ((job : Job) → Run job → R) → R
+      of_each R none some = by_option command _ R (λ (e : command ≡ None). none (usage e)) found some
 
-      pub all_stopped_4 : outcome.status ≡ 4 → IfSome outcome.kept (λ _. IsStopped (λ f. f ≡ fault.ReadFault) outcome)
-      all_stopped_4 four = IfSome-by outcome.kept _ (λ trace kept.
-          by_option command _ _ (λ none. absurd (other 4 four (inr refl) none)) found (λ names run. is_stopped_4 names library libraryAfter sink sinkAfter outcome run four trace kept))
+      pub all_kept : IfSome outcome.kept (λ kept. IfSome command (λ job. IsKept written sink_faults pairs faults refused left failures job library libraryAfter sink sinkAfter outcome kept))
+      all_kept = IfSome-by outcome.kept _ (λ kept had. IfSome-map command _ _ (λ job run. is_kept job run kept had) found)
+
+      pub all_quiet : outcome.status ≡ 0 → IsQuiet outcome
+      all_quiet zero = of_each (IsQuiet outcome) (λ none. absurd (usage_status none 0 zero (omega arith) (λ e. omega arith))) (λ job run. is_quiet job run zero)
+
+      pub all_1 : outcome.status ≡ 1 → command ≡ None
+      all_1 one = only_none command _ found (λ job run. not_1 job run one)
+
+      pub all_unready : outcome.status ≡ 2 → IfNone outcome.kept (IfSome command (λ job. IsUnreadyJob written sink_faults pairs faults refused left failures job library libraryAfter sink sinkAfter outcome))
+      all_unready two = IfNone-by outcome.kept _ (λ none. IfSome-map command _ _ (λ job run. is_unready job run two none) found)
+
+      pub all_refused : outcome.status ≡ 2 → IfSome outcome.kept (λ kept. IsRefused outcome)
+      all_refused two = IfSome-by outcome.kept _ (λ kept had.
+          of_each (IsRefused outcome) (λ none. absurd (usage_status none 2 two (omega arith) (λ e. omega arith))) (λ job run. is_refused_run job run two kept had))
+
+      pub all_faulty : outcome.status ≡ 3 → IsFaulty outcome
+      all_faulty three = of_each (IsFaulty outcome) (λ none. absurd (usage_status none 3 three (omega arith) (λ e. omega arith))) (λ job run. is_faulty job run three)
+
+      pub all_unread : outcome.status ≡ 4 → IfNone outcome.kept (IfSome command (λ job. IsUnreadJob written sink_faults pairs faults refused left failures job library libraryAfter sink sinkAfter outcome))
+      all_unread four = IfNone-by outcome.kept _ (λ none. IfSome-map command _ _ (λ job run. is_unread_run job run four none) found)
+
+      pub all_failed : outcome.status ≡ 4 → IfSome outcome.kept (λ kept. HasFailedRead outcome.ends.captures)
+      all_failed four = IfSome-by outcome.kept _ (λ kept had.
+          of_each (HasFailedRead outcome.ends.captures) (λ none. absurd (usage_status none 4 four (omega arith) (λ e. omega arith))) (λ job run. is_failed_run job run four kept had))
+
+      pub all_risen : outcome.status ≡ 5 → Rose (sink_faults sink) (sink_faults sinkAfter)
+      all_risen five = of_each (Rose (sink_faults sink) (sink_faults sinkAfter)) (λ none. usage_risen none five) (λ job run. has_risen job run five)
+
+      pub all_silent : outcome.status ≡ 6 → sinkAfter ≡ sink
+      all_silent six = of_each (sinkAfter ≡ sink) (λ none. usage_silent none six) (λ job run. is_silent job run six)
+
+      pub all_openings : IfSome (pairs library) (λ told. IfSome command (λ job. outcome.status ≢ 6 → pairs libraryAfter ≡ without (take (length outcome.sources.items) (in_order job)) told))
+      all_openings = IfSome-by (pairs library) _ (λ told is. IfSome-map command _ _ (λ job run other. has_openings job told run is other) found)
+
+      pub all_steady : IfSome outcome.kept (λ kept. faults libraryAfter ≡ faults library)
+      all_steady = IfSome-by outcome.kept _ (λ kept had.
+          of_each (faults libraryAfter ≡ faults library) (λ none. let no = usage_keeps_nothing none in absurd (cc)) (λ job run. steady job run kept had))

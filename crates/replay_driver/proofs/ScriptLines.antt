@@ -3,10 +3,11 @@ use Rattle.std.proofs.Common.{◌≡◌, ℕ, ◌+◌, ◌<◌, ◌≤◌, suc, 
 use Rattle.fw_command.specs.declared.line.Line.{Line}
 use Rattle.rule_chain.specs.Apply.{apply}
 use Rattle.rule_chain.specs.Configuration.{Configuration}
-use Rattle.replay_driver.specs.Editions.{◌>>=◌, Gives, on_line, configured, listing, with_answer, answered}
-use Rattle.replay_driver.specs.declared.line_answer.LineAnswer.{LineAnswer}
+use Rattle.serial_replay.specs.Commands.{listing_of}
+use Rattle.replay_driver.specs.FirstEdition.{◌>>=◌, Gives, configured_line, configured, listed_first, with_answer, listings_of}
+use Rattle.fw_report.specs.declared.line_answer.LineAnswer.{LineAnswer}
 use Rattle.replay_driver.specs.declared.script_error.ScriptError.{ScriptError}
-use Rattle.replay_driver.specs.declared.script_error.ScriptError.TheVariants.{Fault, NotYet, Refused, OutOfMemory}
+use Rattle.replay_driver.specs.declared.script_error.ScriptError.TheVariants.{Fault, Refused, OutOfMemory}
 
 -- the line at i, and those behind it
 pub line_at : (lines : List Line) (i : ℕ) (x : Line) → i < length lines → x ≡ get_or lines i x → drop i lines ≡ x ∷ drop (i + 1) lines
@@ -19,14 +20,13 @@ pub passed_on : {X Y Z W : Type 0} (part : X → Y) (whole : Z → W) (error : S
     → ((e : ScriptError) → a ≡ Err e → b ≡ Err e) → Gives part (Err error) a → Gives whole (Err error) b
 passed_on part whole OutOfMemory a b f h = tt
 passed_on part whole (Fault fault) a b f h = f (Fault fault) h
-passed_on part whole (NotYet fault) a b f h = f (NotYet fault) h
 passed_on part whole (Refused refused) a b f h = f (Refused refused) h
 
-pub configured_on : (config next : Configuration) (x : Line) (rest : List Line) → on_line x.line (apply config x.command) ≡ Ok next → configured config (x ∷ rest) ≡ configured next rest
+pub configured_on : (config next : Configuration) (x : Line) (rest : List Line) → configured_line config x ≡ Ok next → configured config (x ∷ rest) ≡ configured next rest
 unfolding configured
 configured_on config next x rest ok = ap (λ (r : Result Configuration ScriptError). r >>= λ (c : Configuration). configured c rest) ok
 
-pub configured_stops : (config : Configuration) (x : Line) (rest : List Line) (e : ScriptError) → on_line x.line (apply config x.command) ≡ Err e → configured config (x ∷ rest) ≡ Err e
+pub configured_stops : (config : Configuration) (x : Line) (rest : List Line) (e : ScriptError) → configured_line config x ≡ Err e → configured config (x ∷ rest) ≡ Err e
 unfolding configured
 configured_stops config x rest e stop = ap (λ (r : Result Configuration ScriptError). r >>= λ (c : Configuration). configured c rest) stop
 
@@ -36,28 +36,28 @@ configured_none config lines i past = ap (configured config) (drop_of_length-le 
 
 -- the answers so far before those to the lines behind
 abbrev pub behind : Configuration → List LineAnswer → List Line → Result (List LineAnswer) ScriptError
-behind config answers rest = answered config rest >>= λ others. Ok (answers ++ others)
+behind config answers rest = listings_of config rest >>= λ others. Ok (answers ++ others)
 
-pub answered_none : (config : Configuration) (answers : List LineAnswer) (lines : List Line) (i : ℕ) → length lines ≤ i → behind config answers (drop i lines) ≡ Ok answers
-unfolding answered
-answered_none config answers lines i past =
+pub listings_none : (config : Configuration) (answers : List LineAnswer) (lines : List Line) (i : ℕ) → length lines ≤ i → behind config answers (drop i lines) ≡ Ok answers
+unfolding listings_of
+listings_none config answers lines i past =
     ap (behind config answers) (drop_of_length-le lines {i = i} past) ∙ ap (λ (l : List LineAnswer). let r : Result (List LineAnswer) ScriptError = Ok l in r) (append-nil answers)
 
-pub answered_stops : (config : Configuration) (answers : List LineAnswer) (x : Line) (rest : List Line) (e : ScriptError) → listing config x.line x.command ≡ Err e → behind config answers (x ∷ rest) ≡ Err e
-unfolding answered
-answered_stops config answers x rest e stop =
-    ap (λ (r : Result (Option LineAnswer) ScriptError). (r >>= λ (a : Option LineAnswer). answered config rest >>= λ (others : List LineAnswer). Ok (with_answer a others)) >>= λ (others : List LineAnswer). Ok (answers ++ others)) stop
+pub listings_stops : (config : Configuration) (answers : List LineAnswer) (x : Line) (rest : List Line) (e : ScriptError) → listed_first config x.line (listing_of x.command) ≡ Err e → behind config answers (x ∷ rest) ≡ Err e
+unfolding listings_of
+listings_stops config answers x rest e stop =
+    ap (λ (r : Result (Option LineAnswer) ScriptError). (r >>= λ (a : Option LineAnswer). listings_of config rest >>= λ (others : List LineAnswer). Ok (with_answer a others)) >>= λ (others : List LineAnswer). Ok (answers ++ others)) stop
 
 joined : (answer : Option LineAnswer) (answers others : List LineAnswer) → answers ++ with_answer answer others ≡ (answers ++ with_answer answer []) ++ others
 joined None answers others = ap (λ (l : List LineAnswer). l ++ others) (sym (append-nil answers))
 joined (Some a) answers others = sym (append_assoc answers (a ∷ []) others)
 
-pub answered_on : (config : Configuration) (answers now : List LineAnswer) (x : Line) (rest : List Line) (answer : Option LineAnswer) → listing config x.line x.command ≡ Ok answer
+pub listings_on : (config : Configuration) (answers now : List LineAnswer) (x : Line) (rest : List Line) (answer : Option LineAnswer) → listed_first config x.line (listing_of x.command) ≡ Ok answer
     → now ≡ answers ++ with_answer answer [] → behind config answers (x ∷ rest) ≡ behind config now rest
-unfolding answered
-answered_on config answers now x rest answer ok pushed =
-    ap (λ (r : Result (Option LineAnswer) ScriptError). (r >>= λ (a : Option LineAnswer). answered config rest >>= λ (others : List LineAnswer). Ok (with_answer a others)) >>= λ (others : List LineAnswer). Ok (answers ++ others)) ok
-    ∙ go (answered config rest)
+unfolding listings_of
+listings_on config answers now x rest answer ok pushed =
+    ap (λ (r : Result (Option LineAnswer) ScriptError). (r >>= λ (a : Option LineAnswer). listings_of config rest >>= λ (others : List LineAnswer). Ok (with_answer a others)) >>= λ (others : List LineAnswer). Ok (answers ++ others)) ok
+    ∙ go (listings_of config rest)
     ∙ ap (λ (l : List LineAnswer). behind config l rest) (sym pushed)
   where
     go : (r : Result (List LineAnswer) ScriptError) → ((r >>= λ (others : List LineAnswer). let q : Result (List LineAnswer) ScriptError = Ok (with_answer answer others) in q) >>= λ (others : List LineAnswer). let q : Result (List LineAnswer) ScriptError = Ok (answers ++ others) in q)

@@ -1,56 +1,48 @@
 -- A script from its bytes to edition 1, step by step.
-use Rattle.std.proofs.Common.{◌≡◌, ℕ, List, Option, None, Some, Result, Ok, Err, ap, ◌∙◌}
-use Rattle.fw_command.specs.declared.line.Line.{Line}
+use Rattle.std.proofs.Common.{◌≡◌, ℕ, List, Result, Ok, Err, ap, ◌∙◌}
 use Rattle.fw_command.specs.declared.pace.Pace.TheVariants.{Serial}
 use Rattle.fw_command.specs.declared.script.Script.{Script}
 use Rattle.fw_command.specs.Scripts.{script_of}
+use Rattle.fw_report.specs.declared.line_answer.LineAnswer.{LineAnswer}
 use Rattle.rule_chain.specs.Configuration.{Configuration}
 use Rattle.rule_chain.specs.First.{first_configuration}
-use Rattle.replay_driver.specs.Forms.{not_yet}
-use Rattle.replay_driver.specs.Editions.{◌>>=◌, read_script, carried_out, configured, answered, edition_of}
-use Rattle.replay_driver.specs.declared.edition.Edition.{Edition}
-use Rattle.replay_driver.specs.declared.line_answer.LineAnswer.{LineAnswer}
+use Rattle.replay_driver.specs.FirstEdition.{◌>>=◌, read_script, configured, listings_of, first_edition}
+use Rattle.replay_driver.specs.declared.first_edition.FirstEdition.{FirstEdition}
 use Rattle.replay_driver.specs.declared.script_error.ScriptError.{ScriptError}
-use Rattle.replay_driver.specs.declared.script_error.ScriptError.TheVariants.{NotYet}
+
+abbrev with_answers : Script → Configuration → List LineAnswer → Result FirstEdition ScriptError
+with_answers script config answers = Ok (record { config = config; answers = answers; live = script.live })
 
 -- what the listings among the lines add
-abbrev with_answers : List Line → Configuration → Result Edition ScriptError
-with_answers lines config = answered config lines >>= λ answers. Ok (record { config = config; answers = answers })
+abbrev with_listings : Script → Configuration → Result FirstEdition ScriptError
+with_listings script config = listings_of config script.before >>= λ answers. with_answers script config answers
 
-abbrev of_lines : List Line → Result Edition ScriptError
-of_lines lines = configured first_configuration lines >>= λ config. with_answers lines config
+abbrev of_script : Script → Result FirstEdition ScriptError
+of_script script = configured first_configuration script.before >>= λ config. with_listings script config
 
-abbrev of_script : Script → Result Edition ScriptError
-of_script script = carried_out script (not_yet script) >>= λ s. of_lines s.before
-
-pub script_stops : (bytes : List ℕ) (e : ScriptError) → read_script (script_of Serial bytes) ≡ Err e → edition_of bytes ≡ Err e
-unfolding edition_of
+pub script_stops : (bytes : List ℕ) (e : ScriptError) → read_script (script_of Serial bytes) ≡ Err e → first_edition bytes ≡ Err e
+unfolding first_edition
 script_stops bytes e stop = ap (λ (r : Result Script ScriptError). r >>= λ script. of_script script) stop
 
-read : (bytes : List ℕ) (script : Script) → read_script (script_of Serial bytes) ≡ Ok script → edition_of bytes ≡ of_script script
-unfolding edition_of
+read : (bytes : List ℕ) (script : Script) → read_script (script_of Serial bytes) ≡ Ok script → first_edition bytes ≡ of_script script
+unfolding first_edition
 read bytes script ok = ap (λ (r : Result Script ScriptError). r >>= λ s. of_script s) ok
 
-pub form_stops : (bytes : List ℕ) (script : Script) (line : ℕ) → read_script (script_of Serial bytes) ≡ Ok script → not_yet script ≡ Some line → edition_of bytes ≡ Err (NotYet (record { line = line }))
-form_stops bytes script line ok form = read bytes script ok ∙ ap (λ (o : Option ℕ). carried_out script o >>= λ (s : Script). of_lines s.before) form
+pub command_stops : (bytes : List ℕ) (script : Script) (e : ScriptError) → read_script (script_of Serial bytes) ≡ Ok script
+    → configured first_configuration script.before ≡ Err e → first_edition bytes ≡ Err e
+command_stops bytes script e ok stop = read bytes script ok ∙ ap (λ (r : Result Configuration ScriptError). r >>= λ config. with_listings script config) stop
 
-carried : (bytes : List ℕ) (script : Script) (lines : List Line) → read_script (script_of Serial bytes) ≡ Ok script → not_yet script ≡ None → script.before ≡ lines → edition_of bytes ≡ of_lines lines
-carried bytes script lines ok form are = read bytes script ok ∙ ap (λ (o : Option ℕ). carried_out script o >>= λ (s : Script). of_lines s.before) form ∙ ap of_lines are
+configured_to : (bytes : List ℕ) (script : Script) (config : Configuration) → read_script (script_of Serial bytes) ≡ Ok script
+    → configured first_configuration script.before ≡ Ok config → first_edition bytes ≡ with_listings script config
+configured_to bytes script config ok to = read bytes script ok ∙ ap (λ (r : Result Configuration ScriptError). r >>= λ c. with_listings script c) to
 
-pub command_stops : (bytes : List ℕ) (script : Script) (lines : List Line) (e : ScriptError) → read_script (script_of Serial bytes) ≡ Ok script → not_yet script ≡ None → script.before ≡ lines
-    → configured first_configuration lines ≡ Err e → edition_of bytes ≡ Err e
-command_stops bytes script lines e ok form are stop = carried bytes script lines ok form are ∙ ap (λ (r : Result Configuration ScriptError). r >>= λ config. with_answers lines config) stop
+pub listing_stops : (bytes : List ℕ) (script : Script) (config : Configuration) (e : ScriptError) → read_script (script_of Serial bytes) ≡ Ok script
+    → configured first_configuration script.before ≡ Ok config → listings_of config script.before ≡ Err e → first_edition bytes ≡ Err e
+listing_stops bytes script config e ok to stop =
+    configured_to bytes script config ok to ∙ ap (λ (r : Result (List LineAnswer) ScriptError). r >>= λ answers. with_answers script config answers) stop
 
-configured_to : (bytes : List ℕ) (script : Script) (lines : List Line) (config : Configuration) → read_script (script_of Serial bytes) ≡ Ok script → not_yet script ≡ None → script.before ≡ lines
-    → configured first_configuration lines ≡ Ok config → edition_of bytes ≡ with_answers lines config
-configured_to bytes script lines config ok form are to = carried bytes script lines ok form are ∙ ap (λ (r : Result Configuration ScriptError). r >>= λ c. with_answers lines c) to
-
-pub listing_stops : (bytes : List ℕ) (script : Script) (lines : List Line) (config : Configuration) (e : ScriptError) → read_script (script_of Serial bytes) ≡ Ok script → not_yet script ≡ None → script.before ≡ lines
-    → configured first_configuration lines ≡ Ok config → answered config lines ≡ Err e → edition_of bytes ≡ Err e
-listing_stops bytes script lines config e ok form are to stop =
-    configured_to bytes script lines config ok form are to ∙ ap (λ (r : Result (List LineAnswer) ScriptError). r >>= λ answers. let q : Result Edition ScriptError = Ok (record { config = config; answers = answers }) in q) stop
-
-pub edition_stands : (bytes : List ℕ) (script : Script) (lines : List Line) (config : Configuration) (answers : List LineAnswer) → read_script (script_of Serial bytes) ≡ Ok script → not_yet script ≡ None
-    → script.before ≡ lines → configured first_configuration lines ≡ Ok config → answered config lines ≡ Ok answers → edition_of bytes ≡ Ok (record { config = config; answers = answers })
-edition_stands bytes script lines config answers ok form are to told =
-    configured_to bytes script lines config ok form are to ∙ ap (λ (r : Result (List LineAnswer) ScriptError). r >>= λ a. let q : Result Edition ScriptError = Ok (record { config = config; answers = a }) in q) told
+pub edition_stands : (bytes : List ℕ) (script : Script) (config : Configuration) (answers : List LineAnswer) → read_script (script_of Serial bytes) ≡ Ok script
+    → configured first_configuration script.before ≡ Ok config → listings_of config script.before ≡ Ok answers
+    → first_edition bytes ≡ Ok (record { config = config; answers = answers; live = script.live })
+edition_stands bytes script config answers ok to told =
+    configured_to bytes script config ok to ∙ ap (λ (r : Result (List LineAnswer) ScriptError). r >>= λ a. with_answers script config a) told

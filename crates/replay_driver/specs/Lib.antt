@@ -1,16 +1,20 @@
-pub mod Bytes
-pub mod Chain
-pub mod CommandLine
-pub mod Docket
-pub mod Editions
-pub mod Finding
-pub mod Forms
-pub mod Invocation
-pub mod Promises
-pub mod Replay
-pub mod Report
-pub mod Rules
-pub mod Run
-pub mod ScriptTexts
+-- which commands are carried out
+pub mod Served
+-- what is opened and read
+pub mod Openings
+pub mod CaptureOpenings
 pub mod WholeSource
-pub mod Words
+pub mod ScriptSource
+-- what a script gives
+pub mod FirstEdition
+pub mod ScriptTexts
+-- what is found, and its status and text
+pub mod Found
+pub mod ReplayFiles
+pub mod ScriptReplay
+pub mod RunResult
+-- how it is written
+pub mod PieceSink
+-- what a run leaves, and what it promises
+pub mod Run
+pub mod Promises

@@ -1,95 +1,155 @@
 -- What a run promises, one fact each.
-use Rattle.std.specs.Prelude.{◌≡◌, ℕ, ◌≤◌, IsSome, List, [], ◌∷◌, length, Option, Some, Ok, Err, All}
+use Rattle.std.specs.Prelude.{◌≡◌, ◌≢◌, ℕ, ◌<◌, ◌≤◌, Bool, true, false, ⊤, IsSome, List, [], ◌∷◌, length, Option, Some, Ok, Err, ◌⊎◌}
+use Rattle.std.specs.List.{list_any, AllByRecursion}
 use Rattle.std.specs.Io.KnownBytes.{Appends}
+use Rattle.command_words.specs.Words.{CaptureNames}
 use Rattle.fw_base.specs.Faults.{Rose}
 use Rattle.fw_base.specs.Pairs.{Pair, take_named}
+use Rattle.fw_report.specs.Report.{report_text}
+use Rattle.fw_report.specs.declared.capture_end.CaptureEnd.{CaptureEnd}
+use Rattle.fw_report.specs.declared.capture_end.CaptureEnd.TheVariants.{Stopped}
+use Rattle.fw_world.specs.RecordValue.{RecordValue}
+use Rattle.load_maker.specs.Load.{script_of, capture_of}
 use Rattle.pcap_read.specs.Reading.{Captured, HasFront, Open, AtBoundary}
-use Rattle.replay_driver.specs.Chain.{◌>>=◌}
-use Rattle.replay_driver.specs.Words.{Named, port_of}
-use Rattle.replay_driver.specs.Replay.{IsReplay}
-use Rattle.replay_driver.specs.Report.{report_text}
+use Rattle.pcap_read.specs.declared.capture_fault.CaptureFault.TheVariants.{ReadFault}
+use Rattle.serial_replay.specs.Replay.{limit_for, outcome_of}
+use Rattle.serial_replay.specs.declared.opened_capture.OpenedCapture.{OpenedCapture}
+use Rattle.replay_driver.specs.FirstEdition.{first_edition}
+use Rattle.replay_driver.specs.Found.{ReadsNames, HasNoEdition, FindsReplay, IsReplayOf, ReplaysLoad}
+use Rattle.replay_driver.specs.Openings.{capture_names, without}
+use Rattle.replay_driver.specs.Run.{Writes}
+use Rattle.replay_driver.specs.RunResult.{recorded, summary_of, report_status, unread_text, is_unread, is_stopped, is_refused}
 use Rattle.replay_driver.specs.ScriptTexts.{error_text}
-use Rattle.replay_driver.specs.Editions.{edition_of}
-use Rattle.replay_driver.specs.Finding.{unread_text, end_status}
-use Rattle.replay_driver.specs.Run.{Writes, Finds, ReadsBoth}
-use Rattle.replay_driver.specs.declared.edition.Edition.{Edition}
-use Rattle.replay_driver.specs.declared.script_error.ScriptError.{ScriptError}
-use Rattle.pcap_read.specs.declared.capture_fault.CaptureFault.{CaptureFault}
-use Rattle.replay_driver.specs.declared.capture_end.CaptureEnd.{CaptureEnd}
-use Rattle.replay_driver.specs.declared.capture_end.CaptureEnd.TheVariants.{Stopped}
-use Rattle.replay_driver.specs.declared.finding.Finding.TheVariants.{Unread}
+use Rattle.replay_driver.specs.Served.{ReplayNames, Job, Replays, Loads}
+use Rattle.replay_driver.specs.declared.first_edition.FirstEdition.{FirstEdition}
 use Rattle.replay_driver.specs.declared.outcome.Outcome.{Outcome}
-use Rattle.replay_driver.specs.declared.trace.Trace.{Trace}
+use Rattle.replay_driver.specs.declared.run_result.RunResult.TheVariants.{Unread}
+use Rattle.replay_driver.specs.declared.script_error.ScriptError.{ScriptError}
 
--- the told list without the pairs that these names take out, opened in their order
-abbrev pub without : List (List ℕ) → List Pair → Option (List Pair)
-without [] pairs = Some pairs
-without (name ∷ names) pairs = take_named name pairs >>= (λ found. without names found.1)
+-- the names of a command in the order in which they are opened; a load opens none
+abbrev pub in_order : Job → List (List ℕ)
+in_order (Replays names) = names.script ∷ capture_names names.captures
+in_order (Loads n) = []
 
--- the names of a command in the order in which they are opened
-abbrev pub in_order : Named → List (List ℕ)
-in_order names = names.script ∷ names.capture ∷ []
+-- ---- how a replay ended
+
+-- The report was begun, each capture was read to its end, and no command was refused.
+pub record IsQuiet {S : Type 0} (outcome : Outcome S) : Type 0 where
+  pub begun : IsSome outcome.kept
+  pub whole : list_any is_stopped outcome.ends.captures ≡ false
+  pub accepted : list_any is_refused outcome.ends.answers ≡ false
+
+-- The report was begun, each capture was read to its end, and a command behind `live` was refused.
+pub record IsRefused {S : Type 0} (outcome : Outcome S) : Type 0 where
+  pub whole : list_any is_stopped outcome.ends.captures ≡ false
+  pub refused : list_any is_refused outcome.ends.answers ≡ true
+
+-- The report was begun, no capture's source failed, and a capture has a fault.
+pub record IsFaulty {S : Type 0} (outcome : Outcome S) : Type 0 where
+  pub begun : IsSome outcome.kept
+  pub read : list_any is_unread outcome.ends.captures ≡ false
+  pub stopped : list_any is_stopped outcome.ends.captures ≡ true
+
+-- the capture's source failed in this run, in which it was opened with a count of 0
+abbrev pub FailedRead : CaptureEnd → Type 0
+FailedRead end = (at : ℕ) × (count : ℕ) × (end ≡ Stopped at ReadFault count) × (0 < count)
+
+abbrev pub HasFailedRead : List CaptureEnd → Type 0
+HasFailedRead [] = ⊥
+HasFailedRead (end ∷ ends) = FailedRead end ⊎ HasFailedRead ends
+
+-- ---- what is complete
+
+-- each capture's name stands in the told list, behind what the names before it took out, and its bytes are
+-- those of a whole capture
+abbrev pub AllWhole : ℕ → List CaptureNames → List Pair → Type 0
+AllWhole limit [] told = ⊤
+AllWhole limit (capture ∷ captures) told =
+    (bytes : List ℕ) × (behind : List Pair) × (take_named capture.name told ≡ Some ((capture.name, bytes), behind))
+    × ((records : List Captured) × HasFront limit bytes records (Open AtBoundary)) × AllWhole limit captures behind
+
+-- a script that gives an edition, and whose lines behind `live` are all accepted
+pub record IsAccepted (script : List ℕ) : Type 0 where
+  pub edition : FirstEdition
+  pub first : first_edition script ≡ Ok edition
+  pub accepted : list_any is_refused (outcome_of edition.config edition.live).answers ≡ false
 
 module _ {K S L : Type 0} (written : K → Option (List ℕ)) (sink_faults : K → ℕ) (pairs : L → Option (List Pair)) (faults : L → ℕ) (refused : L → Option (List ℕ)) (left : S → Option (List ℕ)) (failures : S → ℕ) where
-  -- A report was begun. Edition 1 is the configuration that the script gives, with the answers to its
-  -- listings; the docket has an entry for each record of the capture, by the first rule of edition 1 that
-  -- decides it where it was captured; the text is the lines of the docket, of the capture's end and of the answers.
-  pub record IsReported (names : Named) (library libraryAfter : L) (sink sinkAfter : K) (outcome : Outcome S) (trace : Trace) : Type 0 where
-    pub script : S
-    pub opened : S
-    pub capture : S
-    pub sources : outcome.sources.items ≡ script ∷ capture ∷ []
-    pub bytes : List ℕ
-    pub reads : ReadsBoth pairs faults refused left failures names library libraryAfter script opened bytes
-    pub script_read : edition_of bytes ≡ Ok (record { config = trace.config; answers = outcome.ends.answers })
-    pub end : CaptureEnd
-    pub replayed : IsReplay left failures (port_of names) trace.config opened capture trace.docket end
-    pub ends : outcome.ends.captures ≡ end ∷ []
-    pub writes : Writes written sink_faults sink sinkAfter (end_status end) outcome.status (report_text trace.config trace.docket end outcome.ends.answers)
+  -- ---- the headline
 
-  -- Both names were opened, and this is why the script gives no edition: its first fault, else its first
-  -- line that isn't carried out yet, else the first command that is refused.
-  pub record IsUnready (names : Named) (library libraryAfter : L) (sink sinkAfter : K) (outcome : Outcome S) : Type 0 where
+  -- The names were opened in the order of the words. The script's bytes give edition 1 and the lines behind
+  -- `live`, and the captures were replayed beside them: the record is legal for them, in the order of the
+  -- schedule, and ends and answers are theirs. What the sink took is its report's text; with status 5 a front.
+  pub record IsReported (names : ReplayNames) (library libraryAfter : L) (sink sinkAfter : K) (outcome : Outcome S) (kept : RecordValue) : Type 0 where
     pub script : S
-    pub capture : S
-    pub sources : outcome.sources.items ≡ script ∷ capture ∷ []
     pub bytes : List ℕ
-    pub reads : ReadsBoth pairs faults refused left failures names library libraryAfter script capture bytes
-    pub error : ScriptError
-    pub first : edition_of bytes ≡ Err error
-    pub text : Appends (written sink) (written sinkAfter) (error_text error)
+    pub opened : List (OpenedCapture S)
+    pub reads : ReadsNames pairs faults refused left failures names.script names.captures library libraryAfter script bytes opened
+    pub captures : List S
+    pub replay : IsReplayOf left failures bytes opened kept outcome.ends captures
+    pub given_back : outcome.sources.items ≡ script ∷ captures
+    pub writes : Writes written sink_faults sink sinkAfter (report_status outcome.ends.captures outcome.ends.answers) outcome.status
+        (report_text (recorded kept) outcome.ends.captures outcome.ends.answers names.journal)
+
+  -- The made script and the made capture were replayed, and what the sink took is the record's summary.
+  pub record IsSummed (n : ℕ) (library libraryAfter : L) (sink sinkAfter : K) (outcome : Outcome S) (kept : RecordValue) : Type 0 where
+    pub replay : ReplaysLoad n kept outcome.ends
+    pub library_kept : libraryAfter ≡ library
+    pub nothing_opened : outcome.sources.items ≡ []
+    pub writes : Writes written sink_faults sink sinkAfter (report_status outcome.ends.captures outcome.ends.answers) outcome.status (summary_of kept)
+
+  abbrev pub IsKept : Job → L → L → K → K → Outcome S → RecordValue → Type 0
+  IsKept (Replays names) library libraryAfter sink sinkAfter outcome kept = IsReported names library libraryAfter sink sinkAfter outcome kept
+  IsKept (Loads n) library libraryAfter sink sinkAfter outcome kept = IsSummed n library libraryAfter sink sinkAfter outcome kept
+
+  -- ---- before a replay
 
   -- A name could not be opened or, for the script, read; the text names it.
-  pub record IsUnread (names : Named) (library libraryAfter : L) (sink sinkAfter : K) (outcome : Outcome S) : Type 0 where
+  pub record IsUnread (names : ReplayNames) (library libraryAfter : L) (sink sinkAfter : K) (outcome : Outcome S) : Type 0 where
     pub name : List ℕ
-    pub cause : Finds pairs faults refused left failures names library libraryAfter (Unread name) outcome.sources.items
+    pub cause : FindsReplay pairs faults refused left failures names library libraryAfter (Unread name) outcome.sources.items
     pub text : Appends (written sink) (written sinkAfter) (unread_text name)
 
-  -- The library tells its list, in which both names stand; the script gives an edition, the capture ends
-  -- behind a whole record, and no count rose.
-  pub record IsComplete (names : Named) (library libraryAfter : L) (sink sinkAfter : K) (outcome : Outcome S) : Type 0 where
+  -- a load reads nothing from outside
+  abbrev pub IsUnreadJob : Job → L → L → K → K → Outcome S → Type 0
+  IsUnreadJob (Replays names) library libraryAfter sink sinkAfter outcome = IsUnread names library libraryAfter sink sinkAfter outcome
+  IsUnreadJob (Loads n) library libraryAfter sink sinkAfter outcome = ⊥
+
+  -- All names were opened, and this is why the script gives no edition: its first fault, else the first
+  -- command that is refused.
+  pub record IsUnready (names : ReplayNames) (library libraryAfter : L) (sink sinkAfter : K) (outcome : Outcome S) : Type 0 where
+    pub error : ScriptError
+    pub cause : HasNoEdition pairs faults refused left failures names library libraryAfter error outcome.sources.items
+    pub text : Appends (written sink) (written sinkAfter) (error_text error)
+
+  abbrev pub IsUnreadyJob : Job → L → L → K → K → Outcome S → Type 0
+  IsUnreadyJob (Replays names) library libraryAfter sink sinkAfter outcome = IsUnready names library libraryAfter sink sinkAfter outcome
+  IsUnreadyJob (Loads n) library libraryAfter sink sinkAfter outcome = (error : ScriptError) × (first_edition (script_of n) ≡ Err error)
+
+  -- ---- completeness
+
+  -- The library tells its list, in which the names stand; the script is accepted, the captures are whole, and
+  -- no count rose.
+  pub record IsComplete (names : ReplayNames) (library libraryAfter : L) (sink sinkAfter : K) (outcome : Outcome S) : Type 0 where
     pub before : List Pair
     pub told : pairs library ≡ Some before
     pub script : List ℕ
     pub behind : List Pair
     pub script_stands : take_named names.script before ≡ Some ((names.script, script), behind)
     pub script_short : length script ≤ 1048576
-    pub edition : Edition
-    pub script_read : edition_of script ≡ Ok edition
-    pub capture : List ℕ
-    pub rest : List Pair
-    pub capture_stands : take_named names.capture behind ≡ Some ((names.capture, capture), rest)
-    pub records : List Captured
-    pub capture_whole : HasFront capture records (Open AtBoundary)
+    pub accepted : IsAccepted script
+    pub captures_whole : AllWhole (limit_for (length names.captures)) names.captures behind
     pub library_quiet : Rose (faults library) (faults libraryAfter) → ⊥
-    pub sources_quiet : All (λ source. failures source ≡ 0) outcome.sources.items
+    pub sources_quiet : AllByRecursion (λ source. failures source ≡ 0) outcome.sources.items
     pub sink_quiet : Rose (sink_faults sink) (sink_faults sinkAfter) → ⊥
 
--- The report was begun, and the capture ended with this fault.
-pub record IsStopped {S : Type 0} (cause : CaptureFault → Type 0) (outcome : Outcome S) : Type 0 where
-  pub begun : IsSome outcome.kept
-  pub at : ℕ
-  pub fault : CaptureFault
-  pub count : ℕ
-  pub end : outcome.ends.captures ≡ Stopped at fault count ∷ []
-  pub caused : cause fault
+  -- the made script is accepted, the made capture whole, and no read of it and no write failed
+  pub record IsCompleteLoad (n : ℕ) (sink sinkAfter : K) (outcome : Outcome S) : Type 0 where
+    pub accepted : IsAccepted (script_of n)
+    pub capture_whole : (records : List Captured) × HasFront (limit_for 1) (capture_of n) records (Open AtBoundary)
+    pub source_quiet : list_any is_unread outcome.ends.captures ≡ false
+    pub sink_quiet : Rose (sink_faults sink) (sink_faults sinkAfter) → ⊥
+
+  abbrev pub IsCompleteJob : Job → L → L → K → K → Outcome S → Type 0
+  IsCompleteJob (Replays names) library libraryAfter sink sinkAfter outcome = IsComplete names library libraryAfter sink sinkAfter outcome
+  IsCompleteJob (Loads n) library libraryAfter sink sinkAfter outcome = IsCompleteLoad n sink sinkAfter outcome

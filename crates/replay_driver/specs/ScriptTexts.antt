@@ -4,16 +4,12 @@ use Rattle.fw_command.specs.Texts.{fault_text}
 use Rattle.rule_chain.specs.Words.{word_of}
 use Rattle.replay_driver.specs.declared.refused_line.RefusedLine.{RefusedLine}
 use Rattle.replay_driver.specs.declared.script_error.ScriptError.{ScriptError}
-use Rattle.replay_driver.specs.declared.script_error.ScriptError.TheVariants.{Fault, NotYet, Refused, OutOfMemory}
-
-unfoldable pub not_yet_text : ℕ → List ℕ
-not_yet_text line = codes "script line " ++ (decimal line ++ codes " NotYet\n")
+use Rattle.replay_driver.specs.declared.script_error.ScriptError.TheVariants.{Fault, Refused, OutOfMemory}
 
 unfoldable pub refused_text : RefusedLine → List ℕ
 refused_text refused = codes "script line " ++ (decimal refused.line ++ (codes " " ++ (word_of refused.fault ++ codes "\n")))
 
 unfoldable pub error_text : ScriptError → List ℕ
 error_text (Fault fault) = fault_text fault
-error_text (NotYet fault) = not_yet_text fault.line
 error_text (Refused refused) = refused_text refused
 error_text OutOfMemory = []

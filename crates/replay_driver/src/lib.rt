@@ -1,45 +1,24 @@
-//! Replays a capture beside a script of rules, and prints a verdict for each packet.
+//! Replays captures beside a script of rules, and prints the report: what `ipfw_replay` does.
 #![tactic(auto)]
 
-pub use answer::Answer;
-pub use capture_end::CaptureEnd;
-pub use docket::Docket;
-pub use docket_entry::{DocketEntry, Judgement};
-pub use ends::Ends;
-pub use line_answer::LineAnswer;
-pub use not_yet::NotYet;
 pub use outcome::Outcome;
 pub use refused_line::RefusedLine;
 pub use run_command::run;
 pub use script_error::ScriptError;
-pub use trace::Trace;
-pub use verdict::Verdict;
 
-mod answer;
-mod bytes;
-mod capture_end;
-mod capture_word;
-mod docket;
-mod docket_entry;
-mod edition;
-mod ends;
-mod finding;
-mod forms;
-mod judging;
-mod line_answer;
-mod listing;
-mod not_yet;
+mod capture_openings;
+mod first_edition;
+mod found;
 mod outcome;
-mod prepare;
+mod piece_sink;
 mod refused_line;
-mod replay;
-mod report;
+mod replay_files;
+mod replay_load;
 mod run_command;
+mod run_result;
 mod script_error;
+mod script_replay;
 mod script_source;
 #[cfg(test)]
 mod tests;
-mod trace;
-mod verdict;
 mod whole_source;
-mod words;

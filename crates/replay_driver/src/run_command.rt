@@ -1,18 +1,23 @@
-ghost use Rattle.std.specs.Prelude.{◌≡◌, None, IfSome, ◌≢◌, ◌⊎◌, IfNone, IfOk, map, string_bytes, take, length, []};
-ghost use Rattle.replay_driver.specs.Finding as findings;
-ghost use Rattle.replay_driver.specs.Finding.{usage_text};
-ghost use Rattle.replay_driver.specs.Run.{IsNoCommand, IsRun, Reports, Writes, status_of};
-ghost use Rattle.replay_driver.specs.Words.{command_of};
-ghost use Rattle.replay_driver.specs.Promises.{IsReported, IsStopped, IsUnready, IsUnread, IsComplete, without, in_order};
+ghost use Rattle.std.specs.Prelude.{◌≡◌, None, [], IfSome, ◌≢◌, ◌⊎◌, IfNone, IfOk, OnOk, ◌≤◌, map, string_bytes, take, length, true};
+ghost use Rattle.std.specs.List.{list_any};
 ghost use Rattle.fw_base.specs.Faults.{Rose};
+ghost use Rattle.fw_base.specs.Texts.{WritesText};
+ghost use Rattle.replay_driver.specs.Found.{FindsWords};
+ghost use Rattle.replay_driver.specs.Openings.{without};
+ghost use Rattle.replay_driver.specs.Promises.{IsKept, IsUnreadJob, IsUnreadyJob, IsQuiet, IsRefused, IsFaulty, FailedRead, HasFailedRead, IsCompleteJob, in_order};
+ghost use Rattle.replay_driver.specs.Run.{IsNoCommand, IsRun, IsFoundRun, status_of};
+ghost use Rattle.replay_driver.specs.RunResult as results;
+ghost use Rattle.replay_driver.specs.Served.{job_of};
 
-use crate::finding::{Finding, write_usage};
-use crate::prepare::{Prepared, prepare};
-use crate::words::read_words;
-use crate::{CaptureEnd, Ends, Outcome};
-use fw_base::{Failed, Gate, Library, OutOfMemory, Sink};
-use fw_rule::Items;
-use pcap_read::CaptureFault;
+use crate::Outcome;
+use crate::found::Found;
+use crate::piece_sink::write_pieced;
+use crate::replay_files::replay_files;
+use crate::replay_load::replay_load;
+use crate::run_result::{RunResult, no_ends};
+use command_words::{Invocation, Mode, read_words};
+use core::mem::replace_with;
+use fw_base::{BUFFER_BYTES, Failed, Gate, Library, OutOfMemory, Sink};
 use std::alloc::{AllocError, Global};
 use std::sync::Wait;
 use std::thread::Threads;
@@ -27,17 +32,6 @@ fn status_written(wanted: u8, written: Result<(), Failed>) -> u8
     }
 }
 
-/// How the captures ended, by what was found.
-fn captures_of(alloc: Global, finding: &Finding) -> Result<Items<CaptureEnd>, AllocError>
-    ensures { IfOk result (λ ends. ends ≡ findings.finding_ends finding.now) }
-{
-    let mut captures = Vec::new(alloc);
-    if let Finding::Replayed(_, end, _) = finding {
-        captures.push(*end)?;
-    }
-    Ok(Items::from_vec(captures))
-}
-
 /// The answer where memory ran out.
 fn without_memory<S>(alloc: Global) -> Outcome<S>
     ensures status { result.status ≡ 6 }
@@ -48,43 +42,72 @@ fn without_memory<S>(alloc: Global) -> Outcome<S>
 {
     Outcome {
         status: 6,
-        ends: Ends::none(alloc),
+        ends: no_ends(alloc),
         kept: None,
         sources: Vec::new(alloc),
     }
 }
 
-/// Writes what was found. All that is handed back is there before the first byte.
-fn report<S: Drop, K: Sink>(alloc: Global, prepared: Prepared<S>, out: &mut K) -> Outcome<S>
-    ensures { Reports K.written K.faults out.old out.new prepared result }
+/// An empty buffer for a piece of text.
+fn piece_buffer(alloc: Global) -> Result<Vec<u8>, AllocError>
+    ensures { IfOk result (λ buffer. buffer.items ≡ []) }
 {
-    let Ok(captures) = captures_of(alloc, &prepared.finding) else {
+    Vec::with_capacity(alloc, BUFFER_BYTES)
+}
+
+/// Writes what was found, in pieces. All memory is taken before the first byte.
+fn report<S: Drop, K: Sink>(alloc: Global, found: Found<S>, out: &mut K) -> Outcome<S>
+    requires { results.IsWritable found.result }
+    ensures { IsFoundRun K.written K.faults found out.old out.new result }
+{
+    let Ok(buffer) = piece_buffer(alloc) else {
         return without_memory(alloc);
     };
-    let Prepared { finding, sources } = prepared;
-    let status = status_written(finding.status(), finding.write(out));
-    let (kept, answers) = finding.into_parts(alloc);
+    let Found { result, sources } = found;
+    let written = replace_with(out, (buffer, &result), write_pieced);
+    let status = status_written(result.status(), written);
+    let (kept, ends) = result.into_parts(alloc);
     Outcome {
         status,
-        ends: Ends { captures, answers },
+        ends,
         kept,
         sources,
     }
 }
 
-/// Writes the usage line.
-fn usage<S: Drop, K: Sink>(alloc: Global, out: &mut K) -> Outcome<S>
-    ensures writes { Writes K.written K.faults out.old out.new 1 result.status usage_text }
-    ensures ends { result.ends.captures ≡ [] }
-    ensures answers { result.ends.answers ≡ [] }
-    ensures kept { result.kept ≡ None }
-    ensures nothing { result.sources.items ≡ [] }
+/// Carries out what the words ask for.
+fn find<L: Library>(
+    alloc: Global,
+    words: &[String],
+    library: &mut L,
+) -> Result<Found<L::Reader>, OutOfMemory>
+    ensures writable { IfOk result (λ found. results.IsWritable found.result) }
+    ensures finds { IfOk result (λ found. FindsWords L.pairs L.faults L.refused L.Reader.left L.Reader.faults
+        (job_of (map string_bytes words.now)) library.old library.new found.result found.sources.items) }
 {
-    Outcome {
-        status: status_written(1, write_usage(out)),
-        ends: Ends::none(alloc),
-        kept: None,
-        sources: Vec::new(alloc),
+    match read_words(alloc, words)? {
+        Some(
+            Invocation::Replay {
+                mode: Mode::Serial,
+                journal,
+                script,
+                captures,
+            },
+        ) => replay_files(alloc, journal, script, &captures, library),
+        Some(Invocation::Load(records)) => Ok(Found {
+            result: replay_load(alloc, records)?,
+            sources: Vec::new(alloc),
+        }),
+        None
+        | Some(
+            Invocation::Replay {
+                mode: Mode::Live,
+                ..
+            },
+        ) => Ok(Found {
+            result: RunResult::Usage,
+            sources: Vec::new(alloc),
+        }),
     }
 }
 
@@ -95,26 +118,25 @@ fn run_words<L: Library, K: Sink>(
     library: &mut L,
     out: &mut K,
 ) -> Outcome<L::Reader>
-    ensures usage { command_of (map string_bytes words.now) ≡ None
+    ensures usage { job_of (map string_bytes words.now) ≡ None
         → IsNoCommand K.written K.faults library.old library.new out.old out.new result }
-    ensures found { IfSome (command_of (map string_bytes words.now)) (λ names.
-        IsRun K.written K.faults L.pairs L.faults L.refused L.Reader.left L.Reader.faults names library.old library.new out.old out.new result) }
+    ensures found { IfSome (job_of (map string_bytes words.now)) (λ job.
+        IsRun K.written K.faults L.pairs L.faults L.refused L.Reader.left L.Reader.faults
+        job library.old library.new out.old out.new result) }
 {
-    match read_words(alloc, words) {
+    match find(alloc, words, library) {
         Err(OutOfMemory) => without_memory(alloc),
-        Ok(None) => usage(alloc, out),
-        Ok(Some(names)) => match prepare(alloc, names, library) {
-            Err(OutOfMemory) => without_memory(alloc),
-            Ok(prepared) => report(alloc, prepared, out),
-        },
+        Ok(found) => report(alloc, found, out),
     }
 }
 
-/// Replays the capture that the words name beside the script that they name, and writes the verdicts.
+/// Replays the captures that the words name beside the script that they name, or a load, and writes the
+/// report, or the summary, in pieces of 64 KiB. Nothing stays in a buffer.
 ///
-/// The words are `serial [--] SCRIPT in|out:IF:CAPTURE`. The status is 0; 1 where the words are no command; 2
-/// where a script line isn't read; 3 where the capture has a fault; 4 where a name could not be opened or
-/// read, or the capture's source failed; 5 where the sink failed; 6 where memory ran out.
+/// The words are `serial [--journal] [--] SCRIPT in|out:IF:CAPTURE ..`, with 1 to 16 captures, or `load [--] N`.
+/// The status is 0; 1 where the words are no command; 2 where a script line isn't read or its command is
+/// refused; 3 where a capture has a fault; 4 where a name could not be opened or read, or a capture's source
+/// failed; 5 where the sink failed; 6 where memory ran out.
 pub fn run<R: Threads + Wait, L: Library, K: Sink, G: Gate + Sync>(
     _rt: &R,
     alloc: Global,
@@ -125,34 +147,49 @@ pub fn run<R: Threads + Wait, L: Library, K: Sink, G: Gate + Sync>(
 ) -> Outcome<L::Reader>
 where
     L::Reader: Send + Sync,
-    // Which words, script and capture come to what: exactly.
-    ensures usage { command_of (map string_bytes words.now) ≡ None
+    // Which words, scripts and captures come to what: exactly.
+    ensures usage { job_of (map string_bytes words.now) ≡ None
         → IsNoCommand K.written K.faults library.old library.new out.old out.new result }
-    ensures found { IfSome (command_of (map string_bytes words.now)) (λ names.
-        IsRun K.written K.faults L.pairs L.faults L.refused L.Reader.left L.Reader.faults names library.old library.new out.old out.new result) }
+    ensures found { IfSome (job_of (map string_bytes words.now)) (λ job.
+        IsRun K.written K.faults L.pairs L.faults L.refused L.Reader.left L.Reader.faults
+        job library.old library.new out.old out.new result) }
 
-    // The headline: where a report was begun, it is that of the script and the capture that the words name.
-    ensures report { IfSome result.kept (λ trace. IfSome (command_of (map string_bytes words.now)) (λ names.
-        IsReported K.written K.faults L.pairs L.faults L.refused L.Reader.left L.Reader.faults names library.old library.new out.old out.new result trace)) }
+    // The headline: where a record is kept, it is the legal one of the script and the captures that the words
+    // name, in the order of the schedule, and its report is what the sink took; of a load, its summary.
+    ensures report { IfSome result.kept (λ kept. IfSome (job_of (map string_bytes words.now)) (λ job.
+        IsKept K.written K.faults L.pairs L.faults L.refused L.Reader.left L.Reader.faults
+        job library.old library.new out.old out.new result kept)) }
 
     // Each status only where its cause is.
-    ensures status_1_cause { result.status ≡ 1 → command_of (map string_bytes words.now) ≡ None }
-    ensures status_2_cause { result.status ≡ 2 → IfSome (command_of (map string_bytes words.now)) (λ names.
-        IsUnready K.written K.faults L.pairs L.faults L.refused L.Reader.left L.Reader.faults names library.old library.new out.old out.new result) }
-    ensures status_3_cause { result.status ≡ 3 → IsStopped (λ fault. fault ≢ CaptureFault.ReadFault) result }
-    ensures status_4_cause { result.status ≡ 4 → IfNone result.kept (IfSome (command_of (map string_bytes words.now)) (λ names.
-        IsUnread K.written K.faults L.pairs L.faults L.refused L.Reader.left L.Reader.faults names library.old library.new out.old out.new result)) }
-    ensures status_4_with_record { result.status ≡ 4 → IfSome result.kept (λ _. IsStopped (λ fault. fault ≡ CaptureFault.ReadFault) result) }
+    ensures status_0_cause { result.status ≡ 0 → IsQuiet result }
+    ensures status_1_cause { result.status ≡ 1 → job_of (map string_bytes words.now) ≡ None }
+    ensures status_2_before { result.status ≡ 2 → IfNone result.kept
+        (IfSome (job_of (map string_bytes words.now)) (λ job.
+        IsUnreadyJob K.written K.faults L.pairs L.faults L.refused L.Reader.left L.Reader.faults
+        job library.old library.new out.old out.new result)) }
+    ensures status_2_with_record { result.status ≡ 2 → IfSome result.kept (λ _. IsRefused result) }
+    ensures status_3_cause { result.status ≡ 3 → IsFaulty result }
+    ensures status_4_before { result.status ≡ 4 → IfNone result.kept
+        (IfSome (job_of (map string_bytes words.now)) (λ job.
+        IsUnreadJob K.written K.faults L.pairs L.faults L.refused L.Reader.left L.Reader.faults
+        job library.old library.new out.old out.new result)) }
+    ensures status_4_with_record { result.status ≡ 4
+        → IfSome result.kept (λ _. HasFailedRead result.ends.captures) }
     ensures status_5_cause { result.status ≡ 5 → Rose (K.faults out.old) (K.faults out.new) }
     ensures status_6_silent { result.status ≡ 6 → out.new ≡ out.old }
 
-    // The names are opened in their order, once each, and no other is.
-    ensures openings { IfSome (L.pairs library.old) (λ pairs. IfSome (command_of (map string_bytes words.now)) (λ names. result.status ≢ 6
-        → L.pairs library.new ≡ without (take (length result.sources.items) (in_order names)) pairs)) }
+    // The names are opened in their order, once each, and no other is; with status 1 and for a load none.
+    ensures openings { IfSome (L.pairs library.old) (λ pairs.
+        IfSome (job_of (map string_bytes words.now)) (λ job. result.status ≢ 6 → L.pairs library.new
+        ≡ without (take (length result.sources.items) (in_order job)) pairs)) }
+    ensures nothing_opened { job_of (map string_bytes words.now) ≡ None → result.status ≢ 6
+        → library.new ≡ library.old }
+    ensures no_second_try { IfSome result.kept (λ _. L.faults library.new ≡ L.faults library.old) }
 
     // Where all is as it should be, and memory is there, the status is 0.
-    ensures complete { IfSome (command_of (map string_bytes words.now)) (λ names.
-        IsComplete K.written K.faults L.pairs L.faults L.refused L.Reader.left L.Reader.faults names library.old library.new out.old out.new result
+    ensures complete { IfSome (job_of (map string_bytes words.now)) (λ job.
+        IsCompleteJob K.written K.faults L.pairs L.faults L.refused L.Reader.left L.Reader.faults
+        job library.old library.new out.old out.new result
         → (result.status ≡ 0) ⊎ (result.status ≡ 6)) }
 {
     run_words(alloc, words, library, out)

@@ -3,7 +3,7 @@ ghost use Rattle.fw_base.specs.Texts.{WritesText};
 ghost use Rattle.replay_driver.specs.ScriptTexts as spec;
 ghost use Rattle.replay_driver.specs.declared.script_error.ScriptError.TheVariants as errors;
 
-use crate::{NotYet, RefusedLine};
+use crate::RefusedLine;
 use fw_base::{Failed, OutOfMemory, Sink, write_pieces};
 use fw_command::ScriptFault;
 use itoa::Buffer;
@@ -14,9 +14,7 @@ use std::alloc::{AllocError, AllocFailed};
 pub enum ScriptError {
     /// It isn't of the grammar, or passes a limit.
     Fault(ScriptFault),
-    /// The first line whose form isn't carried out yet.
-    NotYet(NotYet),
-    /// The first command that is refused.
+    /// The first command before `live` that is refused.
     Refused(RefusedLine),
     OutOfMemory,
 }
@@ -45,16 +43,6 @@ impl From<OutOfMemory> for ScriptError {
     }
 }
 
-/// Writes which script line isn't carried out yet.
-#[tactic(auto, unfolding(crate::specs::ScriptTexts::not_yet_text))]
-fn write_not_yet<K: Sink>(out: &mut K, fault: NotYet) -> Result<(), Failed>
-    ensures { WritesText (K.written out.old) (K.written out.new) (K.faults out.old) (K.faults out.new) (spec.not_yet_text fault.line) result }
-{
-    let mut line_digits = Buffer::new();
-    let line = line_digits.format(fault.line).as_bytes();
-    write_pieces(out, &[b"script line ", line, b" NotYet\n"])
-}
-
 /// Writes which script line is refused, and why.
 #[tactic(auto, unfolding(crate::specs::ScriptTexts::refused_text))]
 fn write_refused<K: Sink>(out: &mut K, refused: RefusedLine) -> Result<(), Failed>
@@ -77,7 +65,6 @@ impl ScriptError {
     {
         match self {
             ScriptError::Fault(fault) => fault.write(out),
-            ScriptError::NotYet(fault) => write_not_yet(out, *fault),
             ScriptError::Refused(refused) => write_refused(out, *refused),
             ScriptError::OutOfMemory => Ok(()),
         }

@@ -1,5 +1,5 @@
 ghost use Rattle.std.specs.Prelude.{IfOk};
-ghost use Rattle.replay_driver.specs.Run.{FindsScript};
+ghost use Rattle.replay_driver.specs.ScriptSource.{FindsScript};
 
 use crate::whole_source::{ReadError, read_up_to};
 use fw_base::{Library, Name, OutOfMemory};
@@ -23,7 +23,8 @@ pub(crate) fn read_script_source<L: Library>(
     name: &Name,
     library: &mut L,
 ) -> Result<ScriptSource<L::Reader>, OutOfMemory>
-    ensures { IfOk result (FindsScript L.pairs L.faults L.refused L.Reader.left L.Reader.faults library.old library.new name.now) }
+    ensures { IfOk result (FindsScript L.pairs L.faults L.refused L.Reader.left L.Reader.faults
+        library.old library.new name.now) }
 {
     let Ok(mut source) = library.open(name.copy()?) else {
         return Ok(ScriptSource::Refused);

@@ -1,6 +1,8 @@
 use crate::{Outcome, run};
+use captures::{Packet, capture_of};
 use fw_base::{FreeGate, MemoryLibrary, MemorySink, MemorySource, Name};
 use std::alloc::Global;
+use std::process::Abort;
 use std::sync::Wait;
 use std::test::Fail;
 use std::thread::Threads;
@@ -8,26 +10,33 @@ use std::thread::Threads;
 mod bodies;
 mod captures;
 mod cuts;
+mod edits;
 mod ipv6;
+mod loads;
 mod rows;
 mod scripts;
+mod states;
 mod words;
 
-/// The piece lists that each row is run with.
-const PIECE_LISTS: [&[usize]; 3] = [&[], &[1], &[7, 16]];
+/// How much a sink takes unless a row says otherwise.
+const ROOM: u64 = 1_048_576;
 
-/// A script and a capture over memory: the word that names the capture, how the capture's bytes come, and how much may be written.
+/// A packet and the second of its record.
+type Timed = (u32, Packet);
+
+/// A worked row: the words behind `serial`, in which `s` is the script and `c`, `d` are the captures of these
+/// packets; and the status and the whole text of its run.
 #[derive(Clone, Copy)]
-struct Case<'a> {
-    script: &'a [u8],
-    word: &'a str,
-    capture: &'a [u8],
-    pieces: &'a [usize],
-    cut: Option<u64>,
-    room: u64,
+struct Row {
+    name: &'static str,
+    words: &'static [&'static str],
+    script: &'static str,
+    captures: &'static [&'static [Timed]],
+    status: u8,
+    text: &'static str,
 }
 
-/// What a run of a case leaves.
+/// What a run leaves.
 #[derive(Drop)]
 struct Seen {
     status: u8,
@@ -36,25 +45,13 @@ struct Seen {
     records: usize,
 }
 
-/// A case of incoming packets that is read at once and whole, with ample room.
-fn whole<'a>(script: &'a [u8], capture: &'a [u8]) -> Case<'a> {
-    Case {
-        script,
-        word: "in:em0:c",
-        capture,
-        pieces: &[],
-        cut: None,
-        room: 1_048_576,
+/// These words, each as a text.
+fn texts(alloc: Global, words: &[&str]) -> Result<Vec<String>, Fail> {
+    let mut texts = Vec::new(alloc);
+    for word in words {
+        texts.push(String::from_str(alloc, word)?)?;
     }
-}
-
-/// The words `serial s` with the capture's word.
-fn serial_words(alloc: Global, capture: &str) -> Result<Vec<String>, Fail> {
-    let mut words = Vec::new(alloc);
-    for word in ["serial", "s", capture] {
-        words.push(String::from_str(alloc, word)?)?;
-    }
-    Ok(words)
+    Ok(texts)
 }
 
 /// Adds a source of these bytes under a name.
@@ -77,10 +74,12 @@ fn add(
 
 /// What a run left, with the text that it wrote.
 fn seen_of<S: Drop>(alloc: Global, outcome: Outcome<S>, text: &[u8]) -> Result<Seen, Fail> {
-    let records = match &outcome.kept {
-        Some(trace) => trace.docket.entries().len(),
-        None => 0,
-    };
+    let mut records = 0usize;
+    if let Some(kept) = &outcome.kept {
+        for docket in kept.dockets() {
+            records = records.saturating_add(docket.entries().len());
+        }
+    }
     Ok(Seen {
         status: outcome.status,
         text: Vec::from_slice(alloc, text)?,
@@ -89,20 +88,49 @@ fn seen_of<S: Drop>(alloc: Global, outcome: Outcome<S>, text: &[u8]) -> Result<S
     })
 }
 
-/// Runs a case over memory.
-fn replay<R: Threads + Wait>(rt: &R, alloc: Global, case: &Case<'_>) -> Result<Seen, Fail> {
-    let mut library = MemoryLibrary::new(alloc);
-    add(alloc, &mut library, b"s", case.script, &[], None)?;
-    add(
-        alloc,
-        &mut library,
-        b"c",
-        case.capture,
-        case.pieces,
-        case.cut,
-    )?;
-    let mut out = MemorySink::new(alloc, case.room)?;
-    let words = serial_words(alloc, case.word)?;
-    let outcome = run(rt, alloc, &words, &mut library, &mut out, &FreeGate);
+/// Runs these words over a library, with a sink of that room.
+fn run_over<R: Threads + Wait>(
+    rt: &R,
+    alloc: Global,
+    words: &[&str],
+    library: &mut MemoryLibrary,
+    room: u64,
+) -> Result<Seen, Fail> {
+    let mut out = MemorySink::new(alloc, room)?;
+    let words = texts(alloc, words)?;
+    let outcome = run(rt, alloc, &words, library, &mut out, &FreeGate);
     seen_of(alloc, outcome, out.written())
+}
+
+/// Runs a script and a capture of incoming packets, which comes in these pieces.
+fn replay<R: Threads + Wait>(
+    rt: &R,
+    alloc: Global,
+    script: &[u8],
+    capture: &[u8],
+    pieces: &[usize],
+) -> Result<Seen, Fail> {
+    let mut library = MemoryLibrary::new(alloc);
+    add(alloc, &mut library, b"s", script, &[], None)?;
+    add(alloc, &mut library, b"c", capture, pieces, None)?;
+    let words = ["serial", "s", "in:em0:c"];
+    run_over(rt, alloc, &words, &mut library, ROOM)
+}
+
+/// Runs each row, and compares the status and the text.
+fn check<R: Threads + Wait + Abort>(rt: &R, alloc: Global, rows: &[Row]) -> Result<(), Fail> {
+    for row in rows {
+        let name = row.name;
+        let mut library = MemoryLibrary::new(alloc);
+        add(alloc, &mut library, b"s", row.script.as_bytes(), &[], None)?;
+        for (place, packets) in row.captures.iter().enumerate() {
+            let capture = capture_of(alloc, packets)?;
+            let called: &[u8] = if place == 0 { b"c" } else { b"d" };
+            add(alloc, &mut library, called, &capture, &[], None)?;
+        }
+        let seen = run_over(rt, alloc, row.words, &mut library, ROOM)?;
+        assert_eq!(rt; seen.text.as_slice(), row.text.as_bytes(), "{name}");
+        assert_eq!(rt; seen.status, row.status, "{name}");
+    }
+    Ok(())
 }

@@ -17,21 +17,30 @@ use Rattle.rule_chain.specs.declared.apply_fault.ApplyFault.TheVariants.{NoSuchR
 use Rattle.rule_chain.specs.Rules.{last_rule, rule_of, insert_rule, renumber, count_of, in_set_for, move_rules, set_moved, set_of_number, set_swapped, is_among, is_named, has_rule}
 use Rattle.rule_chain.proofs.Chains.{filter_keeps, move_keeps, renumber_keeps, insert_keeps}
 use Rattle.rule_chain.proofs.FlowNames.{Keeps, stays_named}
-use Rattle.rule_chain.proofs.Ids.{filter_ids, move_ids, renumber_ids, insert_ids}
+use Rattle.rule_chain.proofs.InPlaces.{stand_in_order, own_identities, own_counters}
 use Rattle.rule_chain.proofs.Lists.{length-filter_le, all-filter, all-map, all-weaker}
+use Rattle.rule_chain.proofs.Own.{filter_own, move_own, renumber_ids, renumber_counters, insert_ids, insert_counters}
 
 pub filter_kept : (c : Configuration) (p : Rule → Bool) → ((k : ℕ) → p (last_rule k) ≡ true) → IsConfiguration c → IsConfiguration (record c { rules = filter p c.rules })
-filter_kept c p last h = record {
-  ordered = filter_keeps p last 1 c.rules h.ordered;
-  rules = all-filter (IsRule c.greatest_id c.greatest_counter) p c.rules h.rules;
-  distinct = filter_ids p c.rules h.distinct;
-  names = h.names;
-  named = all-filter (IsNamed c.names) p c.rules h.named;
-  held = let less = length-filter_le p c.rules in omega (arith, h.held, less);
-  ids = h.ids;
-  counters = h.counters;
-  disabled = h.disabled;
-}
+filter_kept c p last h =
+    let ordered = filter_keeps p last 1 c.rules h.ordered in
+    let distinct = filter_own (λ r. r.id) p c.rules h.distinct in
+    let counted = filter_own (λ r. r.counter) p c.rules h.counted in
+    record {
+      ordered = ordered;
+      rules = all-filter (IsRule c.greatest_id c.greatest_counter) p c.rules h.rules;
+      distinct = distinct;
+      counted = counted;
+      in_order = stand_in_order (filter p c.rules) ordered;
+      identities = own_identities (filter p c.rules) distinct;
+      own_counters = own_counters (filter p c.rules) counted;
+      names = h.names;
+      named = all-filter (IsNamed c.names) p c.rules h.named;
+      held = let less = length-filter_le p c.rules in omega (arith, h.held, less);
+      ids = h.ids;
+      counters = h.counters;
+      disabled = h.disabled;
+    }
 
 rule_moved : (set_for : Rule → ℕ) → ((r : Rule) → IsSet r.set → IsSet (set_for r)) → (i n : ℕ) (r : Rule) → IsRule i n r → IsRule i n (in_set_for set_for r)
 rule_moved set_for in_range i n r h = record {
@@ -49,17 +58,25 @@ length_moved set_for [] = refl
 length_moved set_for (r ∷ rules) = ap suc (length_moved set_for rules)
 
 pub move_kept : (c : Configuration) (set_for : Rule → ℕ) → ((k : ℕ) → set_for (last_rule k) ≡ 31) → ((r : Rule) → IsSet r.set → IsSet (set_for r)) → IsConfiguration c → IsConfiguration (record c { rules = move_rules set_for c.rules })
-move_kept c set_for last in_range h = record {
-  ordered = move_keeps set_for last 1 c.rules h.ordered;
-  rules = all-map (IsRule c.greatest_id c.greatest_counter) (in_set_for set_for) (rule_moved set_for in_range c.greatest_id c.greatest_counter) c.rules h.rules;
-  distinct = move_ids set_for c.rules h.distinct;
-  names = h.names;
-  named = all-map (IsNamed c.names) (in_set_for set_for) (λ rule named. named) c.rules h.named;
-  held = let same = length_moved set_for c.rules in omega (arith, h.held, same);
-  ids = h.ids;
-  counters = h.counters;
-  disabled = h.disabled;
-}
+move_kept c set_for last in_range h =
+    let ordered = move_keeps set_for last 1 c.rules h.ordered in
+    let distinct = move_own (λ r. r.id) set_for (λ r. refl) c.rules h.distinct in
+    let counted = move_own (λ r. r.counter) set_for (λ r. refl) c.rules h.counted in
+    record {
+      ordered = ordered;
+      rules = all-map (IsRule c.greatest_id c.greatest_counter) (in_set_for set_for) (rule_moved set_for in_range c.greatest_id c.greatest_counter) c.rules h.rules;
+      distinct = distinct;
+      counted = counted;
+      in_order = stand_in_order (move_rules set_for c.rules) ordered;
+      identities = own_identities (move_rules set_for c.rules) distinct;
+      own_counters = own_counters (move_rules set_for c.rules) counted;
+      names = h.names;
+      named = all-map (IsNamed c.names) (in_set_for set_for) (λ rule named. named) c.rules h.named;
+      held = let same = length_moved set_for c.rules in omega (arith, h.held, same);
+      ids = h.ids;
+      counters = h.counters;
+      disabled = h.disabled;
+    }
 
 rule_within : (i j n m : ℕ) → i ≤ j → n ≤ m → (r : Rule) → IsRule i n r → IsRule j m r
 rule_within i j n m ids counters r h = record {
@@ -113,17 +130,25 @@ length_zeroed test next (r ∷ rules) =
 
 pub zero_kept : (c : Configuration) (test : Rule → Bool) → c.greatest_counter + count_of test c.rules < 16777216 → IsConfiguration c
     → IsConfiguration (record c { rules = renumber test (c.greatest_counter + 1) c.rules; greatest_counter = c.greatest_counter + count_of test c.rules })
-zero_kept c test room h = record {
-  ordered = renumber_keeps test 1 (c.greatest_counter + 1) c.rules h.ordered;
-  rules = all_zeroed test c.greatest_id c.greatest_counter (c.greatest_counter + count_of test c.rules) (c.greatest_counter + 1) c.rules (omega arith) (omega arith) h.rules;
-  distinct = renumber_ids test (c.greatest_counter + 1) c.rules h.distinct;
-  names = h.names;
-  named = all_named c.names test (c.greatest_counter + 1) c.rules h.named;
-  held = let same = length_zeroed test (c.greatest_counter + 1) c.rules in omega (arith, h.held, same);
-  ids = omega (arith, h.ids);
-  counters = room;
-  disabled = h.disabled;
-}
+zero_kept c test room h =
+    let ordered = renumber_keeps test 1 (c.greatest_counter + 1) c.rules h.ordered in
+    let distinct = renumber_ids test (c.greatest_counter + 1) c.rules h.distinct in
+    let counted = renumber_counters test c.greatest_id c.greatest_counter (c.greatest_counter + 1) c.rules (omega arith) h.rules h.counted in
+    record {
+      ordered = ordered;
+      rules = all_zeroed test c.greatest_id c.greatest_counter (c.greatest_counter + count_of test c.rules) (c.greatest_counter + 1) c.rules (omega arith) (omega arith) h.rules;
+      distinct = distinct;
+      counted = counted;
+      in_order = stand_in_order (renumber test (c.greatest_counter + 1) c.rules) ordered;
+      identities = own_identities (renumber test (c.greatest_counter + 1) c.rules) distinct;
+      own_counters = own_counters (renumber test (c.greatest_counter + 1) c.rules) counted;
+      names = h.names;
+      named = all_named c.names test (c.greatest_counter + 1) c.rules h.named;
+      held = let same = length_zeroed test (c.greatest_counter + 1) c.rules in omega (arith, h.held, same);
+      ids = omega (arith, h.ids);
+      counters = room;
+      disabled = h.disabled;
+    }
 
 all_inserted : (P : Rule → Type 0) (rule : Rule) → P rule → (rules : List Rule) → AllByRecursion P rules → AllByRecursion P (insert_rule rule rules)
 unfolding insert_rule
@@ -154,27 +179,39 @@ drafted draft number id counter least less h = record {
   body = h.body;
 }
 
-pub add_kept : (c d : Configuration) (rule : Rule) → rule.number < 65535 → c.greatest_id < rule.id → IsRule (c.greatest_id + 1) (c.greatest_counter + 1) rule → length c.rules < 65535 → c.greatest_counter + 1 < 16777216
+pub add_kept : (c d : Configuration) (rule : Rule) → rule.number < 65535 → c.greatest_id < rule.id → c.greatest_counter < rule.counter → IsRule (c.greatest_id + 1) (c.greatest_counter + 1) rule → length c.rules < 65535 → c.greatest_counter + 1 < 16777216
     → Keeps c.names d.names → IsNamed d.names rule → d.rules ≡ insert_rule rule c.rules → d.greatest_id ≡ c.greatest_id + 1 → d.greatest_counter ≡ c.greatest_counter + 1 → d.disabled ≡ c.disabled
     → IsConfiguration c → IsConfiguration d
-add_kept c d rule less new_id is room counters made named rules ids greatest disabled h = record {
-  ordered = rw rules (insert_keeps rule less 1 c.rules is.number.least_le h.ordered);
-  rules = rw (rules, ids, greatest) (all_inserted (IsRule (c.greatest_id + 1) (c.greatest_counter + 1)) rule is c.rules
-      (all-weaker (IsRule c.greatest_id c.greatest_counter) (IsRule (c.greatest_id + 1) (c.greatest_counter + 1)) (rule_within c.greatest_id (c.greatest_id + 1) c.greatest_counter (c.greatest_counter + 1) (omega arith) (omega arith)) c.rules h.rules));
-  distinct = rw rules (insert_ids c.greatest_id c.greatest_counter rule c.rules new_id h.rules h.distinct);
-  names = made.lawful;
-  named = rw rules (all_inserted (IsNamed d.names) rule named c.rules (all-weaker (IsNamed c.names) (IsNamed d.names) (stays_named c.names d.names made) c.rules h.named));
-  held = let more = length_inserted rule c.rules in rw rules (omega arith);
-  ids = omega (arith, h.ids);
-  counters = omega arith;
-  disabled = rw disabled h.disabled;
-}
+add_kept c d rule less new_id new_counter is room counters made named rules ids greatest disabled h =
+    let ordered = insert_keeps rule less 1 c.rules is.number.least_le h.ordered in
+    let distinct = insert_ids c.greatest_id c.greatest_counter rule c.rules new_id h.rules h.distinct in
+    let counted = insert_counters c.greatest_id c.greatest_counter rule c.rules new_counter h.rules h.counted in
+    record {
+      ordered = rw rules ordered;
+      rules = rw (rules, ids, greatest) (all_inserted (IsRule (c.greatest_id + 1) (c.greatest_counter + 1)) rule is c.rules
+          (all-weaker (IsRule c.greatest_id c.greatest_counter) (IsRule (c.greatest_id + 1) (c.greatest_counter + 1)) (rule_within c.greatest_id (c.greatest_id + 1) c.greatest_counter (c.greatest_counter + 1) (omega arith) (omega arith)) c.rules h.rules));
+      distinct = rw rules distinct;
+      counted = rw rules counted;
+      in_order = rw rules (stand_in_order (insert_rule rule c.rules) ordered);
+      identities = rw rules (own_identities (insert_rule rule c.rules) distinct);
+      own_counters = rw rules (own_counters (insert_rule rule c.rules) counted);
+      names = made.lawful;
+      named = rw rules (all_inserted (IsNamed d.names) rule named c.rules (all-weaker (IsNamed c.names) (IsNamed d.names) (stays_named c.names d.names made) c.rules h.named));
+      held = let more = length_inserted rule c.rules in rw rules (omega arith);
+      ids = omega (arith, h.ids);
+      counters = omega arith;
+      disabled = rw disabled h.disabled;
+    }
 
 pub mask_kept : (c : Configuration) (disable enable : ℕ) → disable < 2147483648 → IsConfiguration c → IsConfiguration (record c { disabled = mask_after c.disabled disable enable })
 mask_kept c disable enable low h = record {
   ordered = h.ordered;
   rules = h.rules;
   distinct = h.distinct;
+  counted = h.counted;
+  in_order = h.in_order;
+  identities = h.identities;
+  own_counters = h.own_counters;
   names = h.names;
   named = h.named;
   held = h.held;

@@ -1,11 +1,14 @@
+pub mod Behind
 pub mod Chains
 pub mod Chosen
 pub mod FlowNames
 pub mod Greatest
-pub mod Ids
+pub mod InPlaces
 pub mod Kept
 pub mod Keys
+pub mod Listed
 pub mod Lists
+pub mod Own
 pub mod Places
 pub mod Renumbered
 pub mod UsesInTurn

@@ -1,5 +1,5 @@
 -- What holds in every configuration.
-use Rattle.std.specs.Prelude.{◌≡◌, ◌≢◌, ℕ, ◌<◌, ◌≤◌, ⊤, IfSome, List, [], ◌∷◌, length}
+use Rattle.std.specs.Prelude.{◌≡◌, ◌≢◌, ℕ, ◌<◌, ◌≤◌, ⊤, IfSome, List, [], ◌∷◌, length, slice_index_or}
 use Rattle.std.specs.List.{AllByRecursion}
 use Rattle.fw_rule.specs.WellFormed.{IsNumber, IsSet, IsAction, IsValue, HasBody}
 use Rattle.fw_rule.specs.declared.rule.Rule.{Rule}
@@ -14,10 +14,33 @@ AscendsFrom least [] = ⊥
 AscendsFrom least (rule ∷ []) = rule ≡ last_rule rule.counter
 AscendsFrom least (rule ∷ next ∷ rules) = (least ≤ rule.number) × (rule.number < 65535) × AscendsFrom rule.number (next ∷ rules)
 
+-- no two of the rules have one value of the key
+abbrev pub DifferBy : (Rule → ℕ) → List Rule → Type 0
+DifferBy key [] = ⊤
+DifferBy key (rule ∷ rules) = AllByRecursion (λ other. key other ≢ key rule) rules × DifferBy key rules
+
 -- no two of the rules have one identity
 abbrev pub HaveOwnIds : List Rule → Type 0
-HaveOwnIds [] = ⊤
-HaveOwnIds (rule ∷ rules) = AllByRecursion (λ other. other.id ≢ rule.id) rules × HaveOwnIds rules
+HaveOwnIds rules = DifferBy (λ rule. rule.id) rules
+
+-- no two of the rules have one counter number
+abbrev pub DifferInCounters : List Rule → Type 0
+DifferInCounters rules = DifferBy (λ rule. rule.counter) rules
+
+-- The same by places: of two rules of a list the one before hasn't the greater number ..
+abbrev pub StandInOrder : List Rule → Type 0
+StandInOrder rules = (i j : ℕ) (d : Rule) → i < j → j < length rules
+    → (slice_index_or rules i d).number ≤ (slice_index_or rules j d).number
+
+-- .. and they have two identities ..
+abbrev pub HaveOwnIdentities : List Rule → Type 0
+HaveOwnIdentities rules = (i j : ℕ) (d : Rule) → i < j → j < length rules
+    → (slice_index_or rules i d).id ≢ (slice_index_or rules j d).id
+
+-- .. and two counter numbers
+abbrev pub HaveOwnCounters : List Rule → Type 0
+HaveOwnCounters rules = (i j : ℕ) (d : Rule) → i < j → j < length rules
+    → (slice_index_or rules i d).counter ≢ (slice_index_or rules j d).counter
 
 -- each number of the rule is in its range, and its identity and its counter number were given out
 pub record IsRule (greatest_id greatest_counter : ℕ) (rule : Rule) : Type 0 where
@@ -29,12 +52,16 @@ pub record IsRule (greatest_id greatest_counter : ℕ) (rule : Rule) : Type 0 wh
   pub log : IfSome rule.log IsValue
   pub body : HasBody rule.action rule.body
 
--- rules in number order with rule 65535 at their end, each with an identity of its own and a flow name
--- that has a number, within the limits; set 31 isn't disabled
+-- rules in number order with rule 65535 at their end, each with an identity and a counter number of its
+-- own and a flow name that has a number, within the limits; set 31 isn't disabled
 pub record IsConfiguration (c : Configuration) : Type 0 where
   pub ordered : AscendsFrom 1 c.rules
   pub rules : AllByRecursion (IsRule c.greatest_id c.greatest_counter) c.rules
   pub distinct : HaveOwnIds c.rules
+  pub counted : DifferInCounters c.rules
+  pub in_order : StandInOrder c.rules
+  pub identities : HaveOwnIdentities c.rules
+  pub own_counters : HaveOwnCounters c.rules
   pub names : AreNames c.names
   pub named : AllByRecursion (IsNamed c.names) c.rules
   pub held : length c.rules ≤ 65535

@@ -1,4 +1,4 @@
-ghost use Rattle.std.specs.Prelude.{◌≡◌, ◌<◌, OnOk, IfErr, map};
+ghost use Rattle.std.specs.Prelude.{◌≡◌, ◌<◌, IfOk, OnOk, map};
 ghost use Rattle.std.specs.Arc.{arc_value};
 ghost use Rattle.fw_rule.specs.WellFormed.{IsDraft};
 ghost use Rattle.rule_chain.specs.Answers.{Gives};
@@ -7,9 +7,12 @@ ghost use Rattle.rule_chain.specs.Chain.{AscendsFrom};
 ghost use Rattle.rule_chain.specs.Rules as lists;
 
 use crate::config::{LAST_NUMBER, MOST_COUNTERS, MOST_RULES};
-use crate::names::add_name_of;
-use crate::uses::make_tables;
+use crate::names::with_name_of;
+use crate::numbers::place_behind;
+use crate::rule_list::RuleList;
+use crate::uses::with_tables_of;
 use crate::{ApplyFault, Config};
+use fw_base::OutOfMemory;
 use fw_rule::{Rule, RuleDraft};
 use std::alloc::Global;
 use std::sync::Arc;
@@ -56,15 +59,24 @@ fn chosen_number(rules: &[Arc<Rule>], number: Option<u16>) -> u16
 }
 
 /// Puts the rule before the first of a greater number. The search takes logarithmic time.
-fn insert_rule(rules: &mut Vec<Arc<Rule>>, rule: Arc<Rule>) -> Result<(), ApplyFault>
+fn insert_rule(rules: &mut Vec<Arc<Rule>>, rule: Arc<Rule>) -> Result<(), OutOfMemory>
     requires { AscendsFrom 1 (map arc_value rules.old.items) }
-    ensures ok { OnOk result (map arc_value rules.new.items ≡ lists.insert_rule (arc_value rule) (map arc_value rules.old.items)) }
-    ensures err { IfErr result (λ fault. fault ≡ ApplyFault.OutOfMemory) }
+    ensures { OnOk result (map arc_value rules.new.items ≡ lists.insert_rule (arc_value rule) (map arc_value rules.old.items)) }
 {
     let number = rule.number;
-    let place = rules.partition_point(|other| other.number <= number);
+    let place = place_behind(rules, number);
     rules.insert(place, rule)?;
     Ok(())
+}
+
+/// The list with the rule in its place.
+fn with_rule(alloc: Global, rules: RuleList, rule: Rule) -> Result<RuleList, OutOfMemory>
+    requires { AscendsFrom 1 rules }
+    ensures { IfOk result (λ after. after ≡ lists.insert_rule rule rules) }
+{
+    let mut owned = rules.own(alloc)?;
+    insert_rule(&mut owned, Arc::new(alloc, rule)?)?;
+    RuleList::new(alloc, owned)
 }
 
 impl Config {
@@ -74,18 +86,18 @@ impl Config {
         requires { IsDraft draft }
         ensures { Gives result (spec.add_rule self draft) }
     {
-        let number = chosen_number(&self.rules, draft.number);
+        let number = chosen_number(self.rules.rules(), draft.number);
         if number == LAST_NUMBER {
             return Err(ApplyFault::ReservedRule);
         }
-        if self.rules.len() >= MOST_RULES {
+        if self.rules.rules().len() >= MOST_RULES {
             return Err(ApplyFault::TooManyRules);
         }
         if self.greatest_counter + 1 >= MOST_COUNTERS {
             return Err(ApplyFault::TooManyCounters);
         }
-        add_name_of(&mut self.names, &draft.action, &draft.body)?;
-        make_tables(alloc, &mut self.tables, &draft.body)?;
+        self.names = with_name_of(alloc, self.names, &draft.action, &draft.body)?;
+        self.tables = with_tables_of(alloc, self.tables, &draft.body)?;
         let rule = Rule {
             number,
             set: draft.set,
@@ -95,7 +107,7 @@ impl Config {
             log: draft.log,
             body: draft.body,
         };
-        insert_rule(&mut self.rules, Arc::new(alloc, rule)?)?;
+        self.rules = with_rule(alloc, self.rules, rule)?;
         self.greatest_id += 1;
         self.greatest_counter += 1;
         Ok(self)

@@ -8,7 +8,8 @@ ghost use Rattle.rule_chain.specs.Configuration.{Configuration};
 ghost use Rattle.rule_chain.specs.First.{first_configuration};
 ghost use Rattle.rule_chain.specs.Rules as lists;
 
-use crate::names::{copy_names, first_names};
+use crate::names::first_names;
+use crate::rule_list::RuleList;
 use crate::values::default_settings;
 use fw_base::{Addr, Name, OutOfMemory};
 use fw_rule::{Action, AddrItem, AddrSpec, Body, Family, Items, Rule, Settings};
@@ -31,20 +32,22 @@ pub const MOST_COUNTERS: u32 = 16_777_216;
 
 /// A configuration of the packet filter: its rules in order, its sets, tables, settings and flow names (ipfw(8),
 /// "RULESET"). Contracts see it as a plain `Configuration`.
+///
+/// Its rules, its tables together, each table, its addresses and its names stand behind shared values, so
+/// that one made from it by a command copies only those of them that the command changes.
 #[derive(Drop)]
 pub struct Config {
-    pub(crate) rules: Vec<Arc<Rule>>,
+    pub(crate) rules: RuleList,
     pub(crate) disabled: u32,
-    pub(crate) tables: Tables,
-    pub(crate) locals: Vec<Addr>,
+    pub(crate) tables: Arc<Tables>,
+    pub(crate) locals: Arc<Vec<Addr>>,
     pub(crate) settings: Settings,
-    pub(crate) names: Vec<Name>,
+    pub(crate) names: Arc<Vec<Name>>,
     pub(crate) greatest_id: u32,
     pub(crate) greatest_counter: u32,
 }
 
 impl Model for Config {
-    ghost use Rattle.std.specs.Prelude.{map};
     ghost use Rattle.std.specs.Arc.{arc_value};
     ghost use Rattle.fw_rule.specs.Values.{values_of};
     ghost use Rattle.rule_chain.specs.Chain.{IsConfiguration};
@@ -52,9 +55,9 @@ impl Model for Config {
 
     ghost Value = { Configuration };
 
-    ghost view = { λ c. record { rules = map arc_value c.rules.items; disabled = c.disabled; tables = c.tables; locals = c.locals.items; values = values_of c.settings; names = c.names.items; greatest_id = c.greatest_id; greatest_counter = c.greatest_counter } };
+    ghost view = { λ c. record { rules = c.rules; disabled = c.disabled; tables = arc_value c.tables; locals = (arc_value c.locals).items; values = values_of c.settings; names = (arc_value c.names).items; greatest_id = c.greatest_id; greatest_counter = c.greatest_counter } };
 
-    ghost invariant = { λ c. IsConfiguration (record { rules = map arc_value c.rules.items; disabled = c.disabled; tables = c.tables; locals = c.locals.items; values = values_of c.settings; names = c.names.items; greatest_id = c.greatest_id; greatest_counter = c.greatest_counter }) };
+    ghost invariant = { λ c. IsConfiguration (record { rules = c.rules; disabled = c.disabled; tables = arc_value c.tables; locals = (arc_value c.locals).items; values = values_of c.settings; names = (arc_value c.names).items; greatest_id = c.greatest_id; greatest_counter = c.greatest_counter }) };
 }
 
 impl Config {
@@ -65,12 +68,12 @@ impl Config {
         let mut rules = Vec::new(alloc);
         rules.push(Arc::new(alloc, last_rule(alloc)?)?)?;
         Ok(Config {
-            rules,
+            rules: RuleList::new(alloc, rules)?,
             disabled: 0,
-            tables: Tables::new(alloc),
-            locals: Vec::new(alloc),
+            tables: Arc::new(alloc, Tables::new(alloc))?,
+            locals: Arc::new(alloc, Vec::new(alloc))?,
             settings: default_settings(),
-            names: first_names(alloc)?,
+            names: Arc::new(alloc, first_names(alloc)?)?,
             greatest_id: 0,
             greatest_counter: 0,
         })
@@ -81,7 +84,7 @@ impl Config {
         ensures value { map arc_value result.now ≡ self.now.rules }
         ensures lawful { IsConfiguration self.now }
     {
-        &self.rules
+        self.rules.rules()
     }
 
     /// The disabled sets, as the bits of a mask. Bit 31 is clear.
@@ -136,32 +139,21 @@ impl Config {
         &self.tables
     }
 
-    /// The same configuration, with the same rules and not copies of them.
-    pub(crate) fn copy(&self, alloc: Global) -> Result<Config, OutOfMemory>
+    /// The same configuration, a second time: nothing is copied.
+    pub(crate) fn share(&self) -> Result<Config, OutOfMemory>
         ensures { IfOk result (λ config. config ≡ self.now) }
     {
         Ok(Config {
-            rules: share_rules(alloc, &self.rules)?,
+            rules: self.rules.share()?,
             disabled: self.disabled,
-            tables: self.tables.copy(alloc)?,
-            locals: self.locals.clone()?,
+            tables: Arc::try_clone(&self.tables)?,
+            locals: Arc::try_clone(&self.locals)?,
             settings: self.settings,
-            names: copy_names(alloc, &self.names)?,
+            names: Arc::try_clone(&self.names)?,
             greatest_id: self.greatest_id,
             greatest_counter: self.greatest_counter,
         })
     }
-}
-
-/// The same rules, and not copies of them.
-fn share_rules(alloc: Global, rules: &[Arc<Rule>]) -> Result<Vec<Arc<Rule>>, OutOfMemory>
-    ensures { IfOk result (λ shared. map arc_value shared.items ≡ map arc_value rules.now) }
-{
-    let mut shared = Vec::with_capacity(alloc, rules.len())?;
-    for rule in rules {
-        shared.push(Arc::try_clone(rule)?)?;
-    }
-    Ok(shared)
 }
 
 /// Every address.

@@ -1,17 +1,23 @@
-ghost use Rattle.std.specs.Prelude.{◌≡◌, map};
+ghost use Rattle.std.specs.Prelude.{◌≡◌, IfOk, map};
 ghost use Rattle.std.specs.Arc.{arc_value};
 ghost use Rattle.rule_chain.specs.Answers.{Gives, first_fault};
 ghost use Rattle.rule_chain.specs.Apply as spec;
+ghost use Rattle.rule_chain.specs.Chain.{AscendsFrom};
 ghost use Rattle.rule_chain.specs.Rules as lists;
 
 use crate::config::{LAST_NUMBER, LAST_SET};
-use crate::numbers::{has_rule, is_among};
+use crate::number_set::NumberSet;
+use crate::numbers::has_rule;
+use crate::rule_list::RuleList;
 use crate::{ApplyFault, Config};
+use fw_base::OutOfMemory;
 use fw_rule::Rule;
+use std::alloc::Global;
 use std::sync::Arc;
 
 /// The first of the numbers that can't be deleted.
 fn deletion_fault(rules: &[Arc<Rule>], numbers: &[u16]) -> Option<ApplyFault>
+    requires { AscendsFrom 1 (map arc_value rules.now) }
     ensures { result ≡ first_fault (spec.deletion_fault (map arc_value rules.now)) numbers.now }
 {
     for number in numbers {
@@ -26,10 +32,10 @@ fn deletion_fault(rules: &[Arc<Rule>], numbers: &[u16]) -> Option<ApplyFault>
 }
 
 /// Takes out the rules of these numbers.
-fn take_numbers(rules: &mut Vec<Arc<Rule>>, numbers: &[u16])
+fn take_numbers(rules: &mut Vec<Arc<Rule>>, numbers: &NumberSet)
     ensures { map arc_value rules.new.items ≡ lists.without_numbers numbers.now (map arc_value rules.old.items) }
 {
-    rules.retain(|rule| !is_among(numbers, rule.number));
+    rules.retain(|rule| !numbers.has(rule.number));
 }
 
 /// Takes out the rules of the set, but for rule 65535.
@@ -46,34 +52,64 @@ fn take_unreserved(rules: &mut Vec<Arc<Rule>>)
     rules.retain(|rule| rule.set == LAST_SET);
 }
 
+fn without_numbers(alloc: Global, rules: RuleList, numbers: &[u16]) -> Result<RuleList, OutOfMemory>
+    ensures { IfOk result (λ left. left ≡ lists.without_numbers numbers.now rules) }
+{
+    let named = NumberSet::of(alloc, numbers)?;
+    let mut owned = rules.own(alloc)?;
+    take_numbers(&mut owned, &named);
+    RuleList::new(alloc, owned)
+}
+
+fn without_set(alloc: Global, rules: RuleList, set: u8) -> Result<RuleList, OutOfMemory>
+    ensures { IfOk result (λ left. left ≡ lists.without_set set rules) }
+{
+    let mut owned = rules.own(alloc)?;
+    take_set(&mut owned, set);
+    RuleList::new(alloc, owned)
+}
+
+fn flushed(alloc: Global, rules: RuleList) -> Result<RuleList, OutOfMemory>
+    ensures { IfOk result (λ left. left ≡ lists.flushed rules) }
+{
+    let mut owned = rules.own(alloc)?;
+    take_unreserved(&mut owned);
+    RuleList::new(alloc, owned)
+}
+
 impl Config {
-    /// `delete`: the rules of all these numbers go, or none.
+    /// `delete`: the rules of all these numbers go, or none. It takes the time of a walk over the rules and
+    /// one over the numbers.
     #[tactic(auto, unfolding(crate::specs::Apply::delete_rules))]
-    pub(crate) fn delete_rules(mut self, numbers: &[u16]) -> Result<Config, ApplyFault>
+    pub(crate) fn delete_rules(
+        mut self,
+        alloc: Global,
+        numbers: &[u16],
+    ) -> Result<Config, ApplyFault>
         ensures { Gives result (spec.delete_rules self numbers.now) }
     {
-        if let Some(fault) = deletion_fault(&self.rules, numbers) {
+        if let Some(fault) = deletion_fault(self.rules.rules(), numbers) {
             return Err(fault);
         }
-        take_numbers(&mut self.rules, numbers);
+        self.rules = without_numbers(alloc, self.rules, numbers)?;
         Ok(self)
     }
 
     /// `delete set`: the set's rules go, but rule 65535.
     #[tactic(auto, unfolding(crate::specs::Apply::delete_set))]
-    pub(crate) fn delete_set(mut self, set: u8) -> Config
-        ensures { spec.delete_set self set ≡ Ok result }
+    pub(crate) fn delete_set(mut self, alloc: Global, set: u8) -> Result<Config, ApplyFault>
+        ensures { Gives result (spec.delete_set self set) }
     {
-        take_set(&mut self.rules, set);
-        self
+        self.rules = without_set(alloc, self.rules, set)?;
+        Ok(self)
     }
 
     /// `flush`: the rules of all sets but 31 go.
     #[tactic(auto, unfolding(crate::specs::Apply::flush_rules))]
-    pub(crate) fn flush_rules(mut self) -> Config
-        ensures { spec.flush_rules self ≡ Ok result }
+    pub(crate) fn flush_rules(mut self, alloc: Global) -> Result<Config, ApplyFault>
+        ensures { Gives result (spec.flush_rules self) }
     {
-        take_unreserved(&mut self.rules);
-        self
+        self.rules = flushed(alloc, self.rules)?;
+        Ok(self)
     }
 }

@@ -2,18 +2,24 @@
 #![tactic(auto)]
 
 pub use apply_fault::ApplyFault;
+pub use changing::is_changing;
 pub use config::{Config, LAST_NUMBER, LAST_SET, MOST_COUNTERS, MOST_RULES};
 pub use names::MOST_NAMES;
 
 mod add;
+mod address_list;
 mod apply;
 mod apply_fault;
+mod changing;
 mod config;
 mod delete;
+mod locals;
 mod moves;
 mod names;
+mod number_set;
 mod numbers;
 mod owned;
+mod rule_list;
 mod sets;
 mod table_changes;
 #[cfg(test)]

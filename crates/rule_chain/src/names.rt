@@ -1,4 +1,5 @@
-ghost use Rattle.std.specs.Prelude.{◌≡◌, [], ◌∷◌, Ok, IfOk, IfErr, OnOk};
+ghost use Rattle.std.specs.Prelude.{◌≡◌, [], ◌∷◌, ◌++◌, Ok, IfOk, IfErr};
+ghost use Rattle.std.specs.Arc.{arc_value};
 ghost use Rattle.std.specs.Option.{option_copied};
 ghost use Rattle.fw_rule.specs.FlowName.{default_flow};
 ghost use Rattle.rule_chain.specs.Answers.{IsRefusal};
@@ -8,6 +9,7 @@ use crate::ApplyFault;
 use fw_base::{Name, OutOfMemory};
 use fw_rule::{Action, Body, DEFAULT_FLOW, StateOpt};
 use std::alloc::Global;
+use std::sync::Arc;
 
 /// How many flow names a configuration may have, `default` among them.
 pub const MOST_NAMES: usize = 64;
@@ -86,33 +88,60 @@ fn has_number(names: &[Name], name: &Name) -> bool
     names.iter().any(|other| other == name)
 }
 
-/// Gives the name the next number where it has none.
-fn add_name(names: &mut Vec<Name>, name: &Name) -> Result<(), ApplyFault>
-    ensures ok { OnOk result (spec.with_name names.old.items name.now ≡ Ok names.new.items) }
-    ensures err { IfErr result (λ fault. IsRefusal fault (spec.with_name names.old.items name.now)) }
+/// The names to change: themselves where no other configuration has them, and else a copy.
+fn own_names(alloc: Global, names: Arc<Vec<Name>>) -> Result<Vec<Name>, OutOfMemory>
+    ensures { IfOk result (λ owned. owned.items ≡ (arc_value names).items) }
 {
-    if has_number(names, name) {
-        return Ok(());
+    match Arc::try_unwrap(names) {
+        Ok(owned) => Ok(owned),
+        Err(shared) => copy_names(alloc, shared.as_slice()),
+    }
+}
+
+/// The names, and behind them this one.
+fn with_new_name(
+    alloc: Global,
+    names: Arc<Vec<Name>>,
+    name: &Name,
+) -> Result<Arc<Vec<Name>>, OutOfMemory>
+    ensures { IfOk result (λ after. (arc_value after).items ≡ (arc_value names).items ++ name.now ∷ []) }
+{
+    let mut owned = own_names(alloc, names)?;
+    owned.push(name.copy()?)?;
+    Ok(Arc::new(alloc, owned)?)
+}
+
+/// Gives the name the next number where it has none.
+fn with_name(
+    alloc: Global,
+    names: Arc<Vec<Name>>,
+    name: &Name,
+) -> Result<Arc<Vec<Name>>, ApplyFault>
+    ensures ok { IfOk result (λ after. spec.with_name (arc_value names).items name.now ≡ Ok (arc_value after).items) }
+    ensures err { IfErr result (λ fault. IsRefusal fault (spec.with_name (arc_value names).items name.now)) }
+{
+    if has_number(names.as_slice(), name) {
+        return Ok(names);
     }
     if names.len() >= MOST_NAMES {
         return Err(ApplyFault::TooManyNames);
     }
-    names.push(name.copy()?)?;
-    Ok(())
+    Ok(with_new_name(alloc, names, name)?)
 }
 
 /// Gives the flow name that a rule of this action and body names the next number, where it has none.
 #[tactic(auto, unfolding(crate::specs::Names::with_name_of))]
-pub(crate) fn add_name_of(
-    names: &mut Vec<Name>,
+pub(crate) fn with_name_of(
+    alloc: Global,
+    names: Arc<Vec<Name>>,
     action: &Action,
     body: &Option<Body>,
-) -> Result<(), ApplyFault>
-    ensures ok { OnOk result (spec.with_name_of names.old.items (spec.name_of action.now body.now) ≡ Ok names.new.items) }
-    ensures err { IfErr result (λ fault. IsRefusal fault (spec.with_name_of names.old.items (spec.name_of action.now body.now))) }
+) -> Result<Arc<Vec<Name>>, ApplyFault>
+    ensures ok { IfOk result (λ after. spec.with_name_of (arc_value names).items (spec.name_of action.now body.now) ≡ Ok (arc_value after).items) }
+    ensures err { IfErr result (λ fault. IsRefusal fault (spec.with_name_of (arc_value names).items (spec.name_of action.now body.now))) }
 {
     match name_of(action, body) {
-        Some(name) => add_name(names, name),
-        None => Ok(()),
+        Some(name) => with_name(alloc, names, name),
+        None => Ok(names),
     }
 }

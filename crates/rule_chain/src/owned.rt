@@ -3,6 +3,7 @@ ghost use Rattle.std.specs.Arc.{arc_value};
 
 use fw_base::OutOfMemory;
 use fw_rule::{Body, Rule};
+use lookup_tables::Tables;
 use std::alloc::Global;
 use std::sync::Arc;
 
@@ -36,5 +37,16 @@ pub(crate) fn own_rule(alloc: Global, rule: Arc<Rule>) -> Result<Rule, OutOfMemo
     match Arc::try_unwrap(rule) {
         Ok(owned) => Ok(owned),
         Err(shared) => copy_rule(alloc, &shared),
+    }
+}
+
+/// The tables to change: themselves where no other configuration has them, and else a second list of the
+/// same tables, not of copies.
+pub(crate) fn own_tables(alloc: Global, tables: Arc<Tables>) -> Result<Tables, OutOfMemory>
+    ensures { IfOk result (λ owned. owned ≡ arc_value tables) }
+{
+    match Arc::try_unwrap(tables) {
+        Ok(owned) => Ok(owned),
+        Err(shared) => shared.copy(alloc),
     }
 }

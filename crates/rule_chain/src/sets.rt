@@ -1,4 +1,4 @@
-ghost use Rattle.std.specs.Prelude.{◌≡◌, IfOk, IfErr, map};
+ghost use Rattle.std.specs.Prelude.{◌≡◌, IfOk, map};
 ghost use Rattle.std.specs.Arc.{arc_value};
 ghost use Rattle.fw_rule.specs.WellFormed.{IsSet};
 ghost use Rattle.rule_chain.specs.Answers.{Gives};
@@ -10,7 +10,9 @@ use crate::config::{LAST_NUMBER, LAST_SET};
 use crate::moves::Moves;
 use crate::numbers::has_rule;
 use crate::owned::own_rule;
+use crate::rule_list::RuleList;
 use crate::{ApplyFault, Config};
+use fw_base::OutOfMemory;
 use fw_rule::Rule;
 use std::alloc::Global;
 use std::sync::Arc;
@@ -20,9 +22,8 @@ fn move_rules(
     alloc: Global,
     rules: Vec<Arc<Rule>>,
     moves: Moves,
-) -> Result<Vec<Arc<Rule>>, ApplyFault>
-    ensures ok { IfOk result (λ moved. map arc_value moved.items ≡ lists.move_rules (set_after moves) (map arc_value rules.items)) }
-    ensures err { IfErr result (λ fault. fault ≡ ApplyFault.OutOfMemory) }
+) -> Result<Vec<Arc<Rule>>, OutOfMemory>
+    ensures { IfOk result (λ moved. map arc_value moved.items ≡ lists.move_rules (set_after moves) (map arc_value rules.items)) }
 {
     let mut moved = Vec::with_capacity(alloc, rules.len())?;
     for rule in rules {
@@ -36,6 +37,14 @@ fn move_rules(
         }
     }
     Ok(moved)
+}
+
+/// The same of a list that other configurations may have.
+fn moved(alloc: Global, rules: RuleList, moves: Moves) -> Result<RuleList, OutOfMemory>
+    ensures { IfOk result (λ after. after ≡ lists.move_rules (set_after moves) rules) }
+{
+    let owned = rules.own(alloc)?;
+    RuleList::new(alloc, move_rules(alloc, owned, moves)?)
 }
 
 impl Config {
@@ -60,7 +69,7 @@ impl Config {
         if from == LAST_SET || to == LAST_SET {
             return Err(ApplyFault::ReservedSet);
         }
-        self.rules = move_rules(alloc, self.rules, Moves::Set { from, to })?;
+        self.rules = moved(alloc, self.rules, Moves::Set { from, to })?;
         Ok(self)
     }
 
@@ -81,10 +90,10 @@ impl Config {
         if number == LAST_NUMBER {
             return Err(ApplyFault::ReservedRule);
         }
-        if !has_rule(&self.rules, number) {
+        if !has_rule(self.rules.rules(), number) {
             return Err(ApplyFault::NoSuchRule);
         }
-        self.rules = move_rules(alloc, self.rules, Moves::Number { number, to })?;
+        self.rules = moved(alloc, self.rules, Moves::Number { number, to })?;
         Ok(self)
     }
 
@@ -103,7 +112,7 @@ impl Config {
         if first == LAST_SET || second == LAST_SET {
             return Err(ApplyFault::ReservedSet);
         }
-        self.rules = move_rules(alloc, self.rules, Moves::Swap { first, second })?;
+        self.rules = moved(alloc, self.rules, Moves::Swap { first, second })?;
         Ok(self)
     }
 }

@@ -1,7 +1,8 @@
-ghost use Rattle.std.specs.Prelude.{◌≡◌, map};
+ghost use Rattle.std.specs.Prelude.{◌≡◌, IfOk, OnOk, map};
 ghost use Rattle.std.specs.Arc.{arc_value};
 ghost use Rattle.std.specs.List.{list_any};
 ghost use Rattle.fw_rule.specs.declared.key.Key.TheVariants.{Net, Number};
+ghost use Rattle.fw_rule.specs.declared.table_type.TableType.TheVariants.{Addresses};
 ghost use Rattle.lookup_tables.specs.declared.table.Table.TheVariants.{Addresses as AddressTable, Numbers as NumberedTable};
 ghost use Rattle.lookup_tables.specs.Tables.{table_named};
 ghost use Rattle.rule_chain.specs.Answers.{Gives};
@@ -10,9 +11,9 @@ ghost use Rattle.rule_chain.specs.Uses.{names_table};
 
 use crate::ApplyFault;
 use crate::uses::{empty_table, names_table};
-use fw_base::{Name, Prefix};
+use fw_base::{Name, OutOfMemory, Prefix};
 use fw_rule::{Key, Rule, TableCommand, TableType};
-use lookup_tables::{AddrTable, InsertFault, NumberTable, Table, Tables};
+use lookup_tables::{AddrTable, InsertFault, NumberTable, SharedTable, Table, Tables};
 use std::alloc::Global;
 use std::sync::Arc;
 
@@ -94,7 +95,7 @@ fn create_table(
     if tables.get(name).is_some() {
         return Err(ApplyFault::EntryExists);
     }
-    tables.insert(name.copy()?, empty_table(alloc, kind))?;
+    put(alloc, &mut tables, name, empty_table(alloc, kind))?;
     Ok(tables)
 }
 
@@ -122,26 +123,44 @@ fn destroy_table(mut tables: Tables, rules: &[Arc<Rule>], name: &Name) -> Result
     Ok(tables)
 }
 
-/// The table, or a new one of addresses.
-fn found_or_new(alloc: Global, table: Option<Table>) -> Table
-    ensures { result ≡ spec.found_or_new table }
+/// The table to change, or a new one of addresses.
+fn found_or_new(alloc: Global, table: Option<SharedTable>) -> Result<Table, OutOfMemory>
+    ensures { IfOk result (λ found. found ≡ spec.found_or_new table) }
 {
     match table {
-        Some(table) => table,
-        None => Table::Addresses(AddrTable::new(alloc)),
+        Some(table) => table.own(),
+        None => Ok(Table::Addresses(AddrTable::new(alloc))),
     }
 }
 
-fn found(table: Option<Table>) -> Result<Table, ApplyFault>
+/// The table to change.
+fn found(table: Option<SharedTable>) -> Result<Table, ApplyFault>
     ensures { Gives result (spec.found table) }
 {
     match table {
-        Some(table) => Ok(table),
+        Some(table) => Ok(table.own()?),
         None => Err(ApplyFault::NoSuchTable),
     }
 }
 
-/// An empty table stands in the place of the one that is changed, so that no entry is copied.
+/// Puts the table under the name.
+fn put(alloc: Global, tables: &mut Tables, name: &Name, table: Table) -> Result<(), OutOfMemory>
+    ensures { OnOk result (tables.new ≡ spec.put_table tables.old name.now table) }
+{
+    tables.insert(name.copy()?, SharedTable::new(alloc, table)?)?;
+    Ok(())
+}
+
+/// Takes the table to change out of its place, where an empty one stands until it is put back: so no
+/// entry of a table that no other configuration has is copied.
+fn take(alloc: Global, tables: &mut Tables, name: &Name) -> Result<Option<SharedTable>, OutOfMemory>
+    ensures table { IfOk result (λ table. table ≡ table_named tables.old name.now) }
+    ensures after { OnOk result (tables.new ≡ spec.put_table tables.old name.now (spec.empty_table Addresses)) }
+{
+    let empty = SharedTable::new(alloc, empty_table(alloc, TableType::Addresses))?;
+    tables.insert(name.copy()?, empty)
+}
+
 #[tactic(auto, using(crate::proofs::Keys::put_twice), unfolding(crate::specs::Lookups::add_entry))]
 fn add_entry(
     alloc: Global,
@@ -152,9 +171,9 @@ fn add_entry(
 ) -> Result<Tables, ApplyFault>
     ensures { Gives result (spec.add_entry tables name.now key value) }
 {
-    let empty = empty_table(alloc, TableType::Addresses);
-    let table = found_or_new(alloc, tables.insert(name.copy()?, empty)?);
-    tables.insert(name.copy()?, add_key(table, key, value)?)?;
+    let taken = take(alloc, &mut tables, name)?;
+    let table = found_or_new(alloc, taken)?;
+    put(alloc, &mut tables, name, add_key(table, key, value)?)?;
     Ok(tables)
 }
 
@@ -167,9 +186,8 @@ fn remove_entry(
 ) -> Result<Tables, ApplyFault>
     ensures { Gives result (spec.remove_entry_of tables name.now key) }
 {
-    let empty = empty_table(alloc, TableType::Addresses);
-    let table = found(tables.insert(name.copy()?, empty)?)?;
-    tables.insert(name.copy()?, remove_key(table, key)?)?;
+    let table = found(take(alloc, &mut tables, name)?)?;
+    put(alloc, &mut tables, name, remove_key(table, key)?)?;
     Ok(tables)
 }
 
@@ -189,7 +207,7 @@ fn clear_table(alloc: Global, mut tables: Tables, name: &Name) -> Result<Tables,
     match tables.get(name) {
         Some(table) => {
             let empty = cleared(alloc, table);
-            tables.insert(name.copy()?, empty)?;
+            put(alloc, &mut tables, name, empty)?;
             Ok(tables)
         }
         None => Err(ApplyFault::NoSuchTable),
@@ -207,11 +225,12 @@ fn are_alike(table: &Table, other: &Table) -> bool
     }
 }
 
-fn copy_of(tables: &Tables, name: &Name) -> Result<Table, ApplyFault>
+/// The table of the name for one more place: no entry is copied.
+fn share_of(tables: &Tables, name: &Name) -> Result<SharedTable, ApplyFault>
     ensures { Gives result (spec.found (table_named tables.now name.now)) }
 {
-    match tables.get(name) {
-        Some(table) => Ok(table.copy()?),
+    match tables.shared(name) {
+        Some(table) => Ok(table.share()?),
         None => Err(ApplyFault::NoSuchTable),
     }
 }
@@ -220,9 +239,9 @@ fn copy_of(tables: &Tables, name: &Name) -> Result<Table, ApplyFault>
 fn swap_tables(mut tables: Tables, name: &Name, other: &Name) -> Result<Tables, ApplyFault>
     ensures { Gives result (spec.swap_tables tables name.now other.now) }
 {
-    let first = copy_of(&tables, name)?;
-    let second = copy_of(&tables, other)?;
-    if !are_alike(&first, &second) {
+    let first = share_of(&tables, name)?;
+    let second = share_of(&tables, other)?;
+    if !are_alike(first.table(), second.table()) {
         return Err(ApplyFault::WrongType);
     }
     tables.insert(name.copy()?, second)?;

@@ -1,4 +1,5 @@
-ghost use Rattle.std.specs.Prelude.{◌≡◌, OnOk, IfErr};
+ghost use Rattle.std.specs.Prelude.{◌≡◌, Ok, IfOk, OnOk, IfErr};
+ghost use Rattle.std.specs.Arc.{arc_value};
 ghost use Rattle.std.specs.List.{filter_map};
 ghost use Rattle.std.specs.Option.{option_map};
 ghost use Rattle.rule_chain.specs.Answers.{IsRefusal};
@@ -6,10 +7,12 @@ ghost use Rattle.rule_chain.specs.Lookups as lookups;
 ghost use Rattle.rule_chain.specs.Uses as uses;
 
 use crate::ApplyFault;
+use crate::owned::own_tables;
 use fw_base::Name;
 use fw_rule::{AddrItem, Body, Field, Opt, TableType, Test};
-use lookup_tables::{AddrTable, NumberTable, Table, Tables};
+use lookup_tables::{AddrTable, NumberTable, SharedTable, Table, Tables};
 use std::alloc::Global;
+use std::sync::Arc;
 
 /// The table that the element names, and the type that it has to have.
 fn item_use(item: &AddrItem) -> Option<(&Name, TableType)>
@@ -89,7 +92,8 @@ fn make_table(
 {
     match tables.get(name) {
         None => {
-            tables.insert(name.copy()?, empty_table(alloc, kind))?;
+            let empty = SharedTable::new(alloc, empty_table(alloc, kind))?;
+            tables.insert(name.copy()?, empty)?;
             Ok(())
         }
         Some(table) => {
@@ -139,18 +143,32 @@ fn make_for_body(alloc: Global, tables: &mut Tables, body: &Body) -> Result<(), 
     make_for_options(alloc, tables, body.options.as_slice())
 }
 
-/// Makes the tables that a rule names, in the order of its text.
-pub(crate) fn make_tables(
+/// The tables, with those that a body names.
+fn with_body_tables(
     alloc: Global,
-    tables: &mut Tables,
+    tables: Arc<Tables>,
+    body: &Body,
+) -> Result<Arc<Tables>, ApplyFault>
+    ensures ok { IfOk result (λ after. lookups.with_uses (arc_value tables) (uses.body_uses body.now) ≡ Ok (arc_value after)) }
+    ensures err { IfErr result (λ fault. IsRefusal fault (lookups.with_uses (arc_value tables) (uses.body_uses body.now))) }
+{
+    let mut owned = own_tables(alloc, tables)?;
+    make_for_body(alloc, &mut owned, body)?;
+    Ok(Arc::new(alloc, owned)?)
+}
+
+/// The tables, with those that a rule names, made in the order of its text.
+pub(crate) fn with_tables_of(
+    alloc: Global,
+    tables: Arc<Tables>,
     body: &Option<Body>,
-) -> Result<(), ApplyFault>
-    ensures ok { OnOk result (lookups.with_uses tables.old (uses.uses_of body.now) ≡ Ok tables.new) }
-    ensures err { IfErr result (λ fault. IsRefusal fault (lookups.with_uses tables.old (uses.uses_of body.now))) }
+) -> Result<Arc<Tables>, ApplyFault>
+    ensures ok { IfOk result (λ after. lookups.with_uses (arc_value tables) (uses.uses_of body.now) ≡ Ok (arc_value after)) }
+    ensures err { IfErr result (λ fault. IsRefusal fault (lookups.with_uses (arc_value tables) (uses.uses_of body.now))) }
 {
     match body {
-        Some(asked) => make_for_body(alloc, tables, asked),
-        None => Ok(()),
+        Some(asked) => with_body_tables(alloc, tables, asked),
+        None => Ok(tables),
     }
 }
 

@@ -2,7 +2,7 @@ ghost use Rattle.std.specs.Prelude.{◌≡◌, ◌≢◌, ℕ, ◌≤◌, ◌+�
 ghost use Rattle.state_journal.specs.Items.{items_of, last_facts};
 ghost use Rattle.state_journal.specs.declared.item.Item.TheVariants.{Published};
 ghost use Rattle.state_journal.specs.Journal as journal;
-ghost use Rattle.state_journal.specs.Journal.{first_journal, with_ask, with_publication, NamesRuleOf, IsFoundOf, last_rules};
+ghost use Rattle.state_journal.specs.Journal.{IsJournal, first_journal, with_ask, with_publication, NamesRuleOf, IsFoundOf, last_rules};
 ghost use Rattle.dyn_states.specs.RuleLists.{has_id};
 ghost use Rattle.dyn_states.specs.StateObject.{reply_of};
 
@@ -85,7 +85,8 @@ impl Book {
 
     /// All that the states met, in order.
     pub fn entries(&self) -> &[Entry]
-        ensures { result.now ≡ self.now.entries }
+        ensures value { result.now ≡ self.now.entries }
+        ensures lawful { IsJournal self.now }
     {
         &self.entries
     }

@@ -1,5 +1,6 @@
-use super::captures::{COOKED, SYN, raw};
-use super::{Case, replay, whole};
+use super::captures::{SYN, raw};
+use super::{ROOM, add, replay, run_over};
+use fw_base::MemoryLibrary;
 use std::alloc::Global;
 use std::process::Abort;
 use std::sync::Wait;
@@ -132,7 +133,7 @@ const OUTGOING: [Row; 6] = [
     ("tcp from any to any out setup", "+-------"),
 ];
 
-/// What a run writes where rule 100 allows the packets with a `+` and rule 65535 denies the others.
+/// How a report begins where rule 100 allows the packets with a `+` and rule 65535 denies the others.
 fn text_of(alloc: Global, holds: &str) -> Result<Vec<u8>, Fail> {
     let mut text = Vec::new(alloc);
     for (place, sign) in holds.bytes().enumerate() {
@@ -170,16 +171,13 @@ pub fn check<R: Threads + Wait + Abort>(
     for (body, holds) in rows {
         let mut script = Vec::from_slice(alloc, BEFORE)?;
         script.extend_from_slice(body.as_bytes())?;
-        let case = Case {
-            word,
-            ..whole(&script, capture)
-        };
-        let seen = replay(rt, alloc, &case)?;
-        assert_eq!(rt;
-            seen.text.as_slice(),
-            text_of(alloc, holds)?.as_slice(),
-            "{body}"
-        );
+        let mut library = MemoryLibrary::new(alloc);
+        add(alloc, &mut library, b"s", &script, &[], None)?;
+        add(alloc, &mut library, b"c", capture, &[], None)?;
+        let words = ["serial", "s", word];
+        let seen = run_over(rt, alloc, &words, &mut library, ROOM)?;
+        let begins = seen.text.starts_with(&text_of(alloc, holds)?);
+        assert!(rt; begins, "{body}");
         assert_eq!(rt; seen.status, 0, "{body}");
     }
     Ok(())
@@ -207,26 +205,6 @@ fn bodies_hold_of_outgoing_packets(rt: HostRuntime) -> Result<(), Fail> {
     )
 }
 
-#[test]
-fn longest_prefix_decides(rt: HostRuntime) -> Result<(), Fail> {
-    let alloc = rt.alloc();
-    let script = b"table nets add 10.0.0.0/8 1\n\
-        table nets add 10.1.0.0/16 2\n\
-        add 100 allow ip from table(nets,2) to any\n\
-        add 200 deny ip from table(nets,1) to any\n";
-    let packets = [
-        syn_from([10, 1, 2, 3]),
-        syn_from([10, 2, 2, 3]),
-        syn_from([11, 0, 0, 1]),
-    ];
-    let capture = raw(alloc, &[&packets[0], &packets[1], &packets[2]])?;
-    let text = b"1.1 allow 00100 at 1\n1.2 deny 00200 at 1\n1.3 deny 65535 at 1\nend 1 records 3\n";
-    let seen = replay(&rt, alloc, &whole(script, &capture))?;
-    assert_eq!(rt; seen.text.as_slice(), text.as_slice());
-    assert_eq!(rt; seen.status, 0);
-    Ok(())
-}
-
 /// The SYN with another source.
 fn syn_from(source: [u8; 4]) -> [u8; 40] {
     let mut packet = SYN;
@@ -245,42 +223,40 @@ fn syn_with(flags: u8) -> [u8; 40] {
     packet
 }
 
+/// `longest_prefix_decides`, `established_needs_ack_or_rst` and `lookup_of_a_port`.
 #[test]
-fn established_needs_ack_or_rst(rt: HostRuntime) -> Result<(), Fail> {
+fn tables_and_flags(rt: HostRuntime) -> Result<(), Fail> {
     let alloc = rt.alloc();
-    let script = b"add 100 allow tcp from any to any established\n";
-    let packets = [SYN, syn_with(0x12)];
-    let capture = raw(alloc, &[&packets[0], &packets[1]])?;
-    let text = b"1.1 deny 65535 at 1\n1.2 allow 00100 at 1\nend 1 records 2\n";
-    let seen = replay(&rt, alloc, &whole(script, &capture))?;
-    assert_eq!(rt; seen.text.as_slice(), text.as_slice());
-    assert_eq!(rt; seen.status, 0);
-    Ok(())
-}
-
-#[test]
-fn lookup_of_a_port(rt: HostRuntime) -> Result<(), Fail> {
-    let alloc = rt.alloc();
-    let script = b"table ports create type number\n\
-        table ports add 80 1\n\
-        add 100 allow tcp from any to any lookup dst-port ports\n";
-    let capture = raw(alloc, &[&SYN])?;
-    let text = b"1.1 allow 00100 at 1\nend 1 records 1\n";
-    let seen = replay(&rt, alloc, &whole(script, &capture))?;
-    assert_eq!(rt; seen.text.as_slice(), text.as_slice());
-    assert_eq!(rt; seen.status, 0);
-    Ok(())
-}
-
-#[test]
-fn cooked_big_endian_nanoseconds(rt: HostRuntime) -> Result<(), Fail> {
-    let alloc = rt.alloc();
-    let mut capture = Vec::from_slice(alloc, &COOKED)?;
-    capture.extend_from_slice(&SYN)?;
-    let script = b"add allow tcp from any to any 80\n";
-    let text = b"1.1 allow 00100 at 1\nend 1 records 1\n";
-    let seen = replay(&rt, alloc, &whole(script, &capture))?;
-    assert_eq!(rt; seen.text.as_slice(), text.as_slice());
-    assert_eq!(rt; seen.status, 0);
+    let from = [
+        syn_from([10, 1, 2, 3]),
+        syn_from([10, 2, 2, 3]),
+        syn_from([11, 0, 0, 1]),
+    ];
+    let answer = syn_with(0x12);
+    let rows: [(&str, &str, &[&[u8]], &str); 3] = [
+        (
+            "longest_prefix_decides",
+            "table nets add 10.0.0.0/8 1\ntable nets add 10.1.0.0/16 2\nadd 100 allow ip from table(nets,2) to any\nadd 200 deny ip from table(nets,1) to any\n",
+            &[&from[0], &from[1], &from[2]],
+            "1.1 allow 00100 at 1\n1.2 deny 00200 at 1\n1.3 deny 65535 at 1\nend 1 records 3\n",
+        ),
+        (
+            "established_needs_ack_or_rst",
+            "add 100 allow tcp from any to any established\n",
+            &[&SYN, &answer],
+            "1.1 deny 65535 at 1\n1.2 allow 00100 at 1\nend 1 records 2\n",
+        ),
+        (
+            "lookup_of_a_port",
+            "table ports create type number\ntable ports add 80 1\nadd 100 allow tcp from any to any lookup dst-port ports\n",
+            &[&SYN],
+            "1.1 allow 00100 at 1\nend 1 records 1\n",
+        ),
+    ];
+    for (name, script, packets, begins) in rows {
+        let seen = replay(&rt, alloc, script.as_bytes(), &raw(alloc, packets)?, &[])?;
+        assert!(rt; seen.text.starts_with(begins.as_bytes()), "{name}");
+        assert_eq!(rt; seen.status, 0, "{name}");
+    }
     Ok(())
 }

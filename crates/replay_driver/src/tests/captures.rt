@@ -20,19 +20,37 @@ pub const SYN: [u8; 40] = [
     0, 0, 0, 0, 0, 0, 0x50, 2, 0xff, 0xff, 0, 0, 0, 0,
 ];
 
-/// A nanosecond capture of Linux cooked frames, big-endian, with the same SYN.
+/// A nanosecond capture of Linux cooked frames, big-endian, up to the same SYN.
 pub const COOKED: [u8; 56] = [
     0xa1, 0xb2, 0x3c, 0x4d, 0, 2, 0, 4, 0, 0, 0, 0, 0, 0, 0, 0, 0, 4, 0, 0, 0, 0, 0, 0x71, 0, 0, 0,
     100, 0, 0, 0, 0, 0, 0, 0, 56, 0, 0, 0, 56, 0, 0, 0, 1, 0, 6, 2, 0, 0, 0, 0, 2, 0, 0, 8, 0,
 ];
 
-/// Appends a little-endian record of these parts: second 100, fraction 0, its length twice.
-pub fn push_record(capture: &mut Vec<u8>, parts: &[&[u8]]) -> Result<(), Fail> {
+/// An address and a port.
+pub type End = ([u8; 4], u16);
+
+/// A packet of IPv4: TCP of 40 bytes with these flags, UDP or ICMP of 28 bytes, and a later fragment of UDP.
+#[derive(Clone, Copy)]
+pub enum Packet {
+    Tcp(End, End, u8),
+    Udp(End, End),
+    Icmp([u8; 4], [u8; 4], u8),
+    Fragment([u8; 4], [u8; 4]),
+}
+
+/// The first twelve bytes of an IPv4 header.
+fn header_start(total: u8, fragment: u8, protocol: u8) -> [u8; 12] {
+    [0x45, 0, 0, total, 0, 0, 0, fragment, 0x40, protocol, 0, 0]
+}
+
+/// Appends a little-endian record of these parts: that second, fraction 0, its length twice.
+pub fn push_record(capture: &mut Vec<u8>, second: u32, parts: &[&[u8]]) -> Result<(), Fail> {
     let mut length = 0u32;
     for part in parts {
         length = length.saturating_add(u32::try_from(part.len()).unwrap_or(0));
     }
-    capture.extend_from_slice(&[100, 0, 0, 0, 0, 0, 0, 0])?;
+    capture.extend_from_slice(&second.to_le_bytes())?;
+    capture.extend_from_slice(&[0, 0, 0, 0])?;
     capture.extend_from_slice(&length.to_le_bytes())?;
     capture.extend_from_slice(&length.to_le_bytes())?;
     for part in parts {
@@ -41,20 +59,58 @@ pub fn push_record(capture: &mut Vec<u8>, parts: &[&[u8]]) -> Result<(), Fail> {
     Ok(())
 }
 
-/// An Ethernet capture with so many records of the SYN.
-pub fn syns(alloc: Global, count: usize) -> Result<Vec<u8>, Fail> {
-    let mut capture = Vec::from_slice(alloc, &ETHERNET_HEADER)?;
-    for _ in 0..count {
-        push_record(&mut capture, &[&ETHERNET, &SYN])?;
+/// Appends a record of a packet.
+fn push_packet(capture: &mut Vec<u8>, second: u32, packet: Packet) -> Result<(), Fail> {
+    match packet {
+        Packet::Tcp((source, port), (destination, other), flags) => {
+            let start = header_start(40, 0, 6);
+            let end = [0, 0, 0, 0, 0, 0, 0, 0, 0x50, flags, 0xff, 0xff, 0, 0, 0, 0];
+            let (port, other) = (port.to_be_bytes(), other.to_be_bytes());
+            let parts: [&[u8]; 6] = [&start, &source, &destination, &port, &other, &end];
+            push_record(capture, second, &parts)
+        }
+        Packet::Udp((source, port), (destination, other)) => {
+            let start = header_start(28, 0, 17);
+            let (port, other) = (port.to_be_bytes(), other.to_be_bytes());
+            let parts: [&[u8]; 6] = [&start, &source, &destination, &port, &other, &[0, 8, 0, 0]];
+            push_record(capture, second, &parts)
+        }
+        Packet::Icmp(source, destination, kind) => {
+            let start = header_start(28, 0, 1);
+            let parts: [&[u8]; 4] = [&start, &source, &destination, &[kind, 0, 0, 0, 0, 0, 0, 0]];
+            push_record(capture, second, &parts)
+        }
+        Packet::Fragment(source, destination) => {
+            let start = header_start(28, 0xb9, 17);
+            let parts: [&[u8]; 4] = [&start, &source, &destination, &[0, 0, 0, 0, 0, 8, 0, 0]];
+            push_record(capture, second, &parts)
+        }
+    }
+}
+
+/// A raw capture of these packets.
+pub fn capture_of(alloc: Global, packets: &[(u32, Packet)]) -> Result<Vec<u8>, Fail> {
+    let mut capture = Vec::from_slice(alloc, &RAW_HEADER)?;
+    for (second, packet) in packets {
+        push_packet(&mut capture, *second, *packet)?;
     }
     Ok(capture)
 }
 
-/// A raw capture with these packets.
+/// An Ethernet capture with so many records of the SYN, all of second 100.
+pub fn syns(alloc: Global, count: usize) -> Result<Vec<u8>, Fail> {
+    let mut capture = Vec::from_slice(alloc, &ETHERNET_HEADER)?;
+    for _ in 0..count {
+        push_record(&mut capture, 100, &[&ETHERNET, &SYN])?;
+    }
+    Ok(capture)
+}
+
+/// A raw capture with these packets, all of second 100.
 pub fn raw(alloc: Global, packets: &[&[u8]]) -> Result<Vec<u8>, Fail> {
     let mut capture = Vec::from_slice(alloc, &RAW_HEADER)?;
     for packet in packets {
-        push_record(&mut capture, &[*packet])?;
+        push_record(&mut capture, 100, &[*packet])?;
     }
     Ok(capture)
 }

@@ -1,5 +1,7 @@
 use super::captures::syns;
-use super::{Case, replay, whole};
+use super::{ROOM, add, replay, run_over};
+use fw_base::MemoryLibrary;
+use std::alloc::Global;
 use std::test::Fail;
 
 /// The lines of a capture of two SYNs that is cut after so many bytes, before the line of its end.
@@ -37,50 +39,63 @@ fn failed_end(bytes: usize) -> &'static [u8] {
     }
 }
 
+/// What a report has behind the lines of its captures, where rule 65535 denied so many SYNs.
+fn behind(alloc: Global, denied: usize) -> Result<String, Fail> {
+    let bytes = denied.saturating_mul(40);
+    Ok(format!(in alloc;
+        "editions 1\nrules 1\n65535 {denied} {bytes} set 31 deny ip from any to any\nclock 0\nstates 0\n"
+    )?)
+}
+
+/// The report of a capture of two SYNs that ends so after so many bytes.
+fn report_of(alloc: Global, bytes: usize, end: &[u8]) -> Result<Vec<u8>, Fail> {
+    let denied = match bytes {
+        0..94 => 0,
+        94..164 => 1,
+        _ => 2,
+    };
+    let mut text = Vec::from_slice(alloc, verdicts(bytes))?;
+    text.extend_from_slice(end)?;
+    text.extend_from_slice(behind(alloc, denied)?.as_bytes())?;
+    Ok(text)
+}
+
 #[test]
 fn capture_truncated_at_each_byte(rt: HostRuntime) -> Result<(), Fail> {
     let alloc = rt.alloc();
     let capture = syns(alloc, 2)?;
     for bytes in 0..=capture.len() {
-        let seen = replay(&rt, alloc, &whole(b"", &capture[..bytes]))?;
+        let seen = replay(&rt, alloc, b"", &capture[..bytes], &[])?;
         let (end, status) = truncated_end(bytes);
-        let mut text = Vec::from_slice(alloc, verdicts(bytes))?;
-        text.extend_from_slice(end)?;
+        let text = report_of(alloc, bytes, end)?;
         assert_eq!(rt; seen.text.as_slice(), text.as_slice(), "at {bytes}");
         assert_eq!(rt; seen.status, status, "at {bytes}");
     }
     Ok(())
 }
 
+/// Sources that fail after each number of bytes, and sinks of each room.
 #[test]
-fn source_cut_at_each_byte(rt: HostRuntime) -> Result<(), Fail> {
+fn devices_that_fail_at_each_byte(rt: HostRuntime) -> Result<(), Fail> {
     let alloc = rt.alloc();
     let capture = syns(alloc, 2)?;
+    let words = ["serial", "s", "in:em0:c"];
     for bytes in 0..=capture.len() {
-        let case = Case {
-            cut: Some(bytes as u64),
-            ..whole(b"", &capture)
-        };
-        let seen = replay(&rt, alloc, &case)?;
-        let mut text = Vec::from_slice(alloc, verdicts(bytes))?;
-        text.extend_from_slice(failed_end(bytes))?;
+        let mut library = MemoryLibrary::new(alloc);
+        add(alloc, &mut library, b"s", b"", &[], None)?;
+        let cut = Some(bytes as u64);
+        add(alloc, &mut library, b"c", &capture, &[], cut)?;
+        let seen = run_over(&rt, alloc, &words, &mut library, ROOM)?;
+        let text = report_of(alloc, bytes, failed_end(bytes))?;
         assert_eq!(rt; seen.text.as_slice(), text.as_slice(), "at {bytes}");
         assert_eq!(rt; seen.status, 4, "at {bytes}");
     }
-    Ok(())
-}
-
-#[test]
-fn sink_of_each_room(rt: HostRuntime) -> Result<(), Fail> {
-    let alloc = rt.alloc();
-    let capture = syns(alloc, 2)?;
-    let text = b"1.1 deny 65535 at 1\n1.2 deny 65535 at 1\nend 1 records 2\n".as_slice();
+    let text = report_of(alloc, capture.len(), b"end 1 records 2\n")?;
     for room in 0..=text.len() {
-        let case = Case {
-            room: room as u64,
-            ..whole(b"", &capture)
-        };
-        let seen = replay(&rt, alloc, &case)?;
+        let mut library = MemoryLibrary::new(alloc);
+        add(alloc, &mut library, b"s", b"", &[], None)?;
+        add(alloc, &mut library, b"c", &capture, &[], None)?;
+        let seen = run_over(&rt, alloc, &words, &mut library, room as u64)?;
         let status = if room < text.len() { 5 } else { 0 };
         assert_eq!(rt; seen.text.as_slice(), &text[..room], "at {room}");
         assert_eq!(rt; seen.status, status, "at {room}");

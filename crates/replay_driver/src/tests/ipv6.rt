@@ -1,6 +1,6 @@
 use super::bodies::{ECHO, Row, check};
 use super::captures::{SYN, raw};
-use super::{replay, whole};
+use super::replay;
 use std::test::Fail;
 
 /// UDP from 2001:db8::1, port 5, to 2001:db8::2, port 6.
@@ -90,27 +90,21 @@ fn bodies_hold_of_either_version(rt: HostRuntime) -> Result<(), Fail> {
     check(&rt, alloc, "in:em0:c", &raw(alloc, &packets)?, &ROWS)
 }
 
+/// `ipv6_prefix` and `ipv6_fragment_header`.
 #[test]
-fn ipv6_prefix(rt: HostRuntime) -> Result<(), Fail> {
+fn ipv6_rows(rt: HostRuntime) -> Result<(), Fail> {
     let alloc = rt.alloc();
-    let script = b"add 100 allow ip6 from 2001:db8::/32 to any\nlist\n";
-    let text = b"1.1 allow 00100 at 1\nend 1 records 1\n\
-        list line 2 edition 1\nrules 2\n\
-        00100 allow ip6 from 2001:db8::/32 to any\n\
-        65535 set 31 deny ip from any to any\n";
-    let seen = replay(&rt, alloc, &whole(script, &raw(alloc, &[DATAGRAM6])?))?;
+    let prefix = b"add 100 allow ip6 from 2001:db8::/32 to any\n";
+    let text =
+        b"1.1 allow 00100 at 1\nend 1 records 1\neditions 1\nrules 2\n00100 1 48 allow ip6 from 2001:db8::/32 to any\n65535 0 0 set 31 deny ip from any to any\nclock 0\nstates 0\n";
+    let seen = replay(&rt, alloc, prefix, &raw(alloc, &[DATAGRAM6])?, &[])?;
     assert_eq!(rt; seen.text.as_slice(), text.as_slice());
     assert_eq!(rt; seen.status, 0);
-    Ok(())
-}
-
-#[test]
-fn ipv6_fragment_header(rt: HostRuntime) -> Result<(), Fail> {
-    let alloc = rt.alloc();
-    let script = b"add 100 deny udp from any to any 6\n";
-    let text = b"1.1 deny 00100 at 1\nend 1 records 1\n";
+    let ports = b"add 100 deny udp from any to any 6\n";
+    let text =
+        b"1.1 deny 00100 at 1\nend 1 records 1\neditions 1\nrules 2\n00100 1 56 deny udp from any to any 6\n65535 0 0 set 31 deny ip from any to any\nclock 0\nstates 0\n";
     for packet in [OPTIONS6, FIRST_FRAGMENT6] {
-        let seen = replay(&rt, alloc, &whole(script, &raw(alloc, &[packet])?))?;
+        let seen = replay(&rt, alloc, ports, &raw(alloc, &[packet])?, &[])?;
         assert_eq!(rt; seen.text.as_slice(), text.as_slice());
         assert_eq!(rt; seen.status, 0);
     }

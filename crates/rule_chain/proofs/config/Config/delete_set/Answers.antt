@@ -7,4 +7,4 @@ use Rattle.rule_chain.proofs.config.Config.delete_set.Goals as goal
 
 pub invariant_of-self : goal.invariant_of-self
 invariant_of-self c =
-    rw c.take_set.ensures (filter_kept _ (λ (rule : Rule). not (rule.set == c.args.set) || rule.number == 65535) (λ k. or_true (not (31 == c.args.set))) c.self.invariant)
+    rw c.in_ok-self-inside.ensures (filter_kept _ (λ (rule : Rule). not (rule.set == c.args.set) || rule.number == 65535) (λ k. or_true (not (31 == c.args.set))) c.self.invariant)

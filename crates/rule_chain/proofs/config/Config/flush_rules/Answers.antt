@@ -5,4 +5,4 @@ use Rattle.rule_chain.proofs.Kept.{filter_kept}
 use Rattle.rule_chain.proofs.config.Config.flush_rules.Goals as goal
 
 pub invariant_of-self : goal.invariant_of-self
-invariant_of-self c = rw c.take_unreserved.ensures (filter_kept _ (λ (rule : Rule). rule.set == 31) (λ k. refl) c.self.invariant)
+invariant_of-self c = rw c.in_ok-self-inside.ensures (filter_kept _ (λ (rule : Rule). rule.set == 31) (λ k. refl) c.self.invariant)

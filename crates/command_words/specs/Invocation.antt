@@ -1,0 +1,30 @@
+-- What the words of a command name, as the definition says it.
+use Rattle.std.specs.Prelude.{ℕ, ◌<◌, ◌≤◌, List, length, map}
+use Rattle.std.specs.Borrow.{Bor}
+use Rattle.command_words.specs.declared.arguments.Arguments.{Arguments}
+use Rattle.command_words.specs.declared.capture_word.CaptureWord.{CaptureWord}
+use Rattle.command_words.specs.declared.invocation.Invocation.{Invocation}
+use Rattle.command_words.specs.declared.invocation.Invocation.TheVariants as invocation
+use Rattle.command_words.specs.Words as words
+
+-- the texts of words
+abbrev pub word_texts : List (Bor (List ℕ)) → List (List ℕ)
+word_texts = map (λ word. word.now)
+
+-- the words behind the first
+abbrev pub arguments_named : Arguments → words.Arguments
+arguments_named a = record { journal = a.journal; positional = word_texts a.positional.items }
+
+-- a capture
+abbrev pub capture_names : CaptureWord → words.CaptureNames
+capture_names c = record { direction = c.direction; interface = c.interface.now; name = c.name.now }
+
+-- a command
+abbrev pub named : Invocation → words.CommandWords
+named (invocation.Replay mode journal script captures) = words.Replay mode journal script.now (map capture_names captures.items)
+named (invocation.Load records) = words.Load records
+
+-- a replay has a script's name that isn't empty and 1 to 16 captures, a load 1 to 1,000,000 records
+abbrev pub IsWithin : Invocation → Type 0
+IsWithin (invocation.Replay mode journal script captures) = (0 < length script.now) × (1 ≤ length captures.items) × (length captures.items ≤ 16)
+IsWithin (invocation.Load records) = (1 ≤ records) × (records ≤ 1000000)

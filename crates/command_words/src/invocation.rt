@@ -1,0 +1,19 @@
+use crate::capture_word::CaptureWord;
+use crate::mode::Mode;
+
+/// What the words of a command name. The names are lent from the words.
+#[derive(Debug, Drop)]
+pub enum Invocation<'a> {
+    /// `serial` or `live`: captures that are replayed beside a script.
+    Replay {
+        mode: Mode,
+        /// Whether the report has the journal.
+        journal: bool,
+        /// The script's name, which isn't empty.
+        script: &'a [u8],
+        /// 1 to 16 captures, in the order of the words.
+        captures: Vec<CaptureWord<'a>>,
+    },
+    /// `load`: the load of so many records, 1 to 1,000,000.
+    Load(u32),
+}

@@ -1,0 +1,20 @@
+//! The words of a command line, and what they name: a script and captures to replay, or a load.
+//!
+//! `specs/Words.antt` says which lists of words are a command. `read_words` reads them by `clap`.
+#![tactic(auto)]
+
+pub use capture_word::CaptureWord;
+pub use invocation::Invocation;
+pub use mode::Mode;
+pub use words::read_words;
+
+mod arguments;
+mod bytes;
+mod capture_word;
+mod captures;
+mod invocation;
+mod load_word;
+mod mode;
+#[cfg(test)]
+mod tests;
+mod words;

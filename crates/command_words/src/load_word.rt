@@ -1,0 +1,30 @@
+ghost use Rattle.std.specs.Prelude.{◌≡◌, ◌≤◌, IfSome};
+ghost use Rattle.std.specs.List.{list_all};
+ghost use Rattle.command_words.specs.Words as spec;
+
+/// How many digits a load's number has at most.
+const MOST_DIGITS: usize = 7;
+
+/// How many records a load has at most.
+const MOST_RECORDS: u32 = 1_000_000;
+
+fn are_digits(text: &[u8]) -> bool
+    ensures { result ≡ list_all spec.is_digit text.now }
+{
+    text.iter().all(|b| b.is_ascii_digit())
+}
+
+/// A load's number of records.
+#[tactic(auto, unfolding(crate::specs::Words::load_number))]
+pub(crate) fn load_number(word: &str) -> Option<u32>
+    ensures value { result ≡ spec.load_number word.now }
+    ensures within { IfSome result (λ n. (1 ≤ n) × (n ≤ 1000000)) }
+{
+    if word.is_empty() || word.len() > MOST_DIGITS || !are_digits(word.as_bytes()) {
+        return None;
+    }
+    match word.parse::<u32>() {
+        Ok(records) if 1 <= records && records <= MOST_RECORDS => Some(records),
+        _ => None,
+    }
+}

@@ -1,0 +1,107 @@
+ghost use Rattle.std.specs.Prelude.{◌≡◌, IfOk, IfSome, map, string_bytes};
+ghost use Rattle.std.specs.Option.{option_map};
+ghost use Rattle.command_words.specs.Invocation.{IsWithin, named, word_texts};
+ghost use Rattle.command_words.specs.Words as spec;
+
+use crate::arguments::arguments_in;
+use crate::captures::captures_of;
+use crate::invocation::Invocation;
+use crate::load_word::load_number;
+use crate::mode::Mode;
+use fw_base::OutOfMemory;
+use std::alloc::Global;
+
+/// How many captures are replayed at most.
+const MOST_CAPTURES: usize = 16;
+
+/// What the positional words of a replay name.
+#[tactic(auto, unfolding(crate::specs::Words::replay_of))]
+fn replay_of<'a>(
+    alloc: Global,
+    mode: Mode,
+    journal: bool,
+    positional: &[&'a str],
+) -> Result<Option<Invocation<'a>>, OutOfMemory>
+    ensures named { IfOk result (λ found.
+        option_map named found ≡ spec.replay_of mode journal (word_texts positional.now)) }
+    ensures within { IfOk result (λ found. IfSome found IsWithin) }
+{
+    let [script, captures @ ..] = positional else {
+        return Ok(None);
+    };
+    if script.is_empty() || captures.is_empty() || captures.len() > MOST_CAPTURES {
+        return Ok(None);
+    }
+    match captures_of(alloc, captures)? {
+        Some(captures) => Ok(Some(Invocation::Replay {
+            mode,
+            journal,
+            script: script.as_bytes(),
+            captures,
+        })),
+        None => Ok(None),
+    }
+}
+
+/// What the positional words of a load name.
+#[tactic(auto, unfolding(crate::specs::Words::load_of))]
+fn load_of<'a>(positional: &[&'a str]) -> Option<Invocation<'a>>
+    ensures named { option_map named result ≡ spec.load_of (word_texts positional.now) }
+    ensures within { IfSome result IsWithin }
+{
+    match positional {
+        [number] => match load_number(number) {
+            Some(records) => Some(Invocation::Load(records)),
+            None => None,
+        },
+        _ => None,
+    }
+}
+
+/// What the words behind the first name.
+#[tactic(auto, unfolding(crate::specs::Words::command_by))]
+fn command_by<'a>(
+    alloc: Global,
+    mode: &[u8],
+    journal: bool,
+    positional: &[&'a str],
+) -> Result<Option<Invocation<'a>>, OutOfMemory>
+    ensures named { IfOk result (λ found.
+        option_map named found ≡ spec.command_by mode.now journal (word_texts positional.now)) }
+    ensures within { IfOk result (λ found. IfSome found IsWithin) }
+{
+    if mode == b"serial".as_slice() {
+        replay_of(alloc, Mode::Serial, journal, positional)
+    } else if mode == b"live".as_slice() {
+        replay_of(alloc, Mode::Live, journal, positional)
+    } else if mode == b"load".as_slice() && !journal {
+        Ok(load_of(positional))
+    } else {
+        Ok(None)
+    }
+}
+
+/// What the words name, where they are a command; `None` exactly where they are none. It fails only for
+/// want of memory.
+///
+/// The commands are `serial|live [--journal] [--] SCRIPT in|out:IF:NAME ..` with 1 to 16 captures, and
+/// `load [--] N` with N from 1 to 1,000,000. IF is the name of an interface, NAME that of a capture's file.
+#[tactic(auto, unfolding(crate::specs::Words::command_of))]
+pub fn read_words(alloc: Global, words: &[String]) -> Result<Option<Invocation<'_>>, OutOfMemory>
+    ensures named { IfOk result (λ found.
+        option_map named found ≡ spec.command_of (map string_bytes words.now)) }
+    ensures within { IfOk result (λ found. IfSome found IsWithin) }
+{
+    let Some(mode) = words.first() else {
+        return Ok(None);
+    };
+    match arguments_in(alloc, words)? {
+        Some(arguments) => command_by(
+            alloc,
+            mode.as_bytes(),
+            arguments.journal,
+            &arguments.positional,
+        ),
+        None => Ok(None),
+    }
+}

@@ -1,0 +1,144 @@
+ghost use Rattle.std.specs.Prelude.{◌≡◌, ℕ, ◌+◌, ◌-◌, ◌<◌, ◌≤◌, ◌^◌, [], ◌∷◌, ◌++◌, true, List, IfOk, length, count_by, slice_index_or, slice_set};
+ghost use Rattle.dyn_states.specs.declared.state.State.{State};
+ghost use Rattle.dyn_states.specs.LimitCounts.{Counts, is_counted_for, amount_of, pair_of, pair_room};
+ghost use Rattle.dyn_states.specs.Slots.{is_held, given_up, slot, no_state};
+ghost use Rattle.dyn_states.specs.Tallies.{IsTallied, HasTallyRoom};
+ghost use Rattle.dyn_states.specs.StateObject as object;
+
+use crate::State;
+use crate::limit_counts::LimitCounts;
+use crate::scanned_states::parameter;
+use fw_base::OutOfMemory;
+use fw_rule::LimitMask;
+use packet_headers::Flow;
+use std::alloc::Global;
+
+/// How many states there are, and how many of a rule have the same parameter, by each of the four that a
+/// limit may count by.
+#[derive(Drop)]
+pub(crate) struct Tallies {
+    live: u32,
+    by_source: LimitCounts,
+    by_source_port: LimitCounts,
+    by_destination: LimitCounts,
+    by_destination_port: LimitCounts,
+}
+
+/// What a limit by the mask counts the state for: its rule's identity and its parameter.
+fn pair_of(mask: LimitMask, state: &State) -> (u32, u32)
+    ensures { result ≡ pair_of mask state.now }
+{
+    (state.rule.id, parameter(mask, &state.flow))
+}
+
+/// Counts a state that is made, behind these slots. It takes no memory.
+fn add(counts: &mut LimitCounts, mask: LimitMask, slots: &[State], state: &State)
+    requires counts { Counts mask slots.now counts.old }
+    requires held { is_held state.now ≡ true }
+    requires room { length slots.now < pair_room counts.old }
+    requires few { length slots.now < 2 ^ 32 - 1 }
+    ensures counts { Counts mask (slots.now ++ state.now ∷ []) counts.new }
+    ensures room { pair_room counts.old ≤ pair_room counts.new }
+{
+    counts.add(pair_of(mask, state));
+}
+
+/// Counts the state in that place no longer.
+fn take(counts: &mut LimitCounts, mask: LimitMask, slots: &[State], place: usize)
+    requires counts { Counts mask slots.now counts.old }
+    requires place { place < length slots.now }
+    requires held { is_held (slot slots.now place) ≡ true }
+    ensures counts { Counts mask (slice_set slots.now place (given_up (slot slots.now place))) counts.new }
+    ensures room { pair_room counts.old ≤ pair_room counts.new }
+{
+    counts.take(pair_of(mask, &slots[place]));
+}
+
+impl Tallies {
+    /// No state. The memory for the states of so many slots is taken here.
+    pub fn open(alloc: Global, room: usize) -> Result<Tallies, OutOfMemory>
+        ensures none { IfOk result (IsTallied []) }
+        ensures room { IfOk result (HasTallyRoom room) }
+    {
+        Ok(Tallies {
+            live: 0,
+            by_source: LimitCounts::open(alloc, room)?,
+            by_source_port: LimitCounts::open(alloc, room)?,
+            by_destination: LimitCounts::open(alloc, room)?,
+            by_destination_port: LimitCounts::open(alloc, room)?,
+        })
+    }
+
+    /// How many states there are.
+    pub fn live(&self) -> u32
+        ensures { result ≡ self.now.live }
+    {
+        self.live
+    }
+
+    /// How many states of the rule have the flow's parameter.
+    pub fn amount_of(&self, id: u32, mask: LimitMask, flow: &Flow) -> u32
+        ensures { (slots : List State) → IsTallied slots self.now → result ≡ count_by (is_counted_for mask (id, object.parameter mask flow.now)) slots }
+    {
+        let pair = (id, parameter(mask, flow));
+        match mask {
+            LimitMask::SrcAddr => self.by_source.amount_of(pair),
+            LimitMask::SrcPort => self.by_source_port.amount_of(pair),
+            LimitMask::DstAddr => self.by_destination.amount_of(pair),
+            LimitMask::DstPort => self.by_destination_port.amount_of(pair),
+        }
+    }
+
+    /// Counts a state that is made, behind these slots. It takes no memory.
+    pub fn add(&mut self, slots: &[State], state: &State)
+        requires tallied { IsTallied slots.now self.old }
+        requires held { is_held state.now ≡ true }
+        requires room { (most : ℕ) × HasTallyRoom most self.old × (length slots.now < most) }
+        requires few { length slots.now < 2 ^ 32 - 1 }
+        ensures tallied { IsTallied (slots.now ++ state.now ∷ []) self.new }
+        ensures room { (most : ℕ) → HasTallyRoom most self.old → HasTallyRoom most self.new }
+    {
+        self.live += 1;
+        add(&mut self.by_source, LimitMask::SrcAddr, slots, state);
+        add(&mut self.by_source_port, LimitMask::SrcPort, slots, state);
+        add(&mut self.by_destination, LimitMask::DstAddr, slots, state);
+        add(
+            &mut self.by_destination_port,
+            LimitMask::DstPort,
+            slots,
+            state,
+        );
+    }
+
+    /// Counts the state in that place no longer.
+    pub fn take(&mut self, slots: &[State], place: usize)
+        requires tallied { IsTallied slots.now self.old }
+        requires place { place < length slots.now }
+        requires held { is_held (slot slots.now place) ≡ true }
+        ensures tallied { IsTallied (slice_set slots.now place (given_up (slot slots.now place))) self.new }
+        ensures room { (most : ℕ) → HasTallyRoom most self.old → HasTallyRoom most self.new }
+    {
+        self.live -= 1;
+        take(&mut self.by_source, LimitMask::SrcAddr, slots, place);
+        take(&mut self.by_source_port, LimitMask::SrcPort, slots, place);
+        take(&mut self.by_destination, LimitMask::DstAddr, slots, place);
+        take(
+            &mut self.by_destination_port,
+            LimitMask::DstPort,
+            slots,
+            place,
+        );
+    }
+
+    /// Counts no state.
+    pub fn clear(&mut self)
+        ensures none { IsTallied [] self.new }
+        ensures room { (most : ℕ) → HasTallyRoom most self.old → HasTallyRoom most self.new }
+    {
+        self.live = 0;
+        self.by_source.clear();
+        self.by_source_port.clear();
+        self.by_destination.clear();
+        self.by_destination_port.clear();
+    }
+}

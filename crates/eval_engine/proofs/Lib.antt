@@ -1,0 +1,17 @@
+-- flow names that were looked up
+pub mod Names
+-- calls that are open
+pub mod Calls
+-- places of rules in number order, and the rule in a place
+pub mod Places
+pub mod Configured
+-- where an evaluation goes on
+pub mod Walks
+-- how a step moves it on
+pub mod Leading
+-- how far an evaluation is behind one reply more
+pub mod Progressing
+-- laws
+pub mod Plain
+pub mod Ending
+pub mod Hits

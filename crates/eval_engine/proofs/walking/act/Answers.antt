@@ -1,0 +1,7 @@
+use Rattle.eval_engine.specs.Steps.{question_of}
+use Rattle.eval_engine.proofs.Leading.{leads_counted}
+use Rattle.eval_engine.proofs.walking.act.Goals as goal
+
+pub returns : goal.returns
+returns c = λ seen.
+    leads_counted (question_of c.args.search.now) seen _ c.follow.result c.args.rule.now.counter c.args.tally.now c.hit.new.self (rw (← c.total.ensures) c.hit.ensures) (c.follow.ensures seen)

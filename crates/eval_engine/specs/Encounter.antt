@@ -1,0 +1,111 @@
+-- What a rule is to the packet (ipfw(8), "RULE FORMAT", "SETS OF RULES", "STATEFUL FIREWALL").
+use Rattle.std.specs.Prelude.{ℕ, ⊤, Bool, true, false, ◌&&◌, ◌||◌, nat_lt, is_some, unwrap_or, Option, Some, None}
+use Rattle.fw_rule.specs.Canonical.{has_bit}
+use Rattle.fw_rule.specs.declared.action.Action.{Action}
+use Rattle.fw_rule.specs.declared.action.Action.TheVariants.{Allow, Deny, Reset, Unreach, Count, SkipTo, Call, Return, CheckState}
+use Rattle.fw_rule.specs.declared.body.Body.{Body}
+use Rattle.fw_rule.specs.declared.limit_mask.LimitMask.{LimitMask}
+use Rattle.fw_rule.specs.declared.rule.Rule.{Rule}
+use Rattle.fw_rule.specs.declared.state_opt.StateOpt.{StateOpt}
+use Rattle.fw_rule.specs.declared.state_opt.StateOpt.TheVariants.{Keep, Limit}
+use Rattle.dyn_states.specs.declared.flow_name.FlowName.{FlowName}
+use Rattle.dyn_states.specs.declared.op.Op.{Op}
+use Rattle.dyn_states.specs.declared.op.Op.TheVariants.{Lookup, Install}
+use Rattle.dyn_states.specs.declared.rule_ref.RuleRef.{RuleRef}
+use Rattle.generation_store.specs.Published.{flow_name}
+use Rattle.ip6_headers.specs.declared.any_ip.AnyIp.{AnyIp}
+use Rattle.ip6_headers.specs.declared.any_ip.AnyIp.TheVariants.{Four, Six}
+use Rattle.ip6_headers.specs.Either.{any_tcp_flags_of}
+use Rattle.packet_headers.specs.declared.flows.Flow.{Flow}
+use Rattle.packet_headers.specs.Flows.{flow_of}
+use Rattle.rule_chain.specs.Names.{number_of, state_name}
+use Rattle.rule_match.specs.Holds.{holds}
+use Rattle.eval_engine.specs.Question.{Question}
+
+-- rules of a disabled set are passed over
+unfoldable pub is_disabled : Question → Rule → Bool
+is_disabled q rule = nat_lt rule.set 32 && has_bit q.edition.config.disabled rule.set
+
+abbrev pub is_body_held : Question → Option Body → Bool
+is_body_held q None = false
+is_body_held q (Some body) = holds body q.edition.config.tables q.edition.config.locals q.packet q.port
+
+-- the rule's body holds of the packet; a `check-state` has none
+unfoldable pub is_held : Question → Rule → Bool
+is_held q rule = is_body_held q rule.body
+
+abbrev pub is_check_state : Action → Bool
+is_check_state Allow = false
+is_check_state Deny = false
+is_check_state Reset = false
+is_check_state (Unreach code) = false
+is_check_state Count = false
+is_check_state (SkipTo number) = false
+is_check_state (Call number) = false
+is_check_state Return = false
+is_check_state (CheckState name) = true
+
+-- the action is a call
+abbrev pub IsCall : Action → Type 0
+IsCall Allow = ⊥
+IsCall Deny = ⊥
+IsCall Reset = ⊥
+IsCall (Unreach code) = ⊥
+IsCall Count = ⊥
+IsCall (SkipTo number) = ⊥
+IsCall (Call number) = ⊤
+IsCall Return = ⊥
+IsCall (CheckState name) = ⊥
+
+-- the action goes on behind its own place, within the same call
+abbrev pub IsOnward : Action → Type 0
+IsOnward Allow = ⊥
+IsOnward Deny = ⊥
+IsOnward Reset = ⊥
+IsOnward (Unreach code) = ⊥
+IsOnward Count = ⊤
+IsOnward (SkipTo number) = ⊤
+IsOnward (Call number) = ⊥
+IsOnward Return = ⊥
+IsOnward (CheckState name) = ⊤
+
+abbrev pub body_state : Option Body → Option StateOpt
+body_state None = None
+body_state (Some body) = body.state
+
+-- `keep-state` or `limit`
+abbrev pub state_of : Rule → Option StateOpt
+state_of rule = body_state rule.body
+
+-- `check-state`, `keep-state` and `limit` look the packet up
+abbrev pub looks_up : Rule → Bool
+looks_up rule = is_check_state rule.action || is_some (state_of rule)
+
+-- the flow of an IPv4 packet; a packet of IPv6 has none
+abbrev pub any_flow_of : AnyIp → Option Flow
+any_flow_of (Four packet) = flow_of packet
+any_flow_of (Six packet) = None
+
+-- TCP's flags, 0 where it isn't TCP
+abbrev pub flags_of : AnyIp → ℕ
+flags_of packet = unwrap_or (any_tcp_flags_of packet) 0
+
+-- the flow name that the rule looks up
+abbrev pub name_at : Question → Rule → FlowName
+name_at q rule = flow_name q.edition.config.names rule
+
+-- the rule, as states and judgements name it
+abbrev pub rule_ref : Rule → RuleRef
+rule_ref rule = record { id = rule.id; number = rule.number }
+
+abbrev pub lookup_by : Question → Rule → Flow → Op
+lookup_by q rule flow = Lookup flow (flags_of q.packet) q.second (name_at q rule)
+
+-- `limit` by its mask and its number
+abbrev pub limit_of : StateOpt → Option (LimitMask × ℕ)
+limit_of (Keep name) = None
+limit_of (Limit mask most name) = Some (mask, most)
+
+abbrev pub install_by : Question → Rule → StateOpt → Flow → Op
+install_by q rule state flow =
+    Install flow (flags_of q.packet) q.second (rule_ref rule) (limit_of state) (number_of q.edition.config.names (state_name state))

@@ -1,0 +1,70 @@
+-- What an evaluation comes to, given the replies to its asks.
+use Rattle.std.specs.Prelude.{ℕ, Bool, true, false, if◌then◌else◌, List, [], ◌∷◌, ◌++◌}
+use Rattle.fw_rule.specs.declared.rule.Rule.{Rule}
+use Rattle.dyn_states.specs.declared.op.Op.{Op}
+use Rattle.dyn_states.specs.declared.op.Op.TheVariants.{Lookup, Install}
+use Rattle.dyn_states.specs.declared.reply.Reply.{Reply}
+use Rattle.dyn_states.specs.declared.reply.Reply.TheVariants.{Found, NotFound, Created, Exists, LimitReached, TableFull}
+use Rattle.generation_store.specs.Published.{has_identity}
+use Rattle.eval_engine.specs.Evaluated.{Evaluated, Outcome, Whole, OpenAt, Neither}
+use Rattle.eval_engine.specs.Question.{Question}
+use Rattle.eval_engine.specs.Trace.{Stop, EndsWith, WaitsFor, Mismatch, Trace, hits_of, stop_of}
+use Rattle.eval_engine.specs.Walk.{begun, resumed}
+
+-- A reply that is one to the ask: a state of a rule of the list that was found, or none, to a lookup; one
+-- of the other four to an install.
+abbrev pub is_reply_to : List Rule → Op → Reply → Bool
+is_reply_to rules (Lookup flow flags second name) (Found rule way) = has_identity rules rule.id
+is_reply_to rules (Lookup flow flags second name) NotFound = true
+is_reply_to rules (Lookup flow flags second name) Created = false
+is_reply_to rules (Lookup flow flags second name) Exists = false
+is_reply_to rules (Lookup flow flags second name) (LimitReached count) = false
+is_reply_to rules (Lookup flow flags second name) (TableFull count) = false
+is_reply_to rules (Install flow flags second rule limit name) (Found found way) = false
+is_reply_to rules (Install flow flags second rule limit name) NotFound = false
+is_reply_to rules (Install flow flags second rule limit name) Created = true
+is_reply_to rules (Install flow flags second rule limit name) Exists = true
+is_reply_to rules (Install flow flags second rule limit name) (LimitReached count) = true
+is_reply_to rules (Install flow flags second rule limit name) (TableFull count) = true
+
+-- how far an evaluation is: its asks and the counter numbers of its hits so far, and how it stops
+pub record Progress : Type 0 where
+  pub asks : List Op
+  pub hits : List ℕ
+  pub stop : Stop
+
+abbrev pub asks_of : Stop → List Op
+asks_of (EndsWith judgement) = []
+asks_of (WaitsFor op pause) = op ∷ []
+asks_of Mismatch = []
+
+-- behind those asks and hits it goes through this
+abbrev pub progress_by : List Op → List ℕ → Trace → Progress
+progress_by asks hits trace = record { asks = asks ++ asks_of (stop_of trace); hits = hits ++ hits_of trace; stop = stop_of trace }
+
+-- a reply where none is due, and one that isn't one to the ask, leaves it neither open nor whole
+abbrev pub replied : Question → List Op → List ℕ → Reply → Stop → Progress
+replied q asks hits reply (EndsWith judgement) = record { asks = asks; hits = hits; stop = Mismatch }
+replied q asks hits reply (WaitsFor op pause) =
+    if is_reply_to q.edition.config.rules op reply then progress_by asks hits (resumed q pause reply)
+    else record { asks = asks; hits = hits; stop = Mismatch }
+replied q asks hits reply Mismatch = record { asks = asks; hits = hits; stop = Mismatch }
+
+-- each reply moves it on
+unfoldable pub progress_from : Question → Progress → List Reply → Progress
+progress_from q progress [] = progress
+progress_from q progress (reply ∷ replies) = progress_from q (replied q progress.asks progress.hits reply progress.stop) replies
+
+abbrev pub progress_of : Question → List Reply → Progress
+progress_of q replies = progress_from q (progress_by [] [] (begun q)) replies
+
+abbrev pub outcome_of : Stop → Outcome
+outcome_of (EndsWith judgement) = Whole judgement
+outcome_of (WaitsFor op pause) = OpenAt op
+outcome_of Mismatch = Neither
+
+abbrev pub evaluated : Progress → Evaluated
+evaluated progress = record { asks = progress.asks; hits = progress.hits; outcome = outcome_of progress.stop }
+
+unfoldable pub evaluate : Question → List Reply → Evaluated
+evaluate q replies = evaluated (progress_of q replies)

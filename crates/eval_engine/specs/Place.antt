@@ -1,0 +1,25 @@
+-- A place in an edition's rules.
+use Rattle.std.specs.Prelude.{◌≡◌, ℕ, ◌+◌, ◌<◌, ◌≤◌, ⊤, true, ◌∷◌, length, drop}
+use Rattle.dyn_states.specs.declared.flow_name.FlowName.{FlowName}
+use Rattle.dyn_states.specs.declared.flow_name.FlowName.TheVariants.{Any, Named}
+use Rattle.fw_rule.specs.declared.rule.Rule.{Rule}
+use Rattle.rule_chain.specs.Chain.{AscendsFrom}
+use Rattle.generation_store.specs.Published.{has_identity}
+use Rattle.eval_engine.specs.Encounter.{name_at}
+use Rattle.eval_engine.specs.Question.{Question}
+
+-- there are 64 flow names
+abbrev pub IsNumbered : FlowName → Type 0
+IsNumbered Any = ⊤
+IsNumbered (Named number) = number < 64
+
+-- The rule in this place: its number of flow name, its counter number and its identity are the
+-- configuration's.
+pub record IsRuleAt (q : Question) (place : ℕ) (rule : Rule) : Type 0 where
+  pub there : drop place q.edition.config.rules ≡ rule ∷ drop (place + 1) q.edition.config.rules
+  pub within : place < length q.edition.config.rules
+  pub few : place < 65535
+  pub counter : rule.counter ≤ q.edition.config.greatest_counter
+  pub named : IsNumbered (name_at q rule)
+  pub ordered : AscendsFrom 1 q.edition.config.rules
+  pub listed : has_identity q.edition.config.rules rule.id ≡ true

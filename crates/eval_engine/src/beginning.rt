@@ -1,0 +1,33 @@
+ghost use Rattle.std.specs.Prelude.{◌<◌, [], length};
+ghost use Rattle.eval_engine.specs.Standing.{StandsAt};
+
+use crate::Stage;
+use crate::callers::Callers;
+use crate::encounter::search_for;
+use crate::position::Position;
+use crate::searched::Searched;
+use crate::walking::walk;
+use counter_book::Tally;
+use fw_base::Port;
+use generation_store::Edition;
+use ip6_headers::AnyIp;
+
+/// Begins the evaluation of a packet that was captured there at that second, and goes on to its first ask
+/// or to its end. Each rule whose action runs is counted in the tally. It takes no memory.
+pub fn begin(
+    edition: &Edition,
+    packet: &AnyIp<'_>,
+    port: &Port,
+    second: u32,
+    tally: &mut Tally,
+) -> Stage
+    requires fitted { edition.now.config.greatest_counter < length tally.old }
+    ensures { StandsAt (record { edition = edition.now; packet = packet.now; port = port.now; second = second }) [] [] tally.old result tally.new }
+{
+    let search = search_for(edition, packet, port, second);
+    let start = Position {
+        place: 0,
+        callers: Callers::none(),
+    };
+    walk(&search, &Searched::none(), start, tally)
+}

@@ -1,0 +1,24 @@
+use crate::Verdict;
+use dyn_states::RuleRef;
+
+/// Why the deciding rule decided.
+#[derive(Clone, Copy, Debug, PartialEq, Eq, Hash)]
+pub enum Cause {
+    /// Its action ends the search.
+    Rule,
+    /// So many states were counted, and the rule's `limit` isn't above it.
+    Limit(u32),
+    /// So many states were there, and `dyn_max` isn't above it.
+    Full(u32),
+}
+
+/// What an evaluation comes to.
+#[derive(Clone, Copy, Debug, PartialEq, Eq, Hash)]
+pub struct Judgement {
+    /// The number of the edition whose rules were evaluated, from 1.
+    pub edition: u64,
+    pub verdict: Verdict,
+    /// The deciding rule.
+    pub rule: RuleRef,
+    pub cause: Cause,
+}

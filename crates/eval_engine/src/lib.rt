@@ -1,0 +1,36 @@
+//! Evaluates packets: which rule decides one, what it asks of the dynamic states, and what it counts
+//! (ipfw(8), "RULE ACTIONS", "STATEFUL FIREWALL").
+#![tactic(auto)]
+
+pub use beginning::begin;
+pub use callers::MOST_CALLS;
+pub use docket::Docket;
+pub use docket_entry::DocketEntry;
+pub use judgement::{Cause, Judgement};
+pub use laws::{evaluations_end_once, first_match_decides, hits_are_of_rules};
+pub use paused::Paused;
+pub use replies::is_reply_to;
+pub use resuming::resume;
+pub use stage::Stage;
+pub use verdict::Verdict;
+
+mod ask_kind;
+mod beginning;
+mod callers;
+mod docket;
+mod docket_entry;
+mod encounter;
+mod judgement;
+mod laws;
+mod paused;
+mod position;
+mod replies;
+mod resuming;
+mod search;
+mod searched;
+mod stage;
+mod step;
+#[cfg(test)]
+mod tests;
+mod verdict;
+mod walking;

@@ -1,0 +1,73 @@
+ghost use Rattle.std.specs.Prelude.{◌≡◌, ◌<◌, false};
+ghost use Rattle.eval_engine.specs.Place.{IsNumbered};
+ghost use Rattle.eval_engine.specs.Standing.{is_searched, seen_by};
+ghost use Rattle.eval_engine.specs.Trace as trace;
+
+use dyn_states::FlowName;
+
+/// The flow names that were looked up.
+#[derive(Clone, Copy, Debug)]
+pub(crate) struct Searched {
+    /// By the bits of a mask, those of the names' numbers.
+    pub(crate) named: u64,
+    /// `:any` was looked up.
+    pub(crate) any: bool,
+    /// A state was found: no more is looked up.
+    pub(crate) found: bool,
+}
+
+impl Searched {
+    /// No name was looked up.
+    pub(crate) fn none() -> Searched
+        ensures { seen_by result ≡ trace.no_names }
+    {
+        Searched {
+            named: 0,
+            any: false,
+            found: false,
+        }
+    }
+
+    /// A state was found.
+    pub(crate) fn done() -> Searched
+        ensures { seen_by result ≡ trace.Done }
+    {
+        Searched {
+            named: 0,
+            any: false,
+            found: true,
+        }
+    }
+
+    /// Whether the name is looked up: neither it nor `:any` was.
+    pub(crate) fn is_due(&self, name: FlowName) -> bool
+        requires { IsNumbered name }
+        ensures { result ≡ trace.is_due (seen_by self.now) name }
+    {
+        !self.found && (!self.any && !self.has(name))
+    }
+
+    fn has(&self, name: FlowName) -> bool
+        requires { IsNumbered name }
+        ensures { result ≡ is_searched self.now name }
+    {
+        match name {
+            FlowName::Any => self.any,
+            FlowName::Named(number) => (self.named >> number) % 2 == 1,
+        }
+    }
+
+    /// With this name.
+    pub(crate) fn with(&self, name: FlowName) -> Searched
+        requires { IsNumbered name }
+        ensures { seen_by result ≡ trace.with_seen (seen_by self.now) name }
+    {
+        match name {
+            FlowName::Any => Searched { any: true, ..*self },
+            FlowName::Named(number) => Searched {
+                named: self.named | 1 << number,
+                ..*self
+            },
+        }
+    }
+}

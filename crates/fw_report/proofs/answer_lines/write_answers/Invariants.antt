@@ -1,0 +1,9 @@
+use Rattle.std.proofs.Common.{drop, flat_map}
+use Rattle.fw_base.proofs.Texts.{IsUnderWay}
+use Rattle.std.proofs.Common.{map}
+use Rattle.std.specs.Arc.{arc_value}
+use Rattle.fw_report.specs.AnswerText.{answer_text}
+use Rattle.fw_report.proofs.answer_lines.write_answers.Given as goal
+
+abbrev pub invariant-loop-answer : goal.invariant-loop-answer
+invariant-loop-answer g l = IsUnderWay (g.K.Sink.written l.initial.out) (g.K.Sink.written l.out) (g.K.Sink.faults l.initial.out) (g.K.Sink.faults l.out) (flat_map (answer_text (map arc_value l.editions)) l.answers) (flat_map (answer_text (map arc_value l.editions)) (drop l.answer-index l.answers))

@@ -1,0 +1,10 @@
+use Rattle.std.proofs.Common.{drop, flat_map, Global}
+use Rattle.fw_base.proofs.Texts.{IsUnderWay}
+use Rattle.std.specs.Arc.{arc_value}
+use Rattle.std.specs.declared.sync.Arc.{Arc}
+use Rattle.fw_rule.specs.declared.rule.Rule.{Rule}
+use Rattle.fw_report.specs.AnswerText.{rule_line}
+use Rattle.fw_report.proofs.answer_lines.write_rule_lines.Given as goal
+
+abbrev pub invariant-loop-rule : goal.invariant-loop-rule
+invariant-loop-rule g l = IsUnderWay (g.K.Sink.written l.initial.out) (g.K.Sink.written l.out) (g.K.Sink.faults l.initial.out) (g.K.Sink.faults l.out) (flat_map (λ (rule : Arc Rule Global). rule_line (arc_value rule)) l.rules) (flat_map (λ (rule : Arc Rule Global). rule_line (arc_value rule)) (drop l.rule-index l.rules))

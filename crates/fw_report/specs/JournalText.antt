@@ -1,0 +1,129 @@
+-- The report's last sections: the hits of the caches, and the journal, version 2.
+use Rattle.std.specs.Prelude.{ℕ, ◌+◌, Bool, true, false, Option, Some, None, List, [], ◌∷◌, ◌++◌, length, codes, decimal, slice_index_or}
+use Rattle.std.specs.List.{flat_map}
+use Rattle.packet_headers.specs.declared.flows.Flow.{Flow}
+use Rattle.fw_rule.specs.Bits.{has_bit}
+use Rattle.fw_rule.specs.Canonical.{mask_word}
+use Rattle.fw_rule.specs.declared.limit_mask.LimitMask.{LimitMask}
+use Rattle.dyn_states.specs.StateTexts.{flow_text}
+use Rattle.dyn_states.specs.declared.flow_name.FlowName.{FlowName}
+use Rattle.dyn_states.specs.declared.flow_name.FlowName.TheVariants.{Any, Named}
+use Rattle.dyn_states.specs.declared.op.Op.{Op}
+use Rattle.dyn_states.specs.declared.op.Op.TheVariants.{Lookup, Install}
+use Rattle.dyn_states.specs.declared.reply.Reply.{Reply}
+use Rattle.dyn_states.specs.declared.reply.Reply.TheVariants.{Found, NotFound, Created, Exists, LimitReached, TableFull}
+use Rattle.dyn_states.specs.declared.way.Way.{Way}
+use Rattle.dyn_states.specs.declared.way.Way.TheVariants.{Forward, Reverse}
+use Rattle.eval_engine.specs.Dockets.{DocketValue}
+use Rattle.state_journal.specs.declared.entry.Entry.{Entry}
+use Rattle.state_journal.specs.declared.entry.Entry.TheVariants.{Publish, Ask}
+
+-- how often the cache of a lane had the judgement
+unfoldable pub hits_line : ℕ → ℕ → List ℕ
+hits_line lane hits = codes "cache " ++ (decimal lane ++ (codes " hits " ++ (decimal hits ++ codes "\n")))
+
+-- those of the lanes from this number on
+unfoldable pub hits_text : ℕ → List ℕ → List ℕ
+hits_text lane [] = []
+hits_text lane (hits ∷ rest) = hits_line lane hits ++ hits_text (lane + 1) rest
+
+-- a flow name by its number
+abbrev pub name_at : List (List ℕ) → ℕ → List ℕ
+name_at names name = slice_index_or names name []
+
+abbrev pub name_word : List (List ℕ) → FlowName → List ℕ
+name_word names Any = codes "any"
+name_word names (Named name) = name_at names name
+
+-- What is asked: whether there is a state of this name, or that a rule makes one.
+unfoldable pub lookup_text : List (List ℕ) → FlowName → List ℕ
+lookup_text names name = codes " lookup :" ++ name_word names name
+
+unfoldable pub install_text : List (List ℕ) → ℕ → Option (LimitMask × ℕ) → ℕ → List ℕ
+install_text names id None name = codes " install " ++ (decimal id ++ (codes " keep :" ++ name_at names name))
+install_text names id (Some limit) name =
+    codes " install " ++ (decimal id ++ (codes " limit " ++ (mask_word limit.0 ++ (codes " " ++ (decimal limit.1 ++ (codes " :" ++ name_at names name))))))
+
+-- the TCP flags FIN, SYN and RST that are set (RFC 9293 section 3.1); a dash where none is
+abbrev pub flag_letters : Bool → Bool → Bool → List ℕ
+flag_letters false false false = codes "-"
+flag_letters true false false = codes "F"
+flag_letters false true false = codes "S"
+flag_letters true true false = codes "FS"
+flag_letters false false true = codes "R"
+flag_letters true false true = codes "FR"
+flag_letters false true true = codes "SR"
+flag_letters true true true = codes "FSR"
+
+abbrev pub flags_word : ℕ → List ℕ
+flags_word flags = flag_letters (has_bit flags 0) (has_bit flags 1) (has_bit flags 2)
+
+abbrev pub way_word : Way → List ℕ
+way_word Forward = codes "forward"
+way_word Reverse = codes "reverse"
+
+-- what was answered, and the line's end
+unfoldable pub reply_end : Reply → List ℕ
+reply_end (Found rule way) = codes "found " ++ (decimal rule.id ++ (codes " " ++ (way_word way ++ codes "\n")))
+reply_end NotFound = codes "notfound\n"
+reply_end Created = codes "created\n"
+reply_end Exists = codes "exists\n"
+reply_end (LimitReached count) = codes "limit " ++ (decimal count ++ codes "\n")
+reply_end (TableFull count) = codes "full " ++ (decimal count ++ codes "\n")
+
+-- for which record, and its second
+unfoldable pub ask_start : ℕ → ℕ → ℕ → List ℕ
+ask_start lane at second = codes "ask " ++ (decimal lane ++ (codes "." ++ (decimal at ++ (codes " " ++ decimal second))))
+
+-- the flags and the reply
+unfoldable pub ask_end : ℕ → Reply → List ℕ
+ask_end flags reply = codes " " ++ (flags_word flags ++ (codes " " ++ reply_end reply))
+
+abbrev pub flow_of : Op → Flow
+flow_of (Lookup flow flags second name) = flow
+flow_of (Install flow flags second rule limit name) = flow
+
+abbrev pub flags_of : Op → ℕ
+flags_of (Lookup flow flags second name) = flags
+flags_of (Install flow flags second rule limit name) = flags
+
+abbrev pub second_of : Op → ℕ
+second_of (Lookup flow flags second name) = second
+second_of (Install flow flags second rule limit name) = second
+
+abbrev pub op_text : List (List ℕ) → Op → List ℕ
+op_text names (Lookup flow flags second name) = lookup_text names name
+op_text names (Install flow flags second rule limit name) = install_text names rule.id limit name
+
+unfoldable pub ask_line : List (List ℕ) → ℕ → ℕ → Op → Reply → List ℕ
+ask_line names lane at op reply = ask_start lane at (second_of op) ++ (op_text names op ++ (flow_text (flow_of op) ++ ask_end (flags_of op) reply))
+
+unfoldable pub publish_line : ℕ → List ℕ
+publish_line number = codes "publish " ++ (decimal number ++ codes "\n")
+
+-- what the states met
+abbrev pub entry_line : List (List ℕ) → Entry → List ℕ
+entry_line names (Publish number) = publish_line number
+entry_line names (Ask lane at op reply) = ask_line names lane at op reply
+
+-- how many entries into a section were refused to a lane, and its tracker's word
+unfoldable pub lane_line : ℕ → ℕ → ℕ → List ℕ
+lane_line lane refused tracker = codes "lane " ++ (decimal lane ++ (codes " refused " ++ (decimal refused ++ (codes " tracker " ++ (decimal tracker ++ codes "\n")))))
+
+-- those of the lanes from this number on
+unfoldable pub lanes_text : ℕ → List DocketValue → List ℕ → List ℕ
+lanes_text lane [] trackers = []
+lanes_text lane (docket ∷ dockets) [] = []
+lanes_text lane (docket ∷ dockets) (tracker ∷ trackers) = lane_line lane docket.refused tracker ++ lanes_text (lane + 1) dockets trackers
+
+-- the text's version, and how many entries there are
+unfoldable pub journal_heading : ℕ → List ℕ
+journal_heading entries = codes "journal 2 " ++ (decimal entries ++ codes "\n")
+
+unfoldable pub journal_text : List (List ℕ) → List Entry → List DocketValue → List ℕ → List ℕ
+journal_text names entries dockets trackers = journal_heading (length entries) ++ (flat_map (entry_line names) entries ++ lanes_text 1 dockets trackers)
+
+-- only where it is asked for
+abbrev pub optional_journal : Bool → List (List ℕ) → List Entry → List DocketValue → List ℕ → List ℕ
+optional_journal false names entries dockets trackers = []
+optional_journal true names entries dockets trackers = journal_text names entries dockets trackers

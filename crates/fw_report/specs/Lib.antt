@@ -1,0 +1,14 @@
+-- what is reported
+pub mod Recorded
+-- the report by its sections
+pub mod Report
+pub mod DocketText
+pub mod AnswerText
+pub mod RulesText
+pub mod JournalText
+-- the summary
+pub mod Summary
+-- what lines are made of
+pub mod Parts
+-- how many lines a text has
+pub mod Lines

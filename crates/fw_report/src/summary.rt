@@ -1,0 +1,129 @@
+ghost use Rattle.std.specs.Prelude.{◌≡◌, length, count_by};
+ghost use Rattle.fw_base.specs.Texts.{WritesText};
+ghost use Rattle.fw_report.specs.Summary as text;
+
+use crate::line::write_line;
+use crate::part::Part;
+use counter_book::Tally;
+use eval_engine::{Docket, DocketEntry, Verdict};
+use fw_base::{Failed, Sink};
+use fw_rule::WriteFault;
+use generation_store::Edition;
+use itoa::Buffer;
+use state_journal::Book;
+use std::sync::Arc;
+
+fn is_allowed(entry: &DocketEntry) -> bool
+    ensures { result ≡ text.is_judged text.is_allow entry.now }
+{
+    match entry {
+        DocketEntry::Other | DocketEntry::Malformed(_) => false,
+        DocketEntry::Judged(judgement) => match judgement.verdict {
+            Verdict::Allow => true,
+            Verdict::Deny | Verdict::Reset | Verdict::Unreach(_) => false,
+        },
+    }
+}
+
+fn is_denied(entry: &DocketEntry) -> bool
+    ensures { result ≡ text.is_judged text.is_deny entry.now }
+{
+    match entry {
+        DocketEntry::Other | DocketEntry::Malformed(_) => false,
+        DocketEntry::Judged(judgement) => match judgement.verdict {
+            Verdict::Deny => true,
+            Verdict::Allow | Verdict::Reset | Verdict::Unreach(_) => false,
+        },
+    }
+}
+
+/// How many records were let through.
+fn allowed(entries: &[DocketEntry]) -> usize
+    ensures { result ≡ count_by (text.is_judged text.is_allow) entries.now }
+{
+    entries.iter().filter(|entry| is_allowed(entry)).count()
+}
+
+/// How many records have the verdict `deny`.
+fn denied(entries: &[DocketEntry]) -> usize
+    ensures { result ≡ count_by (text.is_judged text.is_deny) entries.now }
+{
+    entries.iter().filter(|entry| is_denied(entry)).count()
+}
+
+/// How many records all lanes have, and how many of a verdict.
+#[derive(Clone, Copy)]
+struct Totals {
+    records: u128,
+    allowed: u128,
+    denied: u128,
+}
+
+fn add_up(dockets: &[Docket]) -> Totals
+    ensures records { result.records ≡ text.records_in dockets.now }
+    ensures allowed { result.allowed ≡ text.judged_in text.is_allow dockets.now }
+    ensures denied { result.denied ≡ text.judged_in text.is_deny dockets.now }
+{
+    let mut records = 0u128;
+    let mut allows = 0u128;
+    let mut denies = 0u128;
+    for docket in dockets {
+        let entries = docket.entries();
+        records += entries.len() as u128;
+        allows += allowed(entries) as u128;
+        denies += denied(entries) as u128;
+    }
+    Totals {
+        records,
+        allowed: allows,
+        denied: denies,
+    }
+}
+
+#[tactic(auto, unfolding(crate::specs::Summary::summary_text))]
+fn write_totals<K: Sink>(
+    out: &mut K,
+    dockets: &[Docket],
+    editions: usize,
+    entries: usize,
+    states: usize,
+) -> Result<(), Failed>
+    ensures { WritesText (K.written out.old) (K.written out.new) (K.faults out.old) (K.faults out.new) (text.summary_text dockets.now editions entries states) result }
+{
+    let counted = add_up(dockets);
+    let mut records = Buffer::new();
+    let mut allowed = Buffer::new();
+    let mut denied = Buffer::new();
+    let line = [
+        Part::Text(b"records "),
+        Part::Text(records.format(counted.records).as_bytes()),
+        Part::Text(b"\nallow "),
+        Part::Text(allowed.format(counted.allowed).as_bytes()),
+        Part::Text(b"\ndeny "),
+        Part::Text(denied.format(counted.denied).as_bytes()),
+        Part::Text(b"\neditions "),
+        Part::Number(editions as u64),
+        Part::Text(b"\nentries "),
+        Part::Number(entries as u64),
+        Part::Text(b"\nstates "),
+        Part::Number(states as u64),
+        Part::Text(b"\n"),
+    ];
+    write_line(out, &line)
+}
+
+/// Writes the summary of a run: six lines, of its records, those that were let through, those of the
+/// verdict `deny`, its editions, the entries of the journal, and the live states. The counts of the rules
+/// don't stand there. It takes no memory. Where the sink fails, a front of the text was written.
+pub fn write_summary<K: Sink>(
+    editions: &[Arc<Edition>],
+    book: &Book,
+    dockets: &[Docket],
+    _tallies: &[Tally],
+    out: &mut K,
+) -> Result<(), WriteFault>
+    ensures { WritesText (K.written out.old) (K.written out.new) (K.faults out.old) (K.faults out.new) (text.summary_text dockets.now (length editions.now) (length book.now.entries) (length book.now.object.states)) result }
+{
+    let states = book.states().count();
+    write_totals(out, dockets, editions.len(), book.entries().len(), states).map_err(|_| WriteFault)
+}

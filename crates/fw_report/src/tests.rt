@@ -1,0 +1,416 @@
+ghost use Rattle.std.specs.Prelude.{◌≡◌, ℕ, List, IfOk, IsSomeAnd, IsTrue, Some, None, [], ◌∷◌};
+ghost use Rattle.dyn_states.specs.RuleLists.{has_id};
+ghost use Rattle.fw_rule.specs.FlowName.{IsFlowName};
+ghost use Rattle.fw_rule.specs.WellFormed.{IsBody, IsKey, IsWellFormed};
+ghost use Rattle.fw_rule.specs.declared.addr_item.AddrItem.TheVariants as items;
+ghost use Rattle.state_journal.specs.Journal.{NamesRuleOf};
+
+use crate::{Answer, CaptureEnd, Ends, LineAnswer, write_report, write_summary};
+use counter_book::Tally;
+use dyn_states::{FlowName, Op, RuleRef};
+use eval_engine::{Cause, Docket, DocketEntry, Judgement, Verdict};
+use fw_base::{Addr, MemorySink, Name, Prefix};
+use fw_rule::{
+    Action, AddrItem, AddrSpec, Body, Command, Family, Items, Key, Opt, RuleDraft, StateOpt,
+    TableCommand, Test,
+};
+use generation_store::Edition;
+use packet_headers::Flow;
+use pcap_read::CaptureFault;
+use rule_chain::{ApplyFault, Config, is_changing};
+use state_journal::Book;
+use std::alloc::Global;
+use std::process::Abort;
+use std::sync::Arc;
+use std::test::Fail;
+
+/// What a test reports.
+#[derive(Drop)]
+struct Run {
+    editions: Vec<Arc<Edition>>,
+    book: Book,
+    dockets: Vec<Docket>,
+    tallies: Vec<Tally>,
+    trackers: Vec<u64>,
+    hits: Vec<u64>,
+    ends: Ends,
+}
+
+fn any(alloc: Global) -> Result<AddrSpec, Fail>
+    ensures { IfOk result (λ spec. spec.items ≡ items.Any ∷ []) }
+{
+    let mut every = Vec::new(alloc);
+    every.push(AddrItem::Any)?;
+    Ok(AddrSpec {
+        negated: false,
+        items: Items::from_vec(every),
+    })
+}
+
+fn default_name(alloc: Global) -> Result<Name, Fail>
+    ensures { IfOk result (λ name. IsFlowName name) }
+{
+    Ok(Name::new(alloc, b"default")?)
+}
+
+/// `tcp from any to any setup keep-state`
+fn setup_body(alloc: Global) -> Result<Option<Body>, Fail>
+    ensures { IfOk result (λ body. IsSomeAnd body IsBody) }
+{
+    let mut options = Vec::new(alloc);
+    options.push(Opt {
+        negated: false,
+        test: Test::Setup,
+    })?;
+    Ok(Some(Body {
+        family: Family::AnyIp,
+        protocol: 6,
+        source: any(alloc)?,
+        source_ports: None,
+        destination: any(alloc)?,
+        destination_ports: None,
+        options: Items::from_vec(options),
+        state: Some(StateOpt::Keep(default_name(alloc)?)),
+        state_at: 1,
+    }))
+}
+
+fn check_state(alloc: Global) -> Result<Command, Fail>
+    ensures { IfOk result (λ command. IsWellFormed command) }
+{
+    Ok(Command::Add(RuleDraft {
+        number: Some(100),
+        set: 0,
+        action: Action::CheckState(Some(default_name(alloc)?)),
+        log: None,
+        body: None,
+    }))
+}
+
+fn allow_setup(alloc: Global) -> Result<Command, Fail>
+    ensures { IfOk result (λ command. IsWellFormed command) }
+{
+    Ok(Command::Add(RuleDraft {
+        number: Some(200),
+        set: 0,
+        action: Action::Allow,
+        log: None,
+        body: setup_body(alloc)?,
+    }))
+}
+
+/// 10.0.0.0/8
+fn net() -> Result<Key, Fail>
+    ensures { IfOk result (λ key. IsKey key) }
+{
+    match Prefix::new(Addr(0x0a00_0000), 8) {
+        Some(prefix) => Ok(Key::Net(prefix)),
+        None => Err("a length")?,
+    }
+}
+
+/// `table nets add 10.0.0.0/8 7`
+fn table_entry(alloc: Global) -> Result<Command, Fail>
+    ensures { IfOk result (λ command. IsWellFormed command) }
+{
+    let entry = TableCommand::Add(net()?, 7);
+    Ok(Command::Table(Name::new(alloc, b"nets")?, entry))
+}
+
+/// `set disable 1 3`
+fn disable() -> Command
+    ensures { IsWellFormed result }
+{
+    Command::SetMask {
+        disable: 10,
+        enable: 0,
+    }
+}
+
+/// The configuration after the command.
+fn applied(
+    rt: &impl Abort,
+    alloc: Global,
+    config: Config,
+    command: &Command,
+) -> Result<Config, Fail>
+    requires { IsWellFormed command.now }
+{
+    assert!(rt; is_changing(command));
+    Ok(config.apply_owned(alloc, command)?)
+}
+
+/// The report, and then the summary, compared with the text.
+fn assert_reported(
+    rt: &impl Abort,
+    alloc: Global,
+    run: &Run,
+    journal: bool,
+    text: &str,
+) -> Result<(), Fail> {
+    assert!(rt; !run.editions.is_empty());
+    let mut out = MemorySink::new(alloc, 4096)?;
+    write_report(
+        &run.editions,
+        &run.book,
+        &run.dockets,
+        &run.tallies,
+        &run.trackers,
+        &run.hits,
+        &run.ends,
+        journal,
+        &mut out,
+    )
+    .or(Err("not written"))?;
+    write_summary(
+        &run.editions,
+        &run.book,
+        &run.dockets,
+        &run.tallies,
+        &mut out,
+    )
+    .or(Err("not written"))?;
+    assert_eq!(rt; out.written(), text.as_bytes());
+    Ok(())
+}
+
+fn judged(verdict: Verdict, number: u16, edition: u64, cause: Cause) -> DocketEntry {
+    DocketEntry::Judged(Judgement {
+        edition,
+        verdict,
+        rule: RuleRef { id: 0, number },
+        cause,
+    })
+}
+
+fn docket_of(alloc: Global, entries: &[DocketEntry]) -> Result<Docket, Fail> {
+    let mut docket = Docket::new(alloc);
+    for entry in entries {
+        docket.push(*entry)?;
+    }
+    Ok(docket)
+}
+
+fn tally_of(rt: &impl Abort, alloc: Global, hits: &[(u32, u32)]) -> Result<Tally, Fail> {
+    let mut tally = Tally::new(alloc);
+    tally.fit(3)?;
+    for (id, bytes) in hits {
+        assert!(rt; *id < 3);
+        tally.fit(3)?;
+        tally.hit(*id, *bytes);
+    }
+    Ok(tally)
+}
+
+/// The editions of these configurations, numbered from 1.
+fn editions_of(alloc: Global, configs: Vec<Config>) -> Result<Vec<Arc<Edition>>, Fail> {
+    let mut editions = Vec::new(alloc);
+    for config in configs {
+        let number = editions.len() as u64 + 1;
+        editions.push(Edition::build(alloc, number, config)?)?;
+    }
+    Ok(editions)
+}
+
+fn book_of(rt: &impl Abort, alloc: Global, editions: &[Arc<Edition>]) -> Result<Book, Fail> {
+    assert!(rt; !editions.is_empty());
+    let facts = editions[0].facts().copy(alloc)?;
+    assert!(rt; facts.number == 1);
+    Ok(Book::open(alloc, 2, facts)?)
+}
+
+/// A run of these editions with one docket and one tally.
+fn run_of(
+    rt: &impl Abort,
+    alloc: Global,
+    editions: Vec<Arc<Edition>>,
+    docket: Docket,
+    tally: Tally,
+    end: CaptureEnd,
+) -> Result<Run, Fail> {
+    let book = book_of(rt, alloc, &editions)?;
+    Ok(Run {
+        editions,
+        book,
+        dockets: vec![in alloc; docket]?,
+        tallies: vec![in alloc; tally]?,
+        trackers: vec![in alloc; 10]?,
+        hits: Vec::new(alloc),
+        ends: Ends {
+            captures: Items::from_vec(vec![in alloc; end]?),
+            answers: Items::from_vec(Vec::new(alloc)),
+        },
+    })
+}
+
+#[test]
+fn empty_script_denies_one_syn(rt: HostRuntime) -> Result<(), Fail> {
+    let alloc = rt.alloc();
+    let editions = editions_of(alloc, vec![in alloc; Config::new(alloc)?]?)?;
+    let docket = docket_of(alloc, &[judged(Verdict::Deny, 65535, 1, Cause::Rule)])?;
+    let tally = tally_of(&rt, alloc, &[(0, 40)])?;
+    let end = CaptureEnd::Read { records: 1 };
+    let run = run_of(&rt, alloc, editions, docket, tally, end)?;
+    let text = "1.1 deny 65535 at 1\nend 1 records 1\neditions 1\nrules 1\n\
+        65535 1 40 set 31 deny ip from any to any\nclock 0\nstates 0\n\
+        records 1\nallow 0\ndeny 1\neditions 1\nentries 1\nstates 0\n";
+    assert_reported(&rt, alloc, &run, false, text)
+}
+
+const FORTH: Flow = Flow {
+    protocol: 6,
+    source: Addr(0x0a00_0001),
+    source_port: 1025,
+    destination: Addr(0xc000_0201),
+    destination_port: 80,
+};
+
+const BACK: Flow = Flow {
+    protocol: 6,
+    source: Addr(0xc000_0201),
+    source_port: 80,
+    destination: Addr(0x0a00_0001),
+    destination_port: 1025,
+};
+
+fn lookup(flow: Flow, flags: u8, second: u32) -> Op
+    ensures { (rules : List ℕ) → NamesRuleOf rules result }
+{
+    Op::Lookup {
+        flow,
+        flags,
+        second,
+        name: FlowName::Named(0),
+    }
+}
+
+fn install() -> Op
+    ensures { (rules : List ℕ) → IsTrue (has_id rules 2) → NamesRuleOf rules result }
+{
+    Op::Install {
+        flow: FORTH,
+        flags: 2,
+        second: 100,
+        rule: RuleRef { id: 2, number: 200 },
+        limit: None,
+        name: 0,
+    }
+}
+
+/// The lookup of record `at`, in second 99 and `at` more.
+fn ask_lookup(
+    rt: &impl Abort,
+    book: &mut Book,
+    at: u64,
+    flow: Flow,
+    flags: u8,
+) -> Result<(), Fail> {
+    assert!(rt; book.lanes() == 2);
+    assert!(rt; at < 100);
+    book.ask(1, at, lookup(flow, flags, at as u32 + 99))?;
+    Ok(())
+}
+
+/// The asks of a connection that is opened and closed.
+fn ask_all(rt: &impl Abort, book: &mut Book) -> Result<(), Fail> {
+    ask_lookup(rt, book, 1, FORTH, 2)?;
+    assert!(rt; book.lanes() == 2 && book.has_rule(2));
+    book.ask(1, 1, install())?;
+    for (at, flow, flags) in [(2, BACK, 18), (3, FORTH, 17), (4, BACK, 17), (5, FORTH, 16)] {
+        ask_lookup(rt, book, at, flow, flags)?;
+    }
+    Ok(())
+}
+
+#[test]
+fn tcp_state_lives_and_dies(rt: HostRuntime) -> Result<(), Fail> {
+    let alloc = rt.alloc();
+    let config = applied(&rt, alloc, Config::new(alloc)?, &check_state(alloc)?)?;
+    let config = applied(&rt, alloc, config, &allow_setup(alloc)?)?;
+    let editions = editions_of(alloc, vec![in alloc; config]?)?;
+    let allow = judged(Verdict::Allow, 200, 1, Cause::Rule);
+    let deny = judged(Verdict::Deny, 65535, 1, Cause::Rule);
+    let docket = docket_of(alloc, &[allow, allow, allow, allow, deny])?;
+    let hits = [(2, 40), (2, 40), (2, 40), (2, 40), (0, 40)];
+    let tally = tally_of(&rt, alloc, &hits)?;
+    let end = CaptureEnd::Read { records: 5 };
+    let mut run = run_of(&rt, alloc, editions, docket, tally, end)?;
+    ask_all(&rt, &mut run.book)?;
+    let text = "1.1 allow 00200 at 1\n1.2 allow 00200 at 1\n1.3 allow 00200 at 1\n\
+        1.4 allow 00200 at 1\n1.5 deny 65535 at 1\nend 1 records 5\neditions 1\nrules 3\n\
+        00100 0 0 check-state\n00200 4 160 allow tcp from any to any setup keep-state\n\
+        65535 1 40 set 31 deny ip from any to any\nclock 104\nstates 0\njournal 2 7\npublish 1\n\
+        ask 1.1 100 lookup :default tcp 10.0.0.1 1025 192.0.2.1 80 S notfound\n\
+        ask 1.1 100 install 2 keep :default tcp 10.0.0.1 1025 192.0.2.1 80 S created\n\
+        ask 1.2 101 lookup :default tcp 192.0.2.1 80 10.0.0.1 1025 S found 2 reverse\n\
+        ask 1.3 102 lookup :default tcp 10.0.0.1 1025 192.0.2.1 80 F found 2 forward\n\
+        ask 1.4 103 lookup :default tcp 192.0.2.1 80 10.0.0.1 1025 F found 2 reverse\n\
+        ask 1.5 104 lookup :default tcp 10.0.0.1 1025 192.0.2.1 80 - notfound\n\
+        lane 1 refused 0 tracker 10\n\
+        records 5\nallow 4\ndeny 1\neditions 1\nentries 7\nstates 0\n";
+    assert_reported(&rt, alloc, &run, true, text)
+}
+
+fn answers(alloc: Global) -> Result<Items<LineAnswer>, Fail> {
+    let table = Some(Name::new(alloc, b"nets")?);
+    let mut answers = Vec::new(alloc);
+    answers.push(LineAnswer {
+        line: 7,
+        answer: Answer::Refused(ApplyFault::ReservedSet),
+    })?;
+    answers.push(LineAnswer {
+        line: 9,
+        answer: Answer::Listed {
+            edition: 1,
+            table: None,
+        },
+    })?;
+    answers.push(LineAnswer {
+        line: 10,
+        answer: Answer::Listed { edition: 2, table },
+    })?;
+    Ok(Items::from_vec(answers))
+}
+
+#[test]
+fn lines_of_each_kind(rt: HostRuntime) -> Result<(), Fail> {
+    let alloc = rt.alloc();
+    let last = applied(&rt, alloc, Config::new(alloc)?, &table_entry(alloc)?)?;
+    let last = applied(&rt, alloc, last, &disable())?;
+    let editions = editions_of(alloc, vec![in alloc; Config::new(alloc)?, last]?)?;
+    let docket = docket_of(
+        alloc,
+        &[
+            DocketEntry::Other,
+            DocketEntry::Malformed(3),
+            judged(Verdict::Unreach(3), 100, 2, Cause::Rule),
+            judged(Verdict::Deny, 900, 1, Cause::Limit(2)),
+            judged(Verdict::Deny, 900, 1, Cause::Full(16384)),
+            judged(Verdict::Reset, 65535, u64::MAX, Cause::Rule),
+        ],
+    )?;
+    let tally = tally_of(&rt, alloc, &[(0, 40)])?;
+    let end = CaptureEnd::Read { records: 6 };
+    let mut run = run_of(&rt, alloc, editions, docket, tally, end)?;
+    run.dockets.push(Docket::new(alloc))?;
+    run.tallies.push(tally_of(&rt, alloc, &[(0, 28), (1, 9)])?)?;
+    run.hits = vec![in alloc; 5, 0]?;
+    let stopped = CaptureEnd::Stopped {
+        at: 0,
+        fault: CaptureFault::ReadFault,
+        count: 1,
+    };
+    run.ends = Ends {
+        captures: Items::from_vec(vec![in alloc; end, stopped]?),
+        answers: answers(alloc)?,
+    };
+    let text = "1.1 other\n1.2 malformed 3\n1.3 unreach port 00100 at 2\n\
+        1.4 deny 00900 at 1 limit 2\n1.5 deny 00900 at 1 full 16384\n\
+        1.6 reset 65535 at 18446744073709551615\nend 1 records 6\nfault 2 record 0 ReadFault\n\
+        refused line 7 ReservedSet\nlist line 9 edition 1\nrules 1\n\
+        65535 set 31 deny ip from any to any\ntable nets addr 1 line 10 edition 2\n10.0.0.0/8 7\n\
+        editions 2\ndisabled 1 3\nrules 1\n65535 2 68 set 31 deny ip from any to any\n\
+        clock 0\nstates 0\ncache 1 hits 5\ncache 2 hits 0\n\
+        records 6\nallow 0\ndeny 2\neditions 2\nentries 1\nstates 0\n";
+    assert_reported(&rt, alloc, &run, false, text)
+}

@@ -1,0 +1,52 @@
+-- A desk that stands for some commands stands for one more once that was published.
+use Rattle.std.proofs.Common.{◌≡◌, ℕ, suc, ◌+◌, ◌-◌, List, [], ◌∷◌, ◌++◌, length, Option, Some, Ok, Err, refl, sym, ap, ◌∙◌, subst, arith}
+use Rattle.std.specs.Prelude.{slice_get}
+use Rattle.fw_rule.specs.declared.command.Command.{Command}
+use Rattle.generation_store.specs.Published.{Published, IsBuilt}
+use Rattle.rule_chain.specs.Apply.{apply}
+use Rattle.rule_chain.specs.Configuration.{Configuration}
+use Rattle.fw_world.specs.Committing.{IsRefusal, IsCommitFault}
+use Rattle.fw_world.specs.CommitFaults.{IsCauseOf}
+use Rattle.fw_world.specs.Editions.{AreEditionsFrom, IsLastOf}
+use Rattle.fw_world.specs.Steps.{Publishes}
+use Rattle.fw_world.specs.World.{WorldValue, DeskStandsFor}
+use Rattle.fw_world.specs.declared.commit_fault.CommitFault.{CommitFault}
+use Rattle.fw_world.specs.declared.commit_fault.CommitFault.TheVariants.{Refused, OutOfMemory}
+
+same_value : {X : Type 0} (x y : X) → Some x ≡ Some y → x ≡ y
+same_value x y is = cc
+
+-- the last of two or more isn't the first
+last_behind : (edition next : Published) (editions : List Published) (before : Published) → IsLastOf (edition ∷ next ∷ editions) before → IsLastOf (next ∷ editions) before
+last_behind edition next editions before is =
+    let place : length (edition ∷ next ∷ editions) - 1 ≡ suc (length (next ∷ editions) - 1) = omega arith in
+    rw place at is
+
+more_editions : (number : ℕ) (config : Configuration) (commands : List Command) (editions : List Published) (command : Command) (before : Published) (made : Configuration) (edition : Published)
+    → AreEditionsFrom number config commands editions → IsLastOf editions before → apply before.config command ≡ Ok made → IsBuilt (number + length editions) made edition
+    → AreEditionsFrom number config (commands ++ command ∷ []) (editions ++ edition ∷ [])
+more_editions number config commands [] command before made edition are last is built = absurd are
+more_editions number config [] (one ∷ []) command before made edition are last is built =
+    let same : one ≡ before = same_value one before last in
+    let own : before.config ≡ config = ap (λ (e : Published). e.config) (sym same) ∙ are.configured in
+    let count : number + length (one ∷ []) ≡ number + 1 = omega arith in
+    (are, made, rw own at is, rw count at built)
+more_editions number config [] (one ∷ next ∷ editions) command before made edition are last is built = absurd are
+more_editions number config (first ∷ commands) (one ∷ []) command before made edition are last is built = absurd are.3
+more_editions number config (first ∷ commands) (one ∷ next ∷ editions) command before made edition are last is built =
+    let count : number + length (one ∷ next ∷ editions) ≡ number + 1 + length (next ∷ editions) = omega arith in
+    (are.0, are.1, are.2, more_editions (number + 1) are.1 commands (next ∷ editions) command before made edition are.3 (last_behind one next editions before last) is (rw count at built))
+
+-- one command more
+pub accepts_one_more : (old new : WorldValue) (command : Command) (first : Configuration) (commands : List Command) → Publishes old new command
+    → DeskStandsFor old.editions first commands → DeskStandsFor new.editions first (commands ++ command ∷ [])
+accepts_one_more old new command first commands publishes stands =
+    let next = publishes.next in
+    let count : length old.editions + 1 ≡ 1 + length old.editions = omega arith in
+    subst (λ (editions : List Published). DeskStandsFor editions first (commands ++ command ∷ [])) (sym publishes.editions)
+    (more_editions 1 first commands old.editions command next.before next.made publishes.edition stands next.last next.applied (rw count at next.built))
+
+-- the cause of a commit that fails, as a refusal
+pub commit_fault_of : (world : WorldValue) (command : Command) (fault : CommitFault) → IsCauseOf world.editions command fault → IsCommitFault world command fault
+commit_fault_of world command (Refused fault) cause = record { edition = cause.0; last = cause.1; refused = cause.2 }
+commit_fault_of world command OutOfMemory cause = tt

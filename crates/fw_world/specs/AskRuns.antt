@@ -1,0 +1,58 @@
+-- The asks of one record, one after the other, of whoever asks the states for a lane.
+use Rattle.std.specs.Prelude.{◌≡◌, ℕ, ⊤, ◌==◌, if◌then◌else◌, List, [], ◌∷◌}
+use Rattle.counter_book.specs.Counts.{count_of, raised}
+use Rattle.counter_book.specs.declared.count.Count.{Count}
+use Rattle.dyn_states.specs.declared.op.Op.{Op}
+use Rattle.dyn_states.specs.declared.op.Op.TheVariants.{Lookup, Install}
+use Rattle.dyn_states.specs.declared.reply.Reply.{Reply}
+use Rattle.dyn_states.specs.declared.reply.Reply.TheVariants.{Found, NotFound, Created, Exists, LimitReached, TableFull}
+use Rattle.eval_engine.specs.Evaluated.{Whole}
+use Rattle.eval_engine.specs.Evaluation.{evaluate}
+use Rattle.eval_engine.specs.Question.{Question}
+use Rattle.eval_engine.specs.declared.judgement.Judgement.{Judgement}
+use Rattle.ip6_headers.specs.Either.{total_of}
+
+-- a reply to a lookup, or one to an install
+abbrev pub Answers : Op → Reply → Type 0
+Answers (Lookup flow flags second name) (Found rule way) = ⊤
+Answers (Lookup flow flags second name) NotFound = ⊤
+Answers (Lookup flow flags second name) Created = ⊥
+Answers (Lookup flow flags second name) Exists = ⊥
+Answers (Lookup flow flags second name) (LimitReached count) = ⊥
+Answers (Lookup flow flags second name) (TableFull count) = ⊥
+Answers (Install flow flags second rule limit name) (Found found way) = ⊥
+Answers (Install flow flags second rule limit name) NotFound = ⊥
+Answers (Install flow flags second rule limit name) Created = ⊤
+Answers (Install flow flags second rule limit name) Exists = ⊤
+Answers (Install flow flags second rule limit name) (LimitReached count) = ⊤
+Answers (Install flow flags second rule limit name) (TableFull count) = ⊤
+
+-- each of these asks was entered with its reply, in order, and nothing happened between them
+abbrev pub EntersEach : {B : Type 0} → (B → Op → Reply → B → Type 0) → B → List Op → List Reply → B → Type 0
+EntersEach enters old [] [] new = new ≡ old
+EntersEach enters old [] (reply ∷ replies) new = ⊥
+EntersEach enters old (op ∷ ops) [] new = ⊥
+EntersEach {B} enters old (op ∷ ops) (reply ∷ replies) new = (next : B) × enters old op reply next × EntersEach enters next ops replies new
+
+-- a count after one packet of so many bytes for each of these counter numbers that is this one
+abbrev pub raised_by : ℕ → List ℕ → ℕ → Count → Count
+raised_by bytes [] id count = count
+raised_by bytes (counter ∷ hits) id count = raised_by bytes hits id (if counter == id then raised count bytes else count)
+
+-- the counts have risen by exactly these hits
+abbrev pub RisesBy : ℕ → List ℕ → List Count → List Count → Type 0
+RisesBy bytes hits counts countsAfter = (id : ℕ) → count_of countsAfter id ≡ raised_by bytes hits id (count_of counts id)
+
+-- With the replies to the asks that were entered the evaluation is whole and came to this judgement, and the
+-- counts have risen by its hits.
+pub record Evaluates {B : Type 0} (enters : B → Op → Reply → B → Type 0) (old new : B) (question : Question) (counts countsAfter : List Count) (judgement : Judgement) : Type 0 where
+  pub replies : List Reply
+  pub outcome : (evaluate question replies).outcome ≡ Whole judgement
+  pub entered : EntersEach enters old (evaluate question replies).asks replies new
+  pub counted : RisesBy (total_of question.packet) (evaluate question replies).hits counts countsAfter
+
+-- some asks were entered
+pub record AsksSome {B : Type 0} (enters : B → Op → Reply → B → Type 0) (old new : B) : Type 0 where
+  pub ops : List Op
+  pub replies : List Reply
+  pub entered : EntersEach enters old ops replies new

@@ -1,0 +1,62 @@
+-- The asks of a lane, each with the number of the last publication before it.
+use Rattle.std.specs.Prelude.{◌≡◌, ℕ, ◌-◌, ◌≤◌, Bool, false, ◌==◌, ⊤, IsSomeAnd, List, [], ◌∷◌, map, filter, filter_map, slice_get, Option, Some, None}
+use Rattle.std.specs.List.Sorted.{IsNonDecreasing}
+use Rattle.std.specs.List.{AllByRecursion}
+use Rattle.dyn_states.specs.declared.op.Op.{Op}
+use Rattle.dyn_states.specs.declared.reply.Reply.{Reply}
+use Rattle.eval_engine.specs.declared.docket_entry.DocketEntry.{DocketEntry}
+use Rattle.eval_engine.specs.declared.docket_entry.DocketEntry.TheVariants.{Other, Malformed, Judged}
+use Rattle.state_journal.specs.declared.entry.Entry.{Entry}
+use Rattle.state_journal.specs.declared.entry.Entry.TheVariants.{Publish, Ask}
+use Rattle.state_journal.specs.declared.item.Item.{Item}
+use Rattle.state_journal.specs.declared.item.Item.TheVariants.{Lanes, Published, Asked}
+
+-- an ask of a lane: the publication before it, its record, what was asked and what was replied
+pub record LaneAsk : Type 0 where
+  pub after : ℕ
+  pub at : ℕ
+  pub op : Op
+  pub reply : Reply
+
+-- those of a list of items; other items are none
+abbrev pub asks_in : List Item → List LaneAsk
+asks_in [] = []
+asks_in (Lanes count ∷ items) = asks_in items
+asks_in (Published facts ∷ items) = asks_in items
+asks_in (Asked after (Publish number) ∷ items) = asks_in items
+asks_in (Asked after (Ask lane at op reply) ∷ items) = record { after = after; at = at; op = op; reply = reply } ∷ asks_in items
+
+-- those of one record
+abbrev pub asks_of_record : ℕ → List LaneAsk → List LaneAsk
+asks_of_record at asks = filter (λ ask. ask.at == at) asks
+
+abbrev pub ops_of : List LaneAsk → List Op
+ops_of asks = map (λ ask. ask.op) asks
+
+abbrev pub replies_of : List LaneAsk → List Reply
+replies_of asks = map (λ ask. ask.reply) asks
+
+-- the entry was judged under the edition of that number
+abbrev pub IsJudgedUnder : ℕ → DocketEntry → Type 0
+IsJudgedUnder number Other = ⊥
+IsJudgedUnder number (Malformed kind) = ⊥
+IsJudgedUnder number (Judged judgement) = judgement.edition ≡ number
+
+-- the ask's record has a judged entry, whose edition is the one that was published last before the ask
+abbrev pub IsAskOfEntry : List DocketEntry → LaneAsk → Type 0
+IsAskOfEntry entries ask = IsSomeAnd (slice_get entries (ask.at - 1)) (IsJudgedUnder ask.after)
+
+-- A lane asks for its records in their order, for judged ones alone, and no publication falls between two
+-- asks of one record.
+pub record AreAsksOf (entries : List DocketEntry) (asks : List LaneAsk) : Type 0 where
+  pub ordered : IsNonDecreasing (map (λ ask. ask.at) asks)
+  pub numbered : AllByRecursion (λ ask. 1 ≤ ask.at) asks
+  pub entered : AllByRecursion (IsAskOfEntry entries) asks
+
+-- each ask of the journal is of one of so many lanes
+abbrev pub IsOfLanes : ℕ → Entry → Type 0
+IsOfLanes lanes (Publish number) = ⊤
+IsOfLanes lanes (Ask lane at op reply) = (1 ≤ lane) × (lane ≤ lanes)
+
+abbrev pub AreOfLanes : ℕ → List Entry → Type 0
+AreOfLanes lanes entries = AllByRecursion (IsOfLanes lanes) entries

@@ -1,0 +1,51 @@
+-- What closing a world leaves.
+use Rattle.std.specs.Prelude.{◌≡◌, ℕ, ◌+◌, ⊤, List, [], ◌∷◌, length, map}
+use Rattle.std.specs.List.Sorted.{IsNonDecreasing}
+use Rattle.counter_book.specs.declared.count.Count.{Count}
+use Rattle.eval_engine.specs.Dockets.{DocketValue}
+use Rattle.fw_rule.specs.declared.command.Command.{Command}
+use Rattle.rule_chain.specs.Configuration.{Configuration}
+use Rattle.fw_world.specs.Asks.{AreOfLanes}
+use Rattle.fw_world.specs.Editions.{AreEditions}
+use Rattle.fw_world.specs.Inputs.{Input}
+use Rattle.fw_world.specs.Lane.{LaneValue}
+use Rattle.fw_world.specs.Legal.{EachLane, LaneStands}
+use Rattle.fw_world.specs.Publications.{PublishesEach, IsLawful}
+use Rattle.fw_world.specs.RecordValue.{RecordValue}
+use Rattle.fw_world.specs.Sections.{judged_editions}
+use Rattle.fw_world.specs.World.{WorldValue, IsLaneOf, LaneStandsFor}
+
+-- the lanes are those of this world from this place on, each once, in the order of their places
+abbrev pub AreLanesFrom : WorldValue → ℕ → List LaneValue → Type 0
+AreLanesFrom world place [] = ⊤
+AreLanesFrom world place (lane ∷ lanes) = (lane.place ≡ place) × IsLaneOf world lane × AreLanesFrom world (place + 1) lanes
+
+-- each lane stands for its inputs
+abbrev pub EachStandsFor : WorldValue → List LaneValue → List (List Input) → Type 0
+EachStandsFor world [] [] = ⊤
+EachStandsFor world [] (inputs ∷ others) = ⊥
+EachStandsFor world (lane ∷ lanes) [] = ⊥
+EachStandsFor world (lane ∷ lanes) (inputs ∷ others) = LaneStandsFor world lane inputs × EachStandsFor world lanes others
+
+-- the record of a world and its lanes
+abbrev pub record_of : WorldValue → List LaneValue → RecordValue
+record_of world lanes = record {
+  editions = world.editions;
+  journal = world.journal;
+  dockets = map (λ lane. lane.docket) lanes;
+  tallies = map (λ lane. lane.tally) lanes;
+  trackers = map (λ lane. lane.tracker) lanes;
+}
+
+-- editions never fall within a lane
+abbrev pub LaneRises : ℕ → List Input → DocketValue → List Count → ℕ → Type 0
+LaneRises lane inputs docket tally tracker = IsNonDecreasing (judged_editions docket.entries)
+
+-- The record is legal but for the count of sections, which some lane left loose.
+pub record IsLegalButSections (first : Configuration) (commands : List Command) (inputs : List (List Input)) (r : RecordValue) : Type 0 where
+  pub editions : AreEditions first commands r.editions
+  pub published : PublishesEach r.editions r.journal.entries
+  pub lawful : IsLawful r.editions r.journal.entries
+  pub lanes : EachLane (LaneStands r) 1 inputs r.dockets r.tallies r.trackers
+  pub asked : AreOfLanes (length inputs) r.journal.entries
+  pub rising : EachLane LaneRises 1 inputs r.dockets r.tallies r.trackers

@@ -1,0 +1,25 @@
+-- What the lanes of a run leave, column by column.
+use Rattle.std.specs.Prelude.{ℕ, ◌-◌, List, [], ◌∷◌, ◌++◌}
+use Rattle.counter_book.specs.declared.count.Count.{Count}
+use Rattle.eval_engine.specs.Dockets.{DocketValue}
+use Rattle.fw_world.specs.Lane.{LaneValue}
+
+-- dockets, tallies and tracker words in the order of the lanes, and room for so many lanes more
+pub record ColumnsValue : Type 0 where
+  pub dockets : List DocketValue
+  pub tallies : List (List Count)
+  pub trackers : List ℕ
+  pub room : ℕ
+
+-- columns of no lane
+abbrev pub no_columns : ℕ → ColumnsValue
+no_columns room = record { dockets = []; tallies = []; trackers = []; room = room }
+
+-- those of one lane more
+abbrev pub with_lane : LaneValue → ColumnsValue → ColumnsValue
+with_lane lane columns = record {
+  dockets = columns.dockets ++ lane.docket ∷ [];
+  tallies = columns.tallies ++ lane.tally ∷ [];
+  trackers = columns.trackers ++ lane.tracker ∷ [];
+  room = columns.room - 1;
+}

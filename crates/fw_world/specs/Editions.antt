@@ -1,0 +1,27 @@
+-- The editions of a run: each command that was accepted made the next one.
+use Rattle.std.specs.Prelude.{◌≡◌, ℕ, ◌+◌, ◌-◌, Option, Some, Ok, List, [], ◌∷◌, length, slice_get}
+use Rattle.fw_rule.specs.declared.command.Command.{Command}
+use Rattle.generation_store.specs.Published.{Published, IsBuilt}
+use Rattle.rule_chain.specs.Apply.{apply}
+use Rattle.rule_chain.specs.Configuration.{Configuration}
+
+-- The first of these editions has this number and configuration, each next one the next number and what its
+-- command makes of the one before, and there are no others.
+abbrev pub AreEditionsFrom : ℕ → Configuration → List Command → List Published → Type 0
+AreEditionsFrom number config commands [] = ⊥
+AreEditionsFrom number config [] (edition ∷ []) = IsBuilt number config edition
+AreEditionsFrom number config [] (edition ∷ next ∷ editions) = ⊥
+AreEditionsFrom number config (command ∷ commands) (edition ∷ editions) =
+    IsBuilt number config edition × (made : Configuration) × (apply config command ≡ Ok made) × AreEditionsFrom (number + 1) made commands editions
+
+-- edition 1 is the first configuration
+abbrev pub AreEditions : Configuration → List Command → List Published → Type 0
+AreEditions first commands editions = AreEditionsFrom 1 first commands editions
+
+-- the edition of that number, from 1
+abbrev pub edition_numbered : List Published → ℕ → Option Published
+edition_numbered editions number = slice_get editions (number - 1)
+
+-- this edition is the last of these
+abbrev pub IsLastOf : List Published → Published → Type 0
+IsLastOf editions edition = slice_get editions (length editions - 1) ≡ Some edition

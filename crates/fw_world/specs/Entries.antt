@@ -1,0 +1,54 @@
+-- The entries of a docket beside the inputs of its lane.
+use Rattle.std.specs.Prelude.{◌≡◌, ℕ, ◌+◌, ⊤, IsSomeAnd, List, [], ◌∷◌}
+use Rattle.fw_base.specs.declared.port.Port.{Port}
+use Rattle.ip6_headers.specs.declared.any_ip.AnyIp.{AnyIp}
+use Rattle.generation_store.specs.Published.{Published}
+use Rattle.eval_engine.specs.Evaluated.{Evaluated, Whole}
+use Rattle.eval_engine.specs.Evaluation.{evaluate}
+use Rattle.eval_engine.specs.Question.{Question}
+use Rattle.eval_engine.specs.declared.docket_entry.DocketEntry.{DocketEntry}
+use Rattle.eval_engine.specs.declared.docket_entry.DocketEntry.TheVariants as entry
+use Rattle.eval_engine.specs.declared.judgement.Judgement.{Judgement}
+use Rattle.fw_world.specs.Asks.{LaneAsk, asks_of_record, ops_of, replies_of}
+use Rattle.fw_world.specs.Editions.{edition_numbered}
+use Rattle.fw_world.specs.Inputs.{Input, Other, Malformed, Packet}
+
+-- A fact of each record, of its input and of its entry, from this record number on; there are as many
+-- entries as inputs.
+abbrev pub EachRecord : (ℕ → Input → DocketEntry → Type 0) → ℕ → List Input → List DocketEntry → Type 0
+EachRecord P at [] [] = ⊤
+EachRecord P at [] (entry ∷ entries) = ⊥
+EachRecord P at (input ∷ inputs) [] = ⊥
+EachRecord P at (input ∷ inputs) (entry ∷ entries) = P at input entry × EachRecord P (at + 1) inputs entries
+
+-- the entry is other or malformed as the input is, and a judgement for a packet
+abbrev pub IsEntryFor : ℕ → Input → DocketEntry → Type 0
+IsEntryFor at Other entry.Other = ⊤
+IsEntryFor at Other (entry.Malformed kind) = ⊥
+IsEntryFor at Other (entry.Judged judgement) = ⊥
+IsEntryFor at (Malformed kind) entry.Other = ⊥
+IsEntryFor at (Malformed kind) (entry.Malformed entered) = entered ≡ kind
+IsEntryFor at (Malformed kind) (entry.Judged judgement) = ⊥
+IsEntryFor at (Packet packet port second) entry.Other = ⊥
+IsEntryFor at (Packet packet port second) (entry.Malformed kind) = ⊥
+IsEntryFor at (Packet packet port second) (entry.Judged judgement) = ⊤
+
+-- the evaluation of a packet under an edition, with the replies to these asks
+abbrev pub evaluated : Published → AnyIp → Port → ℕ → List LaneAsk → Evaluated
+evaluated edition packet port second asks =
+    evaluate (record { edition = edition; packet = packet; port = port; second = second }) (replies_of asks)
+
+-- With the replies to the record's asks the evaluation is whole, made exactly these asks, and came to this
+-- judgement.
+pub record IsEvaluation (edition : Published) (packet : AnyIp) (port : Port) (second : ℕ) (asks : List LaneAsk) (judgement : Judgement) : Type 0 where
+  pub outcome : (evaluated edition packet port second asks).outcome ≡ Whole judgement
+  pub asked : (evaluated edition packet port second asks).asks ≡ ops_of asks
+
+-- a judged packet was evaluated under the edition that its entry names
+abbrev pub IsEvaluated : List Published → List LaneAsk → ℕ → Input → DocketEntry → Type 0
+IsEvaluated editions asks at (Packet packet port second) (entry.Judged judgement) =
+    IsSomeAnd (edition_numbered editions judgement.edition) (λ edition. IsEvaluation edition packet port second (asks_of_record at asks) judgement)
+IsEvaluated editions asks at (Packet packet port second) entry.Other = ⊤
+IsEvaluated editions asks at (Packet packet port second) (entry.Malformed kind) = ⊤
+IsEvaluated editions asks at Other entered = ⊤
+IsEvaluated editions asks at (Malformed kind) entered = ⊤

@@ -1,0 +1,15 @@
+-- What a run leaves.
+use Rattle.std.specs.Prelude.{ℕ, List}
+use Rattle.counter_book.specs.declared.count.Count.{Count}
+use Rattle.eval_engine.specs.Dockets.{DocketValue}
+use Rattle.generation_store.specs.Published.{Published}
+use Rattle.state_journal.specs.Journal.{Journal}
+
+-- the editions in the order of their publication, the journal of the states, and for each lane its docket,
+-- its tally and its tracker word
+pub record RecordValue : Type 0 where
+  pub editions : List Published
+  pub journal : Journal
+  pub dockets : List DocketValue
+  pub tallies : List (List Count)
+  pub trackers : List ℕ

@@ -1,0 +1,35 @@
+-- What contracts see of a world: its editions and its journal; and when a lane and a desk are those of it.
+use Rattle.std.specs.Prelude.{◌≡◌, ℕ, ◌≤◌, ◌<◌, IfSome, List, length, All}
+use Rattle.fw_rule.specs.declared.command.Command.{Command}
+use Rattle.generation_store.specs.Published.{Published}
+use Rattle.rule_chain.specs.Configuration.{Configuration}
+use Rattle.state_journal.specs.Journal.{Journal}
+use Rattle.fw_world.specs.Editions.{AreEditions}
+use Rattle.fw_world.specs.Inputs.{Input}
+use Rattle.fw_world.specs.Lane.{LaneValue}
+use Rattle.fw_world.specs.Legal.{lane_asks, StandFor}
+use Rattle.fw_world.specs.Sections.{judged_editions}
+
+pub record WorldValue : Type 0 where
+  pub editions : List Published
+  pub journal : Journal
+
+-- the number that is published
+abbrev pub published : WorldValue → ℕ
+published world = length world.editions
+
+-- The lane is one of this world: its place is, and it knows of no edition that wasn't published here.
+pub record IsLaneOf (world : WorldValue) (lane : LaneValue) : Type 0 where
+  pub first : 1 ≤ lane.place
+  pub last : lane.place ≤ world.journal.lanes
+  pub held : lane.number ≤ published world
+  pub heard : IfSome lane.refusal (λ number. number ≤ published world)
+  pub judged : All (λ number. number ≤ published world) (judged_editions lane.docket.entries)
+
+-- the lane stands for these inputs, together with its world
+abbrev pub LaneStandsFor : WorldValue → LaneValue → List Input → Type 0
+LaneStandsFor world lane inputs = StandFor world.editions (lane_asks lane.place world.journal.entries) lane.docket lane.tally inputs
+
+-- the desk, which shows these editions, stands for a first configuration and these commands
+abbrev pub DeskStandsFor : List Published → Configuration → List Command → Type 0
+DeskStandsFor editions first commands = AreEditions first commands editions

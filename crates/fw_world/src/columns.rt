@@ -1,0 +1,69 @@
+ghost use Rattle.std.specs.Prelude.{◌≡◌, ◌<◌, IfOk};
+ghost use Rattle.fw_world.specs.Columns.{no_columns, with_lane};
+ghost use Rattle.fw_world.specs.LaneKept.{IsLane};
+
+use crate::SerialLane;
+use counter_book::Tally;
+use eval_engine::Docket;
+use fw_base::OutOfMemory;
+use std::alloc::Global;
+use std::marker::Model;
+
+/// Dockets, tallies and tracker words of lanes, with the memory for those that are still to come.
+#[derive(Drop)]
+pub(crate) struct Columns {
+    dockets: Vec<Docket>,
+    tallies: Vec<Tally>,
+    trackers: Vec<u64>,
+    room: u32,
+}
+
+impl Model for Columns {
+    ghost use Rattle.std.specs.Prelude.{◌+◌, ◌≤◌, vec_len, vec_capacity};
+    ghost use Rattle.fw_world.specs.Columns.{ColumnsValue};
+
+    ghost Value = { ColumnsValue };
+
+    ghost view = { λ c. record { dockets = c.dockets.items; tallies = c.tallies.items; trackers = c.trackers.items; room = c.room } };
+
+    ghost invariant = { λ c. (vec_len c.dockets + c.room ≤ vec_capacity c.dockets)
+        × (vec_len c.tallies + c.room ≤ vec_capacity c.tallies)
+        × (vec_len c.trackers + c.room ≤ vec_capacity c.trackers) };
+}
+
+impl Columns {
+    /// Those of no lane, with room for so many.
+    pub(crate) fn with_room(alloc: Global, room: u32) -> Result<Columns, OutOfMemory>
+        ensures { IfOk result (λ columns. columns ≡ no_columns room) }
+    {
+        let lanes = room as usize;
+        Ok(Columns {
+            dockets: Vec::with_capacity(alloc, lanes)?,
+            tallies: Vec::with_capacity(alloc, lanes)?,
+            trackers: Vec::with_capacity(alloc, lanes)?,
+            room,
+        })
+    }
+
+    /// Adds those of the lane as the last ones. It takes no memory.
+    pub(crate) fn add(&mut self, lane: SerialLane)
+        requires room { 0 < self.old.room }
+        ensures added { self.new ≡ with_lane lane self.old }
+        ensures lane { IsLane 0 lane }
+    {
+        let (docket, tally, tracker) = lane.state.into_parts();
+        self.dockets.push_reserved(docket);
+        self.tallies.push_reserved(tally);
+        self.trackers.push_reserved(tracker);
+        self.room -= 1;
+    }
+
+    /// The dockets, tallies and tracker words, in the order of the lanes.
+    pub(crate) fn into_parts(self) -> (Vec<Docket>, Vec<Tally>, Vec<u64>)
+        ensures dockets { result.0.items ≡ self.dockets }
+        ensures tallies { result.1.items ≡ self.tallies }
+        ensures trackers { result.2.items ≡ self.trackers }
+    {
+        (self.dockets, self.tallies, self.trackers)
+    }
+}

@@ -1,0 +1,59 @@
+ghost use Rattle.std.specs.Prelude.{◌≡◌, ◌≤◌, ◌∷◌, [], length, map, IfOk, IfErr};
+ghost use Rattle.std.specs.Arc.{arc_value};
+ghost use Rattle.fw_rule.specs.WellFormed.{IsWellFormed};
+ghost use Rattle.rule_chain.specs.Changing.{IsChanging};
+ghost use Rattle.fw_world.specs.CommitFaults.{IsCauseOf};
+ghost use Rattle.fw_world.specs.Editions.{IsLastOf};
+ghost use Rattle.fw_world.specs.Steps.{IsNextEdition};
+
+use crate::CommitFault;
+use crate::commit_fault::refusal;
+use fw_base::OutOfMemory;
+use fw_rule::Command;
+use generation_store::{Edition, Store};
+use std::alloc::Global;
+use std::sync::Arc;
+
+/// The last of these editions.
+pub(crate) fn last_edition(editions: &[Arc<Edition>]) -> &Edition
+    requires { 1 ≤ length editions.now }
+    ensures { IsLastOf (map arc_value editions.now) result.now }
+{
+    &editions[editions.len() - 1]
+}
+
+/// A store of this edition alone.
+pub(crate) fn store_of(alloc: Global, edition: Arc<Edition>) -> Result<Store, OutOfMemory>
+    ensures { IfOk result (λ store. store.editions ≡ arc_value edition ∷ []) }
+{
+    let mut store = Store::new(alloc);
+    store.ready()?;
+    store.push(edition);
+    Ok(store)
+}
+
+/// What the command makes of the last of these editions, as the next one.
+pub(crate) fn next_edition(
+    alloc: Global,
+    editions: &[Arc<Edition>],
+    command: &Command,
+) -> Result<Arc<Edition>, CommitFault>
+    requires begun { 1 ≤ length editions.now }
+    requires command { IsWellFormed command.now }
+    requires changing { IsChanging command.now }
+    ensures next { IfOk result (λ edition. IsNextEdition (map arc_value editions.now) command.now (arc_value edition)) }
+    ensures cause { IfErr result (IsCauseOf (map arc_value editions.now) command.now) }
+{
+    let number = editions.len() as u64 + 1;
+    match last_edition(editions).config().apply(alloc, command) {
+        Ok(config) => Ok(Edition::build(alloc, number, config)?),
+        Err(fault) => Err(refusal(fault)),
+    }
+}
+
+/// The same edition, and not a copy of it.
+pub(crate) fn share(edition: &Arc<Edition>) -> Result<Arc<Edition>, OutOfMemory>
+    ensures { IfOk result (λ shared. arc_value shared ≡ arc_value edition.now) }
+{
+    Ok(Arc::try_clone(edition)?)
+}

@@ -1,0 +1,30 @@
+ghost use Rattle.std.specs.Prelude.{◌≡◌};
+
+use crate::lane_state::LaneState;
+use std::marker::Model;
+
+/// A lane of the serial world outside of a section: who judges the records of one capture.
+#[derive(Debug, Drop)]
+pub struct SerialLane {
+    pub(crate) state: LaneState,
+}
+
+impl Model for SerialLane {
+    ghost use Rattle.fw_world.specs.Lane.{LaneValue};
+    ghost use Rattle.fw_world.specs.LaneKept.{IsLane};
+
+    ghost Value = { LaneValue };
+
+    ghost view = { λ lane. lane.state };
+
+    ghost invariant = { λ lane. IsLane 0 lane.state };
+}
+
+impl SerialLane {
+    /// Whether want of memory failed it.
+    pub(crate) fn has_failed(&self) -> bool
+        ensures { result ≡ self.now.failed }
+    {
+        self.state.has_failed()
+    }
+}

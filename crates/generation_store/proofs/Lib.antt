@@ -1,0 +1,4 @@
+pub mod Finding
+pub mod Ordered
+pub mod Places
+pub mod Whole

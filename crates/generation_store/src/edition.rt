@@ -1,0 +1,155 @@
+ghost use Rattle.std.specs.Prelude.{◌≡◌, ◌<◌, ℕ, IfOk, length, map, slice_index_or};
+ghost use Rattle.std.specs.Arc.{arc_value};
+ghost use Rattle.fw_rule.specs.declared.rule.Rule.{Rule};
+ghost use Rattle.generation_store.specs.Indexed.{IsIndexed};
+ghost use Rattle.generation_store.specs.Jumps as jumps;
+ghost use Rattle.generation_store.specs.Placing.{ArePlaced, identity_of};
+ghost use Rattle.generation_store.specs.Published as spec;
+ghost use Rattle.generation_store.specs.Published.{AreFacts, IsEdition, IsBuilt};
+
+use crate::Jump;
+use crate::flow_names::flow_names;
+use crate::jumps::{first_from, jumps_of};
+use crate::placed::{Placed, by_identity, identities, places};
+use dyn_states::{Facts, FlowName};
+use fw_base::{Numbered, OutOfMemory};
+use rule_chain::Config;
+use std::alloc::Global;
+use std::marker::Model;
+use std::sync::Arc;
+
+/// A configuration that was published under a number, with what an evaluation asks of it. No call but
+/// `build` takes memory.
+#[derive(Drop)]
+pub struct Edition {
+    number: u64,
+    config: Config,
+    facts: Facts,
+    jumps: Vec<Jump>,
+    /// The place of the rule of each identity of the facts.
+    places: Vec<u32>,
+    names: Vec<FlowName>,
+}
+
+impl Model for Edition {
+    ghost use Rattle.generation_store.specs.Indexed.{IsIndexed};
+    ghost use Rattle.generation_store.specs.Published.{Published};
+
+    ghost Value = { Published };
+
+    ghost view = { λ e. record { number = e.number; config = e.config; facts = e.facts } };
+
+    ghost invariant = { λ e. IsIndexed (record { number = e.number; config = e.config; facts = e.facts }) e.jumps.items e.places.items e.names.items };
+}
+
+impl Edition {
+    /// The edition of this number, from 1, and configuration, in time n log n for n rules. Where memory
+    /// is wanted the configuration is dropped.
+    pub fn build(alloc: Global, number: u64, config: Config) -> Result<Arc<Edition>, OutOfMemory>
+        ensures { IfOk result (λ edition. IsBuilt number config (arc_value edition)) }
+    {
+        let placed = by_identity(alloc, config.rules())?;
+        let facts = facts_of(alloc, number, &config, &placed)?;
+        let jumps = jumps_of(alloc, config.rules())?;
+        let names = flow_names(alloc, config.names(), config.rules())?;
+        let places = places(alloc, &placed)?;
+        let edition = Edition {
+            number,
+            config,
+            facts,
+            jumps,
+            places,
+            names,
+        };
+        Ok(Arc::new(alloc, edition)?)
+    }
+
+    /// The number that it was published under.
+    pub fn number(&self) -> u64
+        ensures { result ≡ self.now.number }
+    {
+        self.number
+    }
+
+    /// Its configuration.
+    pub fn config(&self) -> &Config
+        ensures value { result.now ≡ self.now.config }
+        ensures lawful { IsEdition self.now }
+    {
+        &self.config
+    }
+
+    /// What its publication tells the states.
+    pub fn facts(&self) -> &Facts
+        ensures value { result.now ≡ self.now.facts }
+        ensures lawful { IsEdition self.now }
+    {
+        &self.facts
+    }
+
+    /// One jump for each rule, in their order.
+    pub fn jumps(&self) -> &[Jump]
+        ensures { result.now ≡ jumps.jumps_of self.now.config.rules }
+    {
+        &self.jumps
+    }
+
+    /// The place of the first rule numbered so or higher; the list's length where there is none.
+    pub fn first_from(&self, number: u16) -> usize
+        ensures { result ≡ jumps.first_from number self.now.config.rules }
+    {
+        first_from(self.config.rules(), u32::from(number))
+    }
+
+    /// The place of the rule of this identity; `None` exactly where there is none.
+    pub fn place_of(&self, id: u32) -> Option<usize>
+        ensures { result ≡ spec.place_of id self.now.config.rules }
+    {
+        match self.facts.rules.as_slice().binary_search(&id) {
+            Ok(index) => Some(self.places[index] as usize),
+            Err(_) => None,
+        }
+    }
+
+    /// The flow name that the rule in this place looks up.
+    pub fn name_of(&self, place: usize) -> FlowName
+        requires { place < length self.now.config.rules }
+        ensures { (d : Rule) → result ≡ spec.flow_name self.now.config.names (slice_index_or self.now.config.rules place d) }
+    {
+        self.names[place]
+    }
+}
+
+/// What the publication of this configuration under this number tells the states.
+fn facts_of(
+    alloc: Global,
+    number: u64,
+    config: &Config,
+    placed: &[Placed],
+) -> Result<Facts, OutOfMemory>
+    requires { ArePlaced config.now.rules placed.now }
+    ensures value { IfOk result (λ facts. AreFacts number config.now facts) }
+    ensures rules { IfOk result (λ facts. facts.rules ≡ map identity_of placed.now) }
+{
+    Ok(Facts {
+        number,
+        rules: identities(alloc, placed)?,
+        settings: config.settings(),
+    })
+}
+
+impl Numbered for Edition {
+    type Tag = Facts;
+
+    type Label = Config;
+
+    ghost number = { λ e. e.number };
+
+    ghost tag = { λ e. e.facts };
+
+    ghost name = { λ e. e.config };
+
+    fn number(&self) -> u64 {
+        self.number
+    }
+}

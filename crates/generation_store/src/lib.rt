@@ -1,0 +1,15 @@
+//! Editions: configurations that were published under a number, with what an evaluation asks of them.
+#![tactic(auto)]
+
+pub use edition::Edition;
+pub use jump::Jump;
+pub use store::Store;
+
+mod edition;
+mod flow_names;
+mod jump;
+mod jumps;
+mod placed;
+mod store;
+#[cfg(test)]
+mod tests;

@@ -1,0 +1,123 @@
+-- What the status of a replay tells of how its captures ended and of its answers.
+use Rattle.std.proofs.Common.{◌≡◌, ◌≢◌, ℕ, ◌+◌, ◌<◌, ◌≤◌, Bool, true, false, List, [], ◌∷◌, Option, None, Some, refl, sym, ap, ◌∙◌, arith, inl, inr, ◌⊎◌}
+use Rattle.std.specs.Prelude.{if◌then◌else◌, ◌||◌}
+use Rattle.std.specs.List.{list_any, AllByRecursion}
+use Rattle.fw_base.specs.Faults.{Rose}
+use Rattle.fw_report.specs.declared.capture_end.CaptureEnd.{CaptureEnd}
+use Rattle.fw_report.specs.declared.capture_end.CaptureEnd.TheVariants.{Read, Stopped}
+use Rattle.fw_report.specs.declared.line_answer.LineAnswer.{LineAnswer}
+use Rattle.pcap_read.specs.declared.capture_fault.CaptureFault.{CaptureFault}
+use Rattle.pcap_read.specs.declared.capture_fault.CaptureFault.TheVariants as fault
+use Rattle.serial_replay.specs.Reading.{Track, IsRead, AllRead}
+use Rattle.serial_replay.specs.declared.opened_capture.OpenedCapture.{OpenedCapture}
+use Rattle.replay_driver.specs.Promises.{FailedRead, HasFailedRead}
+use Rattle.replay_driver.specs.RunResult.{is_unread, is_stopped, is_refused, is_failed_read, report_status}
+
+abbrev status_by : Bool → Bool → Bool → ℕ
+status_by unread stopped refused = if unread then 4 else if stopped then 3 else if refused then 2 else 0
+
+by_tests : (captures : List CaptureEnd) (answers : List LineAnswer) → report_status captures answers ≡ status_by (list_any is_unread captures) (list_any is_stopped captures) (list_any is_refused answers)
+unfolding report_status
+by_tests captures answers = refl
+
+quiet_tests : (u s r : Bool) → status_by u s r ≡ 0 → (s ≡ false) × (r ≡ false)
+quiet_tests true s r e = absurd (omega arith)
+quiet_tests false true r e = absurd (omega arith)
+quiet_tests false false true e = absurd (omega arith)
+quiet_tests false false false e = (refl, refl)
+
+refused_tests : (u s r : Bool) → status_by u s r ≡ 2 → (s ≡ false) × (r ≡ true)
+refused_tests true s r e = absurd (omega arith)
+refused_tests false true r e = absurd (omega arith)
+refused_tests false false true e = (refl, refl)
+refused_tests false false false e = absurd (omega arith)
+
+faulty_tests : (u s r : Bool) → status_by u s r ≡ 3 → (u ≡ false) × (s ≡ true)
+faulty_tests true s r e = absurd (omega arith)
+faulty_tests false true r e = (refl, refl)
+faulty_tests false false true e = absurd (omega arith)
+faulty_tests false false false e = absurd (omega arith)
+
+unread_tests : (u s r : Bool) → status_by u s r ≡ 4 → u ≡ true
+unread_tests true s r e = refl
+unread_tests false true r e = absurd (omega arith)
+unread_tests false false true e = absurd (omega arith)
+unread_tests false false false e = absurd (omega arith)
+
+few_tests : (u s r : Bool) → (status_by u s r ≤ 4) × (status_by u s r ≢ 1)
+few_tests true s r = (omega arith, λ e. omega arith)
+few_tests false true r = (omega arith, λ e. omega arith)
+few_tests false false true = (omega arith, λ e. omega arith)
+few_tests false false false = (omega arith, λ e. omega arith)
+
+zero_tests : (u s r : Bool) → u ≡ false → s ≡ false → r ≡ false → status_by u s r ≡ 0
+zero_tests true s r a b c = absurd (cc)
+zero_tests false true r a b c = absurd (cc)
+zero_tests false false true a b c = absurd (cc)
+zero_tests false false false a b c = refl
+
+module _ (captures : List CaptureEnd) (answers : List LineAnswer) where
+  pub quiet_ends : report_status captures answers ≡ 0 → (list_any is_stopped captures ≡ false) × (list_any is_refused answers ≡ false)
+  quiet_ends e = quiet_tests _ _ _ (sym (by_tests captures answers) ∙ e)
+
+  pub refused_lines : report_status captures answers ≡ 2 → (list_any is_stopped captures ≡ false) × (list_any is_refused answers ≡ true)
+  refused_lines e = refused_tests _ _ _ (sym (by_tests captures answers) ∙ e)
+
+  pub faulty_ends : report_status captures answers ≡ 3 → (list_any is_unread captures ≡ false) × (list_any is_stopped captures ≡ true)
+  faulty_ends e = faulty_tests _ _ _ (sym (by_tests captures answers) ∙ e)
+
+  pub unread_ends : report_status captures answers ≡ 4 → list_any is_unread captures ≡ true
+  unread_ends e = unread_tests _ _ _ (sym (by_tests captures answers) ∙ e)
+
+  -- it is at most 4 and not 1
+  pub few : (report_status captures answers ≤ 4) × (report_status captures answers ≢ 1)
+  few = rw (by_tests captures answers) (few_tests (list_any is_unread captures) (list_any is_stopped captures) (list_any is_refused answers))
+
+  pub all_well : list_any is_unread captures ≡ false → list_any is_stopped captures ≡ false → list_any is_refused answers ≡ false → report_status captures answers ≡ 0
+  all_well a b c = by_tests captures answers ∙ zero_tests _ _ _ a b c
+
+-- a fault by which a read is known to have failed
+failed_fault : (f : CaptureFault) → is_failed_read f ≡ true → f ≡ fault.ReadFault
+failed_fault fault.ReadFault e = refl
+failed_fault fault.ShortHeader e = absurd (cc)
+failed_fault fault.BadMagic e = absurd (cc)
+failed_fault fault.BadVersion e = absurd (cc)
+failed_fault fault.UnknownLink e = absurd (cc)
+failed_fault fault.ShortRecordHeader e = absurd (cc)
+failed_fault fault.RecordTooLong e = absurd (cc)
+failed_fault fault.ShortRecord e = absurd (cc)
+failed_fault fault.TooManyPackets e = absurd (cc)
+failed_fault fault.OutOfMemory e = absurd (cc)
+
+module _ {S : Type 0} (left : S → Option (List ℕ)) (failures : S → ℕ) where
+  -- so many captures that were opened with a count of 0
+  abbrev pub AreFresh : List (OpenedCapture S) → Type 0
+  AreFresh opened = AllByRecursion (λ capture. failures capture.source ≡ 0) opened
+
+  failed_end : (limit : ℕ) (source after : S) (track : Track) (end : CaptureEnd) → IsRead left failures limit source after track end → failures source ≡ 0 → is_unread end ≡ true → FailedRead end
+  failed_end limit source after track (Read records) read zero e = absurd (cc)
+  failed_end limit source after track (Stopped at f count) read zero e =
+      let (stopped, numbered, counted) = read.told in
+      let is : f ≡ fault.ReadFault = failed_fault f e in
+      let rose : Rose (failures source) (failures after) = read.stopped.cause.failed_read (stopped ∙ ap (λ (g : CaptureFault). Some g) is) in
+      let some : 0 < count = omega arith in
+      (at, count, ap (λ (g : CaptureFault). Stopped at g count) is, some)
+
+  -- a capture that ended unread is one whose source failed in this run
+  pub failed_read : (limit : ℕ) (opened : List (OpenedCapture S)) (sources : List S) (tracks : List Track) (ends : List CaptureEnd) → AllRead left failures limit opened sources tracks ends → AreFresh opened
+      → list_any is_unread ends ≡ true → HasFailedRead ends
+  failed_read limit [] [] [] [] read fresh e = absurd (cc)
+  failed_read limit [] [] [] (end ∷ ends) read fresh e = absurd read
+  failed_read limit [] [] (track ∷ tracks) ends read fresh e = absurd read
+  failed_read limit [] (source ∷ sources) tracks ends read fresh e = absurd read
+  failed_read limit (o ∷ os) [] tracks ends read fresh e = absurd read
+  failed_read limit (o ∷ os) (source ∷ sources) [] ends read fresh e = absurd read
+  failed_read limit (o ∷ os) (source ∷ sources) (track ∷ tracks) [] read fresh e = absurd read
+  failed_read limit (o ∷ os) (source ∷ sources) (track ∷ tracks) (end ∷ ends) read fresh e =
+      let (port, here, behind) = read in
+      by_test (is_unread end) refl here (λ more. failed_read limit os sources tracks ends behind fresh.1 more) e
+    where
+      by_test : (b : Bool) → is_unread end ≡ b → IsRead left failures limit o.source source track end → (list_any is_unread ends ≡ true → HasFailedRead ends) → list_any is_unread (end ∷ ends) ≡ true
+          → FailedRead end ⊎ HasFailedRead ends
+      by_test true is here behind e = inl (failed_end limit o.source source track end here fresh.0 is)
+      by_test false is here behind e = inr (behind (sym (ap (λ (b : Bool). b || list_any is_unread ends) is) ∙ e))

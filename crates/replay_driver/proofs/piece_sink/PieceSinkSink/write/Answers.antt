@@ -1,0 +1,23 @@
+use Rattle.std.proofs.Common.{◌≡◌, ◌∙◌, ap, sym, refl, subst, ℕ, List, ◌++◌, length, take, Option, Bool, true, false}
+use Rattle.std.specs.Prelude.{if◌then◌else◌}
+use Rattle.std.proofs.Math.Seq.{take-length}
+use Rattle.std.specs.Io.KnownBytes.{Appends, WriteAppends}
+use Rattle.replay_driver.specs.PieceSink.{PieceText, HandsOn}
+use Rattle.replay_driver.proofs.Pieces.{handed_then_buffered, handed_then_passed}
+use Rattle.replay_driver.proofs.piece_sink.PieceSinkSink.write.Goals as goal
+
+pub returns-then-buffer-2-clause-bytes : goal.returns-then-buffer-2-clause-bytes
+returns-then-buffer-2-clause-bytes g c =
+    let same = c.buffer.ensures ∙ ap (λ (b : Bool). if b then record c.args.self.now { pending = c.args.self.now.pending ++ c.args.bytes.now } else c.args.self.now) c.if-buffer.false in
+    let so = subst (λ (old : PieceText g.row.K.Denot). HandsOn g.K.Sink.written old c.flush.new.self) same c.flush.ensures.handed_on in
+    let is = c.buffer-2.ensures ∙ ap (λ (b : Bool). if b then record c.flush.new.self { pending = c.flush.new.self.pending ++ c.args.bytes.now } else c.flush.new.self) c.if-buffer-2.true in
+    rw (take-length c.args.bytes.now) (handed_then_buffered g.K.Sink.written c.args.self.now c.flush.new.self c.buffer-2.new.self c.args.bytes.now so c.in_ok-flush.ensures.all is)
+
+pub returns-clause-bytes : goal.returns-clause-bytes
+returns-clause-bytes g c =
+    let same = c.buffer.ensures ∙ ap (λ (b : Bool). if b then record c.args.self.now { pending = c.args.self.now.pending ++ c.args.bytes.now } else c.args.self.now) c.if-buffer.false in
+    let so = subst (λ (old : PieceText g.row.K.Denot). HandsOn g.K.Sink.written old c.flush.new.self) same c.flush.ensures.handed_on in
+    let is = c.buffer-2.ensures ∙ ap (λ (b : Bool). if b then record c.flush.new.self { pending = c.flush.new.self.pending ++ c.args.bytes.now } else c.flush.new.self) c.if-buffer-2.false in
+    let more = subst (λ (old : PieceText g.row.K.Denot). WriteAppends (g.K.Sink.written old.sink) (g.K.Sink.written c.pass.new.self.sink) c.pass.result c.args.bytes.now) is c.pass.ensures.bytes in
+    let kept = subst (λ (old : PieceText g.row.K.Denot). c.pass.new.self ≡ record old { sink = c.pass.new.self.sink }) is c.pass.ensures.kept in
+    handed_then_passed g.K.Sink.written c.args.self.now c.flush.new.self c.pass.new.self c.pass.result c.args.bytes.now so c.in_ok-flush.ensures.all kept more

@@ -1,0 +1,11 @@
+use Rattle.std.proofs.Common.{◌≡◌, ◌∙◌, ◌≤◌, arith, length, map}
+use Rattle.std.proofs.lemmas.List.{length-map}
+use Rattle.command_words.specs.Invocation.{capture_names}
+use Rattle.replay_driver.proofs.Openings.{opens_length}
+use Rattle.replay_driver.proofs.replay_files.find_behind_script.Goals as goal
+
+pub replay_opened-requires : goal.replay_opened-requires
+replay_opened-requires g c =
+    let opens = rw c.in-All.is at c.in_ok-name.ensures in
+    let same = opens_length g.L.Library.pairs g.L.Library.faults g.L.Library.refused g.L.Reader.Source.left g.L.Reader.Source.faults _ _ _ _ opens ∙ length-map c.args.captures.now capture_names in
+    (omega arith, omega arith)

@@ -1,0 +1,90 @@
+-- What a script gives before a packet is read (ipfw(8)): edition 1, the configuration that the commands before
+-- `live` make one after the other; the answers to the listings among them, which show edition 1; and what
+-- stands behind `live`.
+use Rattle.std.specs.Prelude.{◌≡◌, ℕ, is_some, if◌then◌else◌, Option, Some, None, Result, Ok, Err, List, [], ◌∷◌}
+use Rattle.fw_command.specs.declared.line.Line.{Line}
+use Rattle.fw_command.specs.declared.pace.Pace.TheVariants.{Serial}
+use Rattle.fw_command.specs.declared.script.Script.{Script}
+use Rattle.fw_command.specs.declared.script_fault.ScriptFault.{ScriptFault}
+use Rattle.fw_command.specs.Scripts.{script_of}
+use Rattle.fw_report.specs.declared.answer.Answer.TheVariants.{Listed}
+use Rattle.fw_report.specs.declared.line_answer.LineAnswer.{LineAnswer}
+use Rattle.lookup_tables.specs.Tables.{table_named}
+use Rattle.rule_chain.specs.Answers.{Answer}
+use Rattle.rule_chain.specs.Apply.{apply}
+use Rattle.rule_chain.specs.Changing.{is_changing}
+use Rattle.rule_chain.specs.Configuration.{Configuration}
+use Rattle.rule_chain.specs.First.{first_configuration}
+use Rattle.rule_chain.specs.declared.apply_fault.ApplyFault.TheVariants.{NoSuchTable}
+use Rattle.serial_replay.specs.Commands.{Listing, Rules, Entries, listing_of, answered}
+use Rattle.replay_driver.specs.declared.first_edition.FirstEdition.{FirstEdition}
+use Rattle.replay_driver.specs.declared.script_error.ScriptError.{ScriptError}
+use Rattle.replay_driver.specs.declared.script_error.ScriptError.TheVariants.{Fault, Refused, OutOfMemory}
+
+infixl 10 ◌>>=◌
+abbrev pub ◌>>=◌ : {X Y : Type 0} → Result X ScriptError → (X → Result Y ScriptError) → Result Y ScriptError
+(Ok x) >>= f = f x
+(Err e) >>= f = Err e
+
+-- what the command on this line comes to
+abbrev pub on_line : {X : Type 0} → ℕ → Answer X → Result X ScriptError
+on_line line (Ok x) = Ok x
+on_line line (Err fault) = Err (Refused (record { line = line; fault = fault }))
+
+-- the configuration behind the command of a line; a listing changes nothing
+abbrev pub configured_line : Configuration → Line → Result Configuration ScriptError
+configured_line config line = if is_changing line.command then on_line line.line (apply config line.command) else Ok config
+
+-- the configuration behind the commands of these lines, in their order
+unfoldable pub configured : Configuration → List Line → Result Configuration ScriptError
+configured config [] = Ok config
+configured config (line ∷ lines) = do
+  next ← configured_line config line
+  configured next lines
+
+-- an answer that shows edition 1
+abbrev pub shown : ℕ → Option (List ℕ) → Option LineAnswer
+shown line table = Some (answered line (Listed 1 table))
+
+abbrev pub table_shown : Configuration → ℕ → List ℕ → Result (Option LineAnswer) ScriptError
+table_shown config line name =
+    if is_some (table_named config.tables name) then Ok (shown line (Some name))
+    else Err (Refused (record { line = line; fault = NoSuchTable }))
+
+-- a listing is answered by edition 1; one of no table is refused
+abbrev pub listed_first : Configuration → ℕ → Option Listing → Result (Option LineAnswer) ScriptError
+listed_first config line None = Ok None
+listed_first config line (Some Rules) = Ok (shown line None)
+listed_first config line (Some (Entries name)) = table_shown config line name
+
+abbrev pub with_answer : Option LineAnswer → List LineAnswer → List LineAnswer
+with_answer None answers = answers
+with_answer (Some answer) answers = answer ∷ answers
+
+-- the answers to the listings among the lines
+unfoldable pub listings_of : Configuration → List Line → Result (List LineAnswer) ScriptError
+listings_of config [] = Ok []
+listings_of config (line ∷ lines) = do
+  answer ← listed_first config line.line (listing_of line.command)
+  others ← listings_of config lines
+  Ok (with_answer answer others)
+
+abbrev pub read_script : Result Script ScriptFault → Result Script ScriptError
+read_script (Ok script) = Ok script
+read_script (Err fault) = Err (Fault fault)
+
+-- The script's first fault comes before the first command that is refused, and that before the first listing
+-- of no table.
+unfoldable pub first_edition : List ℕ → Result FirstEdition ScriptError
+first_edition bytes = do
+  script ← read_script (script_of Serial bytes)
+  config ← configured first_configuration script.before
+  answers ← listings_of config script.before
+  Ok (record { config = config; answers = answers; live = script.live })
+
+-- what a call answered, unless memory ran out
+abbrev pub Gives : {X Y : Type 0} → (X → Y) → Result X ScriptError → Result Y ScriptError → Type 0
+Gives view (Ok x) answer = answer ≡ Ok (view x)
+Gives view (Err OutOfMemory) answer = Unit {0}
+Gives view (Err (Fault fault)) answer = answer ≡ Err (Fault fault)
+Gives view (Err (Refused refused)) answer = answer ≡ Err (Refused refused)

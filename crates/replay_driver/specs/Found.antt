@@ -1,0 +1,151 @@
+-- What a run finds of a command before a byte is written, and which sources it hands back.
+use Rattle.std.specs.Prelude.{◌≡◌, ℕ, ◌<◌, List, [], ◌∷◌, ◌++◌, length, codes, Option, Some, None, Ok, Err, ◌⊎◌}
+use Rattle.std.specs.Io.KnownBytes.{Consumes}
+use Rattle.command_words.specs.Words.{CaptureNames}
+use Rattle.fw_base.specs.Faults.{Rose}
+use Rattle.fw_base.specs.Memory.{MemoryBytes}
+use Rattle.fw_base.specs.Pairs.{Pair}
+use Rattle.fw_base.specs.declared.port.Direction.TheVariants.{In}
+use Rattle.fw_base.specs.declared.port.Port.{Port}
+use Rattle.fw_report.specs.declared.ends.Ends.{Ends}
+use Rattle.fw_world.specs.RecordValue.{RecordValue}
+use Rattle.load_maker.specs.Load.{script_of, capture_of}
+use Rattle.serial_replay.specs.Replay.{IsReplay}
+use Rattle.serial_replay.specs.declared.opened_capture.OpenedCapture.{OpenedCapture}
+use Rattle.serial_replay.specs.declared.replayed.Replayed.{Replayed}
+use Rattle.replay_driver.specs.FirstEdition.{first_edition}
+use Rattle.replay_driver.specs.Openings.{Opens, Refuses, OpensAll, sources_of}
+use Rattle.replay_driver.specs.Served.{ReplayNames, Job, Replays, Loads}
+use Rattle.replay_driver.specs.WholeSource.{ReadsAll}
+use Rattle.replay_driver.specs.declared.first_edition.FirstEdition.{FirstEdition}
+use Rattle.replay_driver.specs.declared.run_result.RunResult.{RunResult}
+use Rattle.replay_driver.specs.declared.run_result.RunResult.TheVariants.{Usage, Unread, Unready, Reported, Summed}
+use Rattle.replay_driver.specs.declared.script_error.ScriptError.{ScriptError}
+
+module _ {S : Type 0} (left : S → Option (List ℕ)) (failures : S → ℕ) where
+  -- A source failed with at most 1,048,576 of its bytes taken.
+  pub record FailsEarly (opened now : S) : Type 0 where
+    pub rose : Rose (failures opened) (failures now)
+    pub taken : List ℕ
+    pub took : Consumes (left opened) (left now) taken
+    pub few : length taken < 1048577
+
+  -- Captures were replayed beside a script: its edition 1 stands first, then comes what it has behind `live`.
+  -- The answers are those of the listings before `live` and then those of the lines behind it.
+  pub record IsReplayOf (script : List ℕ) (opened : List (OpenedCapture S)) (kept : RecordValue) (ends : Ends) (sources : List S) : Type 0 where
+    pub edition : FirstEdition
+    pub first : first_edition script ≡ Ok edition
+    pub replayed : Replayed S
+    pub replay : IsReplay left failures edition.config edition.live opened replayed
+    pub recorded : kept ≡ replayed.record
+    pub captures_ended : ends.captures ≡ replayed.ends.captures
+    pub lines_answered : ends.answers ≡ edition.answers ++ replayed.ends.answers
+    pub given_back : sources ≡ replayed.sources.items
+
+module _ {L S : Type 0} (pairs : L → Option (List Pair)) (faults : L → ℕ) (refused : L → Option (List ℕ)) (left : S → Option (List ℕ)) (failures : S → ℕ) where
+  -- the script was opened and read to its end, or to its 1,048,577th byte
+  pub record ReadsScript (old new : L) (name : List ℕ) (script : S) (bytes : List ℕ) : Type 0 where
+    pub opened : S
+    pub opens : Opens pairs faults refused left failures old new name opened
+    pub reads : ReadsAll (left opened) (left script) 1048577 bytes
+
+  -- the script was opened and read, and then these captures were opened, in the order of the words
+  pub record ReadsNames (name : List ℕ) (captures : List CaptureNames) (old new : L) (script : S) (bytes : List ℕ) (opened : List (OpenedCapture S)) : Type 0 where
+    pub between : L
+    pub script_read : ReadsScript old between name script bytes
+    pub captures_opened : OpensAll pairs faults refused left failures between new captures opened
+
+  -- the script's name was refused
+  pub record RefusesScript (names : ReplayNames) (old new : L) (name : List ℕ) (sources : List S) : Type 0 where
+    pub named : name ≡ names.script
+    pub refuses : Refuses pairs faults refused old new name
+    pub nothing_opened : sources ≡ []
+
+  -- the script was opened, and its source failed
+  pub record FailsScript (names : ReplayNames) (old new : L) (name : List ℕ) (sources : List S) : Type 0 where
+    pub named : name ≡ names.script
+    pub opened : S
+    pub opens : Opens pairs faults refused left failures old new name opened
+    pub script : S
+    pub fails : FailsEarly left failures opened script
+    pub given_back : sources ≡ script ∷ []
+
+  -- the script was read, the captures before this one were opened, and its name was refused
+  pub record RefusesCapture (names : ReplayNames) (old new : L) (name : List ℕ) (sources : List S) : Type 0 where
+    pub before : List CaptureNames
+    pub capture : CaptureNames
+    pub behind : List CaptureNames
+    pub stands : names.captures ≡ before ++ capture ∷ behind
+    pub named : name ≡ capture.name
+    pub between : L
+    pub script : S
+    pub bytes : List ℕ
+    pub opened : List (OpenedCapture S)
+    pub reads : ReadsNames names.script before old between script bytes opened
+    pub refuses : Refuses pairs faults refused between new name
+    pub given_back : sources ≡ script ∷ sources_of opened
+
+  -- all names were opened, and the script gives no edition
+  pub record HasNoEdition (names : ReplayNames) (old new : L) (error : ScriptError) (sources : List S) : Type 0 where
+    pub script : S
+    pub bytes : List ℕ
+    pub opened : List (OpenedCapture S)
+    pub reads : ReadsNames names.script names.captures old new script bytes opened
+    pub first : first_edition bytes ≡ Err error
+    pub given_back : sources ≡ script ∷ sources_of opened
+
+  -- all names were opened, and the captures were replayed beside the script
+  pub record ReplaysNames (names : ReplayNames) (old new : L) (kept : RecordValue) (ends : Ends) (sources : List S) : Type 0 where
+    pub script : S
+    pub bytes : List ℕ
+    pub opened : List (OpenedCapture S)
+    pub reads : ReadsNames names.script names.captures old new script bytes opened
+    pub captures : List S
+    pub replay : IsReplayOf left failures bytes opened kept ends captures
+    pub given_back : sources ≡ script ∷ captures
+
+  -- This is found of the words of a replay, and these sources are handed back.
+  abbrev pub FindsReplay : ReplayNames → L → L → RunResult → List S → Type 0
+  FindsReplay names old new Usage sources = ⊥
+  FindsReplay names old new (Unread name) sources =
+      RefusesScript names old new name sources ⊎ (FailsScript names old new name sources ⊎ RefusesCapture names old new name sources)
+  FindsReplay names old new (Unready error) sources = HasNoEdition names old new error sources
+  FindsReplay names old new (Reported kept ends journal) sources = (journal ≡ names.journal) × ReplaysNames names old new kept ends sources
+  FindsReplay names old new (Summed kept ends) sources = ⊥
+
+-- a capture over memory, taken at `in:em0`
+abbrev pub capture_over : List ℕ → OpenedCapture MemoryBytes
+capture_over bytes = record {
+  port = record { direction = In; interface = codes "em0" };
+  source = record { left = bytes; pieces = []; turn = 0; allowed = None; failures = 0 };
+}
+
+abbrev pub known_left : MemoryBytes → Option (List ℕ)
+known_left source = Some source.left
+
+abbrev pub failures_of : MemoryBytes → ℕ
+failures_of source = source.failures
+
+-- the made capture of so many records was replayed beside the made script
+pub record ReplaysLoad (n : ℕ) (kept : RecordValue) (ends : Ends) : Type 0 where
+  pub sources : List MemoryBytes
+  pub replay : IsReplayOf known_left failures_of (script_of n) (capture_over (capture_of n) ∷ []) kept ends sources
+
+-- this is found of a load of so many records
+abbrev pub FindsLoad : ℕ → RunResult → Type 0
+FindsLoad n Usage = ⊥
+FindsLoad n (Unread name) = ⊥
+FindsLoad n (Unready error) = first_edition (script_of n) ≡ Err error
+FindsLoad n (Reported kept ends journal) = ⊥
+FindsLoad n (Summed kept ends) = ReplaysLoad n kept ends
+
+module _ {L S : Type 0} (pairs : L → Option (List Pair)) (faults : L → ℕ) (refused : L → Option (List ℕ)) (left : S → Option (List ℕ)) (failures : S → ℕ) where
+  -- this is found of a command; a load opens nothing
+  abbrev pub Finds : Job → L → L → RunResult → List S → Type 0
+  Finds (Replays names) old new result sources = FindsReplay pairs faults refused left failures names old new result sources
+  Finds (Loads n) old new result sources = (new ≡ old) × (sources ≡ []) × FindsLoad n result
+
+  -- The words are no command, and nothing is opened; or this is found of the command that they are.
+  abbrev pub FindsWords : Option Job → L → L → RunResult → List S → Type 0
+  FindsWords None old new result sources = (result ≡ Usage) × (new ≡ old) × (sources ≡ [])
+  FindsWords (Some job) old new result sources = Finds job old new result sources

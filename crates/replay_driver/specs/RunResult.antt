@@ -1,0 +1,117 @@
+-- What a run comes to: its status and its text.
+use Rattle.std.specs.Prelude.{ℕ, ◌<◌, ⊤, Bool, true, false, if◌then◌else◌, List, [], ◌++◌, length, codes, Option, None, Some}
+use Rattle.std.specs.List.{list_any}
+use Rattle.fw_report.specs.Recorded.{Recorded}
+use Rattle.fw_report.specs.Report.{report_text}
+use Rattle.fw_report.specs.Summary.{summary_text}
+use Rattle.fw_report.specs.declared.answer.Answer.{Answer}
+use Rattle.fw_report.specs.declared.answer.Answer.TheVariants as answer
+use Rattle.fw_report.specs.declared.capture_end.CaptureEnd.{CaptureEnd}
+use Rattle.fw_report.specs.declared.capture_end.CaptureEnd.TheVariants.{Read, Stopped}
+use Rattle.fw_report.specs.declared.ends.Ends.{Ends}
+use Rattle.fw_report.specs.declared.line_answer.LineAnswer.{LineAnswer}
+use Rattle.fw_world.specs.RecordValue.{RecordValue}
+use Rattle.pcap_read.specs.declared.capture_fault.CaptureFault.{CaptureFault}
+use Rattle.pcap_read.specs.declared.capture_fault.CaptureFault.TheVariants.{ShortHeader, BadMagic, BadVersion, UnknownLink, ShortRecordHeader, RecordTooLong, ShortRecord, TooManyPackets, ReadFault, OutOfMemory}
+use Rattle.replay_driver.specs.ScriptTexts.{error_text}
+use Rattle.replay_driver.specs.declared.run_result.RunResult.{RunResult}
+use Rattle.replay_driver.specs.declared.run_result.RunResult.TheVariants.{Usage, Unread, Unready, Reported, Summed}
+
+-- the usage line
+unfoldable pub usage_text : List ℕ
+usage_text = codes "usage: ipfw_replay serial|live [--journal] SCRIPT in|out:IF:CAPTURE .. | load N\n"
+
+unfoldable pub unread_text : List ℕ → List ℕ
+unread_text name = codes "cannot read " ++ (name ++ codes "\n")
+
+-- what a report is written of: no cache is kept, so there are no hits of it
+abbrev pub recorded : RecordValue → Recorded
+recorded r = record { editions = r.editions; journal = r.journal; dockets = r.dockets; tallies = r.tallies; trackers = r.trackers; hits = [] }
+
+-- the summary of a record: its dockets, and how many editions, entries of the journal and live states there are
+abbrev pub summary_of : RecordValue → List ℕ
+summary_of r = summary_text r.dockets (length r.editions) (length r.journal.entries) (length r.journal.object.states)
+
+-- a source failed; every other fault stands in the capture's bytes
+abbrev pub is_failed_read : CaptureFault → Bool
+is_failed_read ShortHeader = false
+is_failed_read BadMagic = false
+is_failed_read BadVersion = false
+is_failed_read UnknownLink = false
+is_failed_read ShortRecordHeader = false
+is_failed_read RecordTooLong = false
+is_failed_read ShortRecord = false
+is_failed_read TooManyPackets = false
+is_failed_read ReadFault = true
+is_failed_read OutOfMemory = false
+
+-- the capture ended because its source failed
+abbrev pub is_unread : CaptureEnd → Bool
+is_unread (Read records) = false
+is_unread (Stopped at fault count) = is_failed_read fault
+
+-- the capture ended with a fault
+abbrev pub is_stopped : CaptureEnd → Bool
+is_stopped (Read records) = false
+is_stopped (Stopped at fault count) = true
+
+abbrev pub is_refusal : Answer → Bool
+is_refusal (answer.Refused fault) = true
+is_refusal (answer.Listed edition table) = false
+
+-- the command on the line was refused
+abbrev pub is_refused : LineAnswer → Bool
+is_refused line = is_refusal line.answer
+
+-- 4 where a capture's source failed, else 3 where a capture has another fault, else 2 where a command behind
+-- `live` was refused
+unfoldable pub report_status : List CaptureEnd → List LineAnswer → ℕ
+report_status captures answers =
+    if list_any is_unread captures then 4
+    else if list_any is_stopped captures then 3
+    else if list_any is_refused answers then 2
+    else 0
+
+abbrev pub result_status : RunResult → ℕ
+result_status Usage = 1
+result_status (Unread name) = 4
+result_status (Unready error) = 2
+result_status (Reported kept ends journal) = report_status ends.captures ends.answers
+result_status (Summed kept ends) = report_status ends.captures ends.answers
+
+unfoldable pub result_text : RunResult → List ℕ
+result_text Usage = usage_text
+result_text (Unread name) = unread_text name
+result_text (Unready error) = error_text error
+result_text (Reported kept ends journal) = report_text (recorded kept) ends.captures ends.answers journal
+result_text (Summed kept ends) = summary_of kept
+
+-- the record that is kept, how the captures ended, and the answers to lines of the script
+abbrev pub result_kept : RunResult → Option RecordValue
+result_kept Usage = None
+result_kept (Unread name) = None
+result_kept (Unready error) = None
+result_kept (Reported kept ends journal) = Some kept
+result_kept (Summed kept ends) = Some kept
+
+abbrev pub result_ends : RunResult → List CaptureEnd
+result_ends Usage = []
+result_ends (Unread name) = []
+result_ends (Unready error) = []
+result_ends (Reported kept ends journal) = ends.captures
+result_ends (Summed kept ends) = ends.captures
+
+abbrev pub result_answers : RunResult → List LineAnswer
+result_answers Usage = []
+result_answers (Unread name) = []
+result_answers (Unready error) = []
+result_answers (Reported kept ends journal) = ends.answers
+result_answers (Summed kept ends) = ends.answers
+
+-- what can be written: a report wants an edition
+abbrev pub IsWritable : RunResult → Type 0
+IsWritable Usage = ⊤
+IsWritable (Unread name) = ⊤
+IsWritable (Unready error) = ⊤
+IsWritable (Reported kept ends journal) = 0 < length kept.editions
+IsWritable (Summed kept ends) = ⊤

@@ -1,0 +1,177 @@
+ghost use Rattle.std.specs.Prelude.{◌≡◌, ◌++◌, [], IfOk, IfErr, OnOk, length};
+ghost use Rattle.std.specs.List.{AllByRecursion};
+ghost use Rattle.fw_command.specs.WellFormed.{IsLine, IsScript, IsStep};
+ghost use Rattle.fw_command.specs.declared.pace.Pace.TheVariants.{Serial};
+ghost use Rattle.fw_command.specs.Scripts.{script_of};
+ghost use Rattle.rule_chain.specs.First.{first_configuration};
+ghost use Rattle.serial_replay.specs.Commands.{listing_of, table_listing};
+ghost use Rattle.replay_driver.specs.FirstEdition as spec;
+ghost use Rattle.replay_driver.specs.FirstEdition.{Gives};
+
+use crate::{RefusedLine, ScriptError};
+use fw_base::Name;
+use fw_command::{Line, Pace, Script, ScriptFault, Step, parse_script};
+use fw_report::{Answer, LineAnswer};
+use fw_rule::{Command, Items, TableCommand};
+use rule_chain::{ApplyFault, Config, is_changing};
+use std::alloc::Global;
+
+/// What a script gives before a packet is read.
+#[derive(Drop)]
+pub(crate) struct FirstEdition {
+    /// What the commands before `live` make.
+    pub(crate) config: Config,
+    /// The answers to the listings before `live`, in the order of their lines.
+    pub(crate) answers: Items<LineAnswer>,
+    /// What stands behind `live`.
+    pub(crate) live: Items<Step>,
+}
+
+/// The configuration behind a command on this line.
+fn apply_line(alloc: Global, config: Config, line: &Line) -> Result<Config, ScriptError>
+    requires { IsLine line.now }
+    ensures { Gives (λ c. c) result (spec.configured_line config line.now) }
+{
+    if !is_changing(&line.command) {
+        return Ok(config);
+    }
+    match config.apply_owned(alloc, &line.command) {
+        Ok(next) => Ok(next),
+        Err(ApplyFault::OutOfMemory) => Err(ScriptError::OutOfMemory),
+        Err(fault) => Err(ScriptError::Refused(RefusedLine {
+            line: line.line,
+            fault,
+        })),
+    }
+}
+
+/// The configuration behind the commands of these lines.
+fn configure(alloc: Global, lines: &[Line]) -> Result<Config, ScriptError>
+    requires { AllByRecursion IsLine lines.now }
+    ensures { Gives (λ c. c) result (spec.configured first_configuration lines.now) }
+{
+    let mut config = Config::new(alloc)?;
+    for line in lines {
+        config = apply_line(alloc, config, line)?;
+    }
+    Ok(config)
+}
+
+/// An answer that shows edition 1.
+fn listed(line: u32, table: Option<Name>) -> Option<LineAnswer>
+    ensures { result ≡ spec.shown line table }
+{
+    Some(LineAnswer {
+        line,
+        answer: Answer::Listed { edition: 1, table },
+    })
+}
+
+/// The answer to a listing of that table.
+fn list_table(config: &Config, line: u32, name: &Name) -> Result<Option<LineAnswer>, ScriptError>
+    ensures { Gives (λ a. a) result (spec.table_shown config.now line name.now) }
+{
+    if config.table(name).is_some() {
+        Ok(listed(line, Some(name.copy()?)))
+    } else {
+        Err(ScriptError::Refused(RefusedLine {
+            line,
+            fault: ApplyFault::NoSuchTable,
+        }))
+    }
+}
+
+/// The answer to a command on that table, if it is a listing.
+fn list_entries(
+    config: &Config,
+    line: u32,
+    name: &Name,
+    command: &TableCommand,
+) -> Result<Option<LineAnswer>, ScriptError>
+    ensures { Gives (λ a. a) result (spec.listed_first config.now line (table_listing name.now command.now)) }
+{
+    match command {
+        TableCommand::ListEntries => list_table(config, line, name),
+        TableCommand::Create(_)
+        | TableCommand::Destroy
+        | TableCommand::Add(_, _)
+        | TableCommand::Remove(_)
+        | TableCommand::Clear
+        | TableCommand::SwapWith(_) => Ok(None),
+    }
+}
+
+/// The answer to a command on this line, if it is a listing.
+fn listing(config: &Config, line: &Line) -> Result<Option<LineAnswer>, ScriptError>
+    ensures { Gives (λ a. a) result (spec.listed_first config.now line.now.line (listing_of line.now.command)) }
+{
+    match &line.command {
+        Command::ListRules => Ok(listed(line.line, None)),
+        Command::Table(name, command) => list_entries(config, line.line, name, command),
+        Command::Add(_)
+        | Command::Delete(_)
+        | Command::DeleteSet(_)
+        | Command::Flush
+        | Command::Zero(_)
+        | Command::SetMask { .. }
+        | Command::MoveSet { .. }
+        | Command::MoveRule { .. }
+        | Command::SwapSets { .. }
+        | Command::Sysctl { .. }
+        | Command::Local(_) => Ok(None),
+    }
+}
+
+/// Adds an answer, if there is one.
+fn add_answer(answers: &mut Vec<LineAnswer>, answer: Option<LineAnswer>) -> Result<(), ScriptError>
+    ensures ok { OnOk result (answers.new.items ≡ answers.old.items ++ spec.with_answer answer []) }
+    ensures err { IfErr result (λ error. error ≡ ScriptError.OutOfMemory) }
+{
+    if let Some(answer) = answer {
+        answers.push(answer)?;
+    }
+    Ok(())
+}
+
+/// The answers to the listings among these lines.
+fn answer_listings(
+    alloc: Global,
+    config: &Config,
+    lines: &[Line],
+) -> Result<Vec<LineAnswer>, ScriptError>
+    ensures { Gives (λ answers. answers.items) result (spec.listings_of config.now lines.now) }
+{
+    let mut answers = Vec::new(alloc);
+    for line in lines {
+        add_answer(&mut answers, listing(config, line)?)?;
+    }
+    Ok(answers)
+}
+
+/// The commands of a script.
+fn read_lines(alloc: Global, bytes: &[u8]) -> Result<Script, ScriptError>
+    ensures exact { Gives (λ s. s) result (spec.read_script (script_of Serial bytes.now)) }
+    ensures well_formed { IfOk result IsScript }
+{
+    match parse_script(alloc, bytes, Pace::Serial) {
+        Ok(script) => Ok(script),
+        Err(ScriptFault::OutOfMemory) => Err(ScriptError::OutOfMemory),
+        Err(fault) => Err(ScriptError::Fault(fault)),
+    }
+}
+
+/// What a script gives before a packet is read, or why there is no edition 1.
+pub(crate) fn read_first_edition(alloc: Global, bytes: &[u8]) -> Result<FirstEdition, ScriptError>
+    ensures exact { Gives (λ e. e) result (spec.first_edition bytes.now) }
+    ensures well_formed { IfOk result (λ edition. AllByRecursion IsStep edition.live) }
+{
+    let Script { before, live, .. } = read_lines(alloc, bytes)?;
+    let lines = before.as_slice();
+    let config = configure(alloc, lines)?;
+    let answers = answer_listings(alloc, &config, lines)?;
+    Ok(FirstEdition {
+        config,
+        answers: Items::from_vec(answers),
+        live,
+    })
+}

@@ -1,0 +1,135 @@
+ghost use Rattle.std.specs.Prelude.{◌≡◌, ◌≤◌, ◌<◌, [], ◌++◌, IfOk, OnOk, OnErr, length, if◌then◌else◌};
+ghost use Rattle.std.specs.Io.{WritesAtMost};
+ghost use Rattle.std.specs.Io.KnownBytes.{WriteAppends};
+ghost use Rattle.fw_base.specs.Faults.{HasCause};
+ghost use Rattle.fw_base.specs.Texts.{WritesText};
+ghost use Rattle.replay_driver.specs.PieceSink as spec;
+ghost use Rattle.replay_driver.specs.PieceSink.{HandsOn};
+ghost use Rattle.replay_driver.specs.RunResult.{IsWritable, result_text};
+
+use crate::run_result::RunResult;
+use fw_base::{Failed, Sink};
+use std::marker::Model;
+use std::snapshot::Snapshot;
+
+/// A sink before another one, which is given text in pieces as large as the buffer.
+#[derive(Drop)]
+pub(crate) struct PieceSink<K> {
+    sink: K,
+    buffer: Vec<u8>,
+    /// What stands before this place in the buffer was handed on.
+    start: usize,
+    /// The sink as it was at first, for contracts.
+    begun: Snapshot<K>,
+}
+
+impl<K> Model for PieceSink<K> {
+    ghost use Rattle.std.specs.Prelude.{◌≤◌, drop, vec_len};
+    ghost use Rattle.replay_driver.specs.PieceSink.{PieceText};
+
+    ghost Value = { PieceText K };
+
+    ghost view = { λ p. record { sink = p.sink; pending = drop p.start p.buffer.items; begun = p.begun.value } };
+
+    ghost invariant = { λ p. p.start ≤ vec_len p.buffer };
+}
+
+impl<K: Sink> PieceSink<K> {
+    /// A sink before this one, with this buffer, which is empty.
+    fn new(sink: K, buffer: Vec<u8>) -> PieceSink<K>
+        requires { buffer.items ≡ [] }
+        ensures { result ≡ record { sink = sink; pending = []; begun = sink } }
+    {
+        let begun = Snapshot::of(&sink);
+        PieceSink {
+            sink,
+            buffer,
+            start: 0,
+            begun,
+        }
+    }
+
+    /// Hands the sink all that is buffered. Where the sink fails, what it didn't take stays buffered.
+    fn flush(&mut self) -> Result<(), Failed>
+        ensures all { OnOk result (self.new.pending ≡ []) }
+        ensures handed_on { HandsOn K.written self.old self.new }
+        ensures cause { HasCause (K.faults self.old.sink) (K.faults self.new.sink) result }
+    {
+        while self.start < self.buffer.len() {
+            let count = self.sink.write(&self.buffer[self.start..])?;
+            self.start += count;
+        }
+        self.buffer.clear();
+        self.start = 0;
+        Ok(())
+    }
+
+    /// Buffers the bytes where there is room for them all, and says whether there was.
+    fn buffer(&mut self, bytes: &[u8]) -> bool
+        ensures { self.new ≡ (if result
+            then record self.old { pending = self.old.pending ++ bytes.now } else self.old) }
+    {
+        push_within(&mut self.buffer, bytes)
+    }
+
+    /// Hands the sink bytes that aren't buffered.
+    fn pass(&mut self, bytes: &[u8]) -> Result<usize, Failed>
+        ensures bound { WritesAtMost result bytes.now }
+        ensures advances { IfOk result (λ count. 0 < length bytes.now → 0 < count) }
+        ensures bytes { WriteAppends (K.written self.old.sink) (K.written self.new.sink) result bytes.now }
+        ensures cause { HasCause (K.faults self.old.sink) (K.faults self.new.sink) result }
+        ensures kept { self.new ≡ record self.old { sink = self.new.sink } }
+    {
+        self.sink.write(bytes)
+    }
+
+    /// The sink, with what it was given.
+    fn into_inner(self) -> K
+        ensures { result ≡ self.sink }
+    {
+        self.sink
+    }
+}
+
+/// Appends the bytes where there is room for them all, and says whether there was.
+fn push_within(buffer: &mut Vec<u8>, bytes: &[u8]) -> bool
+    ensures { buffer.new.items ≡ (if result then buffer.old.items ++ bytes.now else buffer.old.items) }
+{
+    if bytes.len() > buffer.capacity() - buffer.len() {
+        return false;
+    }
+    buffer.extend_from_slice(bytes).is_ok()
+}
+
+impl<K: Sink> Sink for PieceSink<K> {
+    ghost written = { spec.written_of K.written };
+
+    ghost faults = { λ p. K.faults p.sink };
+
+    fn write(&mut self, bytes: &[u8]) -> Result<usize, Failed> {
+        if self.buffer(bytes) {
+            return Ok(bytes.len());
+        }
+        self.flush()?;
+        if self.buffer(bytes) {
+            return Ok(bytes.len());
+        }
+        self.pass(bytes)
+    }
+}
+
+/// Writes what was found in pieces as large as the buffer, which is empty, and gives the sink back.
+pub(crate) fn write_pieced<K: Sink>(sink: K, text: (Vec<u8>, &RunResult)) -> (K, Result<(), Failed>)
+    requires empty { text.0.items ≡ [] }
+    requires writable { IsWritable text.1.now }
+    ensures { WritesText (K.written sink) (K.written result.0) (K.faults sink) (K.faults result.0)
+        (result_text text.entry.1.now) result.1 }
+{
+    let (buffer, found) = text;
+    let mut pieces = PieceSink::new(sink, buffer);
+    let written = match found.write(&mut pieces) {
+        Ok(()) => pieces.flush(),
+        Err(Failed) => Err(Failed),
+    };
+    (pieces.into_inner(), written)
+}

@@ -1,0 +1,111 @@
+ghost use Rattle.std.specs.Prelude.{◌≡◌, ◌≤◌, ◌∷◌, IfOk, map, length};
+ghost use Rattle.command_words.specs.Invocation.{capture_names};
+ghost use Rattle.replay_driver.specs.Found.{FindsReplay};
+ghost use Rattle.replay_driver.specs.RunResult.{IsWritable};
+ghost use Rattle.replay_driver.specs.ReplayFiles.{FindsBehind, ReplaysOpened};
+
+use crate::capture_openings::{CaptureOpenings, open_captures};
+use crate::found::Found;
+use crate::run_result::RunResult;
+use crate::script_replay::{ScriptReplay, into_sources, replay_script};
+use crate::script_source::{ScriptSource, read_script_source};
+use command_words::CaptureWord;
+use fw_base::{Library, Name, OutOfMemory, Source};
+use serial_replay::OpenedCapture;
+use std::alloc::Global;
+
+/// The sources with the script's before them.
+fn with_script<S: Drop>(script: S, captures: Vec<S>) -> Result<Vec<S>, OutOfMemory>
+    ensures { IfOk result (λ sources. sources.items ≡ script ∷ captures.items) }
+{
+    let mut sources = captures;
+    sources.insert(0, script)?;
+    Ok(sources)
+}
+
+/// Replays the captures, all of which were opened.
+fn replay_opened<S: Source>(
+    alloc: Global,
+    journal: bool,
+    script: S,
+    bytes: &[u8],
+    opened: Vec<OpenedCapture<S>>,
+) -> Result<Found<S>, OutOfMemory>
+    requires { (1 ≤ length opened.items) × (length opened.items ≤ 16) }
+    ensures writable { IfOk result (λ found. IsWritable found.result) }
+    ensures replays { IfOk result (λ found. ReplaysOpened S.left S.faults journal script bytes.now
+        opened.items found.result found.sources.items) }
+{
+    match replay_script(alloc, bytes, opened)? {
+        ScriptReplay::Unready(error, captures) => Ok(Found {
+            result: RunResult::Unready(error),
+            sources: with_script(script, captures)?,
+        }),
+        ScriptReplay::Replayed {
+            kept,
+            ends,
+            sources,
+        } => Ok(Found {
+            result: RunResult::Reported {
+                kept,
+                ends,
+                journal,
+            },
+            sources: with_script(script, sources)?,
+        }),
+    }
+}
+
+/// Opens the captures and replays them beside the script, which was read.
+fn find_behind_script<L: Library>(
+    alloc: Global,
+    journal: bool,
+    captures: &[CaptureWord<'_>],
+    script: L::Reader,
+    bytes: &[u8],
+    library: &mut L,
+) -> Result<Found<L::Reader>, OutOfMemory>
+    requires { (1 ≤ length captures.now) × (length captures.now ≤ 16) }
+    ensures writable { IfOk result (λ found. IsWritable found.result) }
+    ensures finds { IfOk result (λ found. FindsBehind L.pairs L.faults L.refused L.Reader.left L.Reader.faults
+        journal (map capture_names captures.now) library.old library.new script bytes.now
+        found.result found.sources.items) }
+{
+    match open_captures(alloc, captures, library)? {
+        CaptureOpenings::Refused(name, opened) => Ok(Found {
+            result: RunResult::Unread(name),
+            sources: with_script(script, into_sources(alloc, opened)?)?,
+        }),
+        CaptureOpenings::All(opened) => replay_opened(alloc, journal, script, bytes, opened),
+    }
+}
+
+/// Opens and reads what the words name, 1 to 16 captures beside a script, and replays it.
+pub(crate) fn replay_files<L: Library>(
+    alloc: Global,
+    journal: bool,
+    script: &[u8],
+    captures: &[CaptureWord<'_>],
+    library: &mut L,
+) -> Result<Found<L::Reader>, OutOfMemory>
+    requires { (1 ≤ length captures.now) × (length captures.now ≤ 16) }
+    ensures writable { IfOk result (λ found. IsWritable found.result) }
+    ensures finds { IfOk result (λ found. FindsReplay L.pairs L.faults L.refused L.Reader.left L.Reader.faults
+        (record { journal = journal; script = script.now; captures = map capture_names captures.now })
+        library.old library.new found.result found.sources.items) }
+{
+    let name = Name::new(alloc, script)?;
+    match read_script_source(alloc, &name, library)? {
+        ScriptSource::Refused => Ok(Found {
+            result: RunResult::Unread(name),
+            sources: Vec::new(alloc),
+        }),
+        ScriptSource::Broken(script) => Ok(Found {
+            result: RunResult::Unread(name),
+            sources: with_script(script, Vec::new(alloc))?,
+        }),
+        ScriptSource::Read(script, bytes) => {
+            find_behind_script(alloc, journal, captures, script, &bytes, library)
+        }
+    }
+}

@@ -1,0 +1,251 @@
+ghost use Rattle.std.specs.Prelude.{◌≡◌, IfOk, IsTrue, [], ◌∷◌};
+ghost use Rattle.fw_rule.specs.FlowName.{IsFlowName};
+ghost use Rattle.fw_rule.specs.WellFormed.{IsBody, IsItem, IsKey, IsNumber, IsTableCommand, IsTest, IsWellFormed};
+ghost use Rattle.rule_chain.specs.Changing.{IsChanging, changes_table};
+ghost use Rattle.std.specs.List.{AllByRecursion};
+
+use fw_base::{Addr, Name, Prefix};
+use fw_rule::{
+    Action, AddrItem, AddrSpec, Body, Command, Family, Field, Items, Key, Opt, RuleDraft, Setting,
+    StateOpt, TableCommand, TableType, Test,
+};
+use std::alloc::{AllocError, Global};
+use std::test::Fail;
+
+/// A command of a test. A table's name is one letter.
+#[derive(Clone, Copy)]
+pub enum Step {
+    /// `add NUMBER set SET count ip from any to any`
+    Add(u16, u8),
+    /// `add NUMBER count ip from table(FIRST) to any lookup dst-port SECOND`
+    Lookup(u16, u8, u8),
+    Delete(u16, u16),
+    DeleteSet(u8),
+    Flush,
+    Zero(u16, u16),
+    ZeroAll,
+    Mask(u32, u32),
+    MoveSet(u8, u8),
+    MoveRule(u16, u8),
+    Swap(u8, u8),
+    Create(u8, TableType),
+    Destroy(u8),
+    /// Adds 10.0.0.0 of that length, with the length as its value.
+    AddNet(u8, u8),
+    AddNumber(u8, u32),
+    RemoveNet(u8, u8),
+    Clear(u8),
+    SwapTables(u8, u8),
+    Local(u32, u32),
+    Most(u32),
+    KeepStates(bool),
+    /// `add check-state :nNAME`, the name's second byte being this one
+    Check(u8),
+    /// `add count ip from any to any keep-state :nNAME`
+    Keep(u8),
+}
+
+fn one<T: Drop>(alloc: Global, item: T) -> Result<Items<T>, AllocError>
+    ensures { IfOk result (λ items. items ≡ item ∷ []) }
+{
+    let mut items = Vec::new(alloc);
+    items.push(item)?;
+    Ok(Items::from_vec(items))
+}
+
+pub fn letter(alloc: Global, byte: u8) -> Result<Name, Fail> {
+    Ok(Name::new(alloc, &[byte])?)
+}
+
+fn spec(alloc: Global, item: AddrItem) -> Result<AddrSpec, Fail>
+    ensures { IfOk result (λ spec. spec.items ≡ item ∷ []) }
+{
+    Ok(AddrSpec {
+        negated: false,
+        items: one(alloc, item)?,
+    })
+}
+
+/// `ip from SOURCE to any OPTIONS`
+fn body(alloc: Global, source: AddrItem, options: Items<Opt>) -> Result<Body, Fail>
+    requires source { IsItem source }
+    requires options { AllByRecursion (λ option. IsTest option.test) options }
+    ensures { IfOk result (λ body. IsBody body) }
+{
+    Ok(Body {
+        family: Family::AnyIp,
+        protocol: 0,
+        source: spec(alloc, source)?,
+        source_ports: None,
+        destination: spec(alloc, AddrItem::Any)?,
+        destination_ports: None,
+        options,
+        state: None,
+        state_at: 0,
+    })
+}
+
+fn add(alloc: Global, number: u16, set: u8) -> Result<Command, Fail>
+    ensures formed { IfOk result (λ command. IsWellFormed command) }
+    ensures changing { IfOk result (λ command. IsChanging command) }
+{
+    let body = body(alloc, AddrItem::Any, Items::from_vec(Vec::new(alloc)))?;
+    Ok(Command::Add(RuleDraft {
+        number: Some(number),
+        set: set.min(31),
+        action: Action::Count,
+        log: None,
+        body: Some(body),
+    }))
+}
+
+fn lookup(alloc: Global, number: u16, first: u8, second: u8) -> Result<Command, Fail>
+    ensures formed { IfOk result (λ command. IsWellFormed command) }
+    ensures changing { IfOk result (λ command. IsChanging command) }
+{
+    let option = Opt {
+        negated: false,
+        test: Test::Lookup(Field::DstPort, letter(alloc, second)?),
+    };
+    let options = one(alloc, option)?;
+    let body = body(alloc, AddrItem::InTable(letter(alloc, first)?), options)?;
+    Ok(Command::Add(RuleDraft {
+        number: Some(number),
+        set: 0,
+        action: Action::Count,
+        log: None,
+        body: Some(body),
+    }))
+}
+
+/// The flow name of `n` and this byte.
+fn flow(alloc: Global, byte: u8) -> Result<Name, Fail>
+    ensures { IfOk result (λ name. IsFlowName name) }
+{
+    Ok(Name::new(alloc, &[b'n', byte])?)
+}
+
+fn check_state(alloc: Global, name: u8) -> Result<Command, Fail>
+    ensures formed { IfOk result (λ command. IsWellFormed command) }
+    ensures changing { IfOk result (λ command. IsChanging command) }
+{
+    Ok(Command::Add(RuleDraft {
+        number: None,
+        set: 0,
+        action: Action::CheckState(Some(flow(alloc, name)?)),
+        log: None,
+        body: None,
+    }))
+}
+
+fn keep_state(alloc: Global, name: u8) -> Result<Command, Fail>
+    ensures formed { IfOk result (λ command. IsWellFormed command) }
+    ensures changing { IfOk result (λ command. IsChanging command) }
+{
+    let mut kept = body(alloc, AddrItem::Any, Items::from_vec(Vec::new(alloc)))?;
+    kept.state = Some(StateOpt::Keep(flow(alloc, name)?));
+    Ok(Command::Add(RuleDraft {
+        number: None,
+        set: 0,
+        action: Action::Count,
+        log: None,
+        body: Some(kept),
+    }))
+}
+
+fn two(alloc: Global, first: u16, second: u16) -> Result<Items<u16>, AllocError>
+    ensures { IfOk result (λ numbers. AllByRecursion IsNumber numbers) }
+{
+    let numbers = [first.max(1), second.max(1)];
+    Ok(Items::from_vec(Vec::from_slice(alloc, numbers.as_slice())?))
+}
+
+fn on_table(alloc: Global, name: u8, command: TableCommand) -> Result<Command, Fail>
+    requires formed { IsTableCommand command }
+    requires changing { IsTrue (changes_table command) }
+    ensures formed { IfOk result (λ made. IsWellFormed made) }
+    ensures changing { IfOk result (λ made. IsChanging made) }
+{
+    Ok(Command::Table(letter(alloc, name)?, command))
+}
+
+/// 10.0.0.0 of that length.
+fn net(length: u8) -> Result<Key, Fail>
+    ensures { IfOk result (λ key. IsKey key) }
+{
+    match Prefix::new(Addr(0x0a00_0000), length) {
+        Some(prefix) => Ok(Key::Net(prefix)),
+        None => Err("a length")?,
+    }
+}
+
+/// The command of a step on rules.
+fn rule_command(alloc: Global, step: Step) -> Result<Command, Fail>
+    ensures formed { IfOk result (λ command. IsWellFormed command) }
+    ensures changing { IfOk result (λ command. IsChanging command) }
+{
+    match step {
+        Step::Add(number, set) => add(alloc, number, set),
+        Step::Lookup(number, first, second) => lookup(alloc, number, first, second),
+        Step::Delete(first, second) => Ok(Command::Delete(two(alloc, first, second)?)),
+        Step::DeleteSet(set) => Ok(Command::DeleteSet(set.min(31))),
+        Step::Zero(first, second) => Ok(Command::Zero(two(alloc, first, second)?)),
+        Step::ZeroAll => Ok(Command::Zero(Items::from_vec(Vec::new(alloc)))),
+        Step::Mask(disable, enable) => Ok(Command::SetMask { disable, enable }),
+        Step::MoveSet(from, to) => Ok(Command::MoveSet {
+            from: from.min(31),
+            to: to.min(31),
+        }),
+        Step::MoveRule(number, to) => Ok(Command::MoveRule {
+            number: number.max(1),
+            to: to.min(31),
+        }),
+        Step::Swap(first, second) => Ok(Command::SwapSets {
+            first: first.min(31),
+            second: second.min(31),
+        }),
+        _ => Ok(Command::Flush),
+    }
+}
+
+/// The command of the step.
+pub fn command_of(alloc: Global, step: Step) -> Result<Command, Fail>
+    ensures formed { IfOk result (λ command. IsWellFormed command) }
+    ensures changing { IfOk result (λ command. IsChanging command) }
+{
+    match step {
+        Step::Create(name, kind) => on_table(alloc, name, TableCommand::Create(kind)),
+        Step::Destroy(name) => on_table(alloc, name, TableCommand::Destroy),
+        Step::AddNet(name, length) => {
+            on_table(
+                alloc,
+                name,
+                TableCommand::Add(net(length)?, u32::from(length)),
+            )
+        }
+        Step::AddNumber(name, number) => {
+            on_table(alloc, name, TableCommand::Add(Key::Number(number), 7))
+        }
+        Step::RemoveNet(name, length) => on_table(alloc, name, TableCommand::Remove(net(length)?)),
+        Step::Clear(name) => on_table(alloc, name, TableCommand::Clear),
+        Step::SwapTables(name, other) => {
+            on_table(alloc, name, TableCommand::SwapWith(letter(alloc, other)?))
+        }
+        Step::Local(first, second) => {
+            let addresses = [Addr(first), Addr(second)];
+            let addresses = Vec::from_slice(alloc, addresses.as_slice())?;
+            Ok(Command::Local(Items::from_vec(addresses)))
+        }
+        Step::Most(value) => Ok(Command::Sysctl {
+            setting: Setting::Max,
+            value: value.max(1).min(16384),
+        }),
+        Step::KeepStates(keep) => Ok(Command::Sysctl {
+            setting: Setting::Keep,
+            value: u32::from(keep),
+        }),
+        Step::Check(name) => check_state(alloc, name),
+        Step::Keep(name) => keep_state(alloc, name),
+        _ => rule_command(alloc, step),
+    }
+}

@@ -1,0 +1,124 @@
+-- What each step of a replay keeps.
+use Rattle.std.proofs.Common.{◌≡◌, ℕ, Option, None, List, [], ◌∷◌, ◌++◌, map, length, sym, ap, subst, ◌∙◌, arith}
+use Rattle.std.specs.Option.{option_map}
+use Rattle.serial_replay.specs.declared.live_world.LiveWorld.{LiveWorld}
+use Rattle.std.specs.List.{AllByRecursion}
+use Rattle.fw_command.specs.WellFormed.{IsStep, IsLine}
+use Rattle.fw_command.specs.declared.line.Line.{Line}
+use Rattle.fw_command.specs.declared.step.Step.{Step}
+use Rattle.fw_command.specs.declared.step.Step.TheVariants.{Run}
+use Rattle.pcap_read.specs.Reading.{Captured}
+use Rattle.serial_replay.specs.Commands.{after_line, after_lines}
+use Rattle.serial_replay.specs.Events.{ReplaysAll}
+use Rattle.serial_replay.specs.Live.{state_of, IsSound, IsLive, RunsALine}
+use Rattle.serial_replay.specs.Running.{IsReady, Keeps, HaveTracks, inputs_of, first_of}
+use Rattle.serial_replay.specs.Tracks.{AreTracks, held_of, rooms_of}
+use Rattle.serial_replay.specs.declared.running.Running.{Running}
+use Rattle.serial_schedule.specs.Agenda.{all_lines, AreLast, GivesDue, NoneIsDue, GivesRest, NoneIsLeft}
+use Rattle.serial_schedule.specs.Order.{in_order, next_of, next_moment, first_capture, moment_of}
+use Rattle.serial_schedule.specs.Schedule.{Ran, events_from}
+use Rattle.serial_schedule.specs.Steps.{steps_of}
+use Rattle.serial_schedule.proofs.Events.{events-due, events-settled, events-ended, events-none, events-rest}
+use Rattle.serial_schedule.proofs.Turns.{moments-heads}
+
+all-behind : {X : Type 0} (P : X → Type 0) (xs ys : List X) → AllByRecursion P (xs ++ ys) → AllByRecursion P ys
+all-behind P [] ys all = all
+all-behind P (x ∷ xs) ys all = all-behind P xs ys all.1
+
+pub formed-last : (old new : List Step) → AreLast new old → AllByRecursion IsStep old → AllByRecursion IsStep new
+formed-last old new (passed, is) all = all-behind IsStep passed new (subst (λ steps. AllByRecursion IsStep steps) is all)
+
+module _ {S : Type 0} (left : S → Option (List ℕ)) (faults : S → ℕ) where
+  pub keeps-none : (run : Running S) → IsReady left faults run → Keeps left faults run run
+  keeps-none run ready = record { ready = ready; goes = λ config steps limit captures origins first goes. goes }
+
+  pub keeps-both : (a b c : Running S) → Keeps left faults a b → Keeps left faults b c → Keeps left faults a c
+  keeps-both a b c h k = record { ready = k.ready; goes = λ config steps limit captures origins first goes. k.goes config steps limit captures origins first (h.goes config steps limit captures origins first goes) }
+
+  -- a line ran
+  keeps-line : (old new : Running S) (line : Line) → IsReady left faults old → RunsALine old.live new.live line → all_lines (steps_of old.agenda) ≡ line ∷ all_lines (steps_of new.agenda) → AreLast (Run line ∷ steps_of new.agenda) (steps_of old.agenda)
+      → ((rests : List (List Captured)) → map next_of rests ≡ map held_of old.tracks → events_from old.taken (steps_of old.agenda) (in_order rests) ≡ Ran line ∷ events_from new.taken (steps_of new.agenda) (in_order rests))
+      → new.tracks ≡ old.tracks → new.taken ≡ old.taken → Keeps left faults old new
+  unfolding after_lines
+  keeps-line old new line ready runs lines last events tracks taken = record {
+    ready = record {
+      sound = runs.sound ready.sound;
+      formed = (formed-last (steps_of old.agenda) (Run line ∷ steps_of new.agenda) last ready.formed).1;
+      matched = runs.lanes ∙ ready.matched ∙ sym (ap length tracks);
+      tracked = subst (HaveTracks left faults) (sym tracks) ready.tracked;
+      few = let rooms : rooms_of new.tracks ≡ rooms_of old.tracks = ap rooms_of tracks in omega (arith, ready.few, rooms, taken);
+    };
+    goes = λ config steps limit captures origins first h. record {
+      dones = h.dones;
+      standing = after_line h.standing line;
+      tracks = subst (λ ts. AreTracks left faults limit captures ts h.dones origins) (sym tracks) h.tracks;
+      live = runs.live config (inputs_of origins h.dones) h.standing h.live;
+      lines = sym (ap (after_lines h.standing) lines) ∙ h.lines;
+      comes = λ rests end fits all.
+          let fitting : map next_of rests ≡ map held_of old.tracks = fits ∙ ap (map held_of) tracks in
+          h.comes rests end fitting (subst (λ events. ReplaysAll origins (state_of old.live) end events) (sym (events rests fitting)) (state_of new.live, runs.runs, all));
+    };
+  }
+
+  -- a line that was due ran
+  pub keeps-due : (old new : Running S) (line : Line) → IsReady left faults old → RunsALine old.live new.live line → GivesDue old.taken (steps_of old.agenda) line (steps_of new.agenda) → new.tracks ≡ old.tracks → new.taken ≡ old.taken → Keeps left faults old new
+  keeps-due old new line ready runs gives tracks taken =
+      keeps-line old new line ready runs gives.all gives.last (λ rests fits. events-due old.taken (steps_of old.agenda) line (steps_of new.agenda) (in_order rests) gives ∙ ap (λ n. Ran line ∷ events_from n (steps_of new.agenda) (in_order rests)) (sym taken)) tracks taken
+
+  -- only steps were passed over
+  keeps-same : (old new : Running S) → IsReady left faults old → all_lines (steps_of old.agenda) ≡ all_lines (steps_of new.agenda) → AllByRecursion IsStep (steps_of new.agenda)
+      → ((rests : List (List Captured)) → map next_of rests ≡ map held_of old.tracks → events_from old.taken (steps_of old.agenda) (in_order rests) ≡ events_from old.taken (steps_of new.agenda) (in_order rests))
+      → new.live ≡ old.live → new.tracks ≡ old.tracks → new.taken ≡ old.taken → Keeps left faults old new
+  keeps-same old new ready lines formed events live tracks taken = record {
+    ready = record {
+      sound = subst IsSound (sym live) ready.sound;
+      formed = formed;
+      matched = ap (λ (l : LiveWorld). length l.lanes.items) live ∙ ready.matched ∙ sym (ap length tracks);
+      tracked = subst (HaveTracks left faults) (sym tracks) ready.tracked;
+      few = let rooms : rooms_of new.tracks ≡ rooms_of old.tracks = ap rooms_of tracks in omega (arith, ready.few, rooms, taken);
+    };
+    goes = λ config steps limit captures origins first h. record {
+      dones = h.dones;
+      standing = h.standing;
+      tracks = subst (λ ts. AreTracks left faults limit captures ts h.dones origins) (sym tracks) h.tracks;
+      live = subst (IsLive config (inputs_of origins h.dones) h.standing) (sym live) h.live;
+      lines = sym (ap (after_lines h.standing) lines) ∙ h.lines;
+      comes = λ rests end fits all.
+          let fitting : map next_of rests ≡ map held_of old.tracks = fits ∙ ap (map held_of) tracks in
+          let here = subst (λ l. ReplaysAll origins (state_of l) end (events_from new.taken (steps_of new.agenda) (in_order rests))) live all in
+          let then_taken = subst (λ n. ReplaysAll origins (state_of old.live) end (events_from n (steps_of new.agenda) (in_order rests))) taken here in
+          h.comes rests end fitting (subst (λ events. ReplaysAll origins (state_of old.live) end events) (sym (events rests fitting)) then_taken);
+    };
+  }
+
+  -- none is due: the steps that wait are left
+  pub keeps-settled : (old new : Running S) → IsReady left faults old → NoneIsDue old.taken (steps_of old.agenda) (steps_of new.agenda) → new.live ≡ old.live → new.tracks ≡ old.tracks → new.taken ≡ old.taken → Keeps left faults old new
+  keeps-settled old new ready none live tracks taken =
+      keeps-same old new ready none.all (formed-last (steps_of old.agenda) (steps_of new.agenda) none.last ready.formed) (λ rests fits. events-settled old.taken (steps_of old.agenda) (steps_of new.agenda) (in_order rests) none) live tracks taken
+
+  -- the moments of rests that fit are those of what is held
+  pub none_of_rests : (rests : List (List Captured)) (held : List (Option Captured)) → map next_of rests ≡ held → first_capture (map (option_map moment_of) held) ≡ None → first_capture (map next_moment rests) ≡ None
+  none_of_rests rests held fits none = ap first_capture (moments-heads rests) ∙ ap (λ h. first_capture (map (option_map moment_of) h)) fits ∙ none
+
+  -- no step is left
+  pub keeps-ended : (old new : Running S) → IsReady left faults old → first_of old.tracks ≡ None → NoneIsLeft (steps_of old.agenda) (steps_of new.agenda) → new.live ≡ old.live → new.tracks ≡ old.tracks → new.taken ≡ old.taken → Keeps left faults old new
+  keeps-ended old new ready none nothing live tracks taken =
+      let no_lines : all_lines (steps_of new.agenda) ≡ [] = ap all_lines nothing.steps in
+      keeps-same old new ready (nothing.all ∙ sym no_lines) (subst (λ steps. AllByRecursion IsStep steps) (sym nothing.steps) tt) (λ rests fits.
+      let first = none_of_rests rests (map held_of old.tracks) fits none in
+      events-ended old.taken (steps_of old.agenda) rests first ∙ events-none old.taken (steps_of old.agenda) nothing.all
+      ∙ sym (events-ended old.taken (steps_of new.agenda) rests first ∙ events-none old.taken (steps_of new.agenda) no_lines)) live tracks taken
+
+  -- a line ran where no capture has a record left
+  pub keeps-left : (old new : Running S) (line : Line) → IsReady left faults old → first_of old.tracks ≡ None → RunsALine old.live new.live line → GivesRest (steps_of old.agenda) line (steps_of new.agenda) → new.tracks ≡ old.tracks → new.taken ≡ old.taken → Keeps left faults old new
+  keeps-left old new line ready none runs gives tracks taken =
+      keeps-line old new line ready runs gives.all gives.last (λ rests fits.
+      let first = none_of_rests rests (map held_of old.tracks) fits none in
+      events-ended old.taken (steps_of old.agenda) rests first
+      ∙ events-rest old.taken (steps_of old.agenda) line (steps_of new.agenda) gives
+      ∙ ap (λ n. Ran line ∷ events_from n (steps_of new.agenda) []) (sym taken)
+      ∙ ap (λ events. Ran line ∷ events) (sym (events-ended new.taken (steps_of new.agenda) rests first))) tracks taken
+
+-- a line that is given is well formed
+pub line-formed : (old new : List Step) (line : Line) → AreLast (Run line ∷ new) old → AllByRecursion IsStep old → IsLine line
+line-formed old new line last all = (formed-last old (Run line ∷ new) last all).0

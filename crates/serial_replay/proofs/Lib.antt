@@ -1,0 +1,10 @@
+pub mod TrackSteps
+pub mod Beginnings
+pub mod TrackLists
+pub mod Lines
+pub mod Listed
+pub mod Records
+pub mod Keeping
+pub mod TakenRecord
+pub mod Ended
+pub mod Whole

@@ -1,0 +1,196 @@
+-- A record of a lane that was replayed: what becomes of the world and the lanes.
+use Rattle.std.proofs.Common.{◌≡◌, ◌≢◌, ℕ, zero, suc, ◌+◌, ◌<◌, ◌≤◌, Some, List, [], ◌∷◌, ◌++◌, length, refl, sym, ap, subst, ◌∙◌, arith, get_or}
+use Rattle.std.specs.Prelude.{slice_get, slice_set, IfSome, All}
+use Rattle.fw_world.specs.Sections.{judged_editions}
+use Rattle.std.specs.List.{AllByRecursion}
+use Rattle.std.proofs.lemmas.Option.{slice_get_read}
+use Rattle.eval_engine.specs.declared.docket_entry.DocketEntry.{DocketEntry}
+use Rattle.eval_engine.specs.declared.judgement.Judgement.{Judgement}
+use Rattle.fw_base.specs.declared.port.Port.{Port}
+use Rattle.ip6_headers.specs.declared.any_ip.AnyIp.{AnyIp}
+use Rattle.state_journal.specs.Items.{asks_of}
+use Rattle.fw_world.specs.Asks.{asks_in}
+use Rattle.fw_world.specs.Closing.{AreLanesFrom, EachStandsFor}
+use Rattle.fw_world.specs.Editions.{IsLastOf}
+use Rattle.fw_world.specs.Inputs.{Input, Packet}
+use Rattle.fw_world.specs.Lane.{LaneValue, with_entry}
+use Rattle.fw_world.specs.Legal.{lane_asks, StandFor}
+use Rattle.fw_world.specs.Steps.{Judges, ChangesAsksOf}
+use Rattle.fw_world.specs.World.{WorldValue, published, IsLaneOf, LaneStandsFor, DeskStandsFor}
+use Rattle.rule_chain.specs.Configuration.{Configuration}
+use Rattle.serial_replay.specs.Commands.{Standing}
+use Rattle.serial_replay.specs.Events.{EntersAt, ReplaysInput, judged_lane}
+use Rattle.serial_replay.specs.Live.{state_of, IsClean, IsSound, IsLive, with_input, ReplaysARecord}
+use Rattle.serial_replay.specs.declared.live_world.LiveWorld.{LiveWorld}
+
+of-other : (place : ℕ) (old new : WorldValue) (lane : LaneValue) → ChangesAsksOf place old new → IsLaneOf old lane → IsLaneOf new lane
+of-other place old new lane changes h =
+    let same : published new ≡ published old = ap length changes.editions in
+    record {
+      first = h.first;
+      last = omega (arith, h.last, changes.lanes);
+      held = omega (arith, h.held, same);
+      heard = subst (λ n. IfSome lane.refusal (λ number. number ≤ n)) (sym same) h.heard;
+      judged = subst (λ n. All (λ number. number ≤ n) (judged_editions lane.docket.entries)) (sym same) h.judged;
+    }
+
+stands-other : (place : ℕ) (old new : WorldValue) (lane : LaneValue) (own : List Input) → ChangesAsksOf place old new → lane.place ≢ place → LaneStandsFor old lane own → LaneStandsFor new lane own
+stands-other place old new lane own changes other h =
+    let asks : lane_asks lane.place old.journal.entries ≡ lane_asks lane.place new.journal.entries = ap asks_in (sym (changes.others lane.place other)) in
+    subst (λ editions. StandFor editions (lane_asks lane.place new.journal.entries) lane.docket lane.tally own) (sym changes.editions)
+    (subst (λ a. StandFor old.editions a lane.docket lane.tally own) asks h)
+
+-- the lane at a place
+pub lane-at : (world : WorldValue) (place : ℕ) (lanes : List LaneValue) (k : ℕ) (lane : LaneValue) → AreLanesFrom world place lanes → slice_get lanes k ≡ Some lane → (lane.place ≡ place + k) × IsLaneOf world lane
+lane-at world place [] k lane are at = cc
+lane-at world place (first ∷ lanes) zero lane are at =
+    let same : first ≡ lane = cc in
+    (sym (ap (λ (l : LaneValue). l.place) same) ∙ are.0 ∙ omega arith, subst (IsLaneOf world) same are.1)
+lane-at world place (first ∷ lanes) (suc k) lane are at = let rest = lane-at world (place + 1) lanes k lane are.2 at in (rest.0 ∙ omega arith, rest.1)
+
+pub all-at : {X : Type 0} (P : X → Type 0) (xs : List X) (k : ℕ) (x : X) → AllByRecursion P xs → slice_get xs k ≡ Some x → P x
+all-at P [] k x all at = cc
+all-at P (y ∷ xs) zero x all at = let same : y ≡ x = cc in subst P same all.0
+all-at P (y ∷ xs) (suc k) x all at = all-at P xs k x all.1 at
+
+all-set : {X : Type 0} (P : X → Type 0) (xs : List X) (k : ℕ) (x : X) → AllByRecursion P xs → P x → AllByRecursion P (slice_set xs k x)
+all-set P [] k x all one = tt
+all-set P (y ∷ xs) zero x all one = (one, all.1)
+all-set P (y ∷ xs) (suc k) x all one = (all.0, all-set P xs k x all.1 one)
+
+lanes-other : (at : ℕ) (old new : WorldValue) (place : ℕ) (lanes : List LaneValue) → ChangesAsksOf at old new → AreLanesFrom old place lanes → AreLanesFrom new place lanes
+lanes-other at old new place [] changes are = tt
+lanes-other at old new place (lane ∷ lanes) changes are = (are.0, of-other at old new lane changes are.1, lanes-other at old new (place + 1) lanes changes are.2)
+
+lanes-set : (at : ℕ) (old new : WorldValue) (place : ℕ) (lanes : List LaneValue) (k : ℕ) (after : LaneValue) → ChangesAsksOf at old new → after.place ≡ place + k → IsLaneOf new after → AreLanesFrom old place lanes → AreLanesFrom new place (slice_set lanes k after)
+lanes-set at old new place [] k after changes placed of are = tt
+lanes-set at old new place (lane ∷ lanes) zero after changes placed of are = (placed ∙ omega arith, of, lanes-other at old new (place + 1) lanes changes are.2)
+lanes-set at old new place (lane ∷ lanes) (suc k) after changes placed of are =
+    (are.0, of-other at old new lane changes are.1, lanes-set at old new (place + 1) lanes k after changes (placed ∙ omega arith) of are.2)
+
+stand-behind : (at : ℕ) (old new : WorldValue) (place : ℕ) (lanes : List LaneValue) (inputs : List (List Input)) → at < place → ChangesAsksOf at old new → AreLanesFrom old place lanes → EachStandsFor old lanes inputs → EachStandsFor new lanes inputs
+stand-behind at old new place [] [] less changes are stands = tt
+stand-behind at old new place [] (own ∷ inputs) less changes are stands = absurd stands
+stand-behind at old new place (lane ∷ lanes) [] less changes are stands = absurd stands
+stand-behind at old new place (lane ∷ lanes) (own ∷ inputs) less changes are stands =
+    let other : lane.place ≢ at = omega (arith, are.0) in
+    (stands-other at old new lane own changes other stands.0, stand-behind at old new (place + 1) lanes inputs (omega arith) changes are.2 stands.1)
+
+stand-set : (old new : WorldValue) (place : ℕ) (lanes : List LaneValue) (k : ℕ) (lane after : LaneValue) (input : Input) (inputs : List (List Input)) → ChangesAsksOf (place + k) old new → slice_get lanes k ≡ Some lane
+    → ((own : List Input) → LaneStandsFor old lane own → LaneStandsFor new after (own ++ input ∷ [])) → AreLanesFrom old place lanes → EachStandsFor old lanes inputs → EachStandsFor new (slice_set lanes k after) (with_input k input inputs)
+stand-set old new place [] k lane after input inputs changes at one are stands = cc
+stand-set old new place (first ∷ lanes) k lane after input [] changes at one are stands = absurd stands
+stand-set old new place (first ∷ lanes) zero lane after input (own ∷ inputs) changes at one are stands =
+    let same : first ≡ lane = cc in
+    let here : ChangesAsksOf place old new = let e : place + 0 ≡ place = omega arith in subst (λ n. ChangesAsksOf n old new) e changes in
+    (one own (subst (λ l. LaneStandsFor old l own) same stands.0), stand-behind place old new (place + 1) lanes inputs (omega arith) here are.2 stands.1)
+stand-set old new place (first ∷ lanes) (suc k) lane after input (own ∷ inputs) changes at one are stands =
+    let other : first.place ≢ place + suc k = omega (arith, are.0) in
+    let there : ChangesAsksOf (place + 1 + k) old new = let e : place + suc k ≡ place + 1 + k = omega arith in subst (λ n. ChangesAsksOf n old new) e changes in
+    (stands-other (place + suc k) old new first own changes other stands.0, stand-set old new (place + 1) lanes k lane after input inputs there at one are.2 stands.1)
+
+length-set_lanes : (lanes : List LaneValue) (k : ℕ) (after : LaneValue) → length (slice_set lanes k after) ≡ length lanes
+length-set_lanes [] k after = refl
+length-set_lanes (lane ∷ lanes) zero after = refl
+length-set_lanes (lane ∷ lanes) (suc k) after = let rest = length-set_lanes lanes k after in omega arith
+
+-- an input more of the lane at this place
+pub record MeetsInput (k : ℕ) (input : Input) (old new : LiveWorld) (lane after : LaneValue) : Type 0 where
+  pub at : slice_get old.lanes.items k ≡ Some lane
+  pub set : new.lanes.items ≡ slice_set old.lanes.items k after
+  pub asks : ChangesAsksOf lane.place old.world new.world
+  pub of : IsLaneOf new.world after
+  pub place : after.place ≡ lane.place
+  pub clean : IsClean lane → IsClean after
+  pub stands : (own : List Input) → LaneStandsFor old.world lane own → LaneStandsFor new.world after (own ++ input ∷ [])
+  pub desk : new.desk ≡ old.desk
+  pub answers : new.answers.items ≡ old.answers.items
+
+sound-input : (k : ℕ) (input : Input) (old new : LiveWorld) (lane after : LaneValue) → MeetsInput k input old new lane after → IsSound old → IsSound new
+sound-input k input old new lane after h sound =
+    let found = lane-at old.world 1 old.lanes.items k lane sound.lanes h.at in
+    record {
+      desk = h.desk ∙ sound.desk ∙ sym h.asks.editions;
+      lanes = subst (λ lanes. AreLanesFrom new.world 1 lanes) (sym h.set) (lanes-set lane.place old.world new.world 1 old.lanes.items k after h.asks (h.place ∙ found.0) h.of sound.lanes);
+      all = ap length h.set ∙ length-set_lanes old.lanes.items k after ∙ sound.all ∙ sym h.asks.lanes;
+      clean = subst (λ lanes. AllByRecursion IsClean lanes) (sym h.set) (all-set IsClean old.lanes.items k after sound.clean (h.clean (all-at IsClean old.lanes.items k lane sound.clean h.at)));
+    }
+
+pub live-input : (k : ℕ) (input : Input) (old new : LiveWorld) (lane after : LaneValue) → MeetsInput k input old new lane after
+    → (first : Configuration) (inputs : List (List Input)) (standing : Standing) → IsLive first inputs standing old → IsLive first (with_input k input inputs) standing new
+live-input k input old new lane after h first inputs standing live =
+    let found = lane-at old.world 1 old.lanes.items k lane live.sound.lanes h.at in
+    let (edition, last, config) = live.config in
+    record {
+      sound = sound-input k input old new lane after h live.sound;
+      config = (edition, subst (λ editions. IsLastOf editions edition) (sym h.asks.editions) last, config);
+      number = live.number ∙ sym (ap length h.asks.editions);
+      accepted = subst (λ editions. DeskStandsFor editions first standing.accepted) (sym h.desk) live.accepted;
+      answers = h.answers ∙ live.answers;
+      stands = subst (λ lanes. EachStandsFor new.world lanes (with_input k input inputs)) (sym h.set)
+          (stand-set old.world new.world 1 old.lanes.items k lane after input inputs (subst (λ n. ChangesAsksOf n old.world new.world) found.0 h.asks) h.at h.stands live.sound.lanes live.stands);
+    }
+
+-- the lane that a call lends
+pub lane-lent : (live : LiveWorld) (k : ℕ) (lane : LaneValue) → IsSound live → k < length live.lanes.items → lane ≡ get_or live.lanes.items k lane → IsLaneOf live.world lane
+lane-lent live k lane sound within is = (lane-at live.world 1 live.lanes.items k lane sound.lanes (slice_get_read live.lanes.items (length live.lanes.items) k lane refl within is)).1
+
+-- that lane is clean
+pub clean-lent : (live : LiveWorld) (k : ℕ) (lane : LaneValue) → IsSound live → k < length live.lanes.items → lane ≡ get_or live.lanes.items k lane → IsClean lane
+clean-lent live k lane sound within is = all-at IsClean live.lanes.items k lane sound.clean (slice_get_read live.lanes.items (length live.lanes.items) k lane refl within is)
+
+-- a packet was judged
+pub replays-judged : (k : ℕ) (input : Input) (packet : AnyIp) (port : Port) (second : ℕ) (old new : LiveWorld) (lane after : LaneValue) (judgement : Judgement) → Packet packet port second ≡ input → k < length old.lanes.items → lane ≡ get_or old.lanes.items k lane
+    → new.lanes.items ≡ slice_set old.lanes.items k after → new.desk ≡ old.desk → new.answers.items ≡ old.answers.items
+    → Judges old.world new.world lane.place (length lane.docket.entries + 1) packet port second lane.tally after.tally judgement
+    → after ≡ judged_lane (published old.world) judgement after.tally lane
+    → ((own : List Input) → LaneStandsFor old.world lane own → LaneStandsFor new.world after (own ++ Packet packet port second ∷ []))
+    → IsLaneOf new.world after → ChangesAsksOf lane.place old.world new.world → ReplaysARecord k input old new
+replays-judged k input packet port second old new lane after judgement input-is within is set desk answers judges lane-is stands of asks =
+    let at = slice_get_read old.lanes.items (length old.lanes.items) k lane refl within is in
+    let meets : MeetsInput k (Packet packet port second) old new lane after = record {
+      at = at;
+      set = set;
+      asks = asks;
+      of = of;
+      place = ap (λ (l : LaneValue). l.place) lane-is;
+      clean = λ clean. (ap (λ (l : LaneValue). l.refusal) lane-is, ap (λ (l : LaneValue). l.loose) lane-is ∙ clean.1);
+      stands = stands;
+      desk = desk;
+      answers = answers;
+    } in
+    subst (λ i. ReplaysARecord k i old new) input-is (record {
+      replays = record { lane = lane; tally = after.tally; judgement = judgement; judges = judges; changes = (at, set ∙ ap (slice_set old.lanes.items k) lane-is) };
+      sound = sound-input k (Packet packet port second) old new lane after meets;
+      lanes = ap length set ∙ length-set_lanes old.lanes.items k after;
+      live = live-input k (Packet packet port second) old new lane after meets;
+    })
+
+-- an entry was made for a record that isn't judged
+pub replays-entered : (k : ℕ) (input : Input) (entered : DocketEntry) (old new : LiveWorld) (lane after : LaneValue) (met : Input) → met ≡ input → (EntersAt k (state_of old) (state_of new) entered → ReplaysInput k (state_of old) (state_of new) met)
+    → k < length old.lanes.items → lane ≡ get_or old.lanes.items k lane → new.lanes.items ≡ slice_set old.lanes.items k after → new.desk ≡ old.desk → new.answers.items ≡ old.answers.items
+    → new.world ≡ old.world → after ≡ with_entry entered lane
+    → ((own : List Input) → LaneStandsFor old.world lane own → LaneStandsFor old.world after (own ++ met ∷ [])) → IsLaneOf old.world after → ReplaysARecord k input old new
+replays-entered k input entered old new lane after met input-is replays within is set desk answers world lane-is stands of =
+    let at = slice_get_read old.lanes.items (length old.lanes.items) k lane refl within is in
+    let meets : MeetsInput k met old new lane after = record {
+      at = at;
+      set = set;
+      asks = record {
+        editions = ap (λ (w : WorldValue). w.editions) world;
+        lanes = ap (λ (w : WorldValue). w.journal.lanes) world;
+        others = λ n other. ap (λ (w : WorldValue). asks_of n 0 w.journal.entries) world;
+      };
+      of = subst (λ w. IsLaneOf w after) (sym world) of;
+      place = ap (λ (l : LaneValue). l.place) lane-is;
+      clean = λ clean. (ap (λ (l : LaneValue). l.refusal) lane-is ∙ clean.0, ap (λ (l : LaneValue). l.loose) lane-is ∙ clean.1);
+      stands = λ own before. subst (λ w. LaneStandsFor w after (own ++ met ∷ [])) (sym world) (stands own before);
+      desk = desk;
+      answers = answers;
+    } in
+    subst (λ i. ReplaysARecord k i old new) input-is (record {
+      replays = replays (record { lane = lane; world = world; changes = (at, set ∙ ap (slice_set old.lanes.items k) lane-is) });
+      sound = sound-input k met old new lane after meets;
+      lanes = ap length set ∙ length-set_lanes old.lanes.items k after;
+      live = live-input k met old new lane after meets;
+    })

@@ -1,0 +1,210 @@
+-- A whole replay: how it begins, and what it comes to.
+use Rattle.std.proofs.Common.{◌≡◌, ℕ, zero, suc, ◌+◌, ◌*◌, ◌≤◌, Option, List, [], ◌∷◌, map, length, refl, sym, ap, subst, ◌∙◌, arith}
+use Rattle.std.specs.List.{AllByRecursion}
+use Rattle.std.proofs.Math.Nat.{mul-le-mul}
+use Rattle.std.proofs.lemmas.List.{length-map}
+use Rattle.fw_command.specs.WellFormed.{IsStep}
+use Rattle.fw_command.specs.declared.step.Step.{Step}
+use Rattle.fw_world.specs.Closing.{AreLanesFrom, EachStandsFor}
+use Rattle.fw_world.specs.Editions.{IsLastOf}
+use Rattle.fw_world.specs.Lane.{LaneValue, first_lanes}
+use Rattle.fw_world.specs.Legal.{IsLegal, lane_asks, StandFor}
+use Rattle.fw_world.specs.RecordValue.{RecordValue}
+use Rattle.fw_world.specs.World.{WorldValue, published, DeskStandsFor}
+use Rattle.fw_world.specs.WorldKept.{IsOpened}
+use Rattle.generation_store.specs.Published.{Published}
+use Rattle.pcap_read.specs.Reading.{Captured}
+use Rattle.rule_chain.specs.Configuration.{Configuration}
+use Rattle.state_journal.specs.Journal.{Journal, first_journal}
+use Rattle.serial_replay.specs.Commands.{Standing, after_lines, first_standing}
+use Rattle.serial_replay.specs.Events.{ReplaysAll}
+use Rattle.serial_replay.specs.Live.{state_of, IsClean, IsSound}
+use Rattle.serial_replay.specs.Reading as reading
+use Rattle.serial_replay.specs.Reading.{Origin, origin_of, AllRead, track_inputs}
+use Rattle.serial_replay.specs.Replay.{limit_for, outcome_of, IsReplay}
+use Rattle.serial_replay.specs.Running.{inputs_of, joined, IsReady, Goes, Closes, RunsOut}
+use Rattle.serial_replay.specs.Tracks.{AreTracks, BeginAll, held_of, source_at}
+use Rattle.serial_replay.specs.declared.opened_capture.OpenedCapture.{OpenedCapture}
+use Rattle.serial_replay.specs.declared.replayed.Replayed.{Replayed}
+use Rattle.serial_replay.specs.declared.running.Running.{Running}
+use Rattle.serial_replay.specs.declared.track.Track.{Track}
+use Rattle.serial_schedule.specs.Agenda.{all_lines}
+use Rattle.serial_schedule.specs.Order.{in_order, next_of}
+use Rattle.serial_schedule.specs.Schedule.{events_from, schedule}
+use Rattle.serial_schedule.specs.Steps.{steps_of}
+use Rattle.serial_schedule.proofs.Events.{events-ended, events-none}
+use Rattle.serial_schedule.proofs.Turns.{no_records, none_first}
+use Rattle.serial_replay.proofs.Ended.{ended-told, inputs-same, joined-none}
+use Rattle.serial_replay.proofs.Keeping.{none_of_rests}
+
+-- no section of a clean lane is loose
+pub no-loose : (lanes : List LaneValue) → AllByRecursion IsClean lanes → AllByRecursion (λ (lane : LaneValue). lane.loose ≡ 0) lanes
+no-loose [] clean = tt
+no-loose (lane ∷ lanes) clean = (clean.0.1, no-loose lanes clean.1)
+
+lanes-first : (world : WorldValue) (place count total : ℕ) → 1 ≤ place → place + count ≤ total + 1 → world.journal.lanes ≡ total → 1 ≤ published world → AreLanesFrom world place (first_lanes place count)
+lanes-first world place zero total least within lanes some = tt
+lanes-first world place (suc count) total least within lanes some = (
+  refl,
+  record { first = least; last = omega arith; held = some; heard = tt; judged = λ k d less. absurd (omega arith) },
+  lanes-first world (place + 1) count total (omega arith) (omega arith) lanes some,
+)
+
+length-first : (place count : ℕ) → length (first_lanes place count) ≡ count
+length-first place zero = refl
+length-first place (suc count) = let rest = length-first (place + 1) count in omega arith
+
+clean-first : (place count : ℕ) → AllByRecursion IsClean (first_lanes place count)
+clean-first place zero = tt
+clean-first place (suc count) = ((refl, refl), clean-first (place + 1) count)
+
+stands-none : (editions : List Published) → StandFor editions [] (record { entries = []; refused = 0 }) [] []
+stands-none editions = record {
+  entered = tt;
+  evaluated = tt;
+  tallied = λ id. refl;
+  asked = record { ordered = λ i j d order within. absurd (omega arith); numbered = tt; entered = tt };
+}
+
+stands-first : {S : Type 0} (world : WorldValue) (place count : ℕ) (origins : List Origin) (tracks : List (Track S)) → ((k : ℕ) → lane_asks k world.journal.entries ≡ []) → length origins ≡ count → length tracks ≡ count
+    → EachStandsFor world (first_lanes place count) (inputs_of origins (map (λ (track : Track S). []) tracks))
+stands-first world place zero [] [] asks a b = tt
+stands-first world place zero (origin ∷ origins) tracks asks a b = absurd (omega arith)
+stands-first world place zero [] (track ∷ tracks) asks a b = absurd (omega arith)
+stands-first world place (suc count) [] tracks asks a b = absurd (omega arith)
+stands-first world place (suc count) (origin ∷ origins) [] asks a b = absurd (omega arith)
+stands-first world place (suc count) (origin ∷ origins) (track ∷ tracks) asks a b =
+    (subst (λ own. StandFor world.editions own (record { entries = []; refused = 0 }) [] []) (sym (asks place)) (stands-none world.editions), stands-first world (place + 1) count origins tracks asks (omega arith) (omega arith))
+
+joined-first : {S : Type 0} (tracks : List (Track S)) (rests : List (List Captured)) → map next_of rests ≡ map held_of tracks → joined (map (λ (track : Track S). []) tracks) rests ≡ rests
+joined-first [] [] fits = refl
+joined-first [] (rest ∷ rests) fits = cc
+joined-first (track ∷ tracks) [] fits = cc
+joined-first (track ∷ tracks) (rest ∷ rests) fits = let others : map next_of rests ≡ map held_of tracks = cc in ap (λ more. rest ∷ more) (joined-first tracks rests others)
+
+module _ {S : Type 0} (left : S → Option (List ℕ)) (faults : S → ℕ) where
+  lengths : (limit : ℕ) (captures : List (OpenedCapture S)) (tracks : List (Track S)) (dones : List (List Captured)) (origins : List Origin) → AreTracks left faults limit captures tracks dones origins → (length tracks ≡ length captures) × (length origins ≡ length captures)
+  lengths limit [] [] [] [] are = (refl, refl)
+  lengths limit [] [] [] (origin ∷ origins) are = absurd are
+  lengths limit [] [] (done ∷ dones) origins are = absurd are
+  lengths limit [] (track ∷ tracks) dones origins are = absurd are
+  lengths limit (opened ∷ captures) [] dones origins are = absurd are
+  lengths limit (opened ∷ captures) (track ∷ tracks) [] origins are = absurd are
+  lengths limit (opened ∷ captures) (track ∷ tracks) (done ∷ dones) [] are = absurd are
+  lengths limit (opened ∷ captures) (track ∷ tracks) (done ∷ dones) (origin ∷ origins) are = let rest = lengths limit captures tracks dones origins are.2 in (omega arith, omega arith)
+
+  -- A replay that begins.
+  pub record Starts (config : Configuration) (steps : List Step) (limit : ℕ) (captures : List (OpenedCapture S)) (run : Running S) : Type 0 where
+    pub count : ℕ
+    pub opened : IsOpened config count run.live.world
+    pub lanes : run.live.lanes.items ≡ first_lanes 1 count
+    pub desk : run.live.desk ≡ run.live.world.editions
+    pub answers : run.live.answers.items ≡ []
+    pub tracks : BeginAll left faults limit captures run.tracks
+    pub agenda : steps_of run.agenda ≡ steps
+    pub taken : run.taken ≡ 0
+    pub counted : count ≡ length captures
+    pub few : (count ≤ 16) × (limit ≤ 4194304)
+    pub formed : AllByRecursion IsStep steps
+
+  starts-sound : (config : Configuration) (steps : List Step) (limit : ℕ) (captures : List (OpenedCapture S)) (run : Running S) → Starts config steps limit captures run → IsSound run.live
+  starts-sound config steps limit captures run h =
+      let lanes : run.live.world.journal.lanes ≡ h.count = ap (λ (j : Journal). j.lanes) h.opened.journal in
+      let one : published run.live.world ≡ 1 = ap length h.opened.editions in
+      record {
+        desk = h.desk;
+        lanes = subst (λ l. AreLanesFrom run.live.world 1 l) (sym h.lanes) (lanes-first run.live.world 1 h.count h.count (omega arith) (omega arith) lanes (omega arith));
+        all = ap length h.lanes ∙ length-first 1 h.count ∙ sym lanes;
+        clean = subst (λ l. AllByRecursion IsClean l) (sym h.lanes) (clean-first 1 h.count);
+      }
+
+  pub starts-ready : (config : Configuration) (steps : List Step) (limit : ℕ) (captures : List (OpenedCapture S)) (run : Running S) → Starts config steps limit captures run → IsReady left faults run
+  starts-ready config steps limit captures run h =
+      let same = lengths limit captures run.tracks (map (λ (track : Track S). []) run.tracks) h.tracks.origins h.tracks.begun in
+      record {
+        sound = starts-sound config steps limit captures run h;
+        formed = subst (λ s. AllByRecursion IsStep s) (sym h.agenda) h.formed;
+        matched = ap length h.lanes ∙ length-first 1 h.count ∙ h.counted ∙ sym same.0;
+        tracked = record { limit = limit; captures = captures; dones = map (λ (track : Track S). []) run.tracks; origins = h.tracks.origins; are = h.tracks.begun };
+        few =
+            let most : length run.tracks ≤ 16 = omega (arith, same.0, h.counted, h.few.0) in
+            let product : limit * length run.tracks ≤ 4194304 * 16 = mul-le-mul h.few.1 most in
+            omega (arith, product, h.tracks.room, h.taken);
+      }
+
+  starts-goes : (config : Configuration) (steps : List Step) (limit : ℕ) (captures : List (OpenedCapture S)) (run : Running S) → (h : Starts config steps limit captures run) → Goes left faults config steps limit captures h.tracks.origins (state_of run.live) run
+  starts-goes config steps limit captures run h =
+      let same = lengths limit captures run.tracks (map (λ (track : Track S). []) run.tracks) h.tracks.origins h.tracks.begun in
+      let asks : (k : ℕ) → lane_asks k run.live.world.journal.entries ≡ [] = λ k. ap (λ (j : Journal). lane_asks k j.entries) h.opened.journal in
+      record {
+        dones = map (λ (track : Track S). []) run.tracks;
+        standing = first_standing config;
+        tracks = h.tracks.begun;
+        live = record {
+          sound = starts-sound config steps limit captures run h;
+          config = (h.opened.edition, subst (λ editions. IsLastOf editions h.opened.edition) (sym h.opened.editions) refl, h.opened.built.configured);
+          number = sym (ap length h.opened.editions);
+          accepted = subst (λ editions. DeskStandsFor editions config []) (sym (h.desk ∙ h.opened.editions)) h.opened.built;
+          answers = h.answers;
+          stands = subst (λ l. EachStandsFor run.live.world l (inputs_of h.tracks.origins (map (λ (track : Track S). []) run.tracks))) (sym h.lanes)
+              (stands-first run.live.world 1 h.count h.tracks.origins run.tracks asks (same.1 ∙ sym h.counted) (same.0 ∙ sym h.counted));
+        };
+        lines = ap (λ s. after_lines (first_standing config) (all_lines s)) h.agenda;
+        comes = λ rests last fits all.
+            let from_first = subst (λ n. ReplaysAll h.tracks.origins (state_of run.live) last (events_from n (steps_of run.agenda) (in_order rests))) h.taken all in
+            let of_steps = subst (λ s. ReplaysAll h.tracks.origins (state_of run.live) last (events_from 0 s (in_order rests))) h.agenda from_first in
+            subst (λ records. ReplaysAll h.tracks.origins (state_of run.live) last (schedule steps records)) (sym (joined-first run.tracks rests fits)) of_steps;
+      }
+
+  standing-last : (standing outcome : Standing) (steps : List Step) → after_lines standing (all_lines steps) ≡ outcome → all_lines steps ≡ [] → standing ≡ outcome
+  unfolding after_lines
+  standing-last standing outcome steps lines none = sym (ap (after_lines standing) none) ∙ lines
+
+  -- what a replay that was run out and closed comes to
+  pub comes-to : (config : Configuration) (steps : List Step) (limit : ℕ) (captures : List (OpenedCapture S)) (run ended : Running S) (r : Replayed S) → limit ≡ limit_for (length captures) → Starts config steps limit captures run → RunsOut left faults run ended → Closes left faults ended r
+      → IsReplay left faults config steps captures r
+  comes-to config steps limit captures run ended r limit-is h out closed =
+      let origins = h.tracks.origins in
+      let goes = out.keeps.goes config steps limit captures origins (state_of run.live) (starts-goes config steps limit captures run h) in
+      let all = ended-told left faults limit captures ended.tracks goes.dones origins out.ended goes.tracks in
+      let standing : goes.standing ≡ outcome_of config steps = standing-last goes.standing (outcome_of config steps) (steps_of ended.agenda) goes.lines out.lines in
+      let inputs : inputs_of origins goes.dones ≡ map track_inputs all.told =
+      sym (inputs-same all.told ∙ ap (λ os. inputs_of os (map (λ (t : reading.Track). t.records) all.told)) all.origins_are ∙ ap (inputs_of origins) all.records) in
+      let count : h.count ≡ length all.told =
+      let same = lengths limit captures ended.tracks goes.dones origins goes.tracks in
+      h.counted ∙ sym same.1 ∙ sym (ap length all.origins_are) ∙ length-map all.told origin_of in
+      let held = map held_of ended.tracks in
+      let rests = map no_records held in
+      let heads : map next_of rests ≡ held = none_first held out.ended in
+      let no_event : events_from ended.taken (steps_of ended.agenda) (in_order rests) ≡ [] =
+      events-ended ended.taken (steps_of ended.agenda) rests (none_of_rests left faults rests held heads out.ended) ∙ events-none ended.taken (steps_of ended.agenda) out.lines in
+      let whole = goes.comes rests (state_of ended.live) heads (subst (λ events. ReplaysAll origins (state_of ended.live) (state_of ended.live) events) (sym no_event) refl) in
+      let over_dones = subst (λ records. ReplaysAll origins (state_of run.live) (state_of ended.live) (schedule steps records)) (joined-none left faults limit captures ended.tracks goes.dones origins goes.tracks ∙ sym all.records) whole in
+      record {
+        tracks = all.told;
+        read = subst (λ n. AllRead left faults n captures r.sources.items all.told r.ends.captures) limit-is
+            (subst (λ sources. AllRead left faults limit captures sources all.told r.ends.captures) (sym closed.sources)
+            (subst (λ ends. AllRead left faults limit captures (map source_at ended.tracks) all.told ends) (sym closed.ends) all.read));
+        legal = subst (λ own. IsLegal config (outcome_of config steps).accepted own r.record) inputs
+            (subst (λ (s : Standing). IsLegal config s.accepted (inputs_of origins goes.dones) r.record) standing (closed.legal config goes.standing.accepted (inputs_of origins goes.dones) goes.live.accepted goes.live.stands));
+        ordered = record {
+          first = state_of run.live;
+          begins = record {
+            edition = h.opened.edition;
+            built = h.opened.built;
+            editions = h.opened.editions;
+            journal = h.opened.journal ∙ ap (λ n. first_journal n h.opened.edition.facts) count;
+            lanes_new = h.lanes ∙ ap (first_lanes 1) count;
+          };
+          last = state_of ended.live;
+          replays = subst (λ os. ReplaysAll os (state_of run.live) (state_of ended.live) (schedule steps (map (λ (t : reading.Track). t.records) all.told))) (sym all.origins_are) over_dones;
+          ends = record {
+            editions = ap (λ (v : RecordValue). v.editions) closed.record_is;
+            journal = ap (λ (v : RecordValue). v.journal) closed.record_is;
+            dockets = ap (λ (v : RecordValue). v.dockets) closed.record_is;
+            tallies = ap (λ (v : RecordValue). v.tallies) closed.record_is;
+            trackers = ap (λ (v : RecordValue). v.trackers) closed.record_is;
+          };
+        };
+        answered = closed.answers ∙ goes.live.answers ∙ ap (λ (s : Standing). s.answers) standing;
+      }

@@ -1,0 +1,8 @@
+-- A listing in the program, as the definitions have it.
+use Rattle.serial_replay.specs.Commands as commands
+use Rattle.serial_replay.specs.declared.listing.Listing.{Listing}
+use Rattle.serial_replay.specs.declared.listing.Listing.TheVariants.{Rules, Entries}
+
+abbrev pub listing_in : Listing → commands.Listing
+listing_in Rules = commands.Rules
+listing_in (Entries name) = commands.Entries name.now

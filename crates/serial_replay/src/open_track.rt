@@ -1,0 +1,96 @@
+ghost use Rattle.std.specs.Prelude.{◌≡◌, None, IfOk, is_some, unwrap_or};
+ghost use Rattle.std.specs.Option.{option_map};
+ghost use Rattle.pcap_read.specs.Capture.{Advances, answered, captured, current_of, source_of};
+ghost use Rattle.fw_report.specs.declared.capture_end.CaptureEnd.TheVariants.{Read};
+ghost use Rattle.serial_replay.specs.Tracks.{StepsOn, StepsOnOrEnded, held_in};
+ghost use Rattle.serial_schedule.specs.Order.{moment_of};
+
+use fw_base::{Port, Source};
+use fw_report::CaptureEnd;
+use pcap_read::{Capture, CaptureFault};
+use serial_schedule::Moment;
+
+/// A capture whose header was read.
+#[derive(Drop)]
+pub(crate) struct OpenTrack<S> {
+    pub(crate) port: Port,
+    pub(crate) capture: Capture<S>,
+    /// How many records it gave.
+    pub(crate) records: u64,
+    /// How it ended, where it did.
+    pub(crate) end: Option<CaptureEnd>,
+}
+
+/// Goes on to the next record; answers whether there is one.
+fn next_record<S: Source>(capture: &mut Capture<S>) -> Result<bool, CaptureFault>
+    ensures advances { Advances S.left S.faults capture.old capture.new (answered result (current_of capture.new)) }
+    ensures found { IfOk result (λ found. found ≡ is_some (current_of capture.new)) }
+{
+    match capture.next() {
+        Ok(Some(_)) => Ok(true),
+        Ok(None) => Ok(false),
+        Err(fault) => Err(fault),
+    }
+}
+
+impl<S: Source> OpenTrack<S> {
+    /// When the record that it holds was captured.
+    pub(crate) fn moment(&self) -> Option<Moment>
+        ensures { result ≡ option_map moment_of (held_in self.now) }
+    {
+        match self.capture.current() {
+            Some(record) => Some(Moment {
+                second: record.second,
+                nanos: record.nanos,
+            }),
+            None => None,
+        }
+    }
+
+    /// Goes on to the next record, or to the end.
+    pub(crate) fn advance(&mut self)
+        requires { self.old.end ≡ None }
+        ensures { StepsOn S.left S.faults self.old self.new }
+    {
+        match next_record(&mut self.capture) {
+            Ok(true) => self.records = self.records.saturating_add(1),
+            Ok(false) => {
+                self.end = Some(CaptureEnd::Read {
+                    records: self.records,
+                });
+            }
+            Err(fault) => {
+                self.end = Some(CaptureEnd::Stopped {
+                    at: self.records.saturating_add(1),
+                    fault,
+                    count: self.capture.faults(),
+                });
+            }
+        }
+    }
+
+    /// Goes on where it hasn't ended.
+    pub(crate) fn advance_open(&mut self)
+        ensures { StepsOnOrEnded S.left S.faults self.old self.new }
+    {
+        match self.end {
+            None => self.advance(),
+            Some(_) => {}
+        }
+    }
+
+    /// Its source, and how it ended; one that goes on would end with the records that it gave.
+    pub(crate) fn close(self) -> (S, CaptureEnd)
+        ensures source { result.0 ≡ source_of self.capture }
+        ensures end { result.1 ≡ unwrap_or self.end (Read self.records) }
+    {
+        let OpenTrack {
+            port: _,
+            capture,
+            records,
+            end,
+        } = self;
+        let end = end.unwrap_or(CaptureEnd::Read { records });
+        (capture.close(), end)
+    }
+}

@@ -1,0 +1,4 @@
+pub mod Passing
+pub mod Turns
+pub mod Events
+pub mod Least
