@@ -1,0 +1,4 @@
+pub mod HoldsByKey
+pub mod FlowByKey
+pub mod Missed
+pub mod SameKey

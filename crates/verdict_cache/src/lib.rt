@@ -1,0 +1,14 @@
+//! A cache of verdicts for one packet thread: the most recent answers of one edition, by what a rule set
+//! can tell of an IPv4 packet.
+#![tactic(auto)]
+
+pub use cache::{MOST_VERDICTS, VerdictCache};
+pub use key::Key;
+pub use present_options::PresentOptions;
+
+mod cache;
+mod key;
+pub mod laws;
+mod present_options;
+#[cfg(test)]
+mod tests;
