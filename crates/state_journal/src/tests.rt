@@ -88,7 +88,7 @@ fn publication_drops_states(rt: HostRuntime) -> Result<(), Fail> {
     book.ready()?;
     let found = Reply::Found(RULE, Way::Forward);
     assert_eq!(rt; book.ask(2, 1, lookup(101))?, found);
-    assert_eq!(rt; book.states().states().len(), 1);
+    assert_eq!(rt; book.states().count(), 1);
     publish(&rt, &mut book, 2, facts(&rt, 2, vec![in rt.alloc(); 0, 1]?));
     assert!(rt; book.lanes() == 2);
     assert!(rt; !book.has_rule(2));
