@@ -6,7 +6,7 @@ use Rattle.counter_book.specs.declared.count.Count.{Count}
 use Rattle.ip6_headers.specs.Either.{total_of}
 use Rattle.eval_engine.specs.Question.{Question}
 use Rattle.eval_engine.specs.Standing.{counts_after}
-use Rattle.eval_engine.specs.Steps.{walk_at, IsStopped, IsStep, Comes, Remains, Nears, Leads}
+use Rattle.eval_engine.specs.Steps.{walk_at, IsStopped, IsStep, Comes, Remains, Nears, Leads, PassesTo}
 use Rattle.eval_engine.specs.Trace.{Seen, Trace, PassesOver, Counts, hits_of, stop_of, length_of}
 use Rattle.eval_engine.specs.declared.stage.Stage.{Stage}
 use Rattle.eval_engine.specs.declared.step.Step.{Step}
@@ -71,4 +71,21 @@ remains_by q trace next later before between now first last = record {
   tallied = first.tallied ∙ last.tallied;
   stop = first.stop ∙ last.stop;
   fitted = last.fitted ∙ first.fitted;
+}
+
+-- what leads on from behind rules that are passed over leads on from before them
+pub leads_passed : (q : Question) (seen : Seen) (trace next : Trace) (step : Step) (before now : List Count) → PassesTo trace next → Leads q seen next step before now
+    → Leads q seen trace step before now
+leads_passed q seen trace next (On at) before now passes leads = record {
+  remains = record {
+    tallied = ap (λ (hits : List ℕ). counts_after (total_of q.packet) hits before) passes.hits ∙ leads.remains.tallied;
+    stop = passes.stop ∙ leads.remains.stop;
+    fitted = leads.remains.fitted;
+  };
+  sooner = let less = leads.sooner in let more = passes.sooner in omega arith;
+}
+leads_passed q seen trace next (Stop stage) before now passes leads = record {
+  tallied = leads.tallied ∙ ap (λ (hits : List ℕ). counts_after (total_of q.packet) hits before) (sym passes.hits);
+  stop = passes.stop ∙ leads.stop;
+  asked = leads.asked;
 }

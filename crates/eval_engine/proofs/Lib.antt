@@ -9,6 +9,8 @@ pub mod Configured
 pub mod Walks
 -- how a step moves it on
 pub mod Leading
+-- rules whose gates don't admit the packet's key
+pub mod ShutGates
 -- how far an evaluation is behind one reply more
 pub mod Progressing
 -- laws

@@ -1,5 +1,5 @@
 -- What a rule is to the packet (ipfw(8), "RULE FORMAT", "SETS OF RULES", "STATEFUL FIREWALL").
-use Rattle.std.specs.Prelude.{ℕ, ⊤, Bool, true, false, ◌&&◌, ◌||◌, nat_lt, is_some, unwrap_or, Option, Some, None}
+use Rattle.std.specs.Prelude.{ℕ, ⊤, Bool, true, false, ◌&&◌, nat_lt, unwrap_or, Option, Some, None}
 use Rattle.fw_rule.specs.Canonical.{has_bit}
 use Rattle.fw_rule.specs.declared.action.Action.{Action}
 use Rattle.fw_rule.specs.declared.action.Action.TheVariants.{Allow, Deny, Reset, Unreach, Count, SkipTo, Call, Return, CheckState}
@@ -20,6 +20,7 @@ use Rattle.packet_headers.specs.declared.flows.Flow.{Flow}
 use Rattle.packet_headers.specs.Flows.{flow_of}
 use Rattle.rule_chain.specs.Names.{number_of, state_name}
 use Rattle.rule_match.specs.Holds.{holds}
+pub use Rattle.rule_gates.specs.Stateful.{is_check_state, body_state, state_of, looks_up}
 use Rattle.eval_engine.specs.Question.{Question}
 
 -- rules of a disabled set are passed over
@@ -33,17 +34,6 @@ is_body_held q (Some body) = holds body q.edition.config.tables q.edition.config
 -- the rule's body holds of the packet; a `check-state` has none
 unfoldable pub is_held : Question → Rule → Bool
 is_held q rule = is_body_held q rule.body
-
-abbrev pub is_check_state : Action → Bool
-is_check_state Allow = false
-is_check_state Deny = false
-is_check_state Reset = false
-is_check_state (Unreach code) = false
-is_check_state Count = false
-is_check_state (SkipTo number) = false
-is_check_state (Call number) = false
-is_check_state Return = false
-is_check_state (CheckState name) = true
 
 -- the action is a call
 abbrev pub IsCall : Action → Type 0
@@ -68,18 +58,6 @@ IsOnward (SkipTo number) = ⊤
 IsOnward (Call number) = ⊥
 IsOnward Return = ⊥
 IsOnward (CheckState name) = ⊤
-
-abbrev pub body_state : Option Body → Option StateOpt
-body_state None = None
-body_state (Some body) = body.state
-
--- `keep-state` or `limit`
-abbrev pub state_of : Rule → Option StateOpt
-state_of rule = body_state rule.body
-
--- `check-state`, `keep-state` and `limit` look the packet up
-abbrev pub looks_up : Rule → Bool
-looks_up rule = is_check_state rule.action || is_some (state_of rule)
 
 -- the flow of an IPv4 packet; a packet of IPv6 has none
 abbrev pub any_flow_of : AnyIp → Option Flow

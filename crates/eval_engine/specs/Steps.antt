@@ -1,5 +1,5 @@
 -- How a call moves an evaluation on.
-use Rattle.std.specs.Prelude.{◌≡◌, ◌<◌, List, drop, length}
+use Rattle.std.specs.Prelude.{◌≡◌, ◌<◌, ◌≤◌, List, drop, length}
 use Rattle.counter_book.specs.declared.count.Count.{Count}
 use Rattle.ip6_headers.specs.Either.{total_of}
 use Rattle.eval_engine.specs.Question.{Question}
@@ -18,6 +18,12 @@ question_of search = record { edition = search.edition.now; packet = search.pack
 -- the evaluation from this position on
 abbrev pub walk_at : Question → Seen → Position → Trace
 walk_at q seen at = walk_from q seen (callers_of at.callers) (drop at.place q.edition.config.rules) 0
+
+-- the rules between are passed over: nothing is counted, it stops alike, and no more rules are on the way
+pub record PassesTo (trace next : Trace) : Type 0 where
+  pub hits : hits_of trace ≡ hits_of next
+  pub stop : stop_of trace ≡ stop_of next
+  pub sooner : length_of next ≤ length_of trace
 
 -- the evaluation stops in this stage
 pub record IsStopped (q : Question) (trace : Trace) (stage : Stage) : Type 0 where

@@ -1,5 +1,4 @@
 ghost use Rattle.std.specs.Prelude.{◌≡◌, ℕ, ◌+◌, false, Some, [], MatchOption, drop};
-ghost use Rattle.std.specs.Option.{option_map, option_copied};
 ghost use Rattle.dyn_states.specs.declared.flow_name.FlowName.TheVariants.{Named};
 ghost use Rattle.generation_store.specs.Jumps as jumps;
 ghost use Rattle.eval_engine.specs.Encounter as spec;
@@ -12,10 +11,11 @@ use crate::search::{Search, flow_of};
 use crate::searched::Searched;
 use dyn_states::{FlowName, Op, RuleRef};
 use fw_base::Port;
-use fw_rule::{Action, LimitMask, Rule, StateOpt, has_bit};
+use fw_rule::{LimitMask, Rule, StateOpt, has_bit};
 use generation_store::Edition;
 use ip6_headers::AnyIp;
 use packet_headers::Flow;
+use rule_gates::{key_of, looks_up};
 use rule_match::matches;
 
 /// The packet, there and at that second, under those rules.
@@ -33,6 +33,7 @@ pub(crate) fn search_for<'a, 'p>(
         port,
         second,
         flow: flow_of(packet),
+        key: key_of(packet),
     }
 }
 
@@ -74,38 +75,6 @@ pub(crate) fn is_held(search: &Search<'_, '_>, rule: &Rule) -> bool
         }
         None => false,
     }
-}
-
-pub(crate) fn is_check_state(action: &Action) -> bool
-    ensures { result ≡ spec.is_check_state action.now }
-{
-    match action {
-        Action::Allow
-        | Action::Deny
-        | Action::Reset
-        | Action::Unreach(_)
-        | Action::Count
-        | Action::SkipTo(_)
-        | Action::Call(_)
-        | Action::Return => false,
-        Action::CheckState(_) => true,
-    }
-}
-
-/// `keep-state` or `limit`.
-pub(crate) fn state_of(rule: &Rule) -> Option<&StateOpt>
-    ensures { option_map (λ state. state.now) result ≡ spec.state_of rule.now }
-{
-    match &rule.body {
-        Some(body) => body.state.as_ref(),
-        None => None,
-    }
-}
-
-fn looks_up(rule: &Rule) -> bool
-    ensures { result ≡ spec.looks_up rule.now }
-{
-    is_check_state(&rule.action) || state_of(rule).is_some()
 }
 
 /// The flow name that the rule in that place looks up.

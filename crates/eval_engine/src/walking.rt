@@ -2,7 +2,7 @@ ghost use Rattle.std.specs.Prelude.{◌≡◌, ◌+◌, ◌<◌, false, [], ◌�
 ghost use Rattle.eval_engine.specs.Encounter as spec;
 ghost use Rattle.eval_engine.specs.Place.{IsRuleAt};
 ghost use Rattle.eval_engine.specs.Standing.{callers_of, seen_by};
-ghost use Rattle.eval_engine.specs.Steps.{question_of, walk_at, IsStep, IsStopped, Leads, Comes};
+ghost use Rattle.eval_engine.specs.Steps.{question_of, walk_at, IsStep, IsStopped, Leads, Comes, PassesTo};
 ghost use Rattle.eval_engine.specs.Trace.{Seen};
 ghost use Rattle.eval_engine.specs.Walk as definition;
 ghost use Rattle.eval_engine.specs.declared.judgement.Cause.TheVariants as cause;
@@ -11,8 +11,8 @@ ghost use Rattle.eval_engine.specs.declared.step.Step.TheVariants.{Stop};
 
 use crate::ask_kind::AskKind;
 use crate::encounter::{
-    first_behind, install_by, is_check_state, is_disabled, is_held, lookup_by, lookup_flow,
-    rule_at, rule_ref, state_of, target,
+    first_behind, install_by, is_disabled, is_held, lookup_by, lookup_flow, rule_at, rule_ref,
+    target,
 };
 use crate::position::Position;
 use crate::search::Search;
@@ -22,6 +22,7 @@ use crate::{Cause, Judgement, Paused, Stage, Verdict};
 use counter_book::Tally;
 use dyn_states::{Op, RuleRef};
 use fw_rule::{Action, Rule};
+use rule_gates::{is_check_state, next_admitted, state_of};
 
 /// The evaluation ends with this verdict.
 pub(crate) fn judged(
@@ -225,13 +226,24 @@ fn meet(
     }
 }
 
-/// The next rule, or the end of the rules.
+/// Behind the rules whose gates don't admit the packet's key: each of them is passed over.
+fn behind_shut_gates(search: &Search<'_, '_>, at: &Position) -> Position
+    ensures { (seen : Seen) → PassesTo (walk_at (question_of search.now) seen at.now) (walk_at (question_of search.now) seen result) }
+{
+    Position {
+        place: next_admitted(search.edition.gates(), at.place, &search.key),
+        callers: at.callers,
+    }
+}
+
+/// The next rule whose gate admits the packet's key, or the end of the rules.
 fn step(search: &Search<'_, '_>, searched: &Searched, at: &Position, tally: &mut Tally) -> Step
     requires { search.now.edition.now.config.greatest_counter < length tally.old }
     ensures { Leads (question_of search.now) (seen_by searched.now) (walk_at (question_of search.now) (seen_by searched.now) at.now) result tally.old tally.new }
 {
-    match rule_at(search, at.place) {
-        Some(rule) => meet(search, searched, at, rule, tally),
+    let next = behind_shut_gates(search, at);
+    match rule_at(search, next.place) {
+        Some(rule) => meet(search, searched, &next, rule, tally),
         None => Step::Stop(denied_at_end(search)),
     }
 }

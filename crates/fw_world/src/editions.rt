@@ -45,8 +45,9 @@ pub(crate) fn next_edition(
     ensures cause { IfErr result (IsCauseOf (map arc_value editions.now) command.now) }
 {
     let number = editions.len() as u64 + 1;
-    match last_edition(editions).config().apply(alloc, command) {
-        Ok(config) => Ok(Edition::build(alloc, number, config)?),
+    let last = last_edition(editions);
+    match last.config().apply(alloc, command) {
+        Ok(config) => Ok(Edition::build_behind(alloc, last, number, config)?),
         Err(fault) => Err(refusal(fault)),
     }
 }

@@ -6,14 +6,17 @@ ghost use Rattle.generation_store.specs.Jumps as jumps;
 ghost use Rattle.generation_store.specs.Placing.{ArePlaced, identity_of};
 ghost use Rattle.generation_store.specs.Published as spec;
 ghost use Rattle.generation_store.specs.Published.{AreFacts, IsEdition, IsBuilt};
+ghost use Rattle.rule_gates.specs.Gates.{AreGates};
 
 use crate::Jump;
 use crate::flow_names::flow_names;
+use crate::gates::shared_gates;
 use crate::jumps::{first_from, jumps_of};
 use crate::placed::{Placed, by_identity, identities, places};
 use dyn_states::{Facts, FlowName};
 use fw_base::{Numbered, OutOfMemory};
 use rule_chain::Config;
+use rule_gates::{Gate, gates_of};
 use std::alloc::Global;
 use std::marker::Model;
 use std::sync::Arc;
@@ -29,9 +32,12 @@ pub struct Edition {
     /// The place of the rule of each identity of the facts.
     places: Vec<u32>,
     names: Vec<FlowName>,
+    /// Several editions may have one list of gates.
+    gates: Arc<Vec<Gate>>,
 }
 
 impl Model for Edition {
+    ghost use Rattle.std.specs.Arc.{arc_value};
     ghost use Rattle.generation_store.specs.Indexed.{IsIndexed};
     ghost use Rattle.generation_store.specs.Published.{Published};
 
@@ -39,7 +45,7 @@ impl Model for Edition {
 
     ghost view = { λ e. record { number = e.number; config = e.config; facts = e.facts } };
 
-    ghost invariant = { λ e. IsIndexed (record { number = e.number; config = e.config; facts = e.facts }) e.jumps.items e.places.items e.names.items };
+    ghost invariant = { λ e. IsIndexed (record { number = e.number; config = e.config; facts = e.facts }) e.jumps.items e.places.items e.names.items (arc_value e.gates).items };
 }
 
 impl Edition {
@@ -48,20 +54,22 @@ impl Edition {
     pub fn build(alloc: Global, number: u64, config: Config) -> Result<Arc<Edition>, OutOfMemory>
         ensures { IfOk result (λ edition. IsBuilt number config (arc_value edition)) }
     {
-        let placed = by_identity(alloc, config.rules())?;
-        let facts = facts_of(alloc, number, &config, &placed)?;
-        let jumps = jumps_of(alloc, config.rules())?;
-        let names = flow_names(alloc, config.names(), config.rules())?;
-        let places = places(alloc, &placed)?;
-        let edition = Edition {
-            number,
-            config,
-            facts,
-            jumps,
-            places,
-            names,
-        };
-        Ok(Arc::new(alloc, edition)?)
+        let gates = gates_of(alloc, config.rules())?;
+        let gates = Arc::new(alloc, gates)?;
+        with_gates(alloc, number, config, gates)
+    }
+
+    /// The same, behind another edition: where its gates are the same, both have one list of them.
+    pub fn build_behind(
+        alloc: Global,
+        last: &Edition,
+        number: u64,
+        config: Config,
+    ) -> Result<Arc<Edition>, OutOfMemory>
+        ensures { IfOk result (λ edition. IsBuilt number config (arc_value edition)) }
+    {
+        let gates = shared_gates(alloc, &last.gates, config.rules())?;
+        with_gates(alloc, number, config, gates)
     }
 
     /// The number that it was published under.
@@ -94,6 +102,14 @@ impl Edition {
         &self.jumps
     }
 
+    /// One gate for each rule, in their order: it admits each packet that an evaluation has to look at the
+    /// rule for, whatever the tables, the host's addresses and the disabled sets.
+    pub fn gates(&self) -> &[Gate]
+        ensures { AreGates self.now.config.rules result.now }
+    {
+        self.gates.as_slice()
+    }
+
     /// The place of the first rule numbered so or higher; the list's length where there is none.
     pub fn first_from(&self, number: u16) -> usize
         ensures { result ≡ jumps.first_from number self.now.config.rules }
@@ -118,6 +134,33 @@ impl Edition {
     {
         self.names[place]
     }
+}
+
+/// The edition of this number and configuration, with these gates of its rules.
+fn with_gates(
+    alloc: Global,
+    number: u64,
+    config: Config,
+    gates: Arc<Vec<Gate>>,
+) -> Result<Arc<Edition>, OutOfMemory>
+    requires { AreGates config.rules (arc_value gates).items }
+    ensures { IfOk result (λ edition. IsBuilt number config (arc_value edition)) }
+{
+    let placed = by_identity(alloc, config.rules())?;
+    let facts = facts_of(alloc, number, &config, &placed)?;
+    let jumps = jumps_of(alloc, config.rules())?;
+    let names = flow_names(alloc, config.names(), config.rules())?;
+    let places = places(alloc, &placed)?;
+    let edition = Edition {
+        number,
+        config,
+        facts,
+        jumps,
+        places,
+        names,
+        gates,
+    };
+    Ok(Arc::new(alloc, edition)?)
 }
 
 /// What the publication of this configuration under this number tells the states.

@@ -7,6 +7,7 @@ pub use store::Store;
 
 mod edition;
 mod flow_names;
+mod gates;
 mod jump;
 mod jumps;
 mod placed;

@@ -27,19 +27,19 @@ cause_of editions command before fault.TooManyCounters last is = (before, last, 
 cause_of editions command before fault.TooManyNames last is = (before, last, is (λ e. cc))
 cause_of editions command before fault.OutOfMemory last is = tt
 
-pub returns-in_ok-build-in-Ok-clause-next : goal.returns-in_ok-build-in-Ok-clause-next
-returns-in_ok-build-in-Ok-clause-next c =
+pub returns-in_ok-build_behind-in-Ok-clause-next : goal.returns-in_ok-build_behind-in-Ok-clause-next
+returns-in_ok-build_behind-in-Ok-clause-next c =
     let count = ap (λ (n : ℕ). n + 1) (sym (length-map c.args.editions.now arc_value)) in
     record {
-      before = c.last_edition.result.now;
-      last = c.last_edition.ensures;
+      before = c.last_edition-last.result.now;
+      last = c.last_edition-last.ensures;
       made = c.in-Ok.config;
       applied = ap (λ (k : Configuration). apply k c.args.command.now) (sym c.config.ensures.value) ∙ c.in-Ok.ensures;
-      built = subst (λ (n : ℕ). IsBuilt n c.in-Ok.config (arc_value c.in_ok-build-in-Ok.field-0)) count c.in_ok-build-in-Ok.ensures;
+      built = subst (λ (n : ℕ). IsBuilt n c.in-Ok.config (arc_value c.in_ok-build_behind-in-Ok.field-0)) count c.in_ok-build_behind-in-Ok.ensures;
     }
 
 pub returns-in-Err : goal.returns-in-Err
 returns-in-Err c =
     let refused = subst (λ (k : Configuration). IsRefusal c.in-Err.fault (apply k c.args.command.now)) c.config.ensures.value c.in-Err.ensures in
-    let cause = cause_of (map arc_value c.args.editions.now) c.args.command.now c.last_edition.result.now c.in-Err.fault c.last_edition.ensures refused in
+    let cause = cause_of (map arc_value c.args.editions.now) c.args.command.now c.last_edition-last.result.now c.in-Err.fault c.last_edition-last.ensures refused in
     record { next = tt; cause = subst (λ (f : CommitFault). IsCauseOf (map arc_value c.args.editions.now) c.args.command.now f) (sym c.refusal.ensures) cause }

@@ -1,7 +1,7 @@
 use Rattle.std.proofs.Common.{sym}
 use Rattle.generation_store.specs.Placing.{ArePlaced}
 use Rattle.generation_store.proofs.Places.{places_of_ids}
-use Rattle.generation_store.proofs.edition.Edition.build.Goals as goal
+use Rattle.generation_store.proofs.edition.with_gates.Goals as goal
 
 pub invariant_of-edition : goal.invariant_of-edition
 invariant_of-edition c =
@@ -16,4 +16,5 @@ invariant_of-edition c =
       jumping = rw (sym c.rules-2.ensures.value) c.in_ok-jumps.ensures;
       placing = cc;
       naming = rw (sym c.rules-3.ensures.value, sym c.names.ensures.value) c.in_ok-names.ensures;
+      gating = c.requires;
     }

@@ -1,0 +1,170 @@
+-- Keys that a gate admits.
+use Rattle.std.proofs.Common.{◌≡◌, ℕ, zero, suc, ◌^◌, ◌<◌, Bool, true, false, ◌&&◌, List, get_or, slice_index, refl, ap, ◌∙◌, arith}
+use Rattle.std.proofs.Math.Nat.{mod-lt}
+use Rattle.std.proofs.lemmas.Nat.{pow_pos}
+use Rattle.std.proofs.lemmas.Bool.Decides.{nat_tests}
+use Rattle.fw_rule.specs.declared.body.Body.{Body}
+use Rattle.fw_rule.specs.declared.family.Family.{Family}
+use Rattle.fw_rule.specs.declared.family.Family.TheVariants as family
+use Rattle.ip6_headers.specs.declared.any_ip.AnyIp.{AnyIp}
+use Rattle.ip6_headers.specs.declared.any_ip.AnyIp.TheVariants.{Four, Six}
+use Rattle.rule_match.specs.Holds.{holds, holds_family, holds_protocol}
+use Rattle.rule_match.specs.Packet.{Address, source_of, destination_of}
+use Rattle.rule_match.specs.Ports.{source_port, destination_port}
+use Rattle.rule_gates.specs.Covers.{CoversAddresses, CoversPorts, IsGateOfBody, IsOpen, TellsAddresses, TellsBody, TellsPorts}
+use Rattle.rule_gates.specs.Gates.{admits, admits_version}
+use Rattle.rule_gates.specs.Keys.{is_six}
+use Rattle.rule_gates.specs.Within.{is_within}
+use Rattle.rule_gates.specs.Words.{number_of, word, words_of}
+use Rattle.rule_gates.specs.declared.chosen_word.ChosenWord.{ChosenWord}
+use Rattle.rule_gates.specs.declared.gate.Gate.{Gate}
+use Rattle.rule_gates.specs.declared.interval.Interval.{Interval}
+use Rattle.rule_gates.specs.declared.key.Key.{Key}
+
+both_true : (a b : Bool) → (a && b) ≡ true → (a ≡ true) × (b ≡ true)
+both_true true b is = (refl, is)
+both_true false b is = cc
+
+-- every number of thirty-two bits
+pub every_has : (interval : Interval) (n : ℕ) → interval.low ≡ 0 → interval.span ≡ 4294967295 → n < 2 ^ 32 → is_within interval n ≡ true
+every_has interval n low span fits = grind (arith, nat_tests)
+
+-- a word has thirty-two bits
+pub word-fits : (place n : ℕ) → word place n < 2 ^ 32
+word-fits place n = mod-lt _ (pow_pos 32)
+
+-- the word in its place
+word_at : (n place : ℕ) → place < 4 → get_or (words_of n) place 0 ≡ word place n
+word_at n zero within = refl
+word_at n (suc zero) within = refl
+word_at n (suc (suc zero)) within = refl
+word_at n (suc (suc (suc zero))) within = refl
+word_at n (suc (suc (suc (suc place)))) within = absurd (omega arith)
+
+key_word : (words : List ℕ) (n place : ℕ) → words ≡ words_of n → place < 4 → slice_index words place ≡ word place n
+key_word words n place are within = ap (λ (ws : List ℕ). get_or ws place 0) are ∙ word_at n place within
+
+-- what a gate admits, part by part
+admits_by : (gate : Gate) (key : Key)
+    → is_within gate.source (slice_index key.source gate.source_word) ≡ true
+    → is_within gate.destination (slice_index key.destination gate.destination_word) ≡ true
+    → is_within gate.destination_ports key.destination_port ≡ true
+    → holds_protocol gate.protocol key.protocol ≡ true
+    → is_within gate.source_ports key.source_port ≡ true
+    → admits_version gate.family key.is_six ≡ true
+    → admits gate key ≡ true
+unfolding admits
+admits_by gate key source destination destination_ports protocol source_ports version =
+    rw (source, destination, destination_ports, protocol, source_ports, version) refl
+
+-- a version that the body asks for
+version_admitted : (asked : Family) (packet : AnyIp) → holds_family asked packet ≡ true → admits_version asked (is_six packet) ≡ true
+version_admitted family.AnyIp packet holds = refl
+version_admitted family.Four (Four packet) holds = refl
+version_admitted family.Four (Six packet) holds = cc
+version_admitted family.Six (Four packet) holds = cc
+version_admitted family.Six (Six packet) holds = refl
+
+-- a gate of every number
+pub open_admits : (gate : Gate) (every : Interval) → every.low ≡ 0 → every.span ≡ 4294967295
+    → gate.source ≡ every → gate.destination ≡ every → gate.source_ports ≡ every → gate.destination_ports ≡ every → gate.protocol ≡ 0 → gate.family ≡ family.AnyIp
+    → IsOpen gate
+open_admits gate every low span source destination source_ports destination_ports protocol version packet key is =
+    admits_by gate key
+    (rw source (every_has every _ low span (word_within key.source (number_of (source_of packet)) gate.source_word is.source gate.chosen.0)))
+    (rw destination (every_has every _ low span (word_within key.destination (number_of (destination_of packet)) gate.destination_word is.destination gate.chosen.1)))
+    (rw destination_ports (every_has every _ low span (let few = key.ported.1 in omega arith)))
+    (rw protocol refl)
+    (rw source_ports (every_has every _ low span (let few = key.ported.0 in omega arith)))
+    (rw version refl)
+  where
+    word_within : (words : List ℕ) (n place : ℕ) → words ≡ words_of n → place < 4 → slice_index words place < 2 ^ 32
+    word_within words n place are within = rw (key_word words n place are within) (word-fits place n)
+
+-- a gate whose parts have what the parts of the body ask for
+pub body_admits : (body : Body) (gate : Gate) (source destination : ChosenWord)
+    → CoversAddresses body.source source → CoversAddresses body.destination destination
+    → CoversPorts body.source_ports gate.source_ports → CoversPorts body.destination_ports gate.destination_ports
+    → gate.source ≡ source.numbers → gate.source_word ≡ source.place → gate.destination ≡ destination.numbers → gate.destination_word ≡ destination.place
+    → gate.protocol ≡ body.protocol → gate.family ≡ body.family
+    → IsGateOfBody body gate
+unfolding holds
+body_admits body gate source destination sources destinations source_ports destination_ports source_is source_at destination_is destination_at protocol version tables locals packet port key is held =
+    let by_version = both_true _ _ held in
+    let by_protocol = both_true _ _ by_version.1 in
+    let by_source = both_true _ _ by_protocol.1 in
+    let by_source_ports = both_true _ _ by_source.1 in
+    let by_destination = both_true _ _ by_source_ports.1 in
+    let by_destination_ports = both_true _ _ by_destination.1 in
+    admits_by gate key
+    (addressed gate.source source gate.source_word key.source (number_of (source_of packet)) source_is source_at is.source (sources tables locals (source_of packet) by_source.0))
+    (addressed gate.destination destination gate.destination_word key.destination (number_of (destination_of packet)) destination_is destination_at is.destination (destinations tables locals (destination_of packet) by_destination.0))
+    (rw is.destination_port (destination_ports (destination_port packet) (rw (← is.destination_port) key.ported.1) by_destination_ports.0))
+    (rw (protocol, is.protocol) by_protocol.0)
+    (rw is.source_port (source_ports (source_port packet) (rw (← is.source_port) key.ported.0) by_source_ports.0))
+    (rw (version, is.version) (version_admitted body.family packet by_version.0))
+  where
+    addressed : (interval : Interval) (chosen : ChosenWord) (place : ℕ) (words : List ℕ) (n : ℕ) → interval ≡ chosen.numbers → place ≡ chosen.place → words ≡ words_of n
+        → is_within chosen.numbers (word chosen.place n) ≡ true → is_within interval (slice_index words place) ≡ true
+    addressed interval chosen place words n numbers at are has =
+        rw (numbers, at, key_word words n chosen.place are chosen.within) has
+
+-- what a gate tells by what it admits, part by part
+record IsAdmitted (gate : Gate) (key : Key) : Type 0 where
+  source : is_within gate.source (slice_index key.source gate.source_word) ≡ true
+  destination : is_within gate.destination (slice_index key.destination gate.destination_word) ≡ true
+  destination_ports : is_within gate.destination_ports key.destination_port ≡ true
+  protocol : holds_protocol gate.protocol key.protocol ≡ true
+  source_ports : is_within gate.source_ports key.source_port ≡ true
+  version : admits_version gate.family key.is_six ≡ true
+
+admitted_by : (gate : Gate) (key : Key) → admits gate key ≡ true → IsAdmitted gate key
+unfolding admits
+admitted_by gate key admitted =
+    let by_source = both_true _ _ admitted in
+    let by_destination = both_true _ _ by_source.1 in
+    let by_destination_ports = both_true _ _ by_destination.1 in
+    let by_protocol = both_true _ _ by_destination_ports.1 in
+    let by_source_ports = both_true _ _ by_protocol.1 in
+    record {
+      source = by_source.0;
+      destination = by_destination.0;
+      destination_ports = by_destination_ports.0;
+      protocol = by_protocol.0;
+      source_ports = by_source_ports.0;
+      version = by_source_ports.1;
+    }
+
+-- a version that the gate admits
+version_held : (asked : Family) (packet : AnyIp) → admits_version asked (is_six packet) ≡ true → holds_family asked packet ≡ true
+version_held family.AnyIp packet admitted = refl
+version_held family.Four (Four packet) admitted = refl
+version_held family.Four (Six packet) admitted = cc
+version_held family.Six (Four packet) admitted = cc
+version_held family.Six (Six packet) admitted = refl
+
+-- a gate whose parts tell what the parts of the body ask for
+pub body_tells : (body : Body) (gate : Gate) (source destination : ChosenWord)
+    → TellsAddresses body.source source → TellsAddresses body.destination destination
+    → TellsPorts body.source_ports gate.source_ports → TellsPorts body.destination_ports gate.destination_ports
+    → gate.source ≡ source.numbers → gate.source_word ≡ source.place → gate.destination ≡ destination.numbers → gate.destination_word ≡ destination.place
+    → gate.protocol ≡ body.protocol → gate.family ≡ body.family
+    → TellsBody body gate
+body_tells body gate source destination sources destinations source_ports destination_ports source_is source_at destination_is destination_at protocol version packet key is admitted =
+    let parts = admitted_by gate key admitted in
+    record {
+      version = version_held body.family packet (rw (← version, ← is.version) parts.version);
+      protocol = rw (← protocol, ← is.protocol) parts.protocol;
+      source = λ net address only from fits. sources net address only fits
+          (addressed gate.source source gate.source_word key.source address source_is source_at (is.source ∙ ap (λ (a : Address). words_of (number_of a)) from) parts.source);
+      destination = λ net address only to fits. destinations net address only fits
+          (addressed gate.destination destination gate.destination_word key.destination address destination_is destination_at (is.destination ∙ ap (λ (a : Address). words_of (number_of a)) to) parts.destination);
+      source_ports = λ range only. source_ports range (source_port packet) only (rw (← is.source_port) parts.source_ports);
+      destination_ports = λ range only. destination_ports range (destination_port packet) only (rw (← is.destination_port) parts.destination_ports);
+    }
+  where
+    addressed : (interval : Interval) (chosen : ChosenWord) (place : ℕ) (words : List ℕ) (n : ℕ) → interval ≡ chosen.numbers → place ≡ chosen.place → words ≡ words_of n
+        → is_within interval (slice_index words place) ≡ true → is_within chosen.numbers (word chosen.place n) ≡ true
+    addressed interval chosen place words n numbers at are has =
+        let has_word : is_within chosen.numbers (slice_index words chosen.place) ≡ true = rw (← numbers, ← at) has in
+        rw (← key_word words n chosen.place are chosen.within) has_word

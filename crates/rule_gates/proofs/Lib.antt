@@ -1,0 +1,6 @@
+-- words of numbers whose first bits are equal
+pub mod Blocks
+-- keys that a gate admits
+pub mod Admitted
+-- lists of gates
+pub mod Gated

@@ -1,0 +1,28 @@
+-- What a gate asks of a packet, made once a packet.
+use Rattle.std.specs.Prelude.{◌≡◌, ℕ, Bool, true, false, Option, Some, None}
+use Rattle.ip6_headers.specs.declared.any_ip.AnyIp.{AnyIp}
+use Rattle.ip6_headers.specs.declared.any_ip.AnyIp.TheVariants.{Four, Six}
+use Rattle.ip6_headers.specs.Either.{protocol_of}
+use Rattle.rule_match.specs.Packet.{source_of, destination_of}
+use Rattle.rule_match.specs.Ports.{source_port, destination_port}
+use Rattle.rule_gates.specs.Words.{number_of, words_of}
+use Rattle.rule_gates.specs.declared.key.Key.{Key}
+
+-- the packet is one of IPv6
+abbrev pub is_six : AnyIp → Bool
+is_six (Four packet) = false
+is_six (Six packet) = true
+
+-- a port; a packet that has none has the first number that is none
+abbrev pub port_number : Option ℕ → ℕ
+port_number None = 65536
+port_number (Some port) = port
+
+-- the key of this packet: the words of its addresses, its ports, its protocol and its version
+pub record IsKeyOf (packet : AnyIp) (key : Key) : Type 0 where
+  pub source : key.source ≡ words_of (number_of (source_of packet))
+  pub destination : key.destination ≡ words_of (number_of (destination_of packet))
+  pub source_port : key.source_port ≡ port_number (source_port packet)
+  pub destination_port : key.destination_port ≡ port_number (destination_port packet)
+  pub protocol : key.protocol ≡ protocol_of packet
+  pub version : key.is_six ≡ is_six packet

@@ -1,0 +1,11 @@
+-- the words of an address, and the numbers that an interval has
+pub mod Words
+pub mod Within
+-- which rules ask for states
+pub mod Stateful
+-- a packet's key, a gate, and what a gate promises of its rule
+pub mod Keys
+pub mod Telling
+pub mod Gates
+-- what its parts have to admit
+pub mod Covers

@@ -1,0 +1,6 @@
+-- The numbers from a low end on, as many as a span and one.
+use Rattle.std.specs.Prelude.{ℕ, ◌+◌, Bool, ◌&&◌, nat_le}
+use Rattle.rule_gates.specs.declared.interval.Interval.{Interval}
+
+abbrev pub is_within : Interval → ℕ → Bool
+is_within interval number = nat_le interval.low number && nat_le number (interval.low + interval.span)

@@ -1,0 +1,16 @@
+-- An address of either version as a number (RFC 791 section 3.1, RFC 8200 section 3), cut into words of
+-- thirty-two bits.
+use Rattle.std.specs.Prelude.{ℕ, ◌*◌, ◌/◌, ◌%◌, ◌^◌, List, [], ◌∷◌}
+use Rattle.rule_match.specs.Packet.{Address, V4, V6}
+
+abbrev pub number_of : Address → ℕ
+number_of (V4 address) = address
+number_of (V6 address) = address
+
+-- thirty-two bits of the number; word 0 has the last ones
+abbrev pub word : ℕ → ℕ → ℕ
+word place number = number / 2 ^ (32 * place) % 2 ^ 32
+
+-- the four words, word 0 first
+abbrev pub words_of : ℕ → List ℕ
+words_of number = word 0 number ∷ word 1 number ∷ word 2 number ∷ word 3 number ∷ []

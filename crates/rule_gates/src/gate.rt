@@ -1,0 +1,27 @@
+ghost use Rattle.std.specs.Prelude.{◌<◌};
+
+use crate::Interval;
+use fw_rule::Family;
+
+/// What can be told of a rule by a few comparisons: a packet whose key it doesn't admit has nothing to do
+/// with the rule. It takes 36 bytes.
+#[derive(Clone, Copy, Debug, PartialEq, Eq)]
+pub struct Gate {
+    /// The numbers that the chosen word of the source address may be.
+    pub(crate) source: Interval,
+    /// The same of the destination address.
+    pub(crate) destination: Interval,
+    /// The numbers that the source port may be.
+    pub(crate) source_ports: Interval,
+    /// Those that the destination port may be.
+    pub(crate) destination_ports: Interval,
+    /// Which word of the source address is chosen; word 0 is its last one, and all of an IPv4 address.
+    pub(crate) source_word: u8,
+    /// Which one of the destination address.
+    pub(crate) destination_word: u8,
+    /// The protocol by its number; 0 stands for every protocol.
+    pub(crate) protocol: u8,
+    /// The version of IP.
+    pub(crate) family: Family,
+    ghost chosen: { (source_word < 4) × (destination_word < 4) },
+}
