@@ -1,8 +1,8 @@
 -- What the hits and the judgement of every evaluation name: counter numbers that were given out, and the
 -- edition of its question.
-use Rattle.std.proofs.Common.{◌≡◌, ℕ, zero, suc, ◌+◌, ◌≤◌, Bool, true, false, ◌||◌, nat_eq, nat_lt, Option, Some, None, List, [], ◌∷◌, ◌++◌, All, drop, refl, arith}
+use Rattle.std.proofs.Common.{◌≡◌, ℕ, zero, suc, ◌+◌, ◌≤◌, Bool, true, false, nat_eq, nat_lt, Option, Some, None, List, [], ◌∷◌, ◌++◌, All, drop, refl, arith}
 use Rattle.std.specs.Prelude.{⊤}
-use Rattle.std.specs.List.{AllByRecursion, list_any, position_or_len}
+use Rattle.std.specs.List.{AllByRecursion, position_or_len}
 use Rattle.std.proofs.lemmas.List.Elements.{All-nil, All-cons}
 use Rattle.fw_rule.specs.declared.action.Action.{Action}
 use Rattle.fw_rule.specs.declared.action.Action.TheVariants.{Allow, Deny, Reset, Unreach, Count, SkipTo, Call, Return, CheckState}
@@ -14,13 +14,13 @@ use Rattle.dyn_states.specs.declared.reply.Reply.{Reply}
 use Rattle.dyn_states.specs.declared.reply.Reply.TheVariants.{Found, NotFound, Created, Exists, LimitReached, TableFull}
 use Rattle.generation_store.specs.Published.{is_identity}
 use Rattle.rule_chain.specs.Chain.{IsConfiguration, IsRule}
-use Rattle.eval_engine.specs.Encounter.{is_check_state, is_disabled, is_held, state_of, any_flow_of, rule_ref}
+use Rattle.eval_engine.specs.Encounter.{is_check_state, is_disabled, is_held, state_of, any_flow_of}
 use Rattle.eval_engine.specs.Evaluated.{Whole}
 use Rattle.eval_engine.specs.Laws.{is_counter_of, HitsAreOfRules}
 use Rattle.eval_engine.specs.Evaluation.{Progress, progress_by, progress_from, progress_of, replied, is_reply_to, evaluate, outcome_of}
 use Rattle.eval_engine.specs.Question.{Question}
 use Rattle.eval_engine.specs.Trace.{Seen, Pause, Stop, EndsWith, WaitsFor, Mismatch, Trace, PassesOver, Counts, Stops, hits_of, stop_of}
-use Rattle.eval_engine.specs.Walk.{Walk, walk, follows, call_from, return_to, installs, tests, looks, lookup_flow, meets, pause_at, deeper_walk, way_back, calls_left, walk_from, follows_before, acts_before, acts_from, tests_before, tests_from, refuses_from, suffix_of, leads_to, seen_after, resumed, begun}
+use Rattle.eval_engine.specs.Walk.{Walk, walk, follows, call_from, return_to, installs, tests, looks, lookup_flow, meets, pause_at, deeper_walk, way_back, calls_left, walk_from, acts_before, acts_from, tests_from, refuses_from, suffix_of, leads_to, seen_after, resumed, begun}
 use Rattle.eval_engine.specs.declared.judgement.Judgement.{Judgement}
 
 module _ (q : Question) (P : ℕ → Type 0) where

@@ -104,14 +104,19 @@ fn applied(alloc: Global, config: Config, command: &Command) -> Result<Config, F
     }
 }
 
-/// The seventh edition, with these rules added in this order.
-fn edition(alloc: Global, rules: &[(u16, Deed)]) -> Result<Arc<Edition>, Fail> {
+/// A configuration with these rules added in this order.
+fn configured(alloc: Global, rules: &[(u16, Deed)]) -> Result<Config, Fail> {
     let mut config = Config::new(alloc)?;
     for (number, deed) in rules {
         let command = add(alloc, *number, *deed)?;
         config = applied(alloc, config, &command)?;
     }
-    Ok(Edition::build(alloc, 7, config)?)
+    Ok(config)
+}
+
+/// The seventh edition, of that configuration.
+fn edition(alloc: Global, rules: &[(u16, Deed)]) -> Result<Arc<Edition>, Fail> {
+    Ok(Edition::build(alloc, 7, configured(alloc, rules)?)?)
 }
 
 #[test]
@@ -162,6 +167,20 @@ fn places_and_names_of_rules(rt: HostRuntime) -> Result<(), Fail> {
     ];
     for (place, name) in names.iter().enumerate() {
         assert_eq!(rt; edition.name_of(place), *name);
+    }
+    Ok(())
+}
+
+#[test]
+fn editions_behind_another(rt: HostRuntime) -> Result<(), Fail> {
+    let script = [(30, Deed::Keep(b'2')), (20, Deed::CheckAny)];
+    let last = edition(rt.alloc(), script.as_slice())?;
+    for rules in [script.as_slice(), &script[..1]] {
+        let config = configured(rt.alloc(), rules)?;
+        let next = Edition::build_behind(rt.alloc(), &last, 8, config)?;
+        assert_eq!(rt; next.number(), 8);
+        assert_eq!(rt; next.config().rules().len(), rules.len().saturating_add(1));
+        assert_eq!(rt; next.gates().len(), rules.len().saturating_add(1));
     }
     Ok(())
 }

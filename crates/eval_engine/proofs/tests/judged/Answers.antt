@@ -1,6 +1,4 @@
-use Rattle.std.proofs.Common.{◌≡◌, ◌<◌, ◌∷◌, ◌++◌, [], length, ap, sym, ◌∙◌, subst, arith}
-use Rattle.dyn_states.specs.declared.reply.Reply.{Reply}
-use Rattle.eval_engine.specs.Question.{Question}
+use Rattle.std.proofs.Common.{◌∷◌, ◌++◌, [], subst, arith}
 use Rattle.eval_engine.specs.Standing.{StandsAt}
 use Rattle.eval_engine.specs.declared.stage.Stage.{Stage}
 use Rattle.eval_engine.proofs.Progressing.{stands-length}

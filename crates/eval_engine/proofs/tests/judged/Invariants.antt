@@ -2,9 +2,7 @@ use Rattle.std.proofs.Common.{◌≡◌, List, length}
 use Rattle.counter_book.specs.declared.count.Count.{Count}
 use Rattle.dyn_states.specs.declared.op.Op.{Op}
 use Rattle.dyn_states.specs.declared.reply.Reply.{Reply}
-use Rattle.eval_engine.specs.Question.{Question}
 use Rattle.eval_engine.specs.Standing.{StandsAt}
-use Rattle.eval_engine.specs.declared.stage.Stage.{Stage}
 use Rattle.eval_engine.proofs.tests.judged.Given as goal
 
 abbrev pub invariant-loop-turn : goal.invariant-loop-turn
