@@ -1,0 +1,9 @@
+-- counters and judged packets
+pub mod AddingUp
+-- editions
+pub mod RisingEditions
+pub mod ListedEditions
+-- lines of the report
+pub mod PrintedLines
+-- turns of captures
+pub mod KeptOrder
