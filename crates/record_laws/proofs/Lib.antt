@@ -7,3 +7,5 @@ pub mod ListedEditions
 pub mod PrintedLines
 -- turns of captures
 pub mod KeptOrder
+-- what the tests go through
+pub mod OneLane

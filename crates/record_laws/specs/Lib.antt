@@ -8,3 +8,5 @@ pub mod Listings
 pub mod Dockets
 -- the order of the records
 pub mod CaptureOrder
+-- what the tests go through
+pub mod OneLane
