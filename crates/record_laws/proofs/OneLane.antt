@@ -1,0 +1,27 @@
+-- A world of one lane goes on.
+use Rattle.std.proofs.Common.{◌≡◌, ℕ, List, sym, ap, ◌∙◌, subst}
+use Rattle.std.specs.Prelude.{Result, Ok, Err, OnOk, OnErr}
+use Rattle.fw_rule.specs.declared.command.Command.{Command}
+use Rattle.fw_world.specs.Lane.{LaneValue}
+use Rattle.fw_world.specs.Steps.{Publishes}
+use Rattle.fw_world.specs.World.{WorldValue, IsLaneOf}
+use Rattle.fw_world.specs.declared.commit_fault.CommitFault.{CommitFault}
+use Rattle.fw_world.proofs.Keeping.{is_lane_behind}
+use Rattle.generation_store.specs.Published.{Published}
+use Rattle.record_laws.specs.OneLane.{IsOneLane}
+
+-- its desk published an edition, or a command was refused
+pub committed : (old new : WorldValue) (desk shown : List Published) (lane : LaneValue) (command : Command) (outcome : Result ℕ CommitFault) → IsOneLane old desk lane
+    → OnOk outcome (Publishes old new command) → OnErr outcome (new ≡ old) → shown ≡ new.editions → IsOneLane new shown lane
+committed old new desk shown lane command (Ok number) one publishes unchanged shows = record {
+  shows = shows;
+  of_world = is_lane_behind old new command lane publishes one.of_world;
+  first = one.first;
+  alone = ap (λ j. j.lanes) publishes.journal ∙ one.alone;
+}
+committed old new desk shown lane command (Err fault) one publishes unchanged shows = record {
+  shows = shows;
+  of_world = subst (λ (w : WorldValue). IsLaneOf w lane) (sym unchanged) one.of_world;
+  first = one.first;
+  alone = ap (λ (w : WorldValue). w.journal.lanes) unchanged ∙ one.alone;
+}

@@ -1,0 +1,12 @@
+-- the packets that a record judged, and what they were counted under
+pub mod JudgedPackets
+pub mod Counters
+-- what is printed of the records
+pub mod VerdictLines
+-- the editions that answers and dockets name
+pub mod Listings
+pub mod Dockets
+-- the order of the records
+pub mod CaptureOrder
+-- what the tests go through
+pub mod OneLane

@@ -1,0 +1,39 @@
+//! What holds of every legal record, of every replay and of every report.
+ghost use Rattle.record_laws.specs.CaptureOrder.{CapturesKeepTheirOrder};
+ghost use Rattle.record_laws.specs.Counters.{CountersAddUp};
+ghost use Rattle.record_laws.specs.Dockets.{EditionsNeverFall};
+ghost use Rattle.record_laws.specs.Listings.{ListingsNamePublishedEditions};
+ghost use Rattle.record_laws.specs.VerdictLines.{VerdictLinesAreRecords, ReplaysPrintEachRecord};
+
+use fw_base::Source;
+
+/// The counters of a legal record add up to the hits of its judged packets, packets and bytes, modulo 2^64
+/// (ipfw(8), "DESCRIPTION").
+pub fn counters_add_up()
+    ensures { CountersAddUp }
+{}
+
+/// The report of a legal record has as many verdict lines as the captures have records.
+pub fn verdict_lines_are_records()
+    ensures { VerdictLinesAreRecords }
+{}
+
+/// The report of a replay has as many verdict lines as records were read of its captures.
+pub fn replays_print_each_record<S: Source>()
+    ensures { ReplaysPrintEachRecord S.left S.faults }
+{}
+
+/// Each listing of a replay names an edition that the journal publishes, and that the report shows.
+pub fn listings_name_published_editions<S: Source>()
+    ensures { ListingsNamePublishedEditions S.left S.faults }
+{}
+
+/// Of two judged packets of a lane the later one isn't judged under an earlier edition.
+pub fn editions_never_fall()
+    ensures { EditionsNeverFall }
+{}
+
+/// In the order of a replay each capture gives all its records, in their order.
+pub fn captures_keep_their_order()
+    ensures { CapturesKeepTheirOrder }
+{}

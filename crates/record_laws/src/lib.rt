@@ -1,0 +1,7 @@
+//! Laws of what is recorded and printed of a run, in the words of the packet filter: functions with no body, whose
+//! contracts are the laws.
+#![tactic(auto)]
+
+pub mod laws;
+#[cfg(test)]
+mod tests;
