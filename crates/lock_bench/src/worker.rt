@@ -1,7 +1,7 @@
 ghost use Rattle.std.specs.Prelude.{◌≡◌, ◌≢◌, ℕ, ◌+◌, ◌≤◌, ◌<◌, ◌∷◌, IfOk, IsTrue, MatchOption};
 ghost use Rattle.rm_table.specs.Layout.{book_index};
 ghost use Rattle.rm_table.specs.Moves.{noted, book_taken};
-ghost use Rattle.rm_table.specs.Rests.{IsIdle, IsInside, IsOpening};
+ghost use Rattle.rm_table.specs.Rests.{IsIdle, IsInside, OpensFrom};
 ghost use Rattle.rm_table.specs.declared.slot.Slot.TheVariants.{Empty};
 
 use crate::book::Book;
@@ -40,7 +40,7 @@ impl<'a> Worker<'a> {
         processors: u32,
     ) -> Result<Vec<Worker<'a>>, AllocError>
         requires table { operator.old.table_id ≡ table.now }
-        requires opening { IsOpening 1 operator.old.me.0 operator.old.me.1 }
+        requires opening { OpensFrom 1 operator.old.me.0 operator.old.me.1 }
         requires count { operator.old.me.0.count ≡ processors }
         requires few { processors ≤ 64 }
     {
@@ -87,7 +87,7 @@ pub fn open_lock(alloc: Global, processors: u32) -> Result<OpenTable<Edition, Bo
     requires some { 0 < processors }
     requires few { processors ≤ 64 }
     ensures table { IfOk result (λ o. o.seat.table_id ≡ o.table) }
-    ensures opening { IfOk result (λ o. IsOpening 1 o.seat.me.0 o.seat.me.1) }
+    ensures opening { IfOk result (λ o. OpensFrom 1 o.seat.me.0 o.seat.me.1) }
     ensures count { IfOk result (λ o. o.seat.me.0.count ≡ processors) }
 {
     let editions = vec![in alloc; Edition { number: 1 }; processors as usize]?;

@@ -10,7 +10,7 @@ use Rattle.rm_core.specs.declared.phase.Phase.TheVariants.{Out, In}
 use Rattle.rm_core.specs.declared.processor_state.ProcessorState.{ProcessorState}
 use Rattle.rm_core.specs.CoreState.{processor_of}
 use Rattle.rm_core.proofs.Changes.{IsProcessor-some}
-use Rattle.rm_table.specs.declared.role.Role.TheVariants.{Spent, Operator}
+use Rattle.rm_table.specs.declared.role.Role.TheVariants.{Operator}
 use Rattle.rm_table.specs.declared.slot.Slot.{Slot}
 use Rattle.rm_table.specs.declared.slot.Slot.TheVariants.{Edition, Book}
 use Rattle.rm_table.specs.declared.part.Part.{Part}
@@ -28,7 +28,7 @@ use Rattle.rm_table.proofs.Slots.{at_home, book_at_home}
 module _ {E B T L I : Type 0} (m : Meanings E B T L I) (c : Core E B T L I) (t : State (Slot E B) (View E B T L I)) (id : ℕ) (v : View E B T L I) (shows : Shows m c t) (is_at : get_elem? t.views id ≡ at.some v)
     (role : v.role ≡ Operator) (joined : AllJoined v) (undrained : NoneDrained v) (bookless : v.book ≡ None) where
   l : Live m c id v
-  l = (shows.each id v is_at).live (λ spent. let clash : Operator ≡ Spent = sym role ∙ spent in absurd cc)
+  l = (shows.each id v is_at).live (inr role)
 
   o : Keeps m c id v
   o = (shows.each id v is_at).operator role

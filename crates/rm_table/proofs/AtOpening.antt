@@ -1,5 +1,5 @@
 -- The table at the opening meets the rule.
-use Rattle.std.proofs.Common.{◌≡◌, ◌≢◌, ℕ, zero, suc, ◌+◌, ◌-◌, ◌^◌, ◌<◌, Bool, false, Some, None, List, [], ◌∷◌, map, length, length-set, refl, sym, ◌∙◌, ap, arith, subst, append-nil, ne_eqb}
+use Rattle.std.proofs.Common.{◌≡◌, ◌≢◌, inr, ℕ, zero, suc, ◌+◌, ◌-◌, ◌^◌, ◌<◌, ◌≤◌, Bool, false, Some, None, List, [], ◌∷◌, map, length, length-set, refl, sym, ◌∙◌, ap, arith, subst, append-nil, ne_eqb}
 use Rattle.std.specs.Prelude.{slice_get, slice_index, replicate, if◌then◌else◌}
 use Rattle.std.proofs.lemmas.List.{length-replicate}
 use mathlib.Core.Option as at
@@ -16,6 +16,7 @@ use Rattle.rm_table.specs.declared.view.View.{View}
 use Rattle.rm_table.specs.Layout.{index_of_word, words_of, number_index, behind_index, book_index, tracker_index, token_index}
 use Rattle.rm_table.specs.Meanings.{Meanings, values_from}
 use Rattle.rm_table.specs.Rule.{Core, core_of, Words, Current, KeptAt, Keeps, Agrees, Shows, Whole}
+use Rattle.rm_table.specs.Moves.{IsKept}
 use Rattle.rm_table.specs.Ends.{first_words, first_slots, first_part, first_view, Opens}
 use Rattle.rm_table.proofs.Base.{get_within, at_slice, index_here, index_else, length-values, values_at, found_there}
 use Rattle.rm_table.proofs.Publishing.{flag_of-replicate}
@@ -135,6 +136,7 @@ module _ {E B T L I : Type 0} (m : Meanings E B T L I) where
           refusal = λ k x never. absurd cc;
         };
         readiness = λ never. absurd cc;
+        seats = record { processors = λ k low high. (v, refl, inr (refl, first_kept k low high)); operator = (v, refl, refl) };
         each = only;
       }
     where
@@ -174,6 +176,10 @@ module _ {E B T L I : Type 0} (m : Meanings E B T L I) where
             fresh = λ _. (ap (λ (p : Part E L I). p.sections) same, refl);
           }
 
+      first_kept : (k : ℕ) → 0 < k → k ≤ length editions → IsKept (first_view m (length editions) edition book) k
+      first_kept zero low high = absurd (omega arith)
+      first_kept (suc j) low high = (first_part m book (1 + j), values_at (λ place. Some (first_part m book place)) 1 (length editions) j (omega arith))
+
       first_keeps : Keeps m (first_core (length editions) edition book) 0 (first_view m (length editions) edition book)
       first_keeps = record {
         place = refl;
@@ -197,6 +203,7 @@ module _ {E B T L I : Type 0} (m : Meanings E B T L I) where
             live = λ _. record { count = refl; low = omega arith; high = omega arith; seat = refl; phase = refl; part = refl; behind = refl; book = sym (ap (λ (b : Bool). if b then Some book else None) (ne_eqb 0 (length editions + 1) (λ clash. absurd (omega arith)))) };
             processor = λ never. absurd cc;
             operator = λ _. first_keeps;
+            receipt = λ never. absurd cc;
           })
       only (suc id) u is = absurd (at.some-ne-none u (sym is))
 

@@ -19,10 +19,11 @@ use Rattle.rm_table.specs.Meanings.{Meanings, put, BeginsWith}
 use Rattle.rm_table.specs.Rule.{Core, lent, Words, tracker_of, token_of, Slots, Desk, Lists, Live, Keeps, Shows}
 use Rattle.rm_table.specs.Moves.{Hand, noted, book_part, book_taken, given_part, book_given, FoundBy, LeftBy, LeftByOperator, AllDrained, IsOperator, IsWorking}
 use Rattle.rm_table.proofs.Base.{put_here, put_else, at_put, put_keeps, at_slice, slice_at, words_like, words_book}
-use Rattle.rm_table.proofs.Keeping.{Beside, each_after}
+use Rattle.rm_table.proofs.Keeping.{Beside, begins_same, each_after, every_seat_after}
 use Rattle.rm_table.proofs.Own.{numbers_after}
 use Rattle.rm_table.proofs.Slots.{book_at_home}
-use Rattle.rm_table.proofs.Locks.{working_live, nothing_kept, operator_keeps}
+use Rattle.rm_table.proofs.Locks.{no_receipt, working_live, nothing_kept, operator_keeps}
+use Rattle.rm_table.proofs.Writer.{last_known}
 use Rattle.rm_table.proofs.Publishing.{nobody_in}
 
 pos_of_ne : (n : ℕ) → n ≢ 0 → 0 < n
@@ -84,6 +85,8 @@ module _ {E B T L I : Type 0} (m : Meanings E B T L I) where
         let was : v.part ≡ c.part p = l.part in
         let beside : Beside c d p = record {
           count = refl;
+          opened = refl;
+          history = begins_same c.history;
           seat = λ k. refl;
           phase = λ k other. refl;
           part = λ k other. put_else c.part p a k other;
@@ -122,6 +125,7 @@ module _ {E B T L I : Type 0} (m : Meanings E B T L I) where
               (λ k n told. inl (sym (put_keeps (λ (y : Part E L I). y.refusal) c.part p a (refusal ∙ ap (λ (y : Part E L I). y.refusal) was) k) ∙ told))
               shows.numbers;
           readiness = ready_is;
+          seats = every_seat_after c.count c.seat t.views id v w is_at (λ k mine. mine) (λ role. role) shows.seats;
           each = each_after m c d p id w t.views shows.each l.seat beside (record {
             live = λ _. record {
               count = l.count;
@@ -149,6 +153,7 @@ module _ {E B T L I : Type 0} (m : Meanings E B T L I) where
               drained = k.drained;
               kept = λ j part got. absurd ((nothing_kept m c t id v shows is_at working role).1 j part (at_slice v.kept j (Some part) got));
             };
+            receipt = λ receipt. absurd (no_receipt m c t id v shows is_at working receipt);
           });
         }
 
@@ -229,7 +234,14 @@ module _ {E B T L I : Type 0} (m : Meanings E B T L I) where
               (got.0, ap (λ (y : Part E L I). y.reading) l.part ∙ got.1, shows.desk.number_is new ∙ sym got.2.number_is, shows.desk.tag_is new ∙ sym got.2.tag_is);
           operator = λ role.
               let k : Keeps m c id v = operator_keeps m c t id v shows is_at working role in
-              (shows.desk.number_is new ∙ sym k.number, shows.lists.list_0 new ∙ sym k.own, λ ready. shows.readiness (sym k.ready ∙ ready));
+              let writer : IsOperator v = record { role = role; split = nothing_kept m c t id v shows is_at working role } in
+              record {
+                number = shows.desk.number_is new ∙ sym k.number;
+                tag = (c.name, last_known m c t id v shows is_at writer c.name (m.book_tag c.book) refl (shows.desk.tag_is new));
+                list_0 = shows.lists.list_0 new ∙ sym k.own;
+                ready = λ ready. shows.readiness (sym k.ready ∙ ready);
+                unpublished = k.stale ∙ new;
+              };
         }
 
     -- once all are drained nobody but the operator has the book

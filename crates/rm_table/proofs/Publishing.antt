@@ -21,8 +21,9 @@ use Rattle.rm_table.specs.Meanings.{Meanings, values_from}
 use Rattle.rm_table.specs.Rule.{Core, core_of, Words, tracker_of, token_of, Current, Live, Keeps, Shows}
 use Rattle.rm_table.specs.Moves.{Hand, noted, published_as, published, HasNext, gives_first, rest_from, editions_from, AllDrained, IsOperator}
 use Rattle.rm_table.proofs.Base.{all_values, values-map, length-values, there, at_slice, words_like, words_number}
-use Rattle.rm_table.proofs.Keeping.{Beside, each_after}
+use Rattle.rm_table.proofs.Keeping.{Beside, each_after, every_seat_after}
 use Rattle.rm_table.proofs.Own.{sound_after, numbers_after}
+use Rattle.rm_table.proofs.Locks.{no_receipt}
 use Rattle.rm_table.proofs.Writer.{writer_live, writer_keeps, holds_behind}
 
 -- a false flag at each place
@@ -146,6 +147,8 @@ module _ {E B T L I : Type 0} (m : Meanings E B T L I) where
         let holder : c.holder ≡ c.count + 1 = (book_holder book has).0 ∙ o.place in
         let beside : Beside c d v.place = record {
           count = refl;
+          opened = refl;
+          history = ((h.name, h.tag) ∷ [], refl);
           seat = λ k. refl;
           phase = λ k other. refl;
           part = λ k other. refl;
@@ -199,6 +202,7 @@ module _ {E B T L I : Type 0} (m : Meanings E B T L I) where
               absurd (omega (arith, length-values c.state 1 c.count)))
               (λ k y told. inl told) shows.numbers;
           readiness = λ never. absurd cc;
+          seats = every_seat_after c.count c.seat t.views id v w is_at (λ k mine. mine) (λ role. role) shows.seats;
           each = each_after m c d v.place id w t.views shows.each l.seat beside (record {
             live = λ _. record {
               count = l.count;
@@ -226,5 +230,6 @@ module _ {E B T L I : Type 0} (m : Meanings E B T L I) where
               drained = λ k low high. flag_of-replicate (v.count + 1) k;
               kept = λ k part got. absurd (writer.split.1 k part (at_slice v.kept k (Some part) got));
             };
+            receipt = λ receipt. absurd (no_receipt m c t id v shows is_at (inr writer) receipt);
           });
         }

@@ -14,10 +14,11 @@ use Rattle.rm_table.specs.declared.view.View.{View}
 use Rattle.rm_table.specs.Meanings.{Meanings}
 use Rattle.rm_table.specs.Moves.{Hand, noted, published, published_as, joined, rest_from, editions_from, HasNext, HasBook, LeftByOperator, AllJoined}
 use Rattle.rm_table.specs.Answers.{Looked, TriedBook, edition_slot, book_slot}
-use Rattle.rm_table.specs.Rests.{IsAtRest, IsRejoined}
+use Rattle.rm_table.specs.Rests.{IsAtRest, IsRejoinedFrom}
 use Rattle.rm_table.proofs.Resting.{same_of-replicate, after_join, rejoined_closing, all_joined}
 
-last_of : {A : Type 0} (xs : List A) (x : A) (i : ℕ) → length xs ≡ i → slice_get (xs ++ x ∷ []) i ≡ Some x
+-- the last of a list with one more at its end
+pub last_of : {A : Type 0} (xs : List A) (x : A) (i : ℕ) → length xs ≡ i → slice_get (xs ++ x ∷ []) i ≡ Some x
 last_of [] x zero is = refl
 last_of [] x (suc i) is = absurd (omega arith)
 last_of (y ∷ ys) x zero is = absurd (omega arith)
@@ -29,19 +30,23 @@ module _ {E B T L I : Type 0} where
       → s3 ≡ (v, turned ((0, Book b) ∷ hand))
   written_hand s0 s1 s2 s3 hand b v e0 e1 e2 e3 = e3 ∙ ap (λ (s : Me (Slot E B) (View E B T L I)). (s.0, turned s.1)) (e2 ∙ ap (λ (s : Me (Slot E B) (View E B T L I)). (s.0, (0, Book b) ∷ rest s.1)) (e1 ∙ ap (λ (h : Hand E B). (v, (0, Empty) ∷ h)) e0))
 
+  -- once the first place is joined, all are
+  pub joined_all : (v : View E B T L I) (hand : Hand E B) → 0 < v.count → IsRejoinedFrom 1 v hand → AllJoined v
+  joined_all v hand some r = let c = rejoined_closing v hand some r in all_joined v c.0 c.1
+
   pub join_one : (old new : Me (Slot E B) (View E B T L I)) (w : View E B T L I) → new ≡ (joined old.0 w, old.1) → w.place ≡ 1 → old.0.count ≡ 1 → IsAtRest old.0 old.1 → AllJoined new.0
   join_one old new w is at one rests =
-      let all : AllJoined (joined old.0 w) = all_joined (joined old.0 w) (rejoined_closing (joined old.0 w) old.1 (omega (arith, one)) (after_join 1 old (joined old.0 w, old.1) w refl at (omega (arith, one)) (inl (omega (arith, one), rests)))) in
+      let all : AllJoined (joined old.0 w) = joined_all (joined old.0 w) old.1 (omega (arith, one)) (after_join 1 old (joined old.0 w, old.1) w refl at (omega (arith, one)) (λ _. w.part, inl (omega (arith, one), rests))) in
       subst (λ (s : Me (Slot E B) (View E B T L I)). AllJoined s.0) (sym is) all
 
   -- the second processor's seat is joined, and then the first's
   pub join_two : (old mid new : Me (Slot E B) (View E B T L I)) (second first : View E B T L I) → mid ≡ (joined old.0 second, old.1) → new ≡ (joined mid.0 first, mid.1) → second.place ≡ 2 → first.place ≡ 1 → old.0.count ≡ 2 → IsAtRest old.0 old.1 → AllJoined new.0
   join_two old mid new second first is_mid is at_second at_first two rests =
       let count : mid.0.count ≡ 2 = ap (λ (s : Me (Slot E B) (View E B T L I)). s.0.count) is_mid ∙ two in
-      let r : IsRejoined 2 mid.0 mid.1 = after_join 2 old mid second is_mid at_second (omega (arith, two)) (inl (omega (arith, two), rests)) in
-      let q : IsRejoined 1 new.0 new.1 = after_join 1 mid new first is at_first (omega (arith, count)) r in
+      let r : IsRejoinedFrom 2 mid.0 mid.1 = after_join 2 old mid second is_mid at_second (omega (arith, two)) (λ _. second.part, inl (omega (arith, two), rests)) in
+      let q : IsRejoinedFrom 1 new.0 new.1 = after_join 1 mid new first is at_first (omega (arith, count)) r in
       let some : 0 < new.0.count = let e : new.0.count ≡ mid.0.count = ap (λ (s : Me (Slot E B) (View E B T L I)). s.0.count) is in omega (arith, e, count) in
-      all_joined new.0 (rejoined_closing new.0 new.1 some q)
+      joined_all new.0 new.1 some q
 
   module _ (m : Meanings E B T L I) where
     pub edition_on_top : (me : Me (Slot E B) (View E B T L I)) (place : ℕ) (heard : Heard) (after : Me (Slot E B) (View E B T L I)) → heard ≡ Drained → Looked m me place heard after → (old : Option E) × (after.1 ≡ (place, edition_slot old) ∷ rest after.1)

@@ -8,7 +8,7 @@ use Rattle.rm_table.specs.declared.part.Part.{Part}
 use Rattle.rm_table.specs.declared.view.View.{View}
 use Rattle.rm_table.specs.Layout.{words_of, number_index, tracker_index}
 use Rattle.rm_table.specs.Meanings.{Meanings, values_from, BeginsWith}
-use Rattle.rm_table.specs.Moves.{NoneRevoked}
+use Rattle.rm_table.specs.Moves.{NoneRevoked, IsLast}
 
 -- the words at the opening: the number, and zeros
 abbrev pub first_words : ℕ → ℕ → List ℕ
@@ -66,7 +66,7 @@ module _ {E B T L I : Type 0} (m : Meanings E B T L I) where
   pub record EndsWith (v : View E B T L I) (words : List ℕ) (slots : List (Slot E B)) : Type 0 where
     pub name : L
     pub tag : T
-    pub last : slice_get v.history (v.number - v.opened) ≡ Some (name, tag)
+    pub last : IsLast v name tag
     pub book : B
     pub book_is : slice_get slots 0 ≡ Some (Book book)
     pub book_number : m.book_number book ≡ v.number
@@ -87,7 +87,7 @@ module _ {E B T L I : Type 0} (m : Meanings E B T L I) where
   pub record ClosesWith (v : View E B T L I) (book : B) (trackers : List ℕ) (editions : List E) : Type 0 where
     pub name : L
     pub tag : T
-    pub last : slice_get v.history (v.number - v.opened) ≡ Some (name, tag)
+    pub last : IsLast v name tag
     pub book_number : m.book_number book ≡ v.number
     pub book_tag : m.book_tag book ≡ tag
     pub list_0 : m.of book 0 ≡ v.own

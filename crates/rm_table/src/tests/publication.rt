@@ -15,13 +15,13 @@ use std::process::Abort;
 use std::test::Fail;
 
 // A table of one processor at number 1, and its two seats.
-struct Single {
-    table: LockTable,
-    operator: Seat,
-    processor: Seat,
+pub(crate) struct Single {
+    pub(crate) table: LockTable,
+    pub(crate) operator: Seat,
+    pub(crate) processor: Seat,
 }
 
-fn open_single(alloc: Global) -> Result<Single, Fail>
+pub(crate) fn open_single(alloc: Global) -> Result<Single, Fail>
     ensures tables { IfOk result (λ s. (s.operator.table_id ≡ s.table) × (s.processor.table_id ≡ s.table)) }
     ensures operator { IfOk result (λ s. IsAtRest s.operator.me.0 s.operator.me.1) }
     ensures count { IfOk result (λ s. (s.operator.me.0.count ≡ 1) × (s.operator.me.0.number ≡ 1)) }
@@ -41,7 +41,7 @@ fn open_single(alloc: Global) -> Result<Single, Fail>
 }
 
 // The operator takes the lock behind and the token.
-fn take_token(rt: &impl Abort, table: &LockTable, operator: &mut Seat)
+pub(crate) fn take_token(rt: &impl Abort, table: &LockTable, operator: &mut Seat)
     requires table { operator.old.table_id ≡ table.now }
     requires at_rest { IsAtRest operator.old.me.0 operator.old.me.1 }
     requires count { operator.old.me.0.count ≡ 1 }
@@ -60,7 +60,7 @@ fn take_token(rt: &impl Abort, table: &LockTable, operator: &mut Seat)
 }
 
 // The operator finds the processor out, and puts the next edition into its slot.
-fn renew(rt: &impl Abort, table: &LockTable, operator: &mut Seat, next: u64)
+pub(crate) fn renew(rt: &impl Abort, table: &LockTable, operator: &mut Seat, next: u64)
     requires table { operator.old.table_id ≡ table.now }
     requires operator { IsOperator operator.old.me.0 }
     requires same { (operator.old.me.0.count ≡ 1) × (operator.old.me.1 ≡ []) }
@@ -100,7 +100,7 @@ pub(crate) fn take_ledger(rt: &impl Abort, table: &LockTable, operator: &mut Sea
 }
 
 // The operator, with the processor's next edition in hand, publishes it, and gives book and lock back.
-fn publish_next(rt: &impl Abort, table: &LockTable, operator: &mut Seat, next: u64)
+pub(crate) fn publish_next(rt: &impl Abort, table: &LockTable, operator: &mut Seat, next: u64)
     requires table { operator.old.table_id ≡ table.now }
     requires operator { IsOperator operator.old.me.0 }
     requires same { (operator.old.me.0.count ≡ 1) × (operator.old.me.0.number + 1 ≡ next) }
