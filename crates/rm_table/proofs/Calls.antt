@@ -90,7 +90,7 @@ module _ {E B T L I : Type 0} (m : Meanings E B T L I) where
           let e : E = home.0 in
           let known : m.number e ≡ v.part.held = home.2.number_is ∙ sym (ap (λ (y : Part E L I). y.held) live.part ∙ whole.1.numbers.held v.place (c.state v.place) (there c v.place live.low high) held) in (
             noted (entered m v e) i found,
-            takes v.place (Edition e),
+            takes v.place (Edition (Some e)),
             home.1,
             (own_core c v.place (record (c.state v.place) { phase = In }) (entered_part m v.part e), check_held_shows m c t id v whole.1 is_at role i me.1 e up held home.1 home.2, (may, check_held_event m c t id v whole.1 is_at role (entered_part m v.part e) held)),
             match_true _ _ (found == 0) (eq-eqb found 0 zero_found) (e, refl, known, seen (m.number e) home.2.number_is),

@@ -43,7 +43,7 @@ pub record SameSeat {E B T L I : Type 0} (v w : View E B T L I) : Type 0 where
 
 module _ {E B T L I : Type 0} (m : Meanings E B T L I) where
   pub drain_same : (me after : Seated m) (place index found : ℕ) (b : Bool) → MatchBool b
-      ((e : E) × (after ≡ (noted (drained me.0 place) index found, (place, Edition e) ∷ me.1)) × (m.number e ≡ me.0.number) × IsLast me.0 (m.name e) (m.tag e))
+      ((e : E) × (after ≡ (noted (drained me.0 place) index found, (place, Edition (Some e)) ∷ me.1)) × (m.number e ≡ me.0.number) × IsLast me.0 (m.name e) (m.tag e))
       (after ≡ (noted me.0 index found, me.1)) → SameSeat me.0 after.0
   drain_same me after place index found true got = let is = got.1 in record {
     role = ap (λ z. z.0.role) is;
@@ -191,7 +191,7 @@ module _ {E B T L I : Type 0} (m : Meanings E B T L I) where
           let even : found % 2 ≡ 0 = ap (λ (n : ℕ). n % 2) found_is ∙ out.1 in
           let number : m.number e ≡ v.number = home.2.number_is ∙ sym (writer_keeps m c t id v whole.1 is_at writer).number in (
             noted (drained v k) i found,
-            takes k (Edition e),
+            takes k (Edition (Some e)),
             home.1,
             (
               state_core c k (record (c.state k) { drained = true }),
@@ -199,7 +199,7 @@ module _ {E B T L I : Type 0} (m : Meanings E B T L I) where
               (drain_may m c t id v whole.1 is_at writer k low high flagged undrained, drain_event m c t id v whole.1 is_at writer k low within out.0),
             ),
             (λ place same. let p : k ≡ place = omega arith in
-                match_true _ _ (found % 2 == 0) (eq-eqb (found % 2) 0 even) (e, ap (λ (j : ℕ). (noted (drained v j) i found, (j, Edition e) ∷ me.1)) p, number, last_known m c t id v whole.1 is_at writer (m.name e) (m.tag e) home.2.name_is home.2.tag_is)),
+                match_true _ _ (found % 2 == 0) (eq-eqb (found % 2) 0 even) (e, ap (λ (j : ℕ). (noted (drained v j) i found, (j, Edition (Some e)) ∷ me.1)) p, number, last_known m c t id v whole.1 is_at writer (m.name e) (m.tag e) home.2.name_is home.2.tag_is)),
           )
       by_phase (inr inside) =
           let odd : found % 2 ≡ 1 = ap (λ (n : ℕ). n % 2) found_is ∙ inside.1 in (
@@ -270,13 +270,13 @@ module _ {E B T L I : Type 0} (m : Meanings E B T L I) where
           let w : View E B T L I = noted (book_taken v c.book) i found in
           let d : Core E B T L I = desk_core c v.place v.place c.book c.stale c.ready (book_part v.part) in (
             w,
-            takes 0 (Book c.book),
+            takes 0 (Book (Some c.book)),
             book_is_home m c t id v whole.1 is_at working none,
             (
               d,
-              subst (λ (b : Bool). Shows m d (stepped t i (either b x found) id me.1 w (takes 0 (Book c.book)))) (sym test)
-                  (subst (λ (y : ℕ). Shows m d (stepped t i y id me.1 w (takes 0 (Book c.book)))) (sym x_is)
-                  (subst (λ (k : ℕ). Shows m d (stepped t k v.place id me.1 (noted (book_taken v c.book) k found) (takes 0 (Book c.book)))) (sym i_is) (take_book_shows m c t id v whole.1 is_at working me.1 found none inside))),
+              subst (λ (b : Bool). Shows m d (stepped t i (either b x found) id me.1 w (takes 0 (Book (Some c.book))))) (sym test)
+                  (subst (λ (y : ℕ). Shows m d (stepped t i y id me.1 w (takes 0 (Book (Some c.book))))) (sym x_is)
+                  (subst (λ (k : ℕ). Shows m d (stepped t k v.place id me.1 (noted (book_taken v c.book) k found) (takes 0 (Book (Some c.book))))) (sym i_is) (take_book_shows m c t id v whole.1 is_at working me.1 found none inside))),
               refl,
             ),
             record {
@@ -305,7 +305,7 @@ module _ {E B T L I : Type 0} (m : Meanings E B T L I) where
 
   -- the book on top of a hand
   abbrev top_book : B → Hand E B → B
-  top_book other ((k, Book y) ∷ hand) = y
+  top_book other ((k, Book (Some y)) ∷ hand) = y
   top_book other _ = other
 
   pub give_book_makes : GiveBookLaw m
@@ -328,7 +328,7 @@ module _ {E B T L I : Type 0} (m : Meanings E B T L I) where
       c : Core E B T L I
       c = whole.0
 
-      at_top : (d : Core E B T L I) → core_of d ≡ core_of c → Shows m d (stepped t book_index 0 id ((0, Book y) ∷ rest me.1) (noted (book_given m v y) book_index 0) gives) → (d : Core E B T L I) × Shows m d (stepped t i 0 id me.1 (noted (book_given m v y) i 0) gives) × (core_of d ≡ core_of c)
+      at_top : (d : Core E B T L I) → core_of d ≡ core_of c → Shows m d (stepped t book_index 0 id ((0, Book (Some y)) ∷ rest me.1) (noted (book_given m v y) book_index 0) gives) → (d : Core E B T L I) × Shows m d (stepped t i 0 id me.1 (noted (book_given m v y) i 0) gives) × (core_of d ≡ core_of c)
       at_top d same shows = (
         d,
         subst (λ (k : ℕ). Shows m d (stepped t k 0 id me.1 (noted (book_given m v y) k 0) gives)) (sym i_is)

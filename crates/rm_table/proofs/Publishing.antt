@@ -51,12 +51,12 @@ module _ {E B : Type 0} where
 
   pub gave_size : (es : List E) (from : ℕ) (homes : List (at.Option (Slot E B))) (hand : Hand E B) → length (homes_after homes (editions_from from es hand) (gives_first (length es))) ≡ length homes
   gave_size [] from homes hand = refl
-  gave_size (e ∷ es) from homes hand = gave_size es (from + 1) (slice_set homes from (at.some (Edition e))) hand ∙ length-set homes from (at.some (Edition e))
+  gave_size (e ∷ es) from homes hand = gave_size es (from + 1) (slice_set homes from (at.some (Edition (Some e)))) hand ∙ length-set homes from (at.some (Edition (Some e)))
 
   -- what a slot has after the editions were given
   pub gave_at : (P : E → Type 0) (es : List E) (from : ℕ) (homes : List (at.Option (Slot E B))) (hand : Hand E B) → ((j : ℕ) (e : E) → slice_get es j ≡ Some e → P e)
       → (k : ℕ) (h : at.Option (Slot E B)) → get_elem? (homes_after homes (editions_from from es hand) (gives_first (length es))) k ≡ at.some h
-      → ((from ≤ k) × (k < from + length es) × ((e : E) × (h ≡ at.some (Edition e)) × P e)) ⊎ (((k < from) ⊎ (from + length es ≤ k)) × (get_elem? homes k ≡ at.some h))
+      → ((from ≤ k) × (k < from + length es) × ((e : E) × (h ≡ at.some (Edition (Some e))) × P e)) ⊎ (((k < from) ⊎ (from + length es ≤ k)) × (get_elem? homes k ≡ at.some h))
   gave_at P [] from homes hand all k h is = inr (apart_from k from, is)
   gave_at P (e ∷ es) from homes hand all k h is =
       ⊎_elim
@@ -64,8 +64,8 @@ module _ {E B : Type 0} where
       (λ old. ⊎_elim
       (λ here. let same = here.0 in inl (omega arith, omega arith, (e, sym here.1, all 0 e refl)))
       (λ other. let apart = other.0 in inr (⊎_elim (λ low. inl (below k from apart low)) (λ high. inr (omega arith)) old.0, other.1))
-      (at_set homes from k (at.some (Edition e)) h old.1))
-      (gave_at P es (from + 1) (slice_set homes from (at.some (Edition e))) hand (λ j x got. all (suc j) x got) k h is)
+      (at_set homes from k (at.some (Edition (Some e))) h old.1))
+      (gave_at P es (from + 1) (slice_set homes from (at.some (Edition (Some e)))) hand (λ j x got. all (suc j) x got) k h is)
     where
       below : (k from : ℕ) → k ≢ from → k < from + 1 → k < from
       below k from other low = grind (arith, other)
@@ -90,7 +90,7 @@ module _ {E B T L I : Type 0} (m : Meanings E B T L I) where
       by_first : (es : List E) → h.editions ≡ es → published m v hand ≡ published_as m v h.name h.tag
       by_first [] is = let c = h.count in let n : length h.editions ≡ 0 = ap length is in absurd (omega arith)
       by_first (e ∷ es) is =
-          let front : hand ≡ (1, Edition e) ∷ editions_from (1 + 1) es h.others = h.hand_is ∙ ap (λ (xs : List E). editions_from 1 xs h.others) is in
+          let front : hand ≡ (1, Edition (Some e)) ∷ editions_from (1 + 1) es h.others = h.hand_is ∙ ap (λ (xs : List E). editions_from 1 xs h.others) is in
           let same = h.same 0 e (ap (λ (xs : List E). slice_get xs 0) is) in
           ap (published m v) front ∙ ap (λ (l : L). published_as m v l (m.tag e)) same.1 ∙ ap (λ (g : T). published_as m v h.name g) same.2
 
@@ -168,11 +168,11 @@ module _ {E B T L I : Type 0} (m : Meanings E B T L I) where
           slots = record {
             size = gave_size h.editions 1 t.homes h.others ∙ shows.slots.size;
             home = λ k y low high got. ⊎_elim
-                (λ new. (new.2.0, at.some-injective y (Edition new.2.0) new.2.1, new.2.2))
+                (λ new. (new.2.0, at.some-injective y (Edition (Some new.2.0)) new.2.1, new.2.2))
                 (λ old. let e = h.count in absurd (⊎_elim (λ below. omega arith) (λ above. omega arith) old.0))
                 (gave_at P h.editions 1 t.homes h.others all k (at.some y) got);
             away = λ k low high got. ⊎_elim
-                (λ new. absurd (at.some-ne-none (Edition new.2.0) (sym new.2.1)))
+                (λ new. absurd (at.some-ne-none (Edition (Some new.2.0)) (sym new.2.1)))
                 (λ old. let e = h.count in absurd (⊎_elim (λ below. omega arith) (λ above. omega arith) old.0))
                 (gave_at P h.editions 1 t.homes h.others all k at.none got);
             book_home = λ y got. ⊎_elim (λ new. let low = new.0 in absurd (omega arith)) (λ old. shows.slots.book_home y old.1) (gave_at P h.editions 1 t.homes h.others all 0 (at.some y) got);

@@ -167,8 +167,8 @@ module _ {E B T L I : Type 0} (m : Meanings E B T L I) where
         let same : in_state ≡ after_check (c.state v.place) = ap (λ (k : Token). with_token_read k (c.state v.place)) (sym held) in
         ap (λ (r : ProcessorState). core_of (own_core c v.place r a)) same ∙ core-put c v.place after_check live_of.low high_of
 
-    pub check_held_shows : (i : ℕ) (hand : Hand E B) (e : E) → v.phase ≡ Raised → (c.state v.place).token ≡ Held → get_elem? t.homes v.place ≡ at.some (at.some (Edition e)) → Current m c.number c.name c.tag e
-        → Shows m (own_core c v.place in_state (entered_part m v.part e)) (stepped t i (slice_index t.words i) id hand (noted (entered m v e) i (slice_index t.words i)) (takes v.place (Edition e)))
+    pub check_held_shows : (i : ℕ) (hand : Hand E B) (e : E) → v.phase ≡ Raised → (c.state v.place).token ≡ Held → get_elem? t.homes v.place ≡ at.some (at.some (Edition (Some e))) → Current m c.number c.name c.tag e
+        → Shows m (own_core c v.place in_state (entered_part m v.part e)) (stepped t i (slice_index t.words i) id hand (noted (entered m v e) i (slice_index t.words i)) (takes v.place (Edition (Some e))))
     check_held_shows i hand e raised held home current =
         let was : (c.state v.place).phase ≡ Raised = sym live_of.phase ∙ raised in
         let a : Part E L I = entered_part m v.part e in
@@ -307,9 +307,9 @@ module _ {E B T L I : Type 0} (m : Meanings E B T L I) where
         (slots_stay m (put c.state v.place out_state) (same_away out_state (λ inside. let clash : Raised ≡ In = sym was ∙ inside in absurd cc) refl) shows.slots)
 
     pub lower_in_shows : (x : ℕ) (hand : Hand E B) (e : E) → v.phase ≡ In → v.book ≡ None → x ≡ tracker_word v.part.sections Out → Current m c.number c.name c.tag e
-        → Shows m (own_core c v.place out_state (left_part v.part)) (stepped t (tracker_index v.place) x id ((v.place, Edition e) ∷ hand) (noted (lowered v) (tracker_index v.place) x) gives)
+        → Shows m (own_core c v.place out_state (left_part v.part)) (stepped t (tracker_index v.place) x id ((v.place, Edition (Some e)) ∷ hand) (noted (lowered v) (tracker_index v.place) x) gives)
     lower_in_shows x hand e inside none is current =
-        lower_shows x (slice_set t.homes v.place (at.some (Edition e))) (inr inside) none is
+        lower_shows x (slice_set t.homes v.place (at.some (Edition (Some e)))) (inr inside) none is
         (slots_give m (put c.state v.place out_state) v.place e live_of.low current (others_away out_state) shows.slots)
 
     -- regain

@@ -194,7 +194,7 @@ module _ {E B T L I : Type 0} (m : Meanings E B T L I) where
         not_out Raised q inside = refl
         not_out In q inside = refl
 
-    pub drain_home : (k : ℕ) → 0 < k → k ≤ v.count → is_drained v k ≡ false → (c.state k).phase ≡ Out → (e : E) × (get_elem? t.homes k ≡ at.some (at.some (Edition e))) × Current m c.number c.name c.tag e
+    pub drain_home : (k : ℕ) → 0 < k → k ≤ v.count → is_drained v k ≡ false → (c.state k).phase ≡ Out → (e : E) × (get_elem? t.homes k ≡ at.some (at.some (Edition (Some e)))) × Current m c.number c.name c.tag e
     drain_home k low high undrained out =
         let within : k ≤ c.count = let e = writer_live.count in omega arith in
         at_home m k low within
@@ -202,7 +202,7 @@ module _ {E B T L I : Type 0} (m : Meanings E B T L I) where
         shows.slots
 
     pub drain_shows : (i k : ℕ) (hand : Hand E B) (e : E) → 0 < k → k ≤ v.count → is_revoked v k ≡ true → is_drained v k ≡ false → (c.state k).phase ≡ Out
-        → Shows m (state_core c k (drained_state k)) (stepped t i (slice_index t.words i) id hand (noted (drained v k) i (slice_index t.words i)) (takes k (Edition e)))
+        → Shows m (state_core c k (drained_state k)) (stepped t i (slice_index t.words i) id hand (noted (drained v k) i (slice_index t.words i)) (takes k (Edition (Some e))))
     drain_shows i k hand e low high revoked undrained out =
         let o : Keeps m c id v = writer_keeps in
         let within : k ≤ c.count = let e = writer_live.count in omega arith in

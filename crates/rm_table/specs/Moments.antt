@@ -46,7 +46,7 @@ module _ {E B T L I : Type 0} (m : Meanings E B T L I) where
 
   -- an edition in its slot is of the published number
   abbrev pub HomeLaw : Type 0
-  HomeLaw = (t : State (Slot E B) (View E B T L I)) → Whole m t → (k : ℕ) (y : Slot E B) → 0 < k → get_elem? t.homes k ≡ at.some (at.some y) → (e : E) × (y ≡ Edition e) × (m.number e ≡ slice_index t.words number_index)
+  HomeLaw = (t : State (Slot E B) (View E B T L I)) → Whole m t → (k : ℕ) (y : Slot E B) → 0 < k → get_elem? t.homes k ≡ at.some (at.some y) → (e : E) × (y ≡ Edition (Some e)) × (m.number e ≡ slice_index t.words number_index)
 
   -- an edition is away from its slot only with its processor, which is in, or with the operator, which counts that processor as drained
   abbrev pub AwayLaw : Type 0

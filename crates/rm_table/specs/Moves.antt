@@ -83,7 +83,7 @@ module _ {E B : Type 0} where
   -- these editions, the first in slot `from`, stand first in the hand
   abbrev pub editions_from : ℕ → List E → Hand E B → Hand E B
   editions_from from [] hand = hand
-  editions_from from (e ∷ es) hand = (from, Edition e) ∷ editions_from (from + 1) es hand
+  editions_from from (e ∷ es) hand = (from, Edition (Some e)) ∷ editions_from (from + 1) es hand
 
 module _ {E B T L I : Type 0} where
   -- one more step on a word was made, which found or stored this
@@ -272,7 +272,7 @@ module _ {E B T L I : Type 0} where
     -- who lowers its tracker in a section that it entered has its slot on top, with an edition of the number, name and tag that it read
     pub record HasEdition (v : View E B T L I) (hand : Hand E B) : Type 0 where
       pub edition : E
-      pub hand_is : hand ≡ (v.place, Edition edition) ∷ rest hand
+      pub hand_is : hand ≡ (v.place, Edition (Some edition)) ∷ rest hand
       pub found : E
       pub reading : v.part.reading ≡ Some found
       pub number : m.number edition ≡ m.number found
@@ -292,7 +292,7 @@ module _ {E B T L I : Type 0} where
     }
 
     abbrev pub published : View E B T L I → Hand E B → View E B T L I
-    published v ((k, Edition e) ∷ hand) = published_as v (m.name e) (m.tag e)
+    published v ((k, Edition (Some e)) ∷ hand) = published_as v (m.name e) (m.tag e)
     published v _ = v
 
     -- The first slots of the hand are the editions of all processors in order, all of the next number, of one name and tag.
@@ -331,7 +331,7 @@ module _ {E B T L I : Type 0} where
     -- who gives the book back has it on top
     pub record HasBook (v : View E B T L I) (hand : Hand E B) : Type 0 where
       pub book : B
-      pub hand_is : hand ≡ (0, Book book) ∷ rest hand
+      pub hand_is : hand ≡ (0, Book (Some book)) ∷ rest hand
       pub taken : B
       pub book_taken : v.book ≡ Some taken
       pub processor : v.role ≡ Processor → LeftBy v.place taken book

@@ -25,7 +25,7 @@ module _ {E B T L I : Type 0} (m : Meanings E B T L I) where
   -- is revoked for a later number
   abbrev pub Checks : Telling
   Checks s me found after = MatchBool (found == 0)
-      ((e : E) × (after ≡ (noted (entered m me.0 e) s.word found, (me.0.place, Edition e) ∷ me.1)) × (m.number e ≡ me.0.part.held) × SeenUpTo me.0.part (m.number e))
+      ((e : E) × (after ≡ (noted (entered m me.0 e) s.word found, (me.0.place, Edition (Some e)) ∷ me.1)) × (m.number e ≡ me.0.part.held) × SeenUpTo me.0.part (m.number e))
       ((after ≡ (noted (refused me.0 found) s.word found, me.1)) × (me.0.part.held < found))
 
   abbrev pub Lowers : Telling
@@ -50,7 +50,7 @@ module _ {E B T L I : Type 0} (m : Meanings E B T L I) where
   -- an even tracker says that the processor is out; its edition is the last published one
   abbrev pub Drains : Telling
   Drains s me found after = (place : ℕ) → s.word ≡ tracker_index place → MatchBool (found % 2 == 0)
-      ((e : E) × (after ≡ (noted (drained me.0 place) s.word found, (place, Edition e) ∷ me.1)) × (m.number e ≡ me.0.number) × IsLast me.0 (m.name e) (m.tag e))
+      ((e : E) × (after ≡ (noted (drained me.0 place) s.word found, (place, Edition (Some e)) ∷ me.1)) × (m.number e ≡ me.0.number) × IsLast me.0 (m.name e) (m.tag e))
       (after ≡ (noted me.0 s.word found, me.1))
 
   pub record ReadsNumber (s : Step (Slot E B)) (me : Seated) (found : ℕ) (after : Seated) : Type 0 where
@@ -65,9 +65,9 @@ module _ {E B T L I : Type 0} (m : Meanings E B T L I) where
   -- a free book is at home; nobody but the operator has it once all are drained
   pub record TakesBook (s : Step (Slot E B)) (me : Seated) (found : ℕ) (after : Seated) : Type 0 where
     pub tried : MatchBool (found == 0)
-        ((book : B) × (after ≡ (noted (book_taken me.0 book) s.word found, (0, Book book) ∷ me.1)) × FoundBy m me.0 book)
+        ((book : B) × (after ≡ (noted (book_taken me.0 book) s.word found, (0, Book (Some book)) ∷ me.1)) × FoundBy m me.0 book)
         ((after ≡ (noted me.0 s.word found, me.1)) × (found ≤ me.0.count + 1))
     pub free : me.0.role ≡ Operator → AllDrained me.0 → me.0.book ≡ None → found ≡ 0
 
   abbrev pub GivesBook : Telling
-  GivesBook s me found after = (book : B) → me.1 ≡ (0, Book book) ∷ rest me.1 → after ≡ (noted (book_given m me.0 book) s.word found, rest me.1)
+  GivesBook s me found after = (book : B) → me.1 ≡ (0, Book (Some book)) ∷ rest me.1 → after ≡ (noted (book_given m me.0 book) s.word found, rest me.1)

@@ -23,7 +23,7 @@ module _ {E B T L I : Type 0} where
     pub unheld : v.behind ≡ false
     pub bookless : v.book ≡ None
     pub edition : E
-    pub hand_is : hand ≡ (v.place, Edition edition) ∷ []
+    pub hand_is : hand ≡ (v.place, Edition (Some edition)) ∷ []
     pub reading : v.part.reading ≡ Some edition
 
   -- a receipt's seat

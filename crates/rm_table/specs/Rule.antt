@@ -114,9 +114,9 @@ module _ {E B T L I : Type 0} (m : Meanings E B T L I) where
   -- the operator while i is drained. The book is at home where nobody has it.
   pub record Slots (number n : ℕ) (state : ℕ → ProcessorState) (name : L) (tag : T) (holder : ℕ) (book : B) (homes : List (at.Option (Slot E B))) : Type 0 where
     pub size : length homes ≡ n + 1
-    pub home : (k : ℕ) (y : Slot E B) → 0 < k → k ≤ n → get_elem? homes k ≡ at.some (at.some y) → (e : E) × (y ≡ Edition e) × Current number name tag e
+    pub home : (k : ℕ) (y : Slot E B) → 0 < k → k ≤ n → get_elem? homes k ≡ at.some (at.some y) → (e : E) × (y ≡ Edition (Some e)) × Current number name tag e
     pub away : (k : ℕ) → 0 < k → k ≤ n → get_elem? homes k ≡ at.some at.none → ((state k).phase ≡ In) ⊎ ((state k).drained ≡ true)
-    pub book_home : (y : Slot E B) → get_elem? homes 0 ≡ at.some (at.some y) → y ≡ Book book
+    pub book_home : (y : Slot E B) → get_elem? homes 0 ≡ at.some (at.some y) → y ≡ Book (Some book)
     pub book_away : get_elem? homes 0 ≡ at.some at.none → holder ≢ 0
 
   -- Part 3: who is in reads the published edition, which its check found in its slot. Each number and name that a processor has seen

@@ -1,7 +1,7 @@
 ghost use Rattle.std.specs.Prelude.{◌≡◌, ℕ, ◌+◌, ◌-◌, ◌^◌, ◌<◌, true, false, None, [], ◌∷◌, length, replicate, IfOk};
 ghost use Rattle.rm_table.specs.Layout.{book_index};
 ghost use Rattle.rm_table.specs.Moves.{IsOperator, is_revoked, is_drained, noted, book_taken};
-ghost use Rattle.rm_table.specs.declared.slot.Slot.TheVariants.{Empty, Edition as Home};
+ghost use Rattle.rm_table.specs.declared.slot.Slot.TheVariants.{Edition as Home, Book as Held};
 ghost use Rattle.rm_table.specs.Rests.{IsIdle, IsAtRest};
 
 use super::edition::Edition;
@@ -72,7 +72,7 @@ pub(crate) fn renew(rt: &impl Abort, table: &LockTable, operator: &mut Seat, nex
     ensures table { operator.new.table_id ≡ operator.old.table_id }
     ensures operator { IsOperator operator.new.me.0 }
     ensures same { (operator.new.me.0.count ≡ 1) × (operator.new.me.0.number ≡ operator.old.me.0.number) }
-    ensures hand { operator.new.me.1 ≡ (1, Home (record { number = next })) ∷ [] }
+    ensures hand { operator.new.me.1 ≡ (1, Home (Some (record { number = next }))) ∷ [] }
     ensures locks { (operator.new.me.0.behind ≡ true) × (operator.new.me.0.book ≡ None) }
     ensures drained { is_drained operator.new.me.0 1 ≡ true }
     ensures size { length operator.new.me.0.kept ≡ 2 }
@@ -88,7 +88,7 @@ pub(crate) fn take_ledger(rt: &impl Abort, table: &LockTable, operator: &mut Sea
     requires table { operator.old.table_id ≡ table.now }
     requires operator { IsOperator operator.old.me.0 }
     ensures table { operator.new.table_id ≡ operator.old.table_id }
-    ensures seat { operator.new.me ≡ (noted (book_taken operator.old.me.0 result) book_index 0, (0, Empty) ∷ operator.old.me.1) }
+    ensures seat { operator.new.me ≡ (noted (book_taken operator.old.me.0 result) book_index 0, (0, Held None) ∷ operator.old.me.1) }
     ensures number { result.number ≡ operator.old.me.0.number }
     ensures publications { replicate result.publications 0 ≡ operator.old.me.0.own }
 {
@@ -104,7 +104,7 @@ pub(crate) fn publish_next(rt: &impl Abort, table: &LockTable, operator: &mut Se
     requires table { operator.old.table_id ≡ table.now }
     requires operator { IsOperator operator.old.me.0 }
     requires same { (operator.old.me.0.count ≡ 1) × (operator.old.me.0.number + 1 ≡ next) }
-    requires hand { operator.old.me.1 ≡ (1, Home (record { number = next })) ∷ [] }
+    requires hand { operator.old.me.1 ≡ (1, Home (Some (record { number = next }))) ∷ [] }
     requires locks { (operator.old.me.0.behind ≡ true) × (operator.old.me.0.book ≡ None) }
     requires drained { is_drained operator.old.me.0 1 ≡ true }
     requires size { length operator.old.me.0.kept ≡ 2 }
