@@ -1,5 +1,5 @@
 -- What a step of the seat with one place leaves as it was for every other seat.
-use Rattle.std.proofs.Common.{◌≡◌, ◌≢◌, ◌⊎◌, inl, inr, ℕ, ◌+◌, ◌<◌, ◌≤◌, Bool, List, [], ◌++◌, sym, ◌∙◌, ap, arith, subst, ⊎_elim, append-nil, append_assoc}
+use Rattle.std.proofs.Common.{◌≡◌, ◌≢◌, inr, ℕ, ◌+◌, ◌<◌, Bool, List, [], ◌++◌, sym, ◌∙◌, ap, arith, subst, ⊎_elim, append-nil, append_assoc}
 use Rattle.std.specs.Prelude.{slice_set}
 use mathlib.Core.Option as at
 use lib.ListN.{get_elem?}
@@ -10,7 +10,7 @@ use Rattle.rm_table.specs.declared.part.Part.{Part}
 use Rattle.rm_table.specs.declared.view.View.{View}
 use Rattle.rm_table.specs.Layout.{is_held_by}
 use Rattle.rm_table.specs.Meanings.{Meanings, BeginsWith}
-use Rattle.rm_table.specs.Rule.{Core, lent, Live, KeptAt, Keeps, KeepsPrefix, IsSeatOf, EverySeat, Agrees}
+use Rattle.rm_table.specs.Rule.{Core, lent, Live, KeptAt, Keeps, IsSeatOf, EverySeat, Agrees}
 use Rattle.rm_table.proofs.Base.{get_within}
 
 module _ {A : Type 0} where

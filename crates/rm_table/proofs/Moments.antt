@@ -1,21 +1,20 @@
 -- What words, slots and views show at every moment between two steps.
-use Rattle.std.proofs.Common.{◌≡◌, ◌≢◌, ℕ, zero, suc, ◌+◌, ◌-◌, ◌<◌, ◌≤◌, ◌⊎◌, inl, inr, Bool, true, false, Option, Some, None, List, [], ◌∷◌, ◌++◌, length, refl, sym, ◌∙◌, ap, arith, subst, ⊎_elim, eq-eqb, ne_eqb}
-use Rattle.std.specs.Prelude.{slice_get, slice_index, slice_index_or, if◌then◌else◌, ◌==◌}
+use Rattle.std.proofs.Common.{◌≡◌, ◌≢◌, ℕ, suc, ◌+◌, ◌-◌, ◌<◌, ◌≤◌, ◌⊎◌, inl, inr, Bool, true, false, Option, Some, None, List, [], ◌∷◌, ◌++◌, length, refl, sym, ◌∙◌, ap, arith, subst, ⊎_elim, eq-eqb}
+use Rattle.std.specs.Prelude.{slice_get, slice_index, if◌then◌else◌, ◌==◌}
 use Rattle.std.proofs.lemmas.Bool.{eqb-true}
 use mathlib.Core.Option as at
 use lib.ListN.{get_elem?}
 use Rattle.atomic_table.specs.Table.{State}
 use Rattle.rm_core.specs.declared.phase.Phase.TheVariants.{Out, In}
-use Rattle.rm_core.specs.declared.processor_state.ProcessorState.{ProcessorState}
 use Rattle.rm_core.proofs.Changes.{All-processor_of}
 use Rattle.rm_table.specs.declared.role.Role.TheVariants.{Processor, Operator}
 use Rattle.rm_table.specs.declared.slot.Slot.{Slot}
 use Rattle.rm_table.specs.declared.part.Part.{Part}
 use Rattle.rm_table.specs.declared.view.View.{View}
-use Rattle.rm_table.specs.Layout.{number_index, behind_index, book_index, holder_word, is_held_by}
+use Rattle.rm_table.specs.Layout.{number_index, behind_index, holder_word, is_held_by}
 use Rattle.rm_table.specs.Meanings.{Meanings, numbered, BeginsWith}
-use Rattle.rm_table.specs.Moves.{IsLast, is_drained}
-use Rattle.rm_table.specs.Rule.{Core, core_of, Live, KeptAt, Keeps, IsSeatOf, Shows, Whole}
+use Rattle.rm_table.specs.Moves.{IsLast}
+use Rattle.rm_table.specs.Rule.{Core, core_of, Live, KeptAt, Keeps, IsSeatOf, Shows}
 use Rattle.rm_table.specs.Moments.{HasSeat, IsReader, IsCountedOut, ReadsPublished, ReadingLaw, StayingLaw, HomeLaw, AwayLaw, ApartLaw, SeatLaw, OperatorLaw, PlaceLaw, BehindLaw, BookLaw, SeenLaw, ToldLaw, HeardLaw}
 use Rattle.rm_table.proofs.Base.{there, get_within, at_slice, slice_at}
 use Rattle.rm_table.proofs.Own.{in_history}

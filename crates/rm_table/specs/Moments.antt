@@ -1,5 +1,5 @@
 -- What holds at every moment between two atomic steps of a lock, in words, slots and views alone: whatever threads have the seats.
-use Rattle.std.specs.Prelude.{◌≡◌, ◌≢◌, ◌⊎◌, ℕ, ◌+◌, ◌-◌, ◌<◌, ◌≤◌, true, Some, List, length, slice_get, slice_index}
+use Rattle.std.specs.Prelude.{◌≡◌, ◌≢◌, ◌⊎◌, ℕ, ◌+◌, ◌-◌, ◌<◌, ◌≤◌, true, Some, length, slice_get, slice_index}
 use mathlib.Core.Option as at
 use lib.ListN.{get_elem?}
 use Rattle.atomic_table.specs.Table.{State}
