@@ -96,7 +96,7 @@ module _ {E B T L I : Type 0} (m : Meanings E B T L I) where
         let k : Keeps m c j u = a.operator role in
         let other : p ≢ c.count + 1 = λ same. apart (sym l.seat ∙ ap c.seat (k.place ∙ sym same) ∙ seat) in
         keeps_stays c d p j u b (b.operator other) (λ same. apart (sym same ∙ seat)) k;
-    receipt = λ role. let r = a.receipt role in record { opened_is = r.opened_is ∙ sym b.opened; prefix = begins_longer d.history c.history u.history b.history r.prefix; counts = r.counts };
+    receipt = λ role. let r = a.receipt role in record { opened_is = r.opened_is ∙ sym b.opened; prefix = begins_longer d.history c.history u.history b.history r.prefix; begun = r.begun; counts = r.counts };
   }
 
   -- the views after a step of the seat that has place p

@@ -215,9 +215,9 @@ module _ {E B T L I : Type 0} (m : Meanings E B T L I) where
       let c : Core E B T L I = whole.0 in
       let k : Keeps m c i o = (whole.1.each i o o_at).operator o_role in
       let p = (whole.1.each id r r_at).receipt r_role in
-      (p.opened_is ∙ sym k.opened, p.counts, subst (λ (h : List (L × T)). BeginsWith h r.history) (sym k.history) p.prefix)
+      (p.opened_is ∙ sym k.opened, p.begun, p.counts, subst (λ (h : List (L × T)). BeginsWith h r.history) (sym k.history) p.prefix)
 
   pub heard_holds : HeardLaw m
-  heard_holds v r number counts begun seen =
+  heard_holds v r number begun counts seen =
       let got = last_numbered r.opened r.history r.number counts (omega arith) in
       seen (length v.part.pairs + got.0) r.number got.1 (get_behind v.part.pairs (numbered r.opened r.history) got.0 (r.number, got.1) got.2)
