@@ -1,11 +1,11 @@
 -- A processor's entry in the book, and the book given back.
-use Rattle.std.proofs.Common.{◌≡◌, ◌≢◌, ℕ, ◌-◌, ◌^◌, ◌<◌, ◌∷◌, length, refl, sym, ◌∙◌, ap, subst, arith}
+use Rattle.std.proofs.Common.{◌≡◌, ◌≢◌, ℕ, ◌-◌, ◌^◌, ◌<◌, Option, Some, None, [], ◌∷◌, length, refl, sym, ◌∙◌, ap, subst, arith}
 use Rattle.std.specs.Prelude.{slice_index_or, slice_set, replicate, nat_lt}
 use Rattle.std.proofs.lemmas.List.{get_or-set_other}
 use Rattle.atomic_table.specs.Table.{Me, rest}
 use Rattle.rm_table.specs.declared.role.Role.TheVariants.{Processor}
 use Rattle.rm_table.specs.declared.slot.Slot.{Slot}
-use Rattle.rm_table.specs.declared.slot.Slot.TheVariants.{Empty, Book as Held}
+use Rattle.rm_table.specs.declared.slot.Slot.TheVariants.{Edition as Home, Book as Held}
 use Rattle.rm_table.specs.declared.view.View.{View}
 use Rattle.rm_table.specs.Layout.{book_index}
 use Rattle.rm_table.specs.Meanings.{Meanings, meanings}
@@ -35,10 +35,10 @@ left_by place length taken book above number lengths = record {
     same k other = ap (λ xs. slice_index_or xs k 0) lengths ∙ get_or-set_other taken.lengths place k length 0 other
 
 -- the seat that took the book, and put the changed one into its slot
-pub has_entered : (old taken_seat seat : Known) (taken book : Book) (place length : ℕ) → old.0.role ≡ Processor → old.0.place ≡ place → 0 < place → taken_seat ≡ (noted (book_taken old.0 taken) book_index 0, (0, Empty) ∷ old.1) → book.number ≡ taken.number → book.lengths ≡ slice_set taken.lengths place length
-    → seat ≡ (taken_seat.0, (0, Held book) ∷ rest taken_seat.1) → HasBook means seat.0 seat.1
+pub has_entered : (old taken_seat seat : Known) (taken book : Book) (place length : ℕ) → old.0.role ≡ Processor → old.0.place ≡ place → 0 < place → taken_seat ≡ (noted (book_taken old.0 taken) book_index 0, (0, Held None) ∷ old.1) → book.number ≡ taken.number → book.lengths ≡ slice_set taken.lengths place length
+    → seat ≡ (taken_seat.0, (0, Held (Some book)) ∷ rest taken_seat.1) → HasBook means seat.0 seat.1
 has_entered old taken_seat seat taken book place length processor at above is number lengths then =
-    let e : seat ≡ (noted (book_taken old.0 taken) book_index 0, (0, Held book) ∷ old.1) = then ∙ ap (λ (s : Known). (s.0, (0, Held book) ∷ rest s.1)) is in
+    let e : seat ≡ (noted (book_taken old.0 taken) book_index 0, (0, Held (Some book)) ∷ old.1) = then ∙ ap (λ (s : Known). (s.0, (0, Held (Some book)) ∷ rest s.1)) is in
     subst (λ (s : Known). HasBook means s.0 s.1) (sym e) (record {
       book = book;
       hand_is = refl;
@@ -49,11 +49,11 @@ has_entered old taken_seat seat taken book place length processor at above is nu
     })
 
 -- the seat once the book is given back
-pub entered : (old taken_seat seat new : Known) (taken book : Book) → taken_seat ≡ (noted (book_taken old.0 taken) book_index 0, (0, Empty) ∷ old.1) → seat ≡ (taken_seat.0, (0, Held book) ∷ rest taken_seat.1)
-    → ((b : Book) → seat.1 ≡ (0, Held b) ∷ rest seat.1 → new ≡ (noted (book_given means seat.0 b) book_index 0, rest seat.1)) → new ≡ (noted (book_given means (noted (book_taken old.0 taken) book_index 0) book) book_index 0, old.1)
+pub entered : (old taken_seat seat new : Known) (taken book : Book) → taken_seat ≡ (noted (book_taken old.0 taken) book_index 0, (0, Held None) ∷ old.1) → seat ≡ (taken_seat.0, (0, Held (Some book)) ∷ rest taken_seat.1)
+    → ((b : Book) → seat.1 ≡ (0, Held (Some b)) ∷ rest seat.1 → new ≡ (noted (book_given means seat.0 b) book_index 0, rest seat.1)) → new ≡ (noted (book_given means (noted (book_taken old.0 taken) book_index 0) book) book_index 0, old.1)
 entered old taken_seat seat new taken book is then step =
-    let e : seat ≡ (noted (book_taken old.0 taken) book_index 0, (0, Held book) ∷ old.1) = then ∙ ap (λ (s : Known). (s.0, (0, Held book) ∷ rest s.1)) is in
-    step book (ap (λ (s : Known). s.1) then ∙ ap (λ (h : Hand Edition Book). (0, Held book) ∷ h) (sym (ap (λ (s : Known). rest s.1) then)))
+    let e : seat ≡ (noted (book_taken old.0 taken) book_index 0, (0, Held (Some book)) ∷ old.1) = then ∙ ap (λ (s : Known). (s.0, (0, Held (Some book)) ∷ rest s.1)) is in
+    step book (ap (λ (s : Known). s.1) then ∙ ap (λ (h : Hand Edition Book). (0, Held (Some book)) ∷ h) (sym (ap (λ (s : Known). rest s.1) then)))
     ∙ ap (λ (s : Known). (noted (book_given means s.0 book) book_index 0, rest s.1)) e
 
 -- it is in its section as before
@@ -67,3 +67,10 @@ inside_again old new taken book o e = subst (λ (s : Known). IsInside s.0 s.1) (
   hand_is = o.hand_is;
   reading = o.reading;
 })
+
+-- who is in has its edition on top of its hand
+pub edition_on_top : (me : Known) (place : ℕ) → IsInside me.0 me.1 → me.0.place ≡ place → (old : Option Edition) × (me.1 ≡ (place, Home old) ∷ rest me.1)
+edition_on_top me place o at =
+    let shown : Hand Edition Book = (place, Home (Some o.edition)) ∷ [] in
+    let is : me.1 ≡ shown = o.hand_is ∙ ap (λ (p : ℕ). (p, Home (Some o.edition)) ∷ []) at in
+    (Some o.edition, is ∙ ap (λ (h : Hand Edition Book). (place, Home (Some o.edition)) ∷ h) (sym (ap (λ (h : Hand Edition Book). rest h) is)))

@@ -1,6 +1,6 @@
-//! Times a section of the lock's table, without and with an entry in the book, in one thread and in as many
-//! as there are cores, beside two stores and a load on words of one's own, and beside a mutex. Without a
-//! number of sections it says how it is used.
+//! Times a section of the lock's table, on words alone, with its edition, and with an entry in the book, in
+//! one thread and in as many as there are cores, beside two stores and a load on words of one's own, and
+//! beside a mutex. Without a number of sections it says how it is used.
 #![tactic(auto)]
 
 use crate::timing::print_times;

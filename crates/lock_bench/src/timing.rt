@@ -44,6 +44,103 @@ fn print_mean<R: Print>(rt: &R, name: &str, times: &[Option<u64>], rounds: u32) 
     Ok(())
 }
 
+// Two stores and a load on words of each thread's own.
+fn print_own_words<R: Threads + Clock + Print + Sync>(
+    rt: &R,
+    alloc: Global,
+    threads: u32,
+    rounds: u32,
+) -> Result<()> {
+    let mut words = Vec::with_capacity(alloc, threads as usize)?;
+    for _ in 0..threads {
+        words.push(OwnWords::new())?;
+    }
+    let times = thread::map_indices(
+        rt,
+        alloc,
+        threads as usize,
+        &|lane| { words.get(lane).and_then(|own| own.rounds(rt, rounds).ok()) },
+    )?;
+    print_mean(rt, "two stores and a load", times.as_slice(), rounds)
+}
+
+// Sections that step on words alone.
+fn print_sections<R: Threads + Clock + Print + Sync>(
+    rt: &R,
+    alloc: Global,
+    threads: u32,
+    rounds: u32,
+) -> Result<()>
+    requires some { 0 < threads }
+    requires few { threads ≤ 64 }
+{
+    let OpenTable { table, mut seat } = open_lock(alloc, threads)?;
+    let workers = Worker::all(alloc, &table, &mut seat, threads)?;
+    let times = thread::map_vec(
+        rt,
+        workers,
+        &|worker: Worker<'_>| worker.sections(rt, rounds).ok(),
+    )?;
+    print_mean(rt, "raise, check, lower", times.as_slice(), rounds)
+}
+
+// Sections in which the edition is taken out of its slot, read and put back.
+fn print_sections_with_edition<R: Threads + Clock + Print + Sync>(
+    rt: &R,
+    alloc: Global,
+    threads: u32,
+    rounds: u32,
+) -> Result<()>
+    requires some { 0 < threads }
+    requires few { threads ≤ 64 }
+{
+    let OpenTable { table, mut seat } = open_lock(alloc, threads)?;
+    let workers = Worker::all(alloc, &table, &mut seat, threads)?;
+    let times = thread::map_vec(
+        rt,
+        workers,
+        &|worker: Worker<'_>| worker.sections_with_edition(rt, rounds).ok(),
+    )?;
+    print_mean(rt, "raise, check, edition, lower", times.as_slice(), rounds)
+}
+
+// Sections with an entry in the book.
+fn print_sections_with_book<R: Threads + Clock + Print + Sync>(
+    rt: &R,
+    alloc: Global,
+    threads: u32,
+    rounds: u32,
+) -> Result<()>
+    requires some { 0 < threads }
+    requires few { threads ≤ 64 }
+{
+    let OpenTable { table, mut seat } = open_lock(alloc, threads)?;
+    let workers = Worker::all(alloc, &table, &mut seat, threads)?;
+    let times = thread::map_vec(
+        rt,
+        workers,
+        &|worker: Worker<'_>| worker.sections_with_book(rt, rounds).ok(),
+    )?;
+    print_mean(rt, "raise, check, book, lower", times.as_slice(), rounds)
+}
+
+// A mutex round the book.
+fn print_mutex<R: Threads + Wait + Clock + Print + Sync>(
+    rt: &R,
+    alloc: Global,
+    threads: u32,
+    rounds: u32,
+) -> Result<()> {
+    let lock = Mutex::new(Book::new());
+    let times = thread::map_indices(
+        rt,
+        alloc,
+        threads as usize,
+        &|_| locked(rt, &lock, rounds).ok(),
+    )?;
+    print_mean(rt, "mutex round the book", times.as_slice(), rounds)
+}
+
 /// Prints the time of a section in each of so many threads, and of what it is compared with.
 pub fn print_times<R: Threads + Wait + Clock + Print + Sync>(
     rt: &R,
@@ -55,40 +152,9 @@ pub fn print_times<R: Threads + Wait + Clock + Print + Sync>(
     requires few { threads ≤ 64 }
 {
     println!(rt; "{threads} threads, {rounds} sections in each")?;
-    let mut words = Vec::with_capacity(alloc, threads as usize)?;
-    for _ in 0..threads {
-        words.push(OwnWords::new())?;
-    }
-    let own = thread::map_indices(
-        rt,
-        alloc,
-        threads as usize,
-        &|lane| { words.get(lane).and_then(|own| own.rounds(rt, rounds).ok()) },
-    )?;
-    print_mean(rt, "two stores and a load", own.as_slice(), rounds)?;
-    let OpenTable { table, mut seat } = open_lock(alloc, threads)?;
-    let workers = Worker::all(alloc, &table, &mut seat, threads)?;
-    let sections = thread::map_vec(
-        rt,
-        workers,
-        &|worker: Worker<'_>| worker.sections(rt, rounds).ok(),
-    )?;
-    print_mean(rt, "raise, check, lower", sections.as_slice(), rounds)?;
-    let OpenTable { table, mut seat } = open_lock(alloc, threads)?;
-    let workers = Worker::all(alloc, &table, &mut seat, threads)?;
-    let entries = thread::map_vec(
-        rt,
-        workers,
-        &|worker: Worker<'_>| worker.sections_with_book(rt, rounds).ok(),
-    )?;
-    print_mean(rt, "raise, check, book, lower", entries.as_slice(), rounds)?;
-    let lock = Mutex::new(Book::new());
-    let waits = thread::map_indices(
-        rt,
-        alloc,
-        threads as usize,
-        &|_| locked(rt, &lock, rounds).ok(),
-    )?;
-    print_mean(rt, "mutex round the book", waits.as_slice(), rounds)?;
-    Ok(())
+    print_own_words(rt, alloc, threads, rounds)?;
+    print_sections(rt, alloc, threads, rounds)?;
+    print_sections_with_edition(rt, alloc, threads, rounds)?;
+    print_sections_with_book(rt, alloc, threads, rounds)?;
+    print_mutex(rt, alloc, threads, rounds)
 }

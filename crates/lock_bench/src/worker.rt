@@ -1,8 +1,9 @@
-ghost use Rattle.std.specs.Prelude.{◌≡◌, ◌≢◌, ℕ, ◌+◌, ◌≤◌, ◌<◌, ◌∷◌, IfOk, IsTrue, MatchOption};
+ghost use Rattle.std.specs.Prelude.{◌≡◌, ◌≢◌, ℕ, ◌+◌, ◌≤◌, ◌<◌, ◌∷◌, Some, None, IfOk, IsTrue, MatchOption};
+ghost use Rattle.atomic_table.specs.Table.{rest};
 ghost use Rattle.rm_table.specs.Layout.{book_index};
 ghost use Rattle.rm_table.specs.Moves.{noted, book_taken};
-ghost use Rattle.rm_table.specs.Rests.{IsIdle, IsInside, IsOpening};
-ghost use Rattle.rm_table.specs.declared.slot.Slot.TheVariants.{Empty};
+ghost use Rattle.rm_table.specs.Rests.{IsIdle, IsInside, OpensFrom};
+ghost use Rattle.rm_table.specs.declared.slot.Slot.TheVariants.{Edition as Home, Book as Held};
 
 use crate::book::Book;
 use crate::edition::Edition;
@@ -40,7 +41,7 @@ impl<'a> Worker<'a> {
         processors: u32,
     ) -> Result<Vec<Worker<'a>>, AllocError>
         requires table { operator.old.table_id ≡ table.now }
-        requires opening { IsOpening 1 operator.old.me.0 operator.old.me.1 }
+        requires opening { OpensFrom 1 operator.old.me.0 operator.old.me.1 }
         requires count { operator.old.me.0.count ≡ processors }
         requires few { processors ≤ 64 }
     {
@@ -66,6 +67,23 @@ impl<'a> Worker<'a> {
         nanoseconds(clock, start)
     }
 
+    /// So many sections, in each of which the edition is taken out of its slot, read and put back. Answers
+    /// their nanoseconds.
+    pub fn sections_with_edition(self, clock: &impl Clock, count: u32) -> io::Result<u64> {
+        let Worker {
+            table,
+            mut seat,
+            place,
+        } = self;
+        let mut latest = 0;
+        let start = Instant::now(clock)?;
+        for _ in 0..count {
+            latest = section_with_edition(table, &mut seat, place).max(latest);
+        }
+        let time = nanoseconds(clock, start)?;
+        Ok(time.max(latest))
+    }
+
     /// So many sections, each with one try for the book, and an entry in it where it is free. Answers their
     /// nanoseconds.
     pub fn sections_with_book(self, clock: &impl Clock, count: u32) -> io::Result<u64> {
@@ -87,7 +105,7 @@ pub fn open_lock(alloc: Global, processors: u32) -> Result<OpenTable<Edition, Bo
     requires some { 0 < processors }
     requires few { processors ≤ 64 }
     ensures table { IfOk result (λ o. o.seat.table_id ≡ o.table) }
-    ensures opening { IfOk result (λ o. IsOpening 1 o.seat.me.0 o.seat.me.1) }
+    ensures opening { IfOk result (λ o. OpensFrom 1 o.seat.me.0 o.seat.me.1) }
     ensures count { IfOk result (λ o. o.seat.me.0.count ≡ processors) }
 {
     let editions = vec![in alloc; Edition { number: 1 }; processors as usize]?;
@@ -108,12 +126,48 @@ fn section(table: &Table, seat: &mut Seat) -> Heard
     heard
 }
 
+// In a section: takes the edition out of its slot, reads its number, and puts it back.
+fn read_edition(table: &Table, seat: &mut Seat, place: u32) -> u64
+    requires table { seat.old.table_id ≡ table.now }
+    requires inside { IsInside seat.old.me.0 seat.old.me.1 }
+    requires place { seat.old.me.0.place ≡ place }
+    ensures table { seat.new.table_id ≡ seat.old.table_id }
+    ensures same { seat.new.me ≡ seat.old.me }
+    ensures read { seat.old.me.1 ≡ (place, Home (Some (record { number = result }))) ∷ rest seat.old.me.1 }
+{
+    let Some(edition) = table.exchange_edition(seat, place, None) else {
+        unreachable!();
+    };
+    let number = edition.number;
+    let _ = table.exchange_edition(seat, place, Some(edition));
+    number
+}
+
+// One section in which the edition is read. Answers its number, and 0 where the processor was refused.
+fn section_with_edition(table: &Table, seat: &mut Seat, place: u32) -> u64
+    requires table { seat.old.table_id ≡ table.now }
+    requires idle { IsIdle seat.old.me.0 seat.old.me.1 }
+    requires place { seat.old.me.0.place ≡ place }
+    ensures table { seat.new.table_id ≡ seat.old.table_id }
+    ensures place { seat.new.me.0.place ≡ place }
+    ensures idle { IsIdle seat.new.me.0 seat.new.me.1 }
+    ensures begun { seat.new.me.0.part.sections ≡ seat.old.me.0.part.sections + 1 }
+{
+    table.raise(seat);
+    let number = match table.check(seat) {
+        Heard::Held => read_edition(table, seat, place),
+        _ => 0,
+    };
+    table.lower(seat);
+    number
+}
+
 // A processor in a section tries once for the book, and takes it out of its slot.
 fn try_book(table: &Table, seat: &mut Seat) -> Option<Book>
     requires table { seat.old.table_id ≡ table.now }
     requires inside { IsInside seat.old.me.0 seat.old.me.1 }
     ensures table { seat.new.table_id ≡ seat.old.table_id }
-    ensures tried { MatchOption result ((holder : ℕ) × (seat.new.me ≡ (noted seat.old.me.0 book_index holder, seat.old.me.1)) × (holder ≢ 0)) (λ book. seat.new.me ≡ (noted (book_taken seat.old.me.0 book) book_index 0, (0, Empty) ∷ seat.old.me.1)) }
+    ensures tried { MatchOption result ((holder : ℕ) × (seat.new.me ≡ (noted seat.old.me.0 book_index holder, seat.old.me.1)) × (holder ≢ 0)) (λ book. seat.new.me ≡ (noted (book_taken seat.old.me.0 book) book_index 0, (0, Held None) ∷ seat.old.me.1)) }
 {
     match table.take_book(seat) {
         Tried::Taken => table.exchange_book(seat, None),

@@ -22,10 +22,10 @@ pub fn number_counts_publications()
         (after_all (opening n number) events).number < 2 ^ 64 }
 {}
 
-/// Readers share, and exclude the writer. A processor that is in came in, by a check that found its
+/// Readers share, and exclude a publication. A processor that is in came in, by a check that found its
 /// token held, under the number that is published still. At a publication nobody is in. A processor
 /// that a drain found out is not in at any moment from then until the publication.
-pub fn writer_excludes_readers()
+pub fn publication_excludes_readers()
     ensures inside { (n number i : ℕ) (events : List Event) → IsRun (opening n number) events →
         IsProcessor (after_all (opening n number) events) i (λ p. p.phase ≡ Phase.In) →
         number_entered i number (opening n number) events ≡ (after_all (opening n number) events).number }

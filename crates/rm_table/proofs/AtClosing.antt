@@ -10,7 +10,7 @@ use Rattle.rm_core.specs.declared.phase.Phase.TheVariants.{Out, In}
 use Rattle.rm_core.specs.declared.processor_state.ProcessorState.{ProcessorState}
 use Rattle.rm_core.specs.CoreState.{processor_of}
 use Rattle.rm_core.proofs.Changes.{IsProcessor-some}
-use Rattle.rm_table.specs.declared.role.Role.TheVariants.{Spent, Operator}
+use Rattle.rm_table.specs.declared.role.Role.TheVariants.{Operator}
 use Rattle.rm_table.specs.declared.slot.Slot.{Slot}
 use Rattle.rm_table.specs.declared.slot.Slot.TheVariants.{Edition, Book}
 use Rattle.rm_table.specs.declared.part.Part.{Part}
@@ -28,7 +28,7 @@ use Rattle.rm_table.proofs.Slots.{at_home, book_at_home}
 module _ {E B T L I : Type 0} (m : Meanings E B T L I) (c : Core E B T L I) (t : State (Slot E B) (View E B T L I)) (id : ℕ) (v : View E B T L I) (shows : Shows m c t) (is_at : get_elem? t.views id ≡ at.some v)
     (role : v.role ≡ Operator) (joined : AllJoined v) (undrained : NoneDrained v) (bookless : v.book ≡ None) where
   l : Live m c id v
-  l = (shows.each id v is_at).live (λ spent. let clash : Operator ≡ Spent = sym role ∙ spent in absurd cc)
+  l = (shows.each id v is_at).live (inr role)
 
   o : Keeps m c id v
   o = (shows.each id v is_at).operator role
@@ -82,7 +82,7 @@ module _ {E B T L I : Type 0} (m : Meanings E B T L I) (c : Core E B T L I) (t :
         tag = c.tag;
         last = history;
         book = c.book;
-        book_is = at_slice slots 0 (Book c.book) (homes 0 (Book c.book) (book_at_home m book_free shows.slots));
+        book_is = at_slice slots 0 (Book (Some c.book)) (homes 0 (Book (Some c.book)) (book_at_home m book_free shows.slots));
         book_number = shows.desk.number_is unpublished ∙ sym o.number;
         book_tag = shows.desk.tag_is unpublished;
         list_0 = shows.lists.list_0 unpublished ∙ sym o.own;
@@ -90,7 +90,7 @@ module _ {E B T L I : Type 0} (m : Meanings E B T L I) (c : Core E B T L I) (t :
         editions = λ k low high.
             let within : k ≤ c.count = let e = l.count in omega arith in
             let got = at_home m k low within (λ away. ⊎_elim (nobody_in k low within) (λ flag. let clash : true ≡ false = sym flag ∙ sym (o.drained k low within) ∙ undrained k low high in absurd cc) away) shows.slots in
-            (got.0, at_slice slots k (Edition got.0) (homes k (Edition got.0) got.1), got.2.number_is ∙ sym o.number, got.2.name_is, got.2.tag_is);
+            (got.0, at_slice slots k (Edition (Some got.0)) (homes k (Edition (Some got.0)) got.1), got.2.number_is ∙ sym o.number, got.2.name_is, got.2.tag_is);
         trackers = λ k part is. let q = kept_there k part is in
             ap (λ (ws : List ℕ). slice_index ws (tracker_index k)) (sym same) ∙ shows.words.trackers k q.low q.high
             ∙ ap (λ (p : Phase). tracker_word (c.part k).sections p) q.out ∙ ap (λ (p : Part E L I). (2 * p.sections) % 2 ^ 64) (sym q.part_is);
@@ -116,12 +116,12 @@ closing_ends m id v words slots role joined undrained bookless f = ends m f.1.0.
 
 -- what a lock gives back, by what words and slots hold
 pub closes : {E B T L I : Type 0} (m : Meanings E B T L I) (v : View E B T L I) (words : List ℕ) (slots : List (Slot E B)) (book : B) (trackers : List ℕ) (editions : List E) → EndsWith m v words slots
-    → slice_get slots 0 ≡ Some (Book book) → length trackers ≡ v.count → length editions ≡ v.count
+    → slice_get slots 0 ≡ Some (Book (Some book)) → length trackers ≡ v.count → length editions ≡ v.count
     → ((j : ℕ) → j < v.count → slice_get trackers j ≡ Some (slice_index words (tracker_index (j + 1))))
-    → ((j : ℕ) (e : E) → slice_get editions j ≡ Some e → slice_get slots (j + 1) ≡ Some (Edition e))
+    → ((j : ℕ) (e : E) → slice_get editions j ≡ Some e → slice_get slots (j + 1) ≡ Some (Edition (Some e)))
     → ClosesWith m v book trackers editions
 closes m v words slots book trackers editions h book_is tracker_count edition_count each taken =
-    let both : Some (Book h.book) ≡ Some (Book book) = sym h.book_is ∙ book_is in
+    let both : Some (Book (Some h.book)) ≡ Some (Book (Some book)) = sym h.book_is ∙ book_is in
     let same : h.book ≡ book = cc in
     record {
       name = h.name;
@@ -135,7 +135,7 @@ closes m v words slots book trackers editions h book_is tracker_count edition_co
       edition_count = edition_count;
       published = λ j e is.
           let got = h.editions (j + 1) (omega arith) (let inside = slice_get_within editions j e is in omega arith) in
-          let one : Some (Edition got.0) ≡ Some (Edition e) = sym got.1 ∙ taken j e is in
+          let one : Some (Edition (Some got.0)) ≡ Some (Edition (Some e)) = sym got.1 ∙ taken j e is in
           let it : got.0 ≡ e = cc in
           (ap m.number (sym it) ∙ got.2, ap m.name (sym it) ∙ got.3, ap m.tag (sym it) ∙ got.4);
       begun = λ j part inside is. each j inside ∙ ap (λ (n : ℕ). Some n) (h.trackers (j + 1) part is);

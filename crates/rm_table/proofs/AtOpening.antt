@@ -1,5 +1,5 @@
 -- The table at the opening meets the rule.
-use Rattle.std.proofs.Common.{◌≡◌, ◌≢◌, ℕ, zero, suc, ◌+◌, ◌-◌, ◌^◌, ◌<◌, Bool, false, Some, None, List, [], ◌∷◌, map, length, length-set, refl, sym, ◌∙◌, ap, arith, subst, append-nil, ne_eqb}
+use Rattle.std.proofs.Common.{◌≡◌, ◌≢◌, inr, ℕ, zero, suc, ◌+◌, ◌-◌, ◌^◌, ◌<◌, ◌≤◌, Bool, false, Some, None, List, [], ◌∷◌, map, length, length-set, refl, sym, ◌∙◌, ap, arith, subst, append-nil, ne_eqb}
 use Rattle.std.specs.Prelude.{slice_get, slice_index, replicate, if◌then◌else◌}
 use Rattle.std.proofs.lemmas.List.{length-replicate}
 use mathlib.Core.Option as at
@@ -16,6 +16,7 @@ use Rattle.rm_table.specs.declared.view.View.{View}
 use Rattle.rm_table.specs.Layout.{index_of_word, words_of, number_index, behind_index, book_index, tracker_index, token_index}
 use Rattle.rm_table.specs.Meanings.{Meanings, values_from}
 use Rattle.rm_table.specs.Rule.{Core, core_of, Words, Current, KeptAt, Keeps, Agrees, Shows, Whole}
+use Rattle.rm_table.specs.Moves.{IsKept}
 use Rattle.rm_table.specs.Ends.{first_words, first_slots, first_part, first_view, Opens}
 use Rattle.rm_table.proofs.Base.{get_within, at_slice, index_here, index_else, length-values, values_at, found_there}
 use Rattle.rm_table.proofs.Publishing.{flag_of-replicate}
@@ -51,7 +52,7 @@ sizes_of-map f [] = refl
 sizes_of-map f (x ∷ xs) = let e = sizes_of-map f xs in omega arith
 
 pub count_of_first_slots : {E B : Type 0} (book : B) (editions : List E) → length (first_slots book editions) ≡ length editions + 1
-count_of_first_slots {E} {B} book editions = let slot : E → Slot E B = λ e. Edition e in let e : length (map Edition editions) ≡ length editions = sizes_of-map slot editions in omega arith
+count_of_first_slots {E} {B} book editions = let slot : E → Slot E B = λ e. Edition (Some e) in let e : length (map (λ e. Edition (Some e)) editions) ≡ length editions = sizes_of-map slot editions in omega arith
 
 -- an element of a list whose elements are all at home
 home_of-map : {A : Type 0} (xs : List A) (k : ℕ) (h : at.Option A) → get_elem? (map at.some xs) k ≡ at.some h → (x : A) × (h ≡ at.some x) × (slice_get xs k ≡ Some x)
@@ -59,7 +60,7 @@ home_of-map [] k h e = absurd (at.some-ne-none h (sym e))
 home_of-map (x ∷ xs) zero h e = (x, sym (at.some-injective (at.some x) h e), refl)
 home_of-map (x ∷ xs) (suc k) h e = home_of-map xs k h e
 
-edition_of-map : {E B : Type 0} (es : List E) (k : ℕ) (y : Slot E B) → slice_get (map Edition es) k ≡ Some y → (e : E) × (y ≡ Edition e) × (slice_get es k ≡ Some e)
+edition_of-map : {E B : Type 0} (es : List E) (k : ℕ) (y : Slot E B) → slice_get (map (λ e. Edition (Some e)) es) k ≡ Some y → (e : E) × (y ≡ Edition (Some e)) × (slice_get es k ≡ Some e)
 edition_of-map [] k y is = absurd cc
 edition_of-map (e ∷ es) zero y is = (e, cc, refl)
 edition_of-map (e ∷ es) (suc k) y is = edition_of-map es k y is
@@ -110,7 +111,7 @@ module _ {E B T L I : Type 0} (m : Meanings E B T L I) where
           size = sizes_of-map (λ (y : Slot E B). at.some y) (first_slots book editions) ∙ sizes editions;
           home = λ k y low high is. home_at k y low is;
           away = λ k low high is. let got = home_of-map (first_slots book editions) k at.none is in absurd (at.some-ne-none got.0 (sym got.1));
-          book_home = λ y is. at.some-injective y (Book book) (sym (at.some-injective (at.some (Book book)) (at.some y) is));
+          book_home = λ y is. at.some-injective y (Book (Some book)) (sym (at.some-injective (at.some (Book (Some book))) (at.some y) is));
           book_away = λ is. let got = home_of-map (first_slots book editions) 0 at.none is in absurd (at.some-ne-none got.0 (sym got.1));
         };
         insides = record {
@@ -135,16 +136,17 @@ module _ {E B T L I : Type 0} (m : Meanings E B T L I) where
           refusal = λ k x never. absurd cc;
         };
         readiness = λ never. absurd cc;
+        seats = record { processors = λ k low high. (v, refl, inr (refl, first_kept k low high)); operator = (v, refl, refl) };
         each = only;
       }
     where
       sizes : (es : List E) → length (first_slots book es) ≡ length es + 1
-      sizes es = let slot : E → Slot E B = λ e. Edition e in let e : length (map Edition es) ≡ length es = sizes_of-map slot es in omega arith
+      sizes es = let slot : E → Slot E B = λ e. Edition (Some e) in let e : length (map (λ e. Edition (Some e)) es) ≡ length es = sizes_of-map slot es in omega arith
 
-      home_at : (k : ℕ) (y : Slot E B) → 0 < k → get_elem? (map at.some (first_slots book editions)) k ≡ at.some (at.some y) → (e : E) × (y ≡ Edition e) × Current m (m.book_number book) (m.name edition) (m.book_tag book) e
+      home_at : (k : ℕ) (y : Slot E B) → 0 < k → get_elem? (map at.some (first_slots book editions)) k ≡ at.some (at.some y) → (e : E) × (y ≡ Edition (Some e)) × Current m (m.book_number book) (m.name edition) (m.book_tag book) e
       home_at zero y low is = absurd (omega arith)
       home_at (suc k) y low is =
-          let got = home_of-map (map Edition editions) k (at.some y) is in
+          let got = home_of-map (map (λ e. Edition (Some e)) editions) k (at.some y) is in
           let same : y ≡ got.0 = at.some-injective y got.0 got.1 in
           let e = edition_of-map editions k got.0 got.2 in
           let all = opens.same k e.0 e.2 in
@@ -174,6 +176,10 @@ module _ {E B T L I : Type 0} (m : Meanings E B T L I) where
             fresh = λ _. (ap (λ (p : Part E L I). p.sections) same, refl);
           }
 
+      first_kept : (k : ℕ) → 0 < k → k ≤ length editions → IsKept (first_view m (length editions) edition book) k
+      first_kept zero low high = absurd (omega arith)
+      first_kept (suc j) low high = (first_part m book (1 + j), values_at (λ place. Some (first_part m book place)) 1 (length editions) j (omega arith))
+
       first_keeps : Keeps m (first_core (length editions) edition book) 0 (first_view m (length editions) edition book)
       first_keeps = record {
         place = refl;
@@ -197,6 +203,7 @@ module _ {E B T L I : Type 0} (m : Meanings E B T L I) where
             live = λ _. record { count = refl; low = omega arith; high = omega arith; seat = refl; phase = refl; part = refl; behind = refl; book = sym (ap (λ (b : Bool). if b then Some book else None) (ne_eqb 0 (length editions + 1) (λ clash. absurd (omega arith)))) };
             processor = λ never. absurd cc;
             operator = λ _. first_keeps;
+            receipt = λ never. absurd cc;
           })
       only (suc id) u is = absurd (at.some-ne-none u (sym is))
 

@@ -85,6 +85,19 @@ module _ {A : Type 0} where
   index_else (y ∷ ys) (suc i) zero x d other = refl
   index_else (y ∷ ys) (suc i) (suc j) x d other = index_else ys i j x d (λ e. other (ap suc e))
 
+  -- the value set, and each other one
+  pub get_set_here : (xs : List A) (p : ℕ) (a : A) → p < length xs → slice_get (slice_set xs p a) p ≡ Some a
+  get_set_here [] p a h = absurd (omega arith)
+  get_set_here (x ∷ xs) zero a h = refl
+  get_set_here (x ∷ xs) (suc p) a h = get_set_here xs p a (omega arith)
+
+  pub get_set_else : (xs : List A) (p k : ℕ) (a : A) → k ≢ p → slice_get (slice_set xs p a) k ≡ slice_get xs k
+  get_set_else [] p k a other = refl
+  get_set_else (x ∷ xs) zero zero a other = absurd (other refl)
+  get_set_else (x ∷ xs) zero (suc k) a other = refl
+  get_set_else (x ∷ xs) (suc p) zero a other = refl
+  get_set_else (x ∷ xs) (suc p) (suc k) a other = get_set_else xs p k a (λ e. other (ap suc e))
+
   pub set_found : (xs : List A) (i : ℕ) (d : A) → slice_set xs i (slice_index_or xs i d) ≡ xs
   set_found [] i d = refl
   set_found (x ∷ xs) zero d = refl

@@ -1,10 +1,15 @@
 -- What is known of the processors whose seats aren't split off yet.
-use Rattle.std.proofs.Common.{◌≡◌, ℕ, zero, suc, Bool, true, false, Option, Some, None, List, [], ◌∷◌, sym, ap}
+use Rattle.std.proofs.Common.{◌≡◌, ℕ, zero, suc, Bool, true, false, Option, Some, None, List, [], ◌∷◌, refl, sym, ap}
 use Rattle.std.specs.Prelude.{slice_get, slice_set}
 use Rattle.rm_table.specs.declared.part.Part.{Part}
 use Rattle.rm_table.specs.Meanings.{Meanings, values_from}
 use Rattle.rm_table.specs.Ends.{first_part}
 use Rattle.rm_table.specs.Seats.{Unbegun}
+use Rattle.rm_table.specs.declared.role.Role.{Role}
+use Rattle.rm_table.specs.declared.role.Role.TheVariants.{Spent, Processor, Operator, Receipt}
+use Rattle.rm_table.specs.declared.view.View.{View}
+use Rattle.rm_table.specs.Layout.{tracker_word}
+use Rattle.rm_table.specs.Moves.{joined, joined_by}
 
 -- what stands in a list with one value taken away stood there before
 stood_before : {A : Type 0} (xs : List (Option A)) (p k : ℕ) (a : A) → slice_get (slice_set xs p None) k ≡ Some (Some a) → slice_get xs k ≡ Some (Some a)
@@ -40,3 +45,18 @@ unbegun_first m book n opening (suc k) part is = let got = one_of (first_part m 
 pub unbegun_none : (E L I : Type 0) → Unbegun {E = E} {L = L} {I = I} false []
 unfolding Unbegun
 unbegun_none E L I opening k part is = absurd cc
+
+-- what a join keeps of the seat that another is joined into
+pub record JoinedSame {E B T L I : Type 0} (v u : View E B T L I) : Type 0 where
+  pub role : u.role ≡ v.role
+  pub count : u.count ≡ v.count
+  pub place : u.place ≡ v.place
+  pub number : u.number ≡ v.number
+  pub tracker : tracker_word u.part.sections u.phase ≡ tracker_word v.part.sections v.phase
+  pub unbegun : Unbegun u.closing u.kept
+
+pub joined_same : {E B T L I : Type 0} (r : Role) (v w : View E B T L I) → Unbegun v.closing v.kept → JoinedSame v (joined_by r v w)
+joined_same Spent v w h = record { role = refl; count = refl; place = refl; number = refl; tracker = refl; unbegun = h }
+joined_same Processor v w h = record { role = refl; count = refl; place = refl; number = refl; tracker = refl; unbegun = unbegun_joined (joined v w).kept }
+joined_same Operator v w h = record { role = refl; count = refl; place = refl; number = refl; tracker = refl; unbegun = h }
+joined_same Receipt v w h = record { role = refl; count = refl; place = refl; number = refl; tracker = refl; unbegun = h }

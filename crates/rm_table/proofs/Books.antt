@@ -19,10 +19,11 @@ use Rattle.rm_table.specs.Meanings.{Meanings, put, BeginsWith}
 use Rattle.rm_table.specs.Rule.{Core, lent, Words, tracker_of, token_of, Slots, Desk, Lists, Live, Keeps, Shows}
 use Rattle.rm_table.specs.Moves.{Hand, noted, book_part, book_taken, given_part, book_given, FoundBy, LeftBy, LeftByOperator, AllDrained, IsOperator, IsWorking}
 use Rattle.rm_table.proofs.Base.{put_here, put_else, at_put, put_keeps, at_slice, slice_at, words_like, words_book}
-use Rattle.rm_table.proofs.Keeping.{Beside, each_after}
+use Rattle.rm_table.proofs.Keeping.{Beside, begins_same, each_after, every_seat_after}
 use Rattle.rm_table.proofs.Own.{numbers_after}
 use Rattle.rm_table.proofs.Slots.{book_at_home}
-use Rattle.rm_table.proofs.Locks.{working_live, nothing_kept, operator_keeps}
+use Rattle.rm_table.proofs.Locks.{no_receipt, working_live, nothing_kept, operator_keeps}
+use Rattle.rm_table.proofs.Writer.{last_known}
 use Rattle.rm_table.proofs.Publishing.{nobody_in}
 
 pos_of_ne : (n : ℕ) → n ≢ 0 → 0 < n
@@ -46,13 +47,13 @@ module _ {E B T L I : Type 0} (m : Meanings E B T L I) where
 
   -- the book is given back
   pub slots_book_given : {number n : ℕ} {state : ℕ → ProcessorState} {name : L} {tag : T} {holder : ℕ} {book : B} {homes : List (at.Option (Slot E B))} (holder' : ℕ) (y : B)
-      → Slots m number n state name tag holder book homes → Slots m number n state name tag holder' y (slice_set homes 0 (at.some (Book y)))
+      → Slots m number n state name tag holder book homes → Slots m number n state name tag holder' y (slice_set homes 0 (at.some (Book (Some y))))
   slots_book_given {homes = homes} holder' y s = record {
-    size = length-set homes 0 (at.some (Book y)) ∙ s.size;
-    home = λ k z above within is. ⊎_elim (λ same. let clash = same.0 in absurd (omega arith)) (λ other. s.home k z above within other.1) (at_set homes 0 k (at.some (Book y)) (at.some z) is);
-    away = λ k above within is. ⊎_elim (λ same. absurd (at.some-ne-none (Book y) same.1)) (λ other. s.away k above within other.1) (at_set homes 0 k (at.some (Book y)) at.none is);
-    book_home = λ z is. ⊎_elim (λ same. at.some-injective z (Book y) (sym same.1)) (λ other. absurd (other.0 refl)) (at_set homes 0 0 (at.some (Book y)) (at.some z) is);
-    book_away = λ is. ⊎_elim (λ same. absurd (at.some-ne-none (Book y) same.1)) (λ other. absurd (other.0 refl)) (at_set homes 0 0 (at.some (Book y)) at.none is);
+    size = length-set homes 0 (at.some (Book (Some y))) ∙ s.size;
+    home = λ k z above within is. ⊎_elim (λ same. let clash = same.0 in absurd (omega arith)) (λ other. s.home k z above within other.1) (at_set homes 0 k (at.some (Book (Some y))) (at.some z) is);
+    away = λ k above within is. ⊎_elim (λ same. absurd (at.some-ne-none (Book (Some y)) same.1)) (λ other. s.away k above within other.1) (at_set homes 0 k (at.some (Book (Some y))) at.none is);
+    book_home = λ z is. ⊎_elim (λ same. at.some-injective z (Book (Some y)) (sym same.1)) (λ other. absurd (other.0 refl)) (at_set homes 0 0 (at.some (Book (Some y))) (at.some z) is);
+    book_away = λ is. ⊎_elim (λ same. absurd (at.some-ne-none (Book (Some y)) same.1)) (λ other. absurd (other.0 refl)) (at_set homes 0 0 (at.some (Book (Some y))) at.none is);
   }
 
   module _ (c : Core E B T L I) (t : State (Slot E B) (View E B T L I)) (id : ℕ) (v : View E B T L I) (shows : Shows m c t) (is_at : get_elem? t.views id ≡ at.some v) (working : IsWorking v) where
@@ -84,6 +85,8 @@ module _ {E B T L I : Type 0} (m : Meanings E B T L I) where
         let was : v.part ≡ c.part p = l.part in
         let beside : Beside c d p = record {
           count = refl;
+          opened = refl;
+          history = begins_same c.history;
           seat = λ k. refl;
           phase = λ k other. refl;
           part = λ k other. put_else c.part p a k other;
@@ -122,6 +125,7 @@ module _ {E B T L I : Type 0} (m : Meanings E B T L I) where
               (λ k n told. inl (sym (put_keeps (λ (y : Part E L I). y.refusal) c.part p a (refusal ∙ ap (λ (y : Part E L I). y.refusal) was) k) ∙ told))
               shows.numbers;
           readiness = ready_is;
+          seats = every_seat_after c.count c.seat t.views id v w is_at (λ k mine. mine) (λ role. role) shows.seats;
           each = each_after m c d p id w t.views shows.each l.seat beside (record {
             live = λ _. record {
               count = l.count;
@@ -149,6 +153,7 @@ module _ {E B T L I : Type 0} (m : Meanings E B T L I) where
               drained = k.drained;
               kept = λ j part got. absurd ((nothing_kept m c t id v shows is_at working role).1 j part (at_slice v.kept j (Some part) got));
             };
+            receipt = λ receipt. absurd (no_receipt m c t id v shows is_at working receipt);
           });
         }
 
@@ -179,14 +184,14 @@ module _ {E B T L I : Type 0} (m : Meanings E B T L I) where
     lent_here p book = ap (λ (b : Bool). if b then Some book else None) (eq-eqb p p refl)
 
     -- take book
-    pub book_is_home : c.holder ≡ 0 → get_elem? t.homes 0 ≡ at.some (at.some (Book c.book))
+    pub book_is_home : c.holder ≡ 0 → get_elem? t.homes 0 ≡ at.some (at.some (Book (Some c.book)))
     book_is_home free = book_at_home m free shows.slots
 
     part_same : {X : Type 0} (f : Part E L I → X) (a : Part E L I) → f a ≡ f v.part → (k : ℕ) → f (put c.part v.place a k) ≡ f (c.part k)
     part_same f a same = put_keeps f c.part v.place a (same ∙ ap f w_live.part)
 
     pub take_book_shows : (hand : Hand E B) (found : ℕ) → c.holder ≡ 0 → (v.role ≡ Processor → v.phase ≡ In)
-        → Shows m (desk_core c v.place v.place c.book c.stale c.ready (book_part v.part)) (stepped t book_index v.place id hand (noted (book_taken v c.book) book_index found) (takes 0 (Book c.book)))
+        → Shows m (desk_core c v.place v.place c.book c.stale c.ready (book_part v.part)) (stepped t book_index v.place id hand (noted (book_taken v c.book) book_index found) (takes 0 (Book (Some c.book))))
     take_book_shows hand found free inside =
         let l : Live m c id v = w_live in
         let a : Part E L I = book_part v.part in
@@ -229,7 +234,14 @@ module _ {E B T L I : Type 0} (m : Meanings E B T L I) where
               (got.0, ap (λ (y : Part E L I). y.reading) l.part ∙ got.1, shows.desk.number_is new ∙ sym got.2.number_is, shows.desk.tag_is new ∙ sym got.2.tag_is);
           operator = λ role.
               let k : Keeps m c id v = operator_keeps m c t id v shows is_at working role in
-              (shows.desk.number_is new ∙ sym k.number, shows.lists.list_0 new ∙ sym k.own, λ ready. shows.readiness (sym k.ready ∙ ready));
+              let writer : IsOperator v = record { role = role; split = nothing_kept m c t id v shows is_at working role } in
+              record {
+                number = shows.desk.number_is new ∙ sym k.number;
+                tag = (c.name, last_known m c t id v shows is_at writer c.name (m.book_tag c.book) refl (shows.desk.tag_is new));
+                list_0 = shows.lists.list_0 new ∙ sym k.own;
+                ready = λ ready. shows.readiness (sym k.ready ∙ ready);
+                unpublished = k.stale ∙ new;
+              };
         }
 
     -- once all are drained nobody but the operator has the book
@@ -250,7 +262,7 @@ module _ {E B T L I : Type 0} (m : Meanings E B T L I) where
 
     -- give book, by a processor
     pub give_processor_shows : (hand : Hand E B) (y : B) (taken : B) → v.role ≡ Processor → v.book ≡ Some taken → LeftBy m v.place taken y
-        → Shows m (desk_core c v.place 0 y c.stale c.ready (given_part m v.part v.place y)) (stepped t book_index 0 id ((0, Book y) ∷ hand) (noted (book_given m v y) book_index 0) gives)
+        → Shows m (desk_core c v.place 0 y c.stale c.ready (given_part m v.part v.place y)) (stepped t book_index 0 id ((0, Book (Some y)) ∷ hand) (noted (book_given m v y) book_index 0) gives)
     give_processor_shows hand y taken role has left =
         let l : Live m c id v = w_live in
         let p : ℕ = v.place in
@@ -260,7 +272,7 @@ module _ {E B T L I : Type 0} (m : Meanings E B T L I) where
         let same : c.book ≡ taken = mine.1 in
         let new : c.stale ≡ false = fresh (λ e. let h = mine.0 in absurd (omega arith)) in
         let low : 0 < p = l.low in
-        desk_shows 0 y c.stale c.ready a None (m.book_ready y) false (v.steps ++ (book_index, 0) ∷ []) 0 (slice_set t.homes 0 (at.some (Book y))) refl
+        desk_shows 0 y c.stale c.ready a None (m.book_ready y) false (v.steps ++ (book_index, 0) ∷ []) 0 (slice_set t.homes 0 (at.some (Book (Some y)))) refl
         (slots_book_given 0 y shows.slots)
         (record {
           inside = λ free. absurd (free refl);
@@ -281,7 +293,7 @@ module _ {E B T L I : Type 0} (m : Meanings E B T L I) where
 
     -- give book, by the operator
     pub give_operator_shows : (hand : Hand E B) (y : B) (taken : B) → v.role ≡ Operator → v.book ≡ Some taken → LeftByOperator m v taken y
-        → Shows m (desk_core c v.place 0 y false (m.book_ready y) (given_part m v.part v.place y)) (stepped t book_index 0 id ((0, Book y) ∷ hand) (noted (book_given m v y) book_index 0) gives)
+        → Shows m (desk_core c v.place 0 y false (m.book_ready y) (given_part m v.part v.place y)) (stepped t book_index 0 id ((0, Book (Some y)) ∷ hand) (noted (book_given m v y) book_index 0) gives)
     give_operator_shows hand y taken role has left =
         let l : Live m c id v = w_live in
         let p : ℕ = v.place in
@@ -290,7 +302,7 @@ module _ {E B T L I : Type 0} (m : Meanings E B T L I) where
         let mine = book_holder taken has in
         let same : c.book ≡ taken = mine.1 in
         let low : 0 < p = l.low in
-        desk_shows 0 y false (m.book_ready y) a None (m.book_ready y) false (v.steps ++ (book_index, 0) ∷ []) 0 (slice_set t.homes 0 (at.some (Book y))) refl
+        desk_shows 0 y false (m.book_ready y) a None (m.book_ready y) false (v.steps ++ (book_index, 0) ∷ []) 0 (slice_set t.homes 0 (at.some (Book (Some y)))) refl
         (slots_book_given 0 y shows.slots)
         (record {
           inside = λ free. absurd (free refl);

@@ -15,13 +15,13 @@ use Rattle.rm_table.specs.declared.view.View.{View}
 use Rattle.rm_table.specs.Layout.{tracker_index, token_index, tracker_word, token_word}
 use Rattle.rm_table.specs.Meanings.{Meanings}
 use Rattle.rm_table.specs.Rule.{Core, core_of, Current, Live, Shows, Whole}
-use Rattle.rm_table.specs.Moves.{Hand, noted, raised, begun, lowered, left_part, hand_left, refused, refused_part, entered, entered_part, regained, regained_part, HasEdition}
+use Rattle.rm_table.specs.Moves.{Hand, noted, raised, begun, lowered, left_part, hand_left, refused, refused_part, entered, entered_part, regained, regained_part, SeenUpTo, HasEdition}
 use Rattle.rm_core.specs.declared.event.Event.TheVariants.{Check}
 use Rattle.rm_core.specs.CoreState.{Allowed, after}
 use Rattle.rm_table.specs.Laws.{RaiseLaw, CheckLaw, LowerLaw, RegainLaw}
 use Rattle.rm_table.specs.Plays.{Seated, Raises, Checks, Lowers, Regains}
 use Rattle.rm_table.proofs.Base.{there, is_there, match_true, match_false}
-use Rattle.rm_table.proofs.Own.{own_core, processor_live}
+use Rattle.rm_table.proofs.Own.{own_core, processor_live, seen_published}
 use Rattle.rm_table.proofs.Slots.{at_home}
 use Rattle.rm_table.proofs.Sections.{raise_event, check_held_event, check_refused_event, lower_event, regain_event, regain_may, raise_shows, check_held_shows, check_refused_shows, held_not_drained, lower_raised_shows, lower_in_shows, regain_shows, number_read_is, refusal_published, same_reading}
 
@@ -73,6 +73,9 @@ module _ {E B T L I : Type 0} (m : Meanings E B T L I) where
       may : Allowed (core_of c) (Check v.place)
       may = is_there c (λ q. q.phase ≡ Raised) v.place live.low high (sym live.phase ∙ up)
 
+      seen : (x : ℕ) → x ≡ c.number → SeenUpTo v.part x
+      seen x is = subst (SeenUpTo v.part) (sym is) (subst (λ (y : Part E L I). SeenUpTo y c.number) (sym live.part) (seen_published m c t whole.1 v.place live.low high))
+
       found_is : found ≡ token_word (c.state v.place).token
       found_is = ap (slice_index t.words) (i_is ∙ ap (λ (n : ℕ). token_index n v.place) live.count) ∙ whole.1.words.tokens v.place live.low high
 
@@ -87,10 +90,10 @@ module _ {E B T L I : Type 0} (m : Meanings E B T L I) where
           let e : E = home.0 in
           let known : m.number e ≡ v.part.held = home.2.number_is ∙ sym (ap (λ (y : Part E L I). y.held) live.part ∙ whole.1.numbers.held v.place (c.state v.place) (there c v.place live.low high) held) in (
             noted (entered m v e) i found,
-            takes v.place (Edition e),
+            takes v.place (Edition (Some e)),
             home.1,
             (own_core c v.place (record (c.state v.place) { phase = In }) (entered_part m v.part e), check_held_shows m c t id v whole.1 is_at role i me.1 e up held home.1 home.2, (may, check_held_event m c t id v whole.1 is_at role (entered_part m v.part e) held)),
-            match_true _ _ (found == 0) (eq-eqb found 0 zero_found) (e, refl, known),
+            match_true _ _ (found == 0) (eq-eqb found 0 zero_found) (e, refl, known, seen (m.number e) home.2.number_is),
           )
       by_token (Revoked s) revoked =
           let is : found ≡ s = found_is ∙ ap token_word revoked in
@@ -149,7 +152,8 @@ module _ {E B T L I : Type 0} (m : Meanings E B T L I) where
       let v : View E B T L I = me.0 in
       let c : Core E B T L I = whole.0 in
       let d : Core E B T L I = own_core c v.place (record (c.state v.place) { token = Held }) (regained_part v.part number) in
-      let published : number ≡ c.number = number_read_is m c t id v whole.1 is_at role number behind read in (
+      let published : number ≡ c.number = number_read_is m c t id v whole.1 is_at role number behind read in
+      let live : Live m c id v = processor_live m c t id v whole.1 is_at role in (
         noted (regained v number) i 0,
         keeps,
         tt,
@@ -160,8 +164,11 @@ module _ {E B T L I : Type 0} (m : Meanings E B T L I) where
         ),
         (λ x told.
             let both : Some number ≡ Some x = sym read ∙ told in
-            let same : number ≡ x = cc in
-            (ap (λ (n : ℕ). (noted (regained v n) i 0, me.1)) same, λ s refusal. let h = refusal_published m c t id v whole.1 is_at role s out behind refusal in omega arith)),
+            let same : number ≡ x = cc in (
+              ap (λ (n : ℕ). (noted (regained v n) i 0, me.1)) same,
+              (λ s refusal. let h = refusal_published m c t id v whole.1 is_at role s out behind refusal in omega arith),
+              subst (SeenUpTo v.part) (sym published ∙ same) (subst (λ (y : Part E L I). SeenUpTo y c.number) (sym live.part) (seen_published m c t whole.1 v.place live.low ((whole.1.each id v is_at).processor role))),
+            )),
       )
 
   pub raise_allows : (slots id : ℕ) (me : Seated m) (i x : ℕ) → i ≡ tracker_index me.0.place → me.0.role ≡ Processor → me.0.phase ≡ Out → x ≡ tracker_word (me.0.part.sections + 1) Raised

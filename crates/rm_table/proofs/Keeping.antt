@@ -1,15 +1,26 @@
 -- What a step of the seat with one place leaves as it was for every other seat.
-use Rattle.std.proofs.Common.{◌≡◌, ◌≢◌, ℕ, ◌+◌, ◌<◌, Bool, List, sym, ◌∙◌, ap, arith, subst, ⊎_elim}
+use Rattle.std.proofs.Common.{◌≡◌, ◌≢◌, inr, ℕ, ◌+◌, ◌<◌, Bool, List, [], ◌++◌, sym, ◌∙◌, ap, arith, subst, ⊎_elim, append-nil, append_assoc}
 use Rattle.std.specs.Prelude.{slice_set}
 use mathlib.Core.Option as at
 use lib.ListN.{get_elem?}
-use Rattle.atomic_table.proofs.Lists.{at_set}
-use Rattle.rm_table.specs.declared.role.Role.TheVariants.{Spent, Operator}
+use Rattle.std.proofs.lemmas.Bool.Decides.{eqb_tells}
+use Rattle.atomic_table.proofs.Lists.{at_set, set_here, set_else}
+use Rattle.rm_table.specs.declared.role.Role.TheVariants.{Operator}
 use Rattle.rm_table.specs.declared.part.Part.{Part}
 use Rattle.rm_table.specs.declared.view.View.{View}
 use Rattle.rm_table.specs.Layout.{is_held_by}
-use Rattle.rm_table.specs.Meanings.{Meanings}
-use Rattle.rm_table.specs.Rule.{Core, lent, Live, KeptAt, Keeps, Agrees}
+use Rattle.rm_table.specs.Meanings.{Meanings, BeginsWith}
+use Rattle.rm_table.specs.Rule.{Core, lent, Live, KeptAt, Keeps, IsSeatOf, EverySeat, Agrees}
+use Rattle.rm_table.proofs.Base.{get_within}
+
+module _ {A : Type 0} where
+  -- a list begins with itself
+  pub begins_same : (xs : List A) → BeginsWith xs xs
+  begins_same xs = ([], sym (append-nil xs))
+
+  -- what begins with a list that begins with xs begins with xs
+  pub begins_longer : (zs ys xs : List A) → BeginsWith zs ys → BeginsWith ys xs → BeginsWith zs xs
+  begins_longer zs ys xs longer shorter = (shorter.0 ++ longer.0, longer.1 ∙ ap (λ (l : List A). l ++ longer.0) shorter.1 ∙ append_assoc xs shorter.0 longer.0)
 
 -- what the operator keeps, where another makes the step
 pub record Quiet {E B T L I : Type 0} (c d : Core E B T L I) (p : ℕ) : Type 0 where
@@ -26,6 +37,8 @@ pub record Quiet {E B T L I : Type 0} (c d : Core E B T L I) (p : ℕ) : Type 0 
 -- what nobody but the seat with place p may see changed
 pub record Beside {E B T L I : Type 0} (c d : Core E B T L I) (p : ℕ) : Type 0 where
   pub count : d.count ≡ c.count
+  pub opened : d.opened ≡ c.opened
+  pub history : BeginsWith d.history c.history
   pub seat : (k : ℕ) → d.seat k ≡ c.seat k
   pub phase : (k : ℕ) → k ≢ p → (d.state k).phase ≡ (c.state k).phase
   pub part : (k : ℕ) → k ≢ p → d.part k ≡ c.part k
@@ -79,10 +92,11 @@ module _ {E B T L I : Type 0} (m : Meanings E B T L I) where
     live = λ role. let l = a.live role in live_stays c d p j u b (λ same. apart (sym l.seat ∙ ap c.seat same ∙ seat)) l;
     processor = λ role. let h = a.processor role in let e = b.count in omega arith;
     operator = λ role.
-        let l : Live m c j u = a.live (λ spent. let clash : Operator ≡ Spent = sym role ∙ spent in absurd cc) in
+        let l : Live m c j u = a.live (inr role) in
         let k : Keeps m c j u = a.operator role in
         let other : p ≢ c.count + 1 = λ same. apart (sym l.seat ∙ ap c.seat (k.place ∙ sym same) ∙ seat) in
         keeps_stays c d p j u b (b.operator other) (λ same. apart (sym same ∙ seat)) k;
+    receipt = λ role. let r = a.receipt role in record { opened_is = r.opened_is ∙ sym b.opened; prefix = begins_longer d.history c.history u.history b.history r.prefix; begun = r.begun; counts = r.counts };
   }
 
   -- the views after a step of the seat that has place p
@@ -94,3 +108,26 @@ module _ {E B T L I : Type 0} (m : Meanings E B T L I) where
       (λ here. subst (λ (x : View E B T L I). Agrees m d j x) here.1 (subst (λ (i : ℕ). Agrees m d i w) (sym here.0) own))
       (λ else'. agrees_stays c d p id j u b seat else'.0 (each j u else'.1))
       (at_set views id j w u is)
+
+module _ {E B T L I : Type 0} where
+  -- every seat exists after a step that leaves it with its place, or with the places that it keeps
+  pub every_seat_after : (n : ℕ) (seat : ℕ → ℕ) (views : List (View E B T L I)) (id : ℕ) (v w : View E B T L I) → get_elem? views id ≡ at.some v → ((k : ℕ) → IsSeatOf v k → IsSeatOf w k) → (v.role ≡ Operator → w.role ≡ Operator)
+      → EverySeat n seat views → EverySeat n seat (slice_set views id w)
+  every_seat_after n seat views id v w is_at keeps stays s = record {
+    processors = λ k low high. let got = s.processors k low high in
+        ⊎_elim
+        (λ here. (w, there k here.1, keeps k (subst (λ (x : View E B T L I). IsSeatOf x k) (mine k got.0 here.1 got.1) got.2)))
+        (λ other. (got.0, set_else views id (seat k) w other.1 ∙ got.1, got.2))
+        (eqb_tells (seat k) id);
+    operator = let got = s.operator in
+        ⊎_elim
+        (λ here. (w, there (n + 1) here.1, stays (subst (λ (x : View E B T L I). x.role ≡ Operator) (mine (n + 1) got.0 here.1 got.1) got.2)))
+        (λ other. (got.0, set_else views id (seat (n + 1)) w other.1 ∙ got.1, got.2))
+        (eqb_tells (seat (n + 1)) id);
+  }
+    where
+      there : (k : ℕ) → seat k ≡ id → get_elem? (slice_set views id w) (seat k) ≡ at.some w
+      there k here = ap (get_elem? (slice_set views id w)) here ∙ set_here views id w (get_within views id v is_at)
+
+      mine : (k : ℕ) (u : View E B T L I) → seat k ≡ id → get_elem? views (seat k) ≡ at.some u → u ≡ v
+      mine k u here found = at.some-injective u v (sym found ∙ ap (get_elem? views) here ∙ is_at)

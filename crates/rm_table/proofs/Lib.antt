@@ -15,3 +15,4 @@ pub mod LockCalls
 pub mod Begun
 pub mod Resting
 pub mod Writes
+pub mod Moments

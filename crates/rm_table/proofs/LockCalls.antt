@@ -3,12 +3,14 @@ use Rattle.std.proofs.Common.{◌≡◌, ◌≢◌, ℕ, ◌+◌, ◌-◌, ◌%�
 use Rattle.std.specs.Prelude.{slice_set, slice_get, slice_index, MatchBool, ◌==◌}
 use Rattle.std.proofs.lemmas.Bool.{eqb-true}
 use mathlib.Core.Option as at
+use lib.ListN.{get_elem?}
 use prog.Atomic.{either}
 use Rattle.atomic_table.specs.Table.{step, stepped, Allows, Splits, Joins, Act, Valid, carried_after, keeps, takes, gives, rest}
 use Rattle.atomic_table.proofs.Lists.{set_else}
 use Rattle.rm_core.specs.declared.phase.Phase.TheVariants.{Out, In}
 use Rattle.rm_core.specs.declared.token.Token.TheVariants.{Revoked}
-use Rattle.rm_table.specs.declared.role.Role.TheVariants.{Processor, Operator}
+use Rattle.rm_table.specs.declared.role.Role.{Role}
+use Rattle.rm_table.specs.declared.role.Role.TheVariants.{Processor, Operator, Receipt}
 use Rattle.rm_table.specs.declared.slot.Slot.{Slot}
 use Rattle.rm_table.specs.declared.slot.Slot.TheVariants.{Edition, Book}
 use Rattle.rm_table.specs.declared.part.Part.{Part}
@@ -16,18 +18,18 @@ use Rattle.rm_table.specs.declared.view.View.{View}
 use Rattle.rm_table.specs.Layout.{number_index, behind_index, book_index, tracker_index, token_index, tracker_word, holder_word}
 use Rattle.rm_table.specs.Meanings.{Meanings}
 use Rattle.rm_table.specs.Rule.{Core, core_of, Live, Shows, Whole}
-use Rattle.rm_table.specs.Moves.{Hand, noted, behind_part, behind_taken, unread_part, behind_given, read_part, number_read, revoked, drained, is_revoked, is_drained, published_as, HasNext, gives_first, editions_from, book_part, book_taken, given_part, book_given, HasBook, IsOperator, IsWorking, NoneRevoked, AllDrained, split_off, right_of, kept_at, spent_view, joined}
+use Rattle.rm_table.specs.Moves.{Hand, noted, behind_part, behind_taken, unread_part, behind_given, read_part, number_read, revoked, drained, is_revoked, is_drained, published_as, HasNext, gives_first, editions_from, book_part, book_taken, given_part, book_given, HasBook, IsOperator, IsWorking, NoneRevoked, AllDrained, SeenUpTo, IsLast, split_off, right_of, kept_at, receipt_view, informed_part, informed, spent_view, joined, joined_by}
 use Rattle.rm_core.specs.declared.event.Event.TheVariants.{TakeBack, Drain}
 use Rattle.rm_core.specs.CoreState.{Allowed, after}
-use Rattle.rm_table.specs.Laws.{TakeBackLaw, GiveBackLaw, ReadNumberLaw, RevokeLaw, DrainLaw, PublishLaw, TakeBookLaw, GiveBookLaw, SplitLaw, JoinLaw}
+use Rattle.rm_table.specs.Laws.{TakeBackLaw, GiveBackLaw, ReadNumberLaw, RevokeLaw, DrainLaw, PublishLaw, TakeBookLaw, GiveBookLaw, SplitLaw, JoinLaw, ReceiptLaw, HearLaw}
 use Rattle.rm_table.specs.Plays.{Seated, TakesBehind, GivesBehind, Revokes, Drains, ReadsNumber, Publishes, TakesBook, GivesBook}
 use Rattle.rm_table.proofs.Base.{set_found, match_true, match_false}
-use Rattle.rm_table.proofs.Own.{known_number}
-use Rattle.rm_table.proofs.Locks.{lock_core, working_live, operator_keeps, take_back_may, give_back_may, take_back_shows, give_back_shows, read_number_shows, missed_shows}
-use Rattle.rm_table.proofs.Writer.{state_core, even_word, writer_live, writer_keeps, revoke_may, revoke_event, drain_may, drain_event, drain_missed_event, revoke_shows, drain_home, drain_shows}
+use Rattle.rm_table.proofs.Own.{known_number, seen_published}
+use Rattle.rm_table.proofs.Locks.{lock_core, working_live, operator_keeps, take_back_may, give_back_may, take_back_shows, give_back_shows, read_number_shows, missed_shows, hear_shows}
+use Rattle.rm_table.proofs.Writer.{state_core, even_word, writer_live, writer_keeps, revoke_may, revoke_event, drain_may, drain_event, drain_missed_event, revoke_shows, drain_home, drain_shows, last_known}
 use Rattle.rm_table.proofs.Publishing.{published_core, published_is, publish_event, publish_may, publish_shows, valid_gives, carried_gives}
 use Rattle.rm_table.proofs.Books.{desk_core, book_is_home, take_book_shows, book_found, book_free, give_processor_shows, give_operator_shows}
-use Rattle.rm_table.proofs.Seats.{seat_core, split_shows, join_shows}
+use Rattle.rm_table.proofs.Seats.{seat_core, split_shows, join_shows, receipt_shows, spent_shows}
 
 -- what a drain keeps of a seat, whatever it found
 pub record SameSeat {E B T L I : Type 0} (v w : View E B T L I) : Type 0 where
@@ -41,7 +43,7 @@ pub record SameSeat {E B T L I : Type 0} (v w : View E B T L I) : Type 0 where
 
 module _ {E B T L I : Type 0} (m : Meanings E B T L I) where
   pub drain_same : (me after : Seated m) (place index found : ℕ) (b : Bool) → MatchBool b
-      ((e : E) × (after ≡ (noted (drained me.0 place) index found, (place, Edition e) ∷ me.1)) × (m.number e ≡ me.0.number))
+      ((e : E) × (after ≡ (noted (drained me.0 place) index found, (place, Edition (Some e)) ∷ me.1)) × (m.number e ≡ me.0.number) × IsLast me.0 (m.name e) (m.tag e))
       (after ≡ (noted me.0 index found, me.1)) → SameSeat me.0 after.0
   drain_same me after place index found true got = let is = got.1 in record {
     role = ap (λ z. z.0.role) is;
@@ -144,6 +146,7 @@ module _ {E B T L I : Type 0} (m : Meanings E B T L I) where
           after_is = refl;
           operator = λ role. is ∙ sym (operator_keeps m c t id v whole.1 is_at working role).number;
           processor = λ role. let h = known_number m c t whole.1 v.place live.low ((whole.1.each id v is_at).processor role) in let e : v.part.held ≡ (c.part v.place).held = ap (λ (y : Part E L I). y.held) live.part in omega arith;
+          seen = λ role. subst (SeenUpTo v.part) (sym is) (subst (λ (y : Part E L I). SeenUpTo y c.number) (sym live.part) (seen_published m c t whole.1 v.place live.low ((whole.1.each id v is_at).processor role)));
         },
       )
 
@@ -188,7 +191,7 @@ module _ {E B T L I : Type 0} (m : Meanings E B T L I) where
           let even : found % 2 ≡ 0 = ap (λ (n : ℕ). n % 2) found_is ∙ out.1 in
           let number : m.number e ≡ v.number = home.2.number_is ∙ sym (writer_keeps m c t id v whole.1 is_at writer).number in (
             noted (drained v k) i found,
-            takes k (Edition e),
+            takes k (Edition (Some e)),
             home.1,
             (
               state_core c k (record (c.state k) { drained = true }),
@@ -196,7 +199,7 @@ module _ {E B T L I : Type 0} (m : Meanings E B T L I) where
               (drain_may m c t id v whole.1 is_at writer k low high flagged undrained, drain_event m c t id v whole.1 is_at writer k low within out.0),
             ),
             (λ place same. let p : k ≡ place = omega arith in
-                match_true _ _ (found % 2 == 0) (eq-eqb (found % 2) 0 even) (e, ap (λ (j : ℕ). (noted (drained v j) i found, (j, Edition e) ∷ me.1)) p, number)),
+                match_true _ _ (found % 2 == 0) (eq-eqb (found % 2) 0 even) (e, ap (λ (j : ℕ). (noted (drained v j) i found, (j, Edition (Some e)) ∷ me.1)) p, number, last_known m c t id v whole.1 is_at writer (m.name e) (m.tag e) home.2.name_is home.2.tag_is)),
           )
       by_phase (inr inside) =
           let odd : found % 2 ≡ 1 = ap (λ (n : ℕ). n % 2) found_is ∙ inside.1 in (
@@ -267,13 +270,13 @@ module _ {E B T L I : Type 0} (m : Meanings E B T L I) where
           let w : View E B T L I = noted (book_taken v c.book) i found in
           let d : Core E B T L I = desk_core c v.place v.place c.book c.stale c.ready (book_part v.part) in (
             w,
-            takes 0 (Book c.book),
+            takes 0 (Book (Some c.book)),
             book_is_home m c t id v whole.1 is_at working none,
             (
               d,
-              subst (λ (b : Bool). Shows m d (stepped t i (either b x found) id me.1 w (takes 0 (Book c.book)))) (sym test)
-                  (subst (λ (y : ℕ). Shows m d (stepped t i y id me.1 w (takes 0 (Book c.book)))) (sym x_is)
-                  (subst (λ (k : ℕ). Shows m d (stepped t k v.place id me.1 (noted (book_taken v c.book) k found) (takes 0 (Book c.book)))) (sym i_is) (take_book_shows m c t id v whole.1 is_at working me.1 found none inside))),
+              subst (λ (b : Bool). Shows m d (stepped t i (either b x found) id me.1 w (takes 0 (Book (Some c.book))))) (sym test)
+                  (subst (λ (y : ℕ). Shows m d (stepped t i y id me.1 w (takes 0 (Book (Some c.book))))) (sym x_is)
+                  (subst (λ (k : ℕ). Shows m d (stepped t k v.place id me.1 (noted (book_taken v c.book) k found) (takes 0 (Book (Some c.book))))) (sym i_is) (take_book_shows m c t id v whole.1 is_at working me.1 found none inside))),
               refl,
             ),
             record {
@@ -302,7 +305,7 @@ module _ {E B T L I : Type 0} (m : Meanings E B T L I) where
 
   -- the book on top of a hand
   abbrev top_book : B → Hand E B → B
-  top_book other ((k, Book y) ∷ hand) = y
+  top_book other ((k, Book (Some y)) ∷ hand) = y
   top_book other _ = other
 
   pub give_book_makes : GiveBookLaw m
@@ -325,7 +328,7 @@ module _ {E B T L I : Type 0} (m : Meanings E B T L I) where
       c : Core E B T L I
       c = whole.0
 
-      at_top : (d : Core E B T L I) → core_of d ≡ core_of c → Shows m d (stepped t book_index 0 id ((0, Book y) ∷ rest me.1) (noted (book_given m v y) book_index 0) gives) → (d : Core E B T L I) × Shows m d (stepped t i 0 id me.1 (noted (book_given m v y) i 0) gives) × (core_of d ≡ core_of c)
+      at_top : (d : Core E B T L I) → core_of d ≡ core_of c → Shows m d (stepped t book_index 0 id ((0, Book (Some y)) ∷ rest me.1) (noted (book_given m v y) book_index 0) gives) → (d : Core E B T L I) × Shows m d (stepped t i 0 id me.1 (noted (book_given m v y) i 0) gives) × (core_of d ≡ core_of c)
       at_top d same shows = (
         d,
         subst (λ (k : ℕ). Shows m d (stepped t k 0 id me.1 (noted (book_given m v y) k 0) gives)) (sym i_is)
@@ -385,3 +388,21 @@ module _ {E B T L I : Type 0} (m : Meanings E B T L I) where
   pub join_makes : JoinLaw m
   join_makes id other v w role processor out unheld t whole is_at apart there =
       (seat_core whole.0 w.place id, join_shows m whole.0 t id v whole.1 is_at role other w apart (sym (set_else t.views id other (joined v w) apart) ∙ there) processor out unheld, refl)
+
+  pub receipt_makes : ReceiptLaw m
+  receipt_makes id v role t whole is_at = (whole.0, receipt_shows m whole.0 t id v whole.1 is_at role, refl)
+
+  pub hear_makes : HearLaw m
+  hear_makes id other v w role receipt t whole is_at apart there =
+      let c : Core E B T L I = whole.0 in
+      let w_at : get_elem? t.views other ≡ at.some w = sym (set_else t.views id other (informed v w) apart) ∙ there in
+      let heard = hear_shows m c t id other v w whole.1 is_at role w_at receipt in
+      let d : Core E B T L I = lock_core c v.place c.behind (informed_part v.part w.opened w.history) in
+      (d, spent_shows m d (record { words = t.words; homes = t.homes; views = slice_set t.views id (informed v w) }) other w heard there receipt, refl)
+
+  pub receipt_splits : (id : ℕ) (v : View E B T L I) → v.role ≡ Operator → Splits (Whole m) id v v (receipt_view v)
+  receipt_splits id v role t whole is_at = let r = receipt_makes id v role t whole is_at in (r.0, r.1)
+
+  pub joins_by : (id : ℕ) (v : View E B T L I) (other : ℕ) (w : View E B T L I) → ((v.role ≡ Operator) × (w.role ≡ Processor) × (w.phase ≡ Out) × (w.behind ≡ false)) ⊎ ((v.role ≡ Processor) × (w.role ≡ Receipt)) → Joins (Whole m) id v other w (joined_by w.role v w) spent_view
+  joins_by id v other w (inl pair) = subst (λ (r : Role). Joins (Whole m) id v other w (joined_by r v w) spent_view) (sym pair.1) (joins id v other w pair.0 pair.1 pair.2 pair.3)
+  joins_by id v other w (inr pair) = subst (λ (r : Role). Joins (Whole m) id v other w (joined_by r v w) spent_view) (sym pair.1) (λ t whole is_at apart there. let r = hear_makes id other v w pair.0 pair.1 t whole is_at apart there in (r.0, r.1))

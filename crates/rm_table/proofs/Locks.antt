@@ -1,31 +1,32 @@
 -- The steps on the lock behind, the reading of the number, and a try that finds another holder.
-use Rattle.std.proofs.Common.{◌≡◌, ◌≢◌, ℕ, ◌+◌, ◌<◌, ◌≤◌, inl, Bool, true, false, Option, Some, None, List, [], ◌∷◌, ◌++◌, length, refl, sym, ◌∙◌, ap, arith, subst, ⊎_elim, eq-eqb, ne_eqb}
+use Rattle.std.proofs.Common.{◌≡◌, ◌≢◌, ℕ, zero, suc, ◌+◌, ◌-◌, ◌<◌, ◌≤◌, ◌⊎◌, inl, inr, Bool, true, false, Option, Some, None, List, [], ◌∷◌, ◌++◌, length, refl, sym, ◌∙◌, ap, arith, subst, ⊎_elim, eq-eqb, ne_eqb}
 use Rattle.std.specs.Prelude.{slice_set, slice_index, if◌then◌else◌, All}
 use Rattle.std.proofs.lemmas.Bool.Decides.{eqb_tells}
 use mathlib.Core.Option as at
 use lib.ListN.{get_elem?}
 use Rattle.atomic_table.specs.Table.{State, stepped, keeps}
+use Rattle.atomic_table.proofs.Lists.{at_longer}
 use Rattle.rm_core.specs.declared.event.Event.{Event}
 use Rattle.rm_core.specs.declared.event.Event.TheVariants.{TakeBack, GiveBack, ReadNumber}
 use Rattle.rm_core.specs.CoreState.{Allowed, after}
 use Rattle.rm_core.specs.Runs.{is_regain_of}
-use Rattle.rm_table.specs.declared.role.Role.TheVariants.{Spent, Processor, Operator}
+use Rattle.rm_table.specs.declared.role.Role.TheVariants.{Processor, Operator, Receipt}
 use Rattle.rm_table.specs.declared.slot.Slot.{Slot}
 use Rattle.rm_table.specs.declared.part.Part.{Part}
 use Rattle.rm_table.specs.declared.view.View.{View}
 use Rattle.rm_table.specs.Layout.{behind_index, tracker_word, holder_word, is_held_by}
-use Rattle.rm_table.specs.Meanings.{Meanings, put, BeginsWith}
-use Rattle.rm_table.specs.Rule.{Core, core_of, Words, tracker_of, token_of, Live, Keeps, Shows}
-use Rattle.rm_table.specs.Moves.{Hand, noted, behind_part, behind_taken, unread_part, behind_given, read_part, number_read, AllSplit, IsWorking, NoneRevoked}
+use Rattle.rm_table.specs.Meanings.{Meanings, numbered, put, BeginsWith}
+use Rattle.rm_table.specs.Rule.{Core, core_of, Words, tracker_of, token_of, InHistory, Live, Keeps, Shows}
+use Rattle.rm_table.specs.Moves.{Hand, noted, behind_part, behind_taken, unread_part, behind_given, read_part, number_read, informed_part, informed, AllSplit, IsWorking, NoneRevoked}
 use Rattle.rm_table.proofs.Base.{put_here, put_else, at_put, put_keeps, at_slice, all_values, length-values, words_unchanged, words_like, words_behind}
-use Rattle.rm_table.proofs.Keeping.{Beside, each_after}
+use Rattle.rm_table.proofs.Keeping.{Beside, begins_same, each_after, every_seat_after}
 use Rattle.rm_table.proofs.Own.{sound_after, numbers_after}
 
 -- what a step on the lock behind changes
 abbrev pub lock_core : {E B T L I : Type 0} → Core E B T L I → ℕ → Option ℕ → Part E L I → Core E B T L I
 lock_core c p b a = record c { behind = b; part = put c.part p a }
 
--- a part that shows the same but for what was read, and for counts
+-- a part that shows the same but for what was read, for pairs seen and for counts
 pub record SamePart {E L I : Type 0} (a b : Part E L I) : Type 0 where
   pub sections : a.sections ≡ b.sections
   pub held : a.held ≡ b.held
@@ -33,15 +34,18 @@ pub record SamePart {E L I : Type 0} (a b : Part E L I) : Type 0 where
   pub reading : a.reading ≡ b.reading
   pub own : a.own ≡ b.own
   pub first : a.first ≡ b.first
-  pub pairs : a.pairs ≡ b.pairs
 
 module _ {E B T L I : Type 0} (m : Meanings E B T L I) where
   module _ (c : Core E B T L I) (t : State (Slot E B) (View E B T L I)) (id : ℕ) (v : View E B T L I) (shows : Shows m c t) (is_at : get_elem? t.views id ≡ at.some v) (working : IsWorking v) where
-    pub not_spent : v.role ≢ Spent
-    not_spent spent = ⊎_elim (λ processor. let clash : Processor ≡ Spent = sym processor ∙ spent in absurd cc) (λ operator. let o = operator.role in let clash : Operator ≡ Spent = sym o ∙ spent in absurd cc) working
+    pub somebody : (v.role ≡ Processor) ⊎ (v.role ≡ Operator)
+    somebody = ⊎_elim (λ processor. inl processor) (λ operator. inr operator.role) working
+
+    -- who works is no receipt
+    pub no_receipt : v.role ≡ Receipt → ⊥
+    no_receipt receipt = ⊎_elim (λ processor. let clash : Processor ≡ Receipt = sym processor ∙ receipt in absurd cc) (λ operator. let clash : Operator ≡ Receipt = sym operator ∙ receipt in absurd cc) somebody
 
     pub working_live : Live m c id v
-    working_live = (shows.each id v is_at).live not_spent
+    working_live = (shows.each id v is_at).live somebody
 
     -- nothing is kept of any processor
     pub nothing_kept : v.role ≡ Operator → AllSplit v
@@ -57,9 +61,10 @@ module _ {E B T L I : Type 0} (m : Meanings E B T L I) where
     pub lock_shows : (e : Event) (b : Option ℕ) (behind : Bool) (a : Part E L I) (steps : List (ℕ × ℕ)) (words : List ℕ) → core_of (lock_core c v.place b a) ≡ after (core_of c) e → Allowed (core_of c) e
         → behind ≡ is_held_by b v.place → ((k : ℕ) → k ≢ v.place → is_held_by b k ≡ is_held_by c.behind k) → ((k : ℕ) → k ≢ v.place → b ≡ Some k → c.behind ≡ Some k) → ((h : ℕ) → b ≡ Some h → (0 < h) × (h ≤ c.count + 1))
         → ((k : ℕ) → is_regain_of k e ≡ false) → SamePart a v.part → ((x : ℕ) → v.place ≤ c.count → b ≡ Some v.place → a.read ≡ Some x → x ≡ c.number)
+        → (v.place ≤ c.count → (j x : ℕ) (l : L) → get_elem? a.pairs j ≡ at.some (x, l) → InHistory c.opened c.history x l)
         → Words c.count c.number (holder_word b) c.holder (tracker_of c.state c.part) (token_of c.state) words
         → Shows m (lock_core c v.place b a) (record { words = words; homes = t.homes; views = slice_set t.views id (moved behind a steps) })
-    lock_shows e b behind a steps words core_is may behind_is others others_some bounds unregained same read words_are =
+    lock_shows e b behind a steps words core_is may behind_is others others_some bounds unregained same read pairs words_are =
         let p : ℕ = v.place in
         let d : Core E B T L I = lock_core c p b a in
         let l : Live m c id v = working_live in
@@ -67,6 +72,8 @@ module _ {E B T L I : Type 0} (m : Meanings E B T L I) where
         let was : v.part ≡ c.part p = l.part in
         let beside : Beside c d p = record {
           count = refl;
+          opened = refl;
+          history = begins_same c.history;
           seat = λ k. refl;
           phase = λ k other. refl;
           part = λ k other. put_else c.part p a k other;
@@ -83,8 +90,9 @@ module _ {E B T L I : Type 0} (m : Meanings E B T L I) where
           insides = record {
             reading = λ k low within inside. let got = shows.insides.reading k low within inside in
                 (got.0, put_keeps (λ (y : Part E L I). y.reading) c.part p a (same.reading ∙ ap (λ (y : Part E L I). y.reading) was) k ∙ got.1, got.2);
-            pairs = λ k low within j x n is. shows.insides.pairs k low within j x n
-                (ap (λ (ps : List (ℕ × L)). get_elem? ps j) (sym (put_keeps (λ (y : Part E L I). y.pairs) c.part p a (same.pairs ∙ ap (λ (y : Part E L I). y.pairs) was) k)) ∙ is);
+            pairs = at_put (λ k (y : Part E L I). 0 < k → k ≤ c.count → (j x : ℕ) (l : L) → get_elem? y.pairs j ≡ at.some (x, l) → InHistory c.opened c.history x l) c.part p a
+                (λ low within. pairs within)
+                (λ k other. shows.insides.pairs k);
           };
           desk = shows.desk;
           lists = record {
@@ -98,6 +106,7 @@ module _ {E B T L I : Type 0} (m : Meanings E B T L I) where
               (λ k x told. inl (sym (put_keeps (λ (y : Part E L I). y.refusal) c.part p a (same.refusal ∙ ap (λ (y : Part E L I). y.refusal) was) k) ∙ told))
               shows.numbers;
           readiness = shows.readiness;
+          seats = every_seat_after c.count c.seat t.views id v (moved behind a steps) is_at (λ k mine. mine) (λ role. role) shows.seats;
           each = each_after m c d p id (moved behind a steps) t.views shows.each l.seat beside (record {
             live = λ _. record {
               count = l.count;
@@ -125,8 +134,13 @@ module _ {E B T L I : Type 0} (m : Meanings E B T L I) where
               drained = k.drained;
               kept = λ j part is. absurd ((nothing_kept role).1 j part (at_slice v.kept j (Some part) is));
             };
+            receipt = λ receipt. absurd (no_receipt receipt);
           });
         }
+
+    -- the pairs of a part are those that it had
+    same_pairs : v.place ≤ c.count → (j x : ℕ) (l : L) → get_elem? v.part.pairs j ≡ at.some (x, l) → InHistory c.opened c.history x l
+    same_pairs within j x l is = shows.insides.pairs v.place working_live.low within j x l (ap (λ (y : Part E L I). get_elem? y.pairs j) (sym working_live.part) ∙ is)
 
     -- take back, where nobody holds it
     pub take_back_may : c.behind ≡ None → Allowed (core_of c) (TakeBack v.place)
@@ -141,8 +155,9 @@ module _ {E B T L I : Type 0} (m : Meanings E B T L I) where
         (λ k other is. let same : v.place ≡ k = cc in absurd (other (sym same)))
         (λ h is. let same : v.place ≡ h = cc in let low = working_live.low in let high = working_live.high in (omega arith, omega arith))
         (λ k. refl)
-        (record { sections = refl; held = refl; refusal = refl; reading = refl; own = refl; first = refl; pairs = refl })
+        (record { sections = refl; held = refl; refusal = refl; reading = refl; own = refl; first = refl })
         (λ x within holds read. absurd cc)
+        same_pairs
         (words_behind v.place shows.words)
 
     -- who holds the lock behind is the core's holder
@@ -179,25 +194,30 @@ module _ {E B T L I : Type 0} (m : Meanings E B T L I) where
         (λ k other is. absurd cc)
         (λ h is. absurd cc)
         (λ k. refl)
-        (record { sections = refl; held = refl; refusal = refl; reading = refl; own = refl; first = refl; pairs = refl })
+        (record { sections = refl; held = refl; refusal = refl; reading = refl; own = refl; first = refl })
         (λ x within holds read. absurd cc)
+        same_pairs
         (words_behind 0 shows.words)
 
     -- read number
     read_part_same : (behind : Bool) (number : ℕ) → SamePart (read_part behind v.part number) v.part
-    read_part_same true number = record { sections = refl; held = refl; refusal = refl; reading = refl; own = refl; first = refl; pairs = refl }
-    read_part_same false number = record { sections = refl; held = refl; refusal = refl; reading = refl; own = refl; first = refl; pairs = refl }
+    read_part_same true number = record { sections = refl; held = refl; refusal = refl; reading = refl; own = refl; first = refl }
+    read_part_same false number = record { sections = refl; held = refl; refusal = refl; reading = refl; own = refl; first = refl }
 
     read_part_read : (behind : Bool) (number x : ℕ) → number ≡ c.number → v.place ≤ c.count → c.behind ≡ Some v.place → (read_part behind v.part number).read ≡ Some x → x ≡ c.number
     read_part_read true number x is within holds read = let same : number ≡ x = cc in sym same ∙ is
     read_part_read false number x is within holds read = shows.numbers.read v.place x within holds (ap (λ (y : Part E L I). y.read) (sym working_live.part) ∙ read)
+
+    read_part_pairs : (behind : Bool) (number : ℕ) → v.place ≤ c.count → (j x : ℕ) (l : L) → get_elem? (read_part behind v.part number).pairs j ≡ at.some (x, l) → InHistory c.opened c.history x l
+    read_part_pairs true number = same_pairs
+    read_part_pairs false number = same_pairs
 
     pub read_number_shows : (i number : ℕ) (hand : Hand E B) → number ≡ c.number
         → Shows m (lock_core c v.place c.behind (read_part v.behind v.part number)) (stepped t i (slice_index t.words i) id hand (noted (number_read v number) i (slice_index t.words i)) keeps)
     read_number_shows i number hand is =
         lock_shows ReadNumber c.behind v.behind (read_part v.behind v.part number) (v.steps ++ (i, slice_index t.words i) ∷ []) (slice_set t.words i (slice_index t.words i)) refl tt
         working_live.behind (λ k other. refl) (λ k other is. is) shows.sound.holder (λ k. refl) (read_part_same v.behind number)
-        (λ x. read_part_read v.behind number x is) (words_unchanged i shows.words)
+        (λ x. read_part_read v.behind number x is) (read_part_pairs v.behind number) (words_unchanged i shows.words)
 
     -- a try that finds another holder changes nothing
     pub missed_shows : (i found : ℕ) (words : List ℕ) → words ≡ t.words
@@ -205,6 +225,41 @@ module _ {E B T L I : Type 0} (m : Meanings E B T L I) where
     missed_shows i found words same =
         lock_shows ReadNumber c.behind v.behind v.part (v.steps ++ (i, found) ∷ []) words refl tt
         working_live.behind (λ k other. refl) (λ k other is. is) shows.sound.holder (λ k. refl)
-        (record { sections = refl; held = refl; refusal = refl; reading = refl; own = refl; first = refl; pairs = refl })
+        (record { sections = refl; held = refl; refusal = refl; reading = refl; own = refl; first = refl })
         (λ x within holds read. shows.numbers.read v.place x within holds (ap (λ (y : Part E L I). y.read) (sym working_live.part) ∙ read))
+        same_pairs
         (subst (λ (xs : List ℕ). Words c.count c.number (holder_word c.behind) c.holder (tracker_of c.state c.part) (token_of c.state) xs) (sym same) shows.words)
+
+  -- a receipt's names in the pairs of the processor that has heard it
+  numbered_at : (from : ℕ) (history : List (L × T)) (i x : ℕ) (l : L) → get_elem? (numbered from history) i ≡ at.some (x, l) → (x ≡ from + i) × ((tag : T) × (get_elem? history i ≡ at.some (l, tag)))
+  numbered_at from [] i x l is = absurd (at.some-ne-none (x, l) (sym is))
+  numbered_at from (y ∷ ys) zero x l is =
+      let e = at.some-injective (from, y.0) (x, l) is in
+      let number : from ≡ x = ap (λ (z : ℕ × L). z.0) e in
+      let name : y.0 ≡ l = ap (λ (z : ℕ × L). z.1) e in
+      (omega (arith, number), (y.1, ap (λ (n : L). at.some (n, y.1)) name))
+  numbered_at from (y ∷ ys) (suc i) x l is = let got = numbered_at (from + 1) ys i x l is in (let e = got.0 in omega arith, got.1)
+
+  at_append : {A : Type 0} (xs ys : List A) (j : ℕ) (a : A) → get_elem? (xs ++ ys) j ≡ at.some a → (get_elem? xs j ≡ at.some a) ⊎ ((i : ℕ) × (get_elem? ys i ≡ at.some a))
+  at_append [] ys j a is = inr (j, is)
+  at_append (x ∷ xs) ys zero a is = inl is
+  at_append (x ∷ xs) ys (suc j) a is = at_append xs ys j a is
+
+  -- join seat, of a receipt: what the processor has heard is in the history
+  pub hear_shows : (c : Core E B T L I) (t : State (Slot E B) (View E B T L I)) (id other : ℕ) (v w : View E B T L I) → Shows m c t → get_elem? t.views id ≡ at.some v → v.role ≡ Processor → get_elem? t.views other ≡ at.some w → w.role ≡ Receipt
+      → Shows m (lock_core c v.place c.behind (informed_part v.part w.opened w.history)) (record { words = t.words; homes = t.homes; views = slice_set t.views id (informed v w) })
+  hear_shows c t id other v w shows is_at role there receipt =
+      let l : Live m c id v = working_live c t id v shows is_at (inl role) in
+      let r = (shows.each other w there).receipt receipt in
+      lock_shows c t id v shows is_at (inl role) ReadNumber c.behind v.behind (informed_part v.part w.opened w.history) v.steps t.words refl tt
+      l.behind (λ k other. refl) (λ k other is. is) shows.sound.holder (λ k. refl)
+      (record { sections = refl; held = refl; refusal = refl; reading = refl; own = refl; first = refl })
+      (λ x within holds read. shows.numbers.read v.place x within holds (ap (λ (y : Part E L I). y.read) (sym l.part) ∙ read))
+      (λ within j x name is. ⊎_elim
+      (λ old. same_pairs c t id v shows is_at (inl role) within j x name old)
+      (λ new.
+      let got = numbered_at w.opened w.history new.0 x name new.1 in
+      let from : x - c.opened ≡ new.0 = let e = got.0 in let o = r.opened_is in omega arith in
+      (let e = got.0 in let o = r.opened_is in omega arith, (got.1.0, ap (get_elem? c.history) from ∙ ap (λ (h : List (L × T)). get_elem? h new.0) r.prefix.1 ∙ at_longer w.history r.prefix.0 new.0 (name, got.1.0) got.1.1)))
+      (at_append v.part.pairs (numbered w.opened w.history) j (x, name) is))
+      shows.words

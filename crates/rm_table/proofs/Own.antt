@@ -1,5 +1,5 @@
 -- A step of a processor on its own state.
-use Rattle.std.proofs.Common.{◌≡◌, ℕ, ◌+◌, ◌<◌, ◌≤◌, ◌⊎◌, inl, inr, Bool, true, false, Some, List, refl, sym, ◌∙◌, ap, arith, subst, ⊎_elim}
+use Rattle.std.proofs.Common.{◌≡◌, ℕ, ◌+◌, ◌-◌, ◌<◌, ◌≤◌, ◌⊎◌, inl, inr, Bool, true, false, Some, List, refl, sym, ◌∙◌, ap, arith, subst, ⊎_elim}
 use Rattle.std.specs.Prelude.{slice_set, if◌then◌else◌}
 use mathlib.Core.Option as at
 use lib.ListN.{get_elem?}
@@ -16,15 +16,16 @@ use Rattle.rm_core.proofs.Steps.{Safe-after}
 use Rattle.rm_core.proofs.Fitting.{Fits-after}
 use Rattle.rm_core.proofs.Numbers.{KnowsAt, Knows, Knows-after}
 use Rattle.rm_core.proofs.OneRun.{Pending-after}
-use Rattle.rm_table.specs.declared.role.Role.TheVariants.{Spent, Processor, Operator}
+use Rattle.rm_table.specs.declared.role.Role.TheVariants.{Processor, Operator, Receipt}
 use Rattle.rm_table.specs.declared.slot.Slot.{Slot}
 use Rattle.rm_table.specs.declared.part.Part.{Part}
 use Rattle.rm_table.specs.declared.view.View.{View}
 use Rattle.rm_table.specs.Layout.{holder_word, is_held_by}
 use Rattle.rm_table.specs.Meanings.{Meanings, put, BeginsWith}
 use Rattle.rm_table.specs.Rule.{Core, core_of, lent, Words, tracker_of, token_of, Sound, IsPending, InHistory, Current, Slots, Numbers, Live, Shows}
-use Rattle.rm_table.proofs.Base.{put_here, put_else, at_put, put_keeps, there}
-use Rattle.rm_table.proofs.Keeping.{Beside, each_after}
+use Rattle.rm_table.specs.Moves.{SeenUpTo}
+use Rattle.rm_table.proofs.Base.{put_here, put_else, at_put, put_keeps, there, get_within, slice_at}
+use Rattle.rm_table.proofs.Keeping.{Beside, begins_same, each_after, every_seat_after}
 
 module _ {E B T L I : Type 0} where
   -- an event keeps the core sound
@@ -65,6 +66,8 @@ module _ {E B T L I : Type 0} (m : Meanings E B T L I) where
   pub own_beside : (c : Core E B T L I) (p : ℕ) (r : ProcessorState) (a : Part E L I) → r.revoked ≡ (c.state p).revoked → r.drained ≡ (c.state p).drained → Beside c (own_core c p r a) p
   own_beside c p r a revoked drained = record {
     count = refl;
+    opened = refl;
+    history = begins_same c.history;
     seat = λ k. refl;
     phase = λ k other. ap (λ (x : ProcessorState). x.phase) (put_else c.state p r k other);
     part = λ k other. put_else c.part p a k other;
@@ -100,6 +103,18 @@ module _ {E B T L I : Type 0} (m : Meanings E B T L I) where
               let old = All-processor_of (λ q. q.revoked ≡ false → (s : ℕ) → q.token ≡ Revoked s → s ≤ c.number) (core_of c) k (c.state k) shows.sound.safe.past (there c k low high) unflagged s is in
               let below = shows.numbers.revoked k (c.state k) (there c k low high) s is in omega arith
 
+  -- a number of the history is published
+  pub in_history : (c : Core E B T L I) (t : State (Slot E B) (View E B T L I)) → Shows m c t → (x : ℕ) (name : L) → InHistory c.opened c.history x name → x ≤ c.number
+  in_history c t shows x name found =
+      let inside = get_within c.history (x - c.opened) (name, found.1.0) found.1.1 in
+      let counts = shows.past.counts in
+      let begun = found.0 in
+      omega arith
+
+  -- no pair that a processor saw is past the published number
+  pub seen_published : (c : Core E B T L I) (t : State (Slot E B) (View E B T L I)) → Shows m c t → (k : ℕ) → 0 < k → k ≤ c.count → SeenUpTo (c.part k) c.number
+  seen_published c t shows k low high j x name is = in_history c t shows x name (shows.insides.pairs k low high j x name (slice_at (c.part k).pairs j (x, name) is))
+
   -- What a processor's step has to bring: r and a are its state and part after it, w its view.
   pub record OwnStep (c : Core E B T L I) (t : State (Slot E B) (View E B T L I)) (id : ℕ) (v : View E B T L I) (e : Event) (r : ProcessorState) (a : Part E L I) (w : View E B T L I) (words : List ℕ) (homes : List (at.Option (Slot E B))) : Type 0 where
     pub shows : Shows m c t
@@ -128,7 +143,7 @@ module _ {E B T L I : Type 0} (m : Meanings E B T L I) where
     pub now_book : w.book ≡ v.book
 
   pub processor_live : (c : Core E B T L I) (t : State (Slot E B) (View E B T L I)) (id : ℕ) (v : View E B T L I) → Shows m c t → get_elem? t.views id ≡ at.some v → v.role ≡ Processor → Live m c id v
-  processor_live c t id v shows is_at role = (shows.each id v is_at).live (λ spent. let clash : Processor ≡ Spent = sym role ∙ spent in absurd cc)
+  processor_live c t id v shows is_at role = (shows.each id v is_at).live (inl role)
 
   pub own_shows : (c : Core E B T L I) (t : State (Slot E B) (View E B T L I)) (id : ℕ) (v : View E B T L I) (e : Event) (r : ProcessorState) (a : Part E L I) (w : View E B T L I) (words : List ℕ) (homes : List (at.Option (Slot E B)))
       → OwnStep c t id v e r a w words homes → Shows m (own_core c v.place r a) (record { words = words; homes = homes; views = slice_set t.views id w })
@@ -176,6 +191,9 @@ module _ {E B T L I : Type 0} (m : Meanings E B T L I) where
             (λ k other told. inl told) k)
             o.shows.numbers;
         readiness = o.shows.readiness;
+        seats = every_seat_after c.count c.seat t.views id v w o.is_at
+            (λ k mine. ⊎_elim (λ own. inl (o.now_role, o.now_place ∙ own.1)) (λ operator. let clash : Processor ≡ Operator = sym o.role ∙ operator.0 in absurd cc) mine)
+            (λ operator. let clash : Processor ≡ Operator = sym o.role ∙ operator in absurd cc) o.shows.seats;
         each = each_after m c d p id w t.views o.shows.each l.seat b (record {
           live = λ _. record {
             count = o.now_count ∙ l.count;
@@ -189,5 +207,6 @@ module _ {E B T L I : Type 0} (m : Meanings E B T L I) where
           };
           processor = λ _. let e = o.now_place in omega arith;
           operator = λ operator. let clash : Processor ≡ Operator = sym o.now_role ∙ operator in absurd cc;
+          receipt = λ receipt. let clash : Processor ≡ Receipt = sym o.now_role ∙ receipt in absurd cc;
         });
       }

@@ -21,8 +21,9 @@ use Rattle.rm_table.specs.Meanings.{Meanings, values_from}
 use Rattle.rm_table.specs.Rule.{Core, core_of, Words, tracker_of, token_of, Current, Live, Keeps, Shows}
 use Rattle.rm_table.specs.Moves.{Hand, noted, published_as, published, HasNext, gives_first, rest_from, editions_from, AllDrained, IsOperator}
 use Rattle.rm_table.proofs.Base.{all_values, values-map, length-values, there, at_slice, words_like, words_number}
-use Rattle.rm_table.proofs.Keeping.{Beside, each_after}
+use Rattle.rm_table.proofs.Keeping.{Beside, each_after, every_seat_after}
 use Rattle.rm_table.proofs.Own.{sound_after, numbers_after}
+use Rattle.rm_table.proofs.Locks.{no_receipt}
 use Rattle.rm_table.proofs.Writer.{writer_live, writer_keeps, holds_behind}
 
 -- a false flag at each place
@@ -50,12 +51,12 @@ module _ {E B : Type 0} where
 
   pub gave_size : (es : List E) (from : ℕ) (homes : List (at.Option (Slot E B))) (hand : Hand E B) → length (homes_after homes (editions_from from es hand) (gives_first (length es))) ≡ length homes
   gave_size [] from homes hand = refl
-  gave_size (e ∷ es) from homes hand = gave_size es (from + 1) (slice_set homes from (at.some (Edition e))) hand ∙ length-set homes from (at.some (Edition e))
+  gave_size (e ∷ es) from homes hand = gave_size es (from + 1) (slice_set homes from (at.some (Edition (Some e)))) hand ∙ length-set homes from (at.some (Edition (Some e)))
 
   -- what a slot has after the editions were given
   pub gave_at : (P : E → Type 0) (es : List E) (from : ℕ) (homes : List (at.Option (Slot E B))) (hand : Hand E B) → ((j : ℕ) (e : E) → slice_get es j ≡ Some e → P e)
       → (k : ℕ) (h : at.Option (Slot E B)) → get_elem? (homes_after homes (editions_from from es hand) (gives_first (length es))) k ≡ at.some h
-      → ((from ≤ k) × (k < from + length es) × ((e : E) × (h ≡ at.some (Edition e)) × P e)) ⊎ (((k < from) ⊎ (from + length es ≤ k)) × (get_elem? homes k ≡ at.some h))
+      → ((from ≤ k) × (k < from + length es) × ((e : E) × (h ≡ at.some (Edition (Some e))) × P e)) ⊎ (((k < from) ⊎ (from + length es ≤ k)) × (get_elem? homes k ≡ at.some h))
   gave_at P [] from homes hand all k h is = inr (apart_from k from, is)
   gave_at P (e ∷ es) from homes hand all k h is =
       ⊎_elim
@@ -63,8 +64,8 @@ module _ {E B : Type 0} where
       (λ old. ⊎_elim
       (λ here. let same = here.0 in inl (omega arith, omega arith, (e, sym here.1, all 0 e refl)))
       (λ other. let apart = other.0 in inr (⊎_elim (λ low. inl (below k from apart low)) (λ high. inr (omega arith)) old.0, other.1))
-      (at_set homes from k (at.some (Edition e)) h old.1))
-      (gave_at P es (from + 1) (slice_set homes from (at.some (Edition e))) hand (λ j x got. all (suc j) x got) k h is)
+      (at_set homes from k (at.some (Edition (Some e))) h old.1))
+      (gave_at P es (from + 1) (slice_set homes from (at.some (Edition (Some e)))) hand (λ j x got. all (suc j) x got) k h is)
     where
       below : (k from : ℕ) → k ≢ from → k < from + 1 → k < from
       below k from other low = grind (arith, other)
@@ -89,7 +90,7 @@ module _ {E B T L I : Type 0} (m : Meanings E B T L I) where
       by_first : (es : List E) → h.editions ≡ es → published m v hand ≡ published_as m v h.name h.tag
       by_first [] is = let c = h.count in let n : length h.editions ≡ 0 = ap length is in absurd (omega arith)
       by_first (e ∷ es) is =
-          let front : hand ≡ (1, Edition e) ∷ editions_from (1 + 1) es h.others = h.hand_is ∙ ap (λ (xs : List E). editions_from 1 xs h.others) is in
+          let front : hand ≡ (1, Edition (Some e)) ∷ editions_from (1 + 1) es h.others = h.hand_is ∙ ap (λ (xs : List E). editions_from 1 xs h.others) is in
           let same = h.same 0 e (ap (λ (xs : List E). slice_get xs 0) is) in
           ap (published m v) front ∙ ap (λ (l : L). published_as m v l (m.tag e)) same.1 ∙ ap (λ (g : T). published_as m v h.name g) same.2
 
@@ -146,6 +147,8 @@ module _ {E B T L I : Type 0} (m : Meanings E B T L I) where
         let holder : c.holder ≡ c.count + 1 = (book_holder book has).0 ∙ o.place in
         let beside : Beside c d v.place = record {
           count = refl;
+          opened = refl;
+          history = ((h.name, h.tag) ∷ [], refl);
           seat = λ k. refl;
           phase = λ k other. refl;
           part = λ k other. refl;
@@ -165,11 +168,11 @@ module _ {E B T L I : Type 0} (m : Meanings E B T L I) where
           slots = record {
             size = gave_size h.editions 1 t.homes h.others ∙ shows.slots.size;
             home = λ k y low high got. ⊎_elim
-                (λ new. (new.2.0, at.some-injective y (Edition new.2.0) new.2.1, new.2.2))
+                (λ new. (new.2.0, at.some-injective y (Edition (Some new.2.0)) new.2.1, new.2.2))
                 (λ old. let e = h.count in absurd (⊎_elim (λ below. omega arith) (λ above. omega arith) old.0))
                 (gave_at P h.editions 1 t.homes h.others all k (at.some y) got);
             away = λ k low high got. ⊎_elim
-                (λ new. absurd (at.some-ne-none (Edition new.2.0) (sym new.2.1)))
+                (λ new. absurd (at.some-ne-none (Edition (Some new.2.0)) (sym new.2.1)))
                 (λ old. let e = h.count in absurd (⊎_elim (λ below. omega arith) (λ above. omega arith) old.0))
                 (gave_at P h.editions 1 t.homes h.others all k at.none got);
             book_home = λ y got. ⊎_elim (λ new. let low = new.0 in absurd (omega arith)) (λ old. shows.slots.book_home y old.1) (gave_at P h.editions 1 t.homes h.others all 0 (at.some y) got);
@@ -199,6 +202,7 @@ module _ {E B T L I : Type 0} (m : Meanings E B T L I) where
               absurd (omega (arith, length-values c.state 1 c.count)))
               (λ k y told. inl told) shows.numbers;
           readiness = λ never. absurd cc;
+          seats = every_seat_after c.count c.seat t.views id v w is_at (λ k mine. mine) (λ role. role) shows.seats;
           each = each_after m c d v.place id w t.views shows.each l.seat beside (record {
             live = λ _. record {
               count = l.count;
@@ -226,5 +230,6 @@ module _ {E B T L I : Type 0} (m : Meanings E B T L I) where
               drained = λ k low high. flag_of-replicate (v.count + 1) k;
               kept = λ k part got. absurd (writer.split.1 k part (at_slice v.kept k (Some part) got));
             };
+            receipt = λ receipt. absurd (no_receipt m c t id v shows is_at (inr writer) receipt);
           });
         }

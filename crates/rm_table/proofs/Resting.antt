@@ -1,36 +1,28 @@
 -- The operator's seat through opening and closing.
-use Rattle.std.proofs.Common.{◌≡◌, ◌≢◌, ◌⊎◌, inl, inr, ℕ, zero, suc, ◌+◌, ◌<◌, ◌≤◌, true, false, Some, None, List, [], ◌∷◌, length, length-set, refl, sym, ◌∙◌, ap, subst, arith}
-use Rattle.std.specs.Prelude.{slice_get, slice_set, slice_index_or, replicate}
+use Rattle.std.proofs.Common.{◌≡◌, ◌⊎◌, inl, inr, ℕ, zero, suc, ◌+◌, ◌<◌, ◌≤◌, true, false, Option, Some, None, List, [], ◌∷◌, length, length-set, refl, sym, ◌∙◌, ap, subst, arith}
+use Rattle.std.specs.Prelude.{slice_get, slice_set, replicate}
 use Rattle.std.proofs.lemmas.List.{length-replicate}
 use Rattle.std.proofs.lemmas.Bool.Decides.{eqb_tells}
 use Rattle.atomic_table.specs.Table.{Me}
 use Rattle.rm_table.specs.declared.role.Role.TheVariants.{Operator}
 use Rattle.rm_table.specs.declared.slot.Slot.{Slot}
+use Rattle.rm_table.specs.declared.part.Part.{Part}
 use Rattle.rm_table.specs.declared.view.View.{View}
-use Rattle.rm_table.specs.Meanings.{Meanings}
-use Rattle.rm_table.specs.Moves.{Hand, IsKept, split_off, joined, AllSplit, AllJoined}
+use Rattle.rm_table.specs.Meanings.{Meanings, put}
+use Rattle.rm_table.specs.Moves.{Hand, IsKept, kept_at, split_off, right_of, processor_view, joined, AllSplit, AllJoined, NoneRevoked, NoneDrained}
 use Rattle.rm_table.specs.Ends.{first_part, first_view, Opens}
-use Rattle.rm_table.specs.Rests.{IsAtRest, IsOpening, IsClosing, IsRejoined}
-use Rattle.rm_table.proofs.Base.{length-values, values_at}
+use Rattle.rm_table.specs.Rests.{IsIdle, IsAtRest, IsOpening, IsClosing, IsRejoined, OpensFrom, IsRejoinedFrom}
+use Rattle.rm_table.proofs.Base.{at_put, get_set_here, get_set_else, length-values, values_at}
 use Rattle.rm_table.proofs.Publishing.{flag_of-replicate}
 
-get_set_here : {A : Type 0} (xs : List A) (p : ℕ) (a : A) → p < length xs → slice_get (slice_set xs p a) p ≡ Some a
-get_set_here [] p a h = absurd (omega arith)
-get_set_here (x ∷ xs) zero a h = refl
-get_set_here (x ∷ xs) (suc p) a h = get_set_here xs p a (omega arith)
-
-get_set_else : {A : Type 0} (xs : List A) (p k : ℕ) (a : A) → k ≢ p → slice_get (slice_set xs p a) k ≡ slice_get xs k
-get_set_else [] p k a other = refl
-get_set_else (x ∷ xs) zero zero a other = absurd (other refl)
-get_set_else (x ∷ xs) zero (suc k) a other = refl
-get_set_else (x ∷ xs) (suc p) zero a other = refl
-get_set_else (x ∷ xs) (suc p) (suc k) a other = get_set_else xs p k a (λ e. other (ap suc e))
-
 module _ {E B T L I : Type 0} where
-  pub opening_splits : (next : ℕ) (v : View E B T L I) (hand : Hand E B) → 0 < next → next ≤ v.count → IsOpening next v hand → IsOpening (next + 1) (split_off v next) hand
-  opening_splits next v hand low high o = record {
+  -- a split leaves the parts of the others
+  pub opening_splits : (next : ℕ) (parts : ℕ → Part E L I) (v : View E B T L I) (hand : Hand E B) → 0 < next → next ≤ v.count → IsOpening next parts v hand → IsOpening (next + 1) parts (split_off v next) hand
+  opening_splits next parts v hand low high o = record {
     operator = o.operator;
     opening = o.opening;
+    some = o.some;
+    unpublished = o.unpublished;
     gone = λ k part below is. elim (eqb_tells k next) as (λ _. ⊥) [
       | inl same ↦
           let here = get_set_here v.kept next None (let s = o.kept_size in omega arith) in
@@ -38,7 +30,7 @@ module _ {E B T L I : Type 0} where
           let clash = sym here ∙ e in absurd cc
       | inr other ↦ o.gone k part (let d = other.1 in omega arith) (sym (get_set_else v.kept next k None other.1) ∙ is)
     ];
-    kept = λ k above within. let got = o.kept k (omega arith) within in (got.0, get_set_else v.kept next k None (λ e. absurd (omega arith)) ∙ got.1);
+    kept = λ k above within. get_set_else v.kept next k None (λ e. absurd (omega arith)) ∙ o.kept k (omega arith) within;
     kept_size = length-set v.kept next None ∙ o.kept_size;
     unheld = o.unheld;
     bookless = o.bookless;
@@ -50,9 +42,12 @@ module _ {E B T L I : Type 0} where
     empty_hand = o.empty_hand;
   }
 
-  pub opening_ends : (next : ℕ) (v : View E B T L I) (hand : Hand E B) → v.count < next → IsOpening next v hand → IsAtRest v hand
-  opening_ends next v hand past o = record {
-    operator = record { role = o.operator; split = (o.opening, λ k part is. elim (below k) as (λ _. ⊥) [ inl low ↦ o.gone k part low is | inr high ↦ let out = beyond v.kept k (let s = o.kept_size in omega arith) in let clash = sym out ∙ is in absurd cc ]) };
+  -- once every seat is split off, the operator is at rest
+  pub opening_ends : (next : ℕ) (v : View E B T L I) (hand : Hand E B) → v.count < next → OpensFrom next v hand → IsAtRest v hand
+  opening_ends next v hand past opens = let o = opens.1 in record {
+    some = o.some;
+    unpublished = o.unpublished;
+    operator = record { role = o.operator; split = (o.opening, λ k part is. elim (below k) as (λ _. ⊥) [ inl low ↦ (opens.1).gone k part low is | inr high ↦ let out = beyond v.kept k (let s = (opens.1).kept_size in omega arith) in let clash = sym out ∙ is in absurd cc ]) };
     kept_size = o.kept_size;
     unheld = o.unheld;
     bookless = o.bookless;
@@ -77,49 +72,77 @@ module _ {E B T L I : Type 0} where
       beyond (x ∷ xs) zero h = absurd (omega arith)
       beyond (x ∷ xs) (suc k) h = beyond xs k (omega arith)
 
-  -- the first join, and each later one
-  pub closing_joins : (next : ℕ) (v w : View E B T L I) → v.role ≡ Operator → w.place ≡ next → next ≤ v.count → length v.kept ≡ v.count + 1 → ((k : ℕ) → next < k → k ≤ v.count → IsKept v k) → v.book ≡ None → ((k : ℕ) → 0 < k → k ≤ v.count → slice_index_or v.drained k false ≡ false) → IsClosing next (joined v w)
-  closing_joins next v w operator place within size kept bookless undrained = record {
+  -- the first join, and each later one: the part of the seat joined is kept beside those that were
+  pub closing_joins : (next : ℕ) (parts : ℕ → Part E L I) (v w : View E B T L I) → v.role ≡ Operator → w.place ≡ next → next ≤ v.count → length v.kept ≡ v.count + 1 → ((k : ℕ) → next < k → k ≤ v.count → kept_at v k ≡ Some (Some (parts k))) → v.book ≡ None → NoneRevoked v → NoneDrained v
+      → IsClosing next (put parts next w.part) (joined v w)
+  closing_joins next parts v w operator place within size kept bookless unrevoked undrained = record {
     operator = operator;
     closing = refl;
-    kept = λ k above inside. elim (eqb_tells k next) as (λ _. IsKept (joined v w) k) [
-      | inl same ↦ (w.part, ap (λ (p : ℕ). slice_get (slice_set v.kept p (Some w.part)) k) (place ∙ sym same.1) ∙ get_set_here v.kept k (Some w.part) (let e = same.1 in omega arith))
-      | inr other ↦ let got = kept k (let d = other.1 in omega arith) inside in (got.0, get_set_else v.kept w.place k (Some w.part) (λ e. other.1 (e ∙ place)) ∙ got.1)
-    ];
+    kept = at_put (λ k part. next ≤ k → k ≤ v.count → kept_at (joined v w) k ≡ Some (Some part)) parts next w.part
+        (λ above inside. ap (λ (p : ℕ). slice_get (slice_set v.kept p (Some w.part)) next) place ∙ get_set_here v.kept next (Some w.part) (omega arith))
+        (λ k other above inside. get_set_else v.kept w.place k (Some w.part) (λ e. other (e ∙ place)) ∙ kept k (grind (arith, other)) inside);
     kept_size = length-set v.kept w.place (Some w.part) ∙ size;
     bookless = bookless;
+    unrevoked = unrevoked;
     undrained = undrained;
   }
 
   -- the same of a seat's state before and after the call
-  pub after_split : (place : ℕ) (old new : Me (Slot E B) (View E B T L I)) → new ≡ (split_off old.0 place, old.1) → 0 < place → place ≤ old.0.count → IsOpening place old.0 old.1 → IsOpening (place + 1) new.0 new.1
-  after_split place old new is low high o = subst (λ (s : Me (Slot E B) (View E B T L I)). IsOpening (place + 1) s.0 s.1) (sym is) (opening_splits place old.0 old.1 low high o)
+  pub opening_after : (place : ℕ) (parts : ℕ → Part E L I) (old new : Me (Slot E B) (View E B T L I)) → new ≡ (split_off old.0 place, old.1) → 0 < place → place ≤ old.0.count → IsOpening place parts old.0 old.1 → IsOpening (place + 1) parts new.0 new.1
+  opening_after place parts old new is low high o = subst (λ (s : Me (Slot E B) (View E B T L I)). IsOpening (place + 1) parts s.0 s.1) (sym is) (opening_splits place parts old.0 old.1 low high o)
 
-  pub after_all_splits : (next : ℕ) (v : View E B T L I) (hand : Hand E B) → v.count < next → IsOpening next v hand → IsRejoined next v hand
-  after_all_splits next v hand past o = inl (past, opening_ends next v hand past o)
+  pub after_split : (place : ℕ) (old new : Me (Slot E B) (View E B T L I)) → new ≡ (split_off old.0 place, old.1) → 0 < place → place ≤ old.0.count → OpensFrom place old.0 old.1 → OpensFrom (place + 1) new.0 new.1
+  after_split place old new is low high o = (o.0, opening_after place o.0 old new is low high o.1)
 
-  pub may_join : (next : ℕ) (v : View E B T L I) (hand : Hand E B) → IsRejoined next v hand → (v.closing ≡ true) ⊎ AllSplit v
-  may_join next v hand (inl rest) = inr rest.1.operator.split
-  may_join next v hand (inr closing) = inl closing.closing
+  -- the seat of the next place may be split off
+  pub may_split : (place : ℕ) (v : View E B T L I) (hand : Hand E B) → place ≤ v.count → OpensFrom place v hand → IsKept v place
+  may_split place v hand within o = (o.0 place, (o.1).kept place (omega arith) within)
 
-  joined_after : (place : ℕ) (v w : View E B T L I) (hand : Hand E B) → w.place ≡ place → place ≤ v.count → IsRejoined (place + 1) v hand → IsClosing place (joined v w)
-  joined_after place v w hand is within (inl rest) = closing_joins place v w rest.1.operator.role is within rest.1.kept_size (λ k above inside. absurd (let past = rest.0 in omega arith)) rest.1.bookless rest.1.undrained
-  joined_after place v w hand is within (inr c) = closing_joins place v w c.operator is within c.kept_size (λ k above inside. c.kept k (omega arith) inside) c.bookless c.undrained
+  -- the seat that was split off is idle
+  pub split_is_idle : (place : ℕ) (old : Me (Slot E B) (View E B T L I)) (seat : Me (Slot E B) (View E B T L I)) → seat ≡ (right_of old.0 place (kept_at old.0 place), []) → place ≤ old.0.count → OpensFrom place old.0 old.1 → IsIdle seat.0 seat.1 × (seat.0.place ≡ place)
+  split_is_idle place old seat is within o =
+      let kept = (o.1).kept place (omega arith) within in
+      let view : seat ≡ (processor_view old.0 place (o.0 place), []) = is ∙ ap (λ (k : Option (Option (Part E L I))). (right_of old.0 place k, [])) kept in
+      subst (λ (s : Me (Slot E B) (View E B T L I)). IsIdle s.0 s.1 × (s.0.place ≡ place)) (sym view) (record { processor = refl; out = refl; unheld = refl; bookless = refl; empty_hand = refl }, refl)
 
-  pub after_join : (place : ℕ) (old new : Me (Slot E B) (View E B T L I)) (w : View E B T L I) → new ≡ (joined old.0 w, old.1) → w.place ≡ place → place ≤ old.0.count → IsRejoined (place + 1) old.0 old.1 → IsRejoined place new.0 new.1
-  after_join place old new w is at within r = subst (λ (s : Me (Slot E B) (View E B T L I)). IsRejoined place s.0 s.1) (sym is) (inr (joined_after place old.0 w old.1 at within r))
+  pub after_all_splits : (next : ℕ) (v : View E B T L I) (hand : Hand E B) → v.count < next → OpensFrom next v hand → IsRejoinedFrom next v hand
+  after_all_splits next v hand past o = (o.0, inl (past, opening_ends next v hand past o))
 
-  pub rejoined_closing : (v : View E B T L I) (hand : Hand E B) → 0 < v.count → IsRejoined 1 v hand → IsClosing 1 v
-  rejoined_closing v hand some (inl rest) = absurd (let past = rest.0 in omega arith)
-  rejoined_closing v hand some (inr c) = c
+  pub may_join : (next : ℕ) (v : View E B T L I) (hand : Hand E B) → IsRejoinedFrom next v hand → (v.role ≡ Operator) × ((v.closing ≡ true) ⊎ AllSplit v)
+  may_join next v hand r = by_end r.1
+    where
+      by_end : IsRejoined next r.0 v hand → (v.role ≡ Operator) × ((v.closing ≡ true) ⊎ AllSplit v)
+      by_end (inl rest) = (rest.1.operator.role, inr rest.1.operator.split)
+      by_end (inr closing) = (closing.operator, inl closing.closing)
 
-  pub all_joined : (v : View E B T L I) → IsClosing 1 v → AllJoined v
-  all_joined v c = (c.closing, λ k low high. c.kept k low high)
+  joined_after : (place : ℕ) (parts : ℕ → Part E L I) (v w : View E B T L I) (hand : Hand E B) → w.place ≡ place → place ≤ v.count → IsRejoined (place + 1) parts v hand → IsClosing place (put parts place w.part) (joined v w)
+  joined_after place parts v w hand is within (inl rest) = closing_joins place parts v w rest.1.operator.role is within rest.1.kept_size (λ k above inside. absurd (let past = rest.0 in omega arith)) rest.1.bookless rest.1.unrevoked rest.1.undrained
+  joined_after place parts v w hand is within (inr c) = closing_joins place parts v w c.operator is within c.kept_size (λ k above inside. c.kept k (omega arith) inside) c.bookless c.unrevoked c.undrained
 
-  pub opens_first : (m : Meanings E B T L I) (n : ℕ) (edition : E) (book : B) → IsOpening 1 (first_view m n edition book) []
-  opens_first m n edition book = record {
+  -- a join adds the part of the seat joined
+  pub rejoined_after : (place : ℕ) (parts : ℕ → Part E L I) (old new : Me (Slot E B) (View E B T L I)) (w : View E B T L I) → new ≡ (joined old.0 w, old.1) → w.place ≡ place → place ≤ old.0.count → IsRejoined (place + 1) parts old.0 old.1 → IsRejoined place (put parts place w.part) new.0 new.1
+  rejoined_after place parts old new w is at within r = subst (λ (s : Me (Slot E B) (View E B T L I)). IsRejoined place (put parts place w.part) s.0 s.1) (sym is) (inr (joined_after place parts old.0 w old.1 at within r))
+
+  pub after_join : (place : ℕ) (old new : Me (Slot E B) (View E B T L I)) (w : View E B T L I) → new ≡ (joined old.0 w, old.1) → w.place ≡ place → place ≤ old.0.count → IsRejoinedFrom (place + 1) old.0 old.1 → IsRejoinedFrom place new.0 new.1
+  after_join place old new w is at within r = (put r.0 place w.part, rejoined_after place r.0 old new w is at within r.1)
+
+  pub rejoined_closing : (v : View E B T L I) (hand : Hand E B) → 0 < v.count → IsRejoinedFrom 1 v hand → (parts : ℕ → Part E L I) × IsClosing 1 parts v
+  rejoined_closing v hand some r = by_end r.1
+    where
+      by_end : IsRejoined 1 r.0 v hand → (parts : ℕ → Part E L I) × IsClosing 1 parts v
+      by_end (inl rest) = absurd (let past = rest.0 in omega arith)
+      by_end (inr c) = (r.0, c)
+
+  pub all_joined : (v : View E B T L I) (parts : ℕ → Part E L I) → IsClosing 1 parts v → AllJoined v
+  all_joined v parts c = (c.closing, λ k low high. (parts k, c.kept k low high))
+
+  -- the opening seat keeps each processor's first part
+  pub opens_first : (m : Meanings E B T L I) (n : ℕ) (edition : E) (book : B) → 0 < n → IsOpening 1 (first_part m book) (first_view m n edition book) []
+  opens_first m n edition book some = record {
     operator = refl;
     opening = refl;
+    some = some;
+    unpublished = refl;
     gone = λ k part below is. let zero_k : k ≡ 0 = omega arith in let e = ap (slice_get (first_view m n edition book).kept) (sym zero_k) ∙ is in absurd cc;
     kept = kept_at_first;
     kept_size = let e = length-values (λ place. Some (first_part m book place)) 1 n in omega arith;
@@ -133,12 +156,14 @@ module _ {E B T L I : Type 0} where
     empty_hand = refl;
   }
     where
-      kept_at_first : (k : ℕ) → 1 ≤ k → k ≤ n → IsKept (first_view m n edition book) k
+      kept_at_first : (k : ℕ) → 1 ≤ k → k ≤ n → kept_at (first_view m n edition book) k ≡ Some (Some (first_part m book k))
       kept_at_first zero low high = absurd (omega arith)
-      kept_at_first (suc k) low high = (first_part m book (1 + k), values_at (λ place. Some (first_part m book place)) 1 n k (omega arith))
+      kept_at_first (suc k) low high =
+          let e : 1 + k ≡ suc k = omega arith in
+          values_at (λ place. Some (first_part m book place)) 1 n k (omega arith) ∙ ap (λ (p : ℕ). Some (Some (first_part m book p))) e
 
-pub opens_me : {E B T L I : Type 0} (m : Meanings E B T L I) (n : ℕ) (edition : E) (book : B) (me : Me (Slot E B) (View E B T L I)) → me ≡ (first_view m n edition book, []) → IsOpening 1 me.0 me.1
-opens_me {E} {B} {T} {L} {I} m n edition book me is = subst (λ (s : Me (Slot E B) (View E B T L I)). IsOpening 1 s.0 s.1) (sym is) (opens_first m n edition book)
+pub opens_me : {E B T L I : Type 0} (m : Meanings E B T L I) (n : ℕ) (edition : E) (book : B) (me : Me (Slot E B) (View E B T L I)) → 0 < n → me ≡ (first_view m n edition book, []) → OpensFrom 1 me.0 me.1
+opens_me {E} {B} {T} {L} {I} m n edition book me some is = (first_part m book, subst (λ (s : Me (Slot E B) (View E B T L I)). IsOpening 1 (first_part m book) s.0 s.1) (sym is) (opens_first m n edition book some))
 
 pub same_of-replicate : {A : Type 0} (a b : A) (n j : ℕ) → slice_get (replicate n a) j ≡ Some b → b ≡ a
 same_of-replicate a b zero j is = absurd cc

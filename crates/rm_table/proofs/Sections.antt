@@ -1,6 +1,6 @@
 -- The steps of a processor that begin and end a section, and by which it takes its token again.
-use Rattle.std.proofs.Common.{◌≡◌, ◌≢◌, ℕ, ◌+◌, ◌-◌, ◌<◌, ◌≤◌, ◌⊎◌, inl, inr, Bool, true, false, Option, Some, None, List, ◌∷◌, refl, sym, ◌∙◌, ap, arith, subst, ⊎_elim, eq-eqb, ne_eqb}
-use Rattle.std.specs.Prelude.{slice_set, slice_index, if◌then◌else◌, ◌==◌}
+use Rattle.std.proofs.Common.{◌≡◌, ◌≢◌, ℕ, zero, suc, ◌+◌, ◌-◌, ◌<◌, ◌≤◌, ◌⊎◌, inl, inr, Bool, true, false, Option, Some, None, List, ◌∷◌, refl, sym, ◌∙◌, ap, arith, subst, ⊎_elim, eq-eqb, ne_eqb}
+use Rattle.std.specs.Prelude.{slice_set, slice_index, max, if◌then◌else◌, ◌==◌}
 use Rattle.std.proofs.lemmas.Bool.Decides.{eqb_tells}
 use mathlib.Core.Option as at
 use lib.ListN.{get_elem?}
@@ -24,10 +24,27 @@ use Rattle.rm_table.specs.declared.view.View.{View}
 use Rattle.rm_table.specs.Layout.{tracker_index, token_index, tracker_word, token_word, holder_word, is_held_by}
 use Rattle.rm_table.specs.Meanings.{Meanings, put}
 use Rattle.rm_table.specs.Rule.{Core, core_of, Words, tracker_of, token_of, IsPending, InHistory, Current, Slots, Live, Shows}
-use Rattle.rm_table.specs.Moves.{Hand, noted, begun, raised, refused_part, refused, left_part, lowered, regained_part, regained, entered_part, entered}
+use Rattle.rm_table.specs.Moves.{Hand, noted, begun, raised, greater_refusal, refused_part, refused, left_part, lowered, regained_part, regained, entered_part, entered}
 use Rattle.rm_table.proofs.Base.{put_here, put_else, at_put, put_keeps, is_there, there, core-put, words_unchanged, words_like, words_tracker, words_token}
 use Rattle.rm_table.proofs.Own.{own_core, own_shows, processor_live}
 use Rattle.rm_table.proofs.Slots.{IsAway, slots_stay, slots_take, slots_give}
+
+-- the greater refusal is the one that stood, or the new one
+pub greater_is : (standing : Option ℕ) (number x : ℕ) → Some (greater_refusal standing number) ≡ Some x → (standing ≡ Some x) ⊎ (number ≡ x)
+greater_is None number x is = let same : number ≡ x = cc in inr same
+greater_is (Some t) number x is =
+    let same : max t number ≡ x = cc in
+    ⊎_elim (λ old. inl (ap (λ (n : ℕ). Some n) (sym old ∙ same))) (λ new. inr (sym new ∙ same)) (greater_of t number)
+  where
+    greater_of : (a b : ℕ) → (max a b ≡ a) ⊎ (max a b ≡ b)
+    greater_of zero b = inr (omega arith)
+    greater_of (suc a) zero = inl (omega arith)
+    greater_of (suc a) (suc b) = elim (greater_of a b) as (λ _. (max (suc a) (suc b) ≡ suc a) ⊎ (max (suc a) (suc b) ≡ suc b)) [ inl e ↦ inl (omega (arith, e)) | inr e ↦ inr (omega (arith, e)) ]
+
+-- a new refusal is at most the greater one, and so is the one that stood
+pub greater_least : (standing : Option ℕ) (number : ℕ) → (number ≤ greater_refusal standing number) × ((t : ℕ) → standing ≡ Some t → t ≤ greater_refusal standing number)
+greater_least None number = (omega arith, λ t is. absurd cc)
+greater_least (Some s) number = (omega arith, λ t is. let same : s ≡ t = cc in omega (arith, same))
 
 module _ {E B T L I : Type 0} (m : Meanings E B T L I) where
   -- whoever isn't revoked isn't drained, so whoever holds its token isn't
@@ -150,8 +167,8 @@ module _ {E B T L I : Type 0} (m : Meanings E B T L I) where
         let same : in_state ≡ after_check (c.state v.place) = ap (λ (k : Token). with_token_read k (c.state v.place)) (sym held) in
         ap (λ (r : ProcessorState). core_of (own_core c v.place r a)) same ∙ core-put c v.place after_check live_of.low high_of
 
-    pub check_held_shows : (i : ℕ) (hand : Hand E B) (e : E) → v.phase ≡ Raised → (c.state v.place).token ≡ Held → get_elem? t.homes v.place ≡ at.some (at.some (Edition e)) → Current m c.number c.name c.tag e
-        → Shows m (own_core c v.place in_state (entered_part m v.part e)) (stepped t i (slice_index t.words i) id hand (noted (entered m v e) i (slice_index t.words i)) (takes v.place (Edition e)))
+    pub check_held_shows : (i : ℕ) (hand : Hand E B) (e : E) → v.phase ≡ Raised → (c.state v.place).token ≡ Held → get_elem? t.homes v.place ≡ at.some (at.some (Edition (Some e))) → Current m c.number c.name c.tag e
+        → Shows m (own_core c v.place in_state (entered_part m v.part e)) (stepped t i (slice_index t.words i) id hand (noted (entered m v e) i (slice_index t.words i)) (takes v.place (Edition (Some e))))
     check_held_shows i hand e raised held home current =
         let was : (c.state v.place).phase ≡ Raised = sym live_of.phase ∙ raised in
         let a : Part E L I = entered_part m v.part e in
@@ -222,8 +239,10 @@ module _ {E B T L I : Type 0} (m : Meanings E B T L I) where
           first = refl;
           helds = same_held a refl;
           read = same_read;
-          refusal = λ x told. let same : number ≡ x = cc in inr (subst (λ (n : ℕ). IsPending (core_of (own_core c v.place (c.state v.place) a)) v.place n) same
-              (subst (λ (s : CoreState). IsPending s v.place number) (sym (check_refused_event a number revoked)) (Pending-after (core_of c) (Check v.place) v.place number may pending)));
+          refusal = λ x told. ⊎_elim (λ old. inl old)
+              (λ same. inr (subst (λ (n : ℕ). IsPending (core_of (own_core c v.place (c.state v.place) a)) v.place n) same
+              (subst (λ (s : CoreState). IsPending s v.place number) (sym (check_refused_event a number revoked)) (Pending-after (core_of c) (Check v.place) v.place number may pending))))
+              (greater_is v.part.refusal number x told);
           now_role = role;
           now_count = refl;
           now_place = refl;
@@ -288,9 +307,9 @@ module _ {E B T L I : Type 0} (m : Meanings E B T L I) where
         (slots_stay m (put c.state v.place out_state) (same_away out_state (λ inside. let clash : Raised ≡ In = sym was ∙ inside in absurd cc) refl) shows.slots)
 
     pub lower_in_shows : (x : ℕ) (hand : Hand E B) (e : E) → v.phase ≡ In → v.book ≡ None → x ≡ tracker_word v.part.sections Out → Current m c.number c.name c.tag e
-        → Shows m (own_core c v.place out_state (left_part v.part)) (stepped t (tracker_index v.place) x id ((v.place, Edition e) ∷ hand) (noted (lowered v) (tracker_index v.place) x) gives)
+        → Shows m (own_core c v.place out_state (left_part v.part)) (stepped t (tracker_index v.place) x id ((v.place, Edition (Some e)) ∷ hand) (noted (lowered v) (tracker_index v.place) x) gives)
     lower_in_shows x hand e inside none is current =
-        lower_shows x (slice_set t.homes v.place (at.some (Edition e))) (inr inside) none is
+        lower_shows x (slice_set t.homes v.place (at.some (Edition (Some e)))) (inr inside) none is
         (slots_give m (put c.state v.place out_state) v.place e live_of.low current (others_away out_state) shows.slots)
 
     -- regain

@@ -1,5 +1,5 @@
 -- The slots at home, where one is taken or given.
-use Rattle.std.proofs.Common.{◌≡◌, ◌≢◌, ℕ, ◌<◌, ◌≤◌, ◌⊎◌, true, List, length-set, sym, ◌∙◌, ap, arith, subst, ⊎_elim}
+use Rattle.std.proofs.Common.{◌≡◌, ◌≢◌, ℕ, ◌<◌, ◌≤◌, ◌⊎◌, true, Some, List, length-set, sym, ◌∙◌, ap, arith, subst, ⊎_elim}
 use Rattle.std.specs.Prelude.{slice_set}
 use mathlib.Core.Option as at
 use lib.ListN.{get_elem?}
@@ -38,33 +38,33 @@ module _ {E B T L I : Type 0} (m : Meanings E B T L I) {number n : ℕ} {state :
   }
 
   -- a published edition is given to slot p
-  pub slots_give : (state' : ℕ → ProcessorState) (p : ℕ) (e : E) → 0 < p → Current m number name tag e → ((k : ℕ) → k ≢ p → IsAway (state k) → IsAway (state' k)) → Slots m number n state name tag holder book homes → Slots m number n state' name tag holder book (slice_set homes p (at.some (Edition e)))
+  pub slots_give : (state' : ℕ → ProcessorState) (p : ℕ) (e : E) → 0 < p → Current m number name tag e → ((k : ℕ) → k ≢ p → IsAway (state k) → IsAway (state' k)) → Slots m number n state name tag holder book homes → Slots m number n state' name tag holder book (slice_set homes p (at.some (Edition (Some e))))
   slots_give state' p e above current others s = record {
-    size = length-set homes p (at.some (Edition e)) ∙ s.size;
-    home = λ k y low high is. ⊎_elim (λ same. (e, at.some-injective y (Edition e) (sym same.1), current)) (λ other. s.home k y low high other.1) (at_set homes p k (at.some (Edition e)) (at.some y) is);
-    away = λ k low high is. ⊎_elim (λ same. absurd (at.some-ne-none (Edition e) same.1)) (λ other. others k other.0 (s.away k low high other.1)) (at_set homes p k (at.some (Edition e)) at.none is);
-    book_home = λ y is. ⊎_elim (λ same. let clash = same.0 in absurd (omega arith)) (λ other. s.book_home y other.1) (at_set homes p 0 (at.some (Edition e)) (at.some y) is);
-    book_away = λ is. ⊎_elim (λ same. absurd (at.some-ne-none (Edition e) same.1)) (λ other. s.book_away other.1) (at_set homes p 0 (at.some (Edition e)) at.none is);
+    size = length-set homes p (at.some (Edition (Some e))) ∙ s.size;
+    home = λ k y low high is. ⊎_elim (λ same. (e, at.some-injective y (Edition (Some e)) (sym same.1), current)) (λ other. s.home k y low high other.1) (at_set homes p k (at.some (Edition (Some e))) (at.some y) is);
+    away = λ k low high is. ⊎_elim (λ same. absurd (at.some-ne-none (Edition (Some e)) same.1)) (λ other. others k other.0 (s.away k low high other.1)) (at_set homes p k (at.some (Edition (Some e))) at.none is);
+    book_home = λ y is. ⊎_elim (λ same. let clash = same.0 in absurd (omega arith)) (λ other. s.book_home y other.1) (at_set homes p 0 (at.some (Edition (Some e))) (at.some y) is);
+    book_away = λ is. ⊎_elim (λ same. absurd (at.some-ne-none (Edition (Some e)) same.1)) (λ other. s.book_away other.1) (at_set homes p 0 (at.some (Edition (Some e))) at.none is);
   }
 
   -- who can't be away has its edition at home
-  pub at_home : (p : ℕ) → 0 < p → p ≤ n → (IsAway (state p) → ⊥) → Slots m number n state name tag holder book homes → (e : E) × (get_elem? homes p ≡ at.some (at.some (Edition e))) × Current m number name tag e
+  pub at_home : (p : ℕ) → 0 < p → p ≤ n → (IsAway (state p) → ⊥) → Slots m number n state name tag holder book homes → (e : E) × (get_elem? homes p ≡ at.some (at.some (Edition (Some e)))) × Current m number name tag e
   at_home p above within here s =
       let h : (x : at.Option (Slot E B)) × (get_elem? homes p ≡ at.some x) = get_there homes p (let e = s.size in omega arith) in
       by_home h.0 h.1
     where
-      by_home : (x : at.Option (Slot E B)) → get_elem? homes p ≡ at.some x → (e : E) × (get_elem? homes p ≡ at.some (at.some (Edition e))) × Current m number name tag e
+      by_home : (x : at.Option (Slot E B)) → get_elem? homes p ≡ at.some x → (e : E) × (get_elem? homes p ≡ at.some (at.some (Edition (Some e)))) × Current m number name tag e
       by_home at.none is = absurd (here (s.away p above within is))
       by_home (at.some y) is =
           let got = s.home p y above within is in
           (got.0, is ∙ ap (λ (z : Slot E B). at.some (at.some z)) got.1, got.2)
 
   -- where nobody has the book it is at home
-  pub book_at_home : holder ≡ 0 → Slots m number n state name tag holder book homes → get_elem? homes 0 ≡ at.some (at.some (Book book))
+  pub book_at_home : holder ≡ 0 → Slots m number n state name tag holder book homes → get_elem? homes 0 ≡ at.some (at.some (Book (Some book)))
   book_at_home free s =
       let h : (x : at.Option (Slot E B)) × (get_elem? homes 0 ≡ at.some x) = get_there homes 0 (let e = s.size in omega arith) in
       by_home h.0 h.1
     where
-      by_home : (x : at.Option (Slot E B)) → get_elem? homes 0 ≡ at.some x → get_elem? homes 0 ≡ at.some (at.some (Book book))
+      by_home : (x : at.Option (Slot E B)) → get_elem? homes 0 ≡ at.some x → get_elem? homes 0 ≡ at.some (at.some (Book (Some book)))
       by_home at.none is = absurd (s.book_away is free)
       by_home (at.some y) is = is ∙ ap (λ (z : Slot E B). at.some (at.some z)) (s.book_home y is)

@@ -1,6 +1,6 @@
 -- The steps of the operator that revoke a token and find a processor out.
 use Rattle.std.proofs.Common.{◌≡◌, ◌≢◌, ℕ, ◌+◌, ◌-◌, ◌%◌, ◌^◌, ◌<◌, ◌≤◌, ◌⊎◌, inl, inr, Bool, true, false, Some, List, [], ◌∷◌, ◌++◌, length, length-set, refl, sym, ◌∙◌, ap, arith, subst, ⊎_elim}
-use Rattle.std.specs.Prelude.{slice_set, slice_index, slice_index_or, if◌then◌else◌}
+use Rattle.std.specs.Prelude.{slice_get, slice_set, slice_index, slice_index_or, if◌then◌else◌}
 use mathlib.Core.Option as at
 use lib.ListN.{get_elem?}
 use Rattle.atomic_table.specs.Table.{State, stepped, keeps, takes}
@@ -18,11 +18,11 @@ use Rattle.rm_table.specs.declared.view.View.{View}
 use Rattle.rm_table.specs.Layout.{token_index, tracker_word, token_word, holder_word}
 use Rattle.rm_table.specs.Meanings.{Meanings, put}
 use Rattle.rm_table.specs.Rule.{Core, core_of, Words, tracker_of, token_of, Current, Slots, Live, Keeps, Shows}
-use Rattle.rm_table.specs.Moves.{Hand, noted, revoked, drained, is_revoked, is_drained, IsOperator}
+use Rattle.rm_table.specs.Moves.{Hand, noted, revoked, drained, is_revoked, is_drained, IsLast, IsOperator}
 use Rattle.rm_table.proofs.Base.{put_here, put_else, at_put, put_keeps, at_slice, index_here, index_else, length-values, values_like, is_there, core-put, words_unchanged, words_like, words_token}
-use Rattle.rm_table.proofs.Keeping.{Beside, each_after}
+use Rattle.rm_table.proofs.Keeping.{Beside, begins_same, each_after, every_seat_after}
 use Rattle.rm_table.proofs.Own.{sound_after, numbers_after}
-use Rattle.rm_table.proofs.Locks.{working_live, operator_keeps, held_behind}
+use Rattle.rm_table.proofs.Locks.{no_receipt, working_live, operator_keeps, held_behind}
 use Rattle.rm_table.proofs.Slots.{IsAway, slots_stay, slots_take, at_home}
 
 -- what a revocation and a drain change
@@ -67,6 +67,8 @@ module _ {E B T L I : Type 0} (m : Meanings E B T L I) where
         let phases : (j : ℕ) → (put c.state k r j).phase ≡ (c.state j).phase = put_keeps (λ (x : ProcessorState). x.phase) c.state k r phase in
         let beside : Beside c d v.place = record {
           count = refl;
+          opened = refl;
+          history = begins_same c.history;
           seat = λ j. refl;
           phase = λ j other. phases j;
           part = λ j other. refl;
@@ -92,6 +94,7 @@ module _ {E B T L I : Type 0} (m : Meanings E B T L I) where
           lists = shows.lists;
           numbers = numbers_after c d e core_is may shows.sound (λ j. sym (ap (λ (z : Bool). if z then c.number else (c.part j).held) (unregained j))) shows.numbers.read (λ j x told. inl told) shows.numbers;
           readiness = shows.readiness;
+          seats = every_seat_after c.count c.seat t.views id v (record v { revoked = rs; drained = ds; steps = steps }) is_at (λ j mine. mine) (λ role. role) shows.seats;
           each = each_after m c d v.place id (record v { revoked = rs; drained = ds; steps = steps }) t.views shows.each l.seat beside (record {
             live = λ _. record {
               count = l.count;
@@ -119,6 +122,7 @@ module _ {E B T L I : Type 0} (m : Meanings E B T L I) where
               drained = ds_are;
               kept = λ j part is. absurd (writer.split.1 j part (at_slice v.kept j (Some part) is));
             };
+            receipt = λ receipt. absurd (no_receipt m c t id v shows is_at (inr writer) receipt);
           });
         }
 
@@ -190,7 +194,7 @@ module _ {E B T L I : Type 0} (m : Meanings E B T L I) where
         not_out Raised q inside = refl
         not_out In q inside = refl
 
-    pub drain_home : (k : ℕ) → 0 < k → k ≤ v.count → is_drained v k ≡ false → (c.state k).phase ≡ Out → (e : E) × (get_elem? t.homes k ≡ at.some (at.some (Edition e))) × Current m c.number c.name c.tag e
+    pub drain_home : (k : ℕ) → 0 < k → k ≤ v.count → is_drained v k ≡ false → (c.state k).phase ≡ Out → (e : E) × (get_elem? t.homes k ≡ at.some (at.some (Edition (Some e)))) × Current m c.number c.name c.tag e
     drain_home k low high undrained out =
         let within : k ≤ c.count = let e = writer_live.count in omega arith in
         at_home m k low within
@@ -198,7 +202,7 @@ module _ {E B T L I : Type 0} (m : Meanings E B T L I) where
         shows.slots
 
     pub drain_shows : (i k : ℕ) (hand : Hand E B) (e : E) → 0 < k → k ≤ v.count → is_revoked v k ≡ true → is_drained v k ≡ false → (c.state k).phase ≡ Out
-        → Shows m (state_core c k (drained_state k)) (stepped t i (slice_index t.words i) id hand (noted (drained v k) i (slice_index t.words i)) (takes k (Edition e)))
+        → Shows m (state_core c k (drained_state k)) (stepped t i (slice_index t.words i) id hand (noted (drained v k) i (slice_index t.words i)) (takes k (Edition (Some e))))
     drain_shows i k hand e low high revoked undrained out =
         let o : Keeps m c id v = writer_keeps in
         let within : k ≤ c.count = let e = writer_live.count in omega arith in
@@ -213,3 +217,11 @@ module _ {E B T L I : Type 0} (m : Meanings E B T L I) where
         o.revoked_size (length-set v.drained k true ∙ o.drained_size)
         (λ j low' within'. o.revoked j low' within' ∙ sym (put_keeps (λ (y : ProcessorState). y.revoked) c.state k r refl j))
         (flag_set v.drained c.state (λ y. y.drained) k r (let e = o.drained_size in omega arith) refl o.drained)
+
+    -- what the operator knows to be last is the last of the history
+    pub last_known : (name : L) (tag : T) → name ≡ c.name → tag ≡ c.tag → IsLast v name tag
+    last_known name tag name_is tag_is =
+        let o : Keeps m c id v = writer_keeps in
+        ap (λ (xs : List (L × T)). slice_get xs (v.number - v.opened)) o.history ∙ ap (λ (n : ℕ). slice_get c.history (n - v.opened)) o.number ∙ ap (λ (n : ℕ). slice_get c.history (c.number - n)) o.opened
+        ∙ at_slice c.history (c.number - c.opened) (c.name, c.tag) shows.past.last
+        ∙ ap (λ (l : L). Some (l, c.tag)) (sym name_is) ∙ ap (λ (g : T). Some (name, g)) (sym tag_is)

@@ -8,7 +8,7 @@ use Rattle.rm_table.specs.declared.part.Part.{Part}
 use Rattle.rm_table.specs.declared.view.View.{View}
 use Rattle.rm_table.specs.Layout.{words_of, number_index, tracker_index}
 use Rattle.rm_table.specs.Meanings.{Meanings, values_from, BeginsWith}
-use Rattle.rm_table.specs.Moves.{NoneRevoked}
+use Rattle.rm_table.specs.Moves.{NoneRevoked, IsLast}
 
 -- the words at the opening: the number, and zeros
 abbrev pub first_words : ℕ → ℕ → List ℕ
@@ -16,7 +16,7 @@ first_words n number = slice_set (replicate (words_of n) 0) number_index number
 
 -- the slots at the opening
 abbrev pub first_slots : {E B : Type 0} → B → List E → List (Slot E B)
-first_slots book editions = Book book ∷ map Edition editions
+first_slots book editions = Book (Some book) ∷ map (λ e. Edition (Some e)) editions
 
 module _ {E B T L I : Type 0} (m : Meanings E B T L I) where
   -- a processor that has begun no section
@@ -66,14 +66,14 @@ module _ {E B T L I : Type 0} (m : Meanings E B T L I) where
   pub record EndsWith (v : View E B T L I) (words : List ℕ) (slots : List (Slot E B)) : Type 0 where
     pub name : L
     pub tag : T
-    pub last : slice_get v.history (v.number - v.opened) ≡ Some (name, tag)
+    pub last : IsLast v name tag
     pub book : B
-    pub book_is : slice_get slots 0 ≡ Some (Book book)
+    pub book_is : slice_get slots 0 ≡ Some (Book (Some book))
     pub book_number : m.book_number book ≡ v.number
     pub book_tag : m.book_tag book ≡ tag
     pub list_0 : m.of book 0 ≡ v.own
     pub ready : v.ready ≡ true → m.book_ready book ≡ true
-    pub editions : (k : ℕ) → 0 < k → k ≤ v.count → (e : E) × (slice_get slots k ≡ Some (Edition e)) × (m.number e ≡ v.number) × (m.name e ≡ name) × (m.tag e ≡ tag)
+    pub editions : (k : ℕ) → 0 < k → k ≤ v.count → (e : E) × (slice_get slots k ≡ Some (Edition (Some e))) × (m.number e ≡ v.number) × (m.name e ≡ name) × (m.tag e ≡ tag)
     pub trackers : (k : ℕ) (part : Part E L I) → slice_get v.kept k ≡ Some (Some part) → slice_index words (tracker_index k) ≡ (2 * part.sections) % 2 ^ 64
     pub lists : (k : ℕ) (part : Part E L I) → slice_get v.kept k ≡ Some (Some part) → m.of book k ≡ part.own
     pub begins : (k : ℕ) (part : Part E L I) → slice_get v.kept k ≡ Some (Some part) → BeginsWith v.own part.first
@@ -87,7 +87,7 @@ module _ {E B T L I : Type 0} (m : Meanings E B T L I) where
   pub record ClosesWith (v : View E B T L I) (book : B) (trackers : List ℕ) (editions : List E) : Type 0 where
     pub name : L
     pub tag : T
-    pub last : slice_get v.history (v.number - v.opened) ≡ Some (name, tag)
+    pub last : IsLast v name tag
     pub book_number : m.book_number book ≡ v.number
     pub book_tag : m.book_tag book ≡ tag
     pub list_0 : m.of book 0 ≡ v.own

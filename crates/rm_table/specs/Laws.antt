@@ -7,14 +7,14 @@ use Rattle.atomic_table.specs.Table.{State, step, stepped, Act, Valid, carried_a
 use Rattle.rm_core.specs.declared.phase.Phase.TheVariants.{Out, Raised, In}
 use Rattle.rm_core.specs.declared.event.Event.TheVariants.{Raise, Check, Lower, TakeBack, GiveBack, Regain, Revoke, Drain, ReadNumber, Publish}
 use Rattle.rm_core.specs.CoreState.{CoreState, Allowed, after}
-use Rattle.rm_table.specs.declared.role.Role.TheVariants.{Processor, Operator}
+use Rattle.rm_table.specs.declared.role.Role.TheVariants.{Processor, Operator, Receipt}
 use Rattle.rm_table.specs.declared.slot.Slot.{Slot}
 use Rattle.rm_table.specs.declared.part.Part.{Part}
 use Rattle.rm_table.specs.declared.view.View.{View}
 use Rattle.rm_table.specs.Layout.{number_index, behind_index, book_index, tracker_index, token_index, tracker_word}
 use Rattle.rm_table.specs.Meanings.{Meanings}
 use Rattle.rm_table.specs.Rule.{Core, core_of, Shows, Whole}
-use Rattle.rm_table.specs.Moves.{HasEdition, HasNext, HasBook, IsOperator, IsWorking, NoneRevoked, AllDrained, is_revoked, is_drained, split_off, right_of, kept_at, joined, spent_view}
+use Rattle.rm_table.specs.Moves.{HasEdition, HasNext, HasBook, IsOperator, IsWorking, NoneRevoked, AllDrained, is_revoked, is_drained, split_off, right_of, kept_at, joined, receipt_view, informed, spent_view}
 use Rattle.rm_table.specs.Plays.{Seated, Raises, Checks, Lowers, Regains, TakesBehind, GivesBehind, Revokes, Drains, ReadsNumber, Publishes, TakesBook, GivesBook}
 
 -- How the lock's core goes on at a step that found this number.
@@ -80,7 +80,8 @@ module _ {E B T L I : Type 0} (m : Meanings E B T L I) where
   GiveBookLaw = (slots id : ℕ) (me : Seated m) (i : ℕ) → i ≡ book_index → IsWorking me.0 → HasBook m me.0 me.1
       → Makes slots id me i (λ _. 0) (λ s found after_it. after_it ≡ s) (λ _. GivesBook m (step slots i 0 0 at.none) me 0)
 
-  -- splitting and joining seats is no event: the words stay, and so does the lock's core
+  -- splitting and joining seats is no event: the words stay, and so does the lock's core. A processor's seat is split off the opening seat, and
+  -- joined into the operator's
   abbrev pub SplitLaw : Type 0
   SplitLaw = (id k : ℕ) (v : View E B T L I) (part : Part E L I) → v.role ≡ Operator → slice_get v.kept k ≡ Some (Some part)
       → (t : State (Slot E B) (View E B T L I)) (whole : Whole m t) → get_elem? t.views id ≡ at.some v
@@ -90,3 +91,14 @@ module _ {E B T L I : Type 0} (m : Meanings E B T L I) where
   JoinLaw = (id other : ℕ) (v w : View E B T L I) → v.role ≡ Operator → w.role ≡ Processor → w.phase ≡ Out → w.behind ≡ false
       → (t : State (Slot E B) (View E B T L I)) (whole : Whole m t) → get_elem? t.views id ≡ at.some v → ¬ (other ≡ id) → get_elem? (slice_set t.views id (joined v w)) other ≡ at.some w
       → (d : Core E B T L I) × Shows m d (record { words = t.words; homes = t.homes; views = slice_set (slice_set t.views id (joined v w)) other spent_view }) × (core_of d ≡ core_of whole.0)
+
+  -- a receipt's seat is split off the operator's, and joined into a processor's
+  abbrev pub ReceiptLaw : Type 0
+  ReceiptLaw = (id : ℕ) (v : View E B T L I) → v.role ≡ Operator
+      → (t : State (Slot E B) (View E B T L I)) (whole : Whole m t) → get_elem? t.views id ≡ at.some v
+      → (d : Core E B T L I) × Shows m d (record { words = t.words; homes = t.homes; views = slice_set t.views id v ++ receipt_view v ∷ [] }) × (core_of d ≡ core_of whole.0)
+
+  abbrev pub HearLaw : Type 0
+  HearLaw = (id other : ℕ) (v w : View E B T L I) → v.role ≡ Processor → w.role ≡ Receipt
+      → (t : State (Slot E B) (View E B T L I)) (whole : Whole m t) → get_elem? t.views id ≡ at.some v → ¬ (other ≡ id) → get_elem? (slice_set t.views id (informed v w)) other ≡ at.some w
+      → (d : Core E B T L I) × Shows m d (record { words = t.words; homes = t.homes; views = slice_set (slice_set t.views id (informed v w)) other spent_view }) × (core_of d ≡ core_of whole.0)

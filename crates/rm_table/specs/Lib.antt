@@ -8,3 +8,4 @@ pub mod Plays
 pub mod Ends
 pub mod Answers
 pub mod Laws
+pub mod Moments

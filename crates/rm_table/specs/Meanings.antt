@@ -1,5 +1,5 @@
 -- What an edition and a book mean to the lock, and what of a step is plain data.
-use Rattle.std.specs.Prelude.{◌≡◌, ℕ, zero, suc, ◌==◌, Bool, List, [], ◌∷◌, ◌++◌, if◌then◌else◌}
+use Rattle.std.specs.Prelude.{◌≡◌, ℕ, zero, suc, ◌+◌, ◌==◌, Bool, List, [], ◌∷◌, ◌++◌, if◌then◌else◌}
 
 pub record Meanings (E B T L I : Type 0) : Type 0 where
   pub number : E → ℕ
@@ -22,6 +22,11 @@ put f p a k = if k == p then a else f k
 abbrev pub values_from : {A : Type 0} → (ℕ → A) → ℕ → ℕ → List A
 values_from f from zero = []
 values_from f from (suc n) = f from ∷ values_from f (suc from) n
+
+-- the names of a history with their numbers, of which the first is `from`
+abbrev pub numbered : {L T : Type 0} → ℕ → List (L × T) → List (ℕ × L)
+numbered from [] = []
+numbered from (x ∷ xs) = (from, x.0) ∷ numbered (from + 1) xs
 
 -- ys begins with xs
 abbrev pub BeginsWith : {A : Type 0} → List A → List A → Type 0

@@ -1,26 +1,40 @@
 -- What each kind of atomic step does to the view and the slots of the seat that makes it.
-use Rattle.std.specs.Prelude.{◌≡◌, ◌≢◌, ◌⊎◌, ℕ, zero, suc, ◌+◌, ◌-◌, ◌<◌, ◌≤◌, Bool, true, false, Option, Some, None, List, [], ◌∷◌, ◌++◌, length, slice_get, slice_set, slice_index_or, replicate}
+use Rattle.std.specs.Prelude.{◌≡◌, ◌≢◌, ◌⊎◌, ℕ, zero, suc, ◌+◌, ◌-◌, ◌<◌, ◌≤◌, max, Bool, true, false, Option, Some, None, List, [], ◌∷◌, ◌++◌, length, slice_get, slice_set, slice_index_or, replicate}
 use Rattle.atomic_table.specs.Table.{Act, keeps, gives, chain, rest}
 use Rattle.rm_core.specs.declared.phase.Phase.{Phase}
 use Rattle.rm_core.specs.declared.phase.Phase.TheVariants.{Out, Raised, In}
-use Rattle.rm_table.specs.declared.role.Role.TheVariants.{Spent, Processor, Operator}
+use Rattle.rm_table.specs.declared.role.Role.{Role}
+use Rattle.rm_table.specs.declared.role.Role.TheVariants.{Spent, Processor, Operator, Receipt}
 use Rattle.rm_table.specs.declared.slot.Slot.{Slot}
 use Rattle.rm_table.specs.declared.slot.Slot.TheVariants.{Edition, Book}
 use Rattle.rm_table.specs.declared.part.Part.{Part}
 use Rattle.rm_table.specs.declared.view.View.{View}
-use Rattle.rm_table.specs.Meanings.{Meanings, BeginsWith}
+use Rattle.rm_table.specs.Meanings.{Meanings, numbered, BeginsWith}
 
 -- the slots that a seat has, the last one taken first
 abbrev pub Hand : Type 0 → Type 0 → Type 0
 Hand E B = List (ℕ × Slot E B)
 
+-- the greater of the refusal that stands, if one does, and a new one
+abbrev pub greater_refusal : Option ℕ → ℕ → ℕ
+greater_refusal None number = number
+greater_refusal (Some standing) number = max standing number
+
 module _ {E L I : Type 0} where
   abbrev pub begun : Part E L I → Part E L I
   begun part = record part { sections = part.sections + 1 }
 
-  -- check, where the token is revoked for the publication of that number
+  -- check, where the token is revoked for the publication of that number: the greater refusal stands until the token is regained
   abbrev pub refused_part : Part E L I → ℕ → Part E L I
-  refused_part part number = record part { refusal = Some number }
+  refused_part part number = record part { refusal = Some (greater_refusal part.refusal number) }
+
+  -- each pair of number and name that the processor has seen is of this number or of an earlier one
+  abbrev pub SeenUpTo : Part E L I → ℕ → Type 0
+  SeenUpTo part number = (j x : ℕ) (name : L) → slice_get part.pairs j ≡ Some (x, name) → x ≤ number
+
+  -- join seat, of a receipt: the processor has seen each number and name of that history, the first of which has the number `opened`
+  abbrev pub informed_part : {T : Type 0} → Part E L I → ℕ → List (L × T) → Part E L I
+  informed_part part opened history = record part { pairs = part.pairs ++ numbered opened history }
 
   -- lower: the section has ended
   abbrev pub left_part : Part E L I → Part E L I
@@ -69,7 +83,7 @@ module _ {E B : Type 0} where
   -- these editions, the first in slot `from`, stand first in the hand
   abbrev pub editions_from : ℕ → List E → Hand E B → Hand E B
   editions_from from [] hand = hand
-  editions_from from (e ∷ es) hand = (from, Edition e) ∷ editions_from (from + 1) es hand
+  editions_from from (e ∷ es) hand = (from, Edition (Some e)) ∷ editions_from (from + 1) es hand
 
 module _ {E B T L I : Type 0} where
   -- one more step on a word was made, which found or stored this
@@ -135,6 +149,29 @@ module _ {E B T L I : Type 0} where
     steps = [];
   }
 
+  -- split seat, at place 0: a receipt has what the operator has published so far, and the operator's view stays
+  abbrev pub receipt_view : View E B T L I → View E B T L I
+  receipt_view v = record {
+    role = Receipt;
+    count = v.count;
+    place = 0;
+    phase = Out;
+    part = blank_part;
+    behind = false;
+    book = None;
+    number = v.number;
+    opened = v.opened;
+    history = v.history;
+    own = [];
+    ready = false;
+    stale = false;
+    revoked = [];
+    drained = [];
+    closing = false;
+    kept = [];
+    steps = [];
+  }
+
   -- a seat that was joined into another
   abbrev pub spent_view : View E B T L I
   spent_view = record {
@@ -170,9 +207,20 @@ module _ {E B T L I : Type 0} where
   abbrev pub IsKept : View E B T L I → ℕ → Type 0
   IsKept v place = (part : Part E L I) × (kept_at v place ≡ Some (Some part))
 
-  -- join seat: the operator keeps the processor's part
+  -- join seat, of a processor: the operator keeps its part
   abbrev pub joined : View E B T L I → View E B T L I → View E B T L I
   joined v w = record v { closing = true; kept = slice_set v.kept w.place (Some w.part) }
+
+  -- join seat, of a receipt: the processor has heard it
+  abbrev pub informed : View E B T L I → View E B T L I → View E B T L I
+  informed v w = record v { part = informed_part v.part w.opened w.history }
+
+  -- join seat, by whose seat is joined
+  abbrev pub joined_by : Role → View E B T L I → View E B T L I → View E B T L I
+  joined_by Spent v w = v
+  joined_by Processor v w = joined v w
+  joined_by Operator v w = v
+  joined_by Receipt v w = informed v w
 
   -- no place is kept: every seat is split off, and none was joined
   abbrev pub AllSplit : View E B T L I → Type 0
@@ -191,6 +239,10 @@ module _ {E B T L I : Type 0} where
   abbrev pub IsWorking : View E B T L I → Type 0
   IsWorking v = (v.role ≡ Processor) ⊎ IsOperator v
 
+  -- this is the last name and tag that the operator knows to be published
+  abbrev pub IsLast : View E B T L I → L → T → Type 0
+  IsLast v name tag = slice_get v.history (v.number - v.opened) ≡ Some (name, tag)
+
   abbrev pub is_revoked : View E B T L I → ℕ → Bool
   is_revoked v place = slice_index_or v.revoked place false
 
@@ -199,6 +251,9 @@ module _ {E B T L I : Type 0} where
 
   abbrev pub NoneRevoked : View E B T L I → Type 0
   NoneRevoked v = (k : ℕ) → 0 < k → k ≤ v.count → is_revoked v k ≡ false
+
+  abbrev pub AllRevoked : View E B T L I → Type 0
+  AllRevoked v = (k : ℕ) → 0 < k → k ≤ v.count → is_revoked v k ≡ true
 
   abbrev pub AllDrained : View E B T L I → Type 0
   AllDrained v = (k : ℕ) → 0 < k → k ≤ v.count → is_drained v k ≡ true
@@ -217,7 +272,7 @@ module _ {E B T L I : Type 0} where
     -- who lowers its tracker in a section that it entered has its slot on top, with an edition of the number, name and tag that it read
     pub record HasEdition (v : View E B T L I) (hand : Hand E B) : Type 0 where
       pub edition : E
-      pub hand_is : hand ≡ (v.place, Edition edition) ∷ rest hand
+      pub hand_is : hand ≡ (v.place, Edition (Some edition)) ∷ rest hand
       pub found : E
       pub reading : v.part.reading ≡ Some found
       pub number : m.number edition ≡ m.number found
@@ -237,7 +292,7 @@ module _ {E B T L I : Type 0} where
     }
 
     abbrev pub published : View E B T L I → Hand E B → View E B T L I
-    published v ((k, Edition e) ∷ hand) = published_as v (m.name e) (m.tag e)
+    published v ((k, Edition (Some e)) ∷ hand) = published_as v (m.name e) (m.tag e)
     published v _ = v
 
     -- The first slots of the hand are the editions of all processors in order, all of the next number, of one name and tag.
@@ -268,7 +323,7 @@ module _ {E B T L I : Type 0} where
     pub record LeftByOperator (v : View E B T L I) (taken book : B) : Type 0 where
       pub number : m.book_number book ≡ v.number
       pub tag : v.stale ≡ false → m.book_tag book ≡ m.book_tag taken
-      pub tag_published : v.stale ≡ true → (name : L) × (slice_get v.history (v.number - v.opened) ≡ Some (name, m.book_tag book))
+      pub tag_published : v.stale ≡ true → (name : L) × IsLast v name (m.book_tag book)
       pub list_0 : m.of book 0 ≡ v.own
       pub lists : (k : ℕ) → k ≢ 0 → m.of book k ≡ m.of taken k
       pub ready : v.stale ≡ false → m.book_ready taken ≡ true → m.book_ready book ≡ true
@@ -276,15 +331,24 @@ module _ {E B T L I : Type 0} where
     -- who gives the book back has it on top
     pub record HasBook (v : View E B T L I) (hand : Hand E B) : Type 0 where
       pub book : B
-      pub hand_is : hand ≡ (0, Book book) ∷ rest hand
+      pub hand_is : hand ≡ (0, Book (Some book)) ∷ rest hand
       pub taken : B
       pub book_taken : v.book ≡ Some taken
       pub processor : v.role ≡ Processor → LeftBy v.place taken book
       pub operator : v.role ≡ Operator → LeftByOperator v taken book
+
+    -- what the operator finds in the book: number and tag of the last publication, list 0 as its own, and room where it knows of it. So none of
+    -- its publications waits to be taken in
+    pub record FoundByOperator (v : View E B T L I) (book : B) : Type 0 where
+      pub number : m.book_number book ≡ v.number
+      pub tag : (name : L) × IsLast v name (m.book_tag book)
+      pub list_0 : m.of book 0 ≡ v.own
+      pub ready : v.ready ≡ true → m.book_ready book ≡ true
+      pub unpublished : v.stale ≡ false
 
     -- what a processor finds in the book: its list as it left it, list 0 begun with the opening's, number and tag of its edition
     pub record FoundBy (v : View E B T L I) (book : B) : Type 0 where
       pub own : v.role ≡ Processor → m.of book v.place ≡ v.part.own
       pub first : v.role ≡ Processor → BeginsWith (m.of book 0) v.part.first
       pub edition : v.role ≡ Processor → (e : E) × (v.part.reading ≡ Some e) × (m.book_number book ≡ m.number e) × (m.book_tag book ≡ m.tag e)
-      pub operator : v.role ≡ Operator → (m.book_number book ≡ v.number) × (m.of book 0 ≡ v.own) × (v.ready ≡ true → m.book_ready book ≡ true)
+      pub operator : v.role ≡ Operator → FoundByOperator v book

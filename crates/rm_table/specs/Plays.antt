@@ -8,7 +8,7 @@ use Rattle.rm_table.specs.declared.slot.Slot.TheVariants.{Edition, Book}
 use Rattle.rm_table.specs.declared.view.View.{View}
 use Rattle.rm_table.specs.Layout.{tracker_index, token_index}
 use Rattle.rm_table.specs.Meanings.{Meanings}
-use Rattle.rm_table.specs.Moves.{noted, raised, refused, lowered, hand_left, behind_taken, behind_given, regained, revoked, drained, number_read, book_taken, entered, published, rest_from, book_given, FoundBy, AllDrained}
+use Rattle.rm_table.specs.Moves.{noted, raised, refused, lowered, hand_left, behind_taken, behind_given, regained, revoked, drained, number_read, book_taken, entered, published, rest_from, book_given, SeenUpTo, IsLast, FoundBy, AllDrained}
 
 module _ {E B T L I : Type 0} (m : Meanings E B T L I) where
   abbrev pub Seated : Type 0
@@ -21,10 +21,11 @@ module _ {E B T L I : Type 0} (m : Meanings E B T L I) where
   abbrev pub Raises : Telling
   Raises s me found after = after ≡ (noted (raised me.0) s.word found, me.1)
 
-  -- the token is held, and the edition in the slot is of the number that the processor knows, or it is revoked for a later number
+  -- the token is held, and the edition in the slot is of the number that the processor knows, which no pair that it saw is past, or the token
+  -- is revoked for a later number
   abbrev pub Checks : Telling
   Checks s me found after = MatchBool (found == 0)
-      ((e : E) × (after ≡ (noted (entered m me.0 e) s.word found, (me.0.place, Edition e) ∷ me.1)) × (m.number e ≡ me.0.part.held))
+      ((e : E) × (after ≡ (noted (entered m me.0 e) s.word found, (me.0.place, Edition (Some e)) ∷ me.1)) × (m.number e ≡ me.0.part.held) × SeenUpTo me.0.part (m.number e))
       ((after ≡ (noted (refused me.0 found) s.word found, me.1)) × (me.0.part.held < found))
 
   abbrev pub Lowers : Telling
@@ -38,24 +39,25 @@ module _ {E B T L I : Type 0} (m : Meanings E B T L I) where
   abbrev pub GivesBehind : Telling
   GivesBehind s me found after = after ≡ (noted (behind_given me.0) s.word found, me.1)
 
-  -- the number read is at least the refusal's
+  -- the number read is at least each refusal's, and no pair that the processor saw is past it
   abbrev pub Regains : Telling
   Regains s me found after = (x : ℕ) → me.0.part.read ≡ Some x
-      → (after ≡ (noted (regained me.0 x) s.word found, me.1)) × ((t : ℕ) → me.0.part.refusal ≡ Some t → t ≤ x)
+      → (after ≡ (noted (regained me.0 x) s.word found, me.1)) × ((t : ℕ) → me.0.part.refusal ≡ Some t → t ≤ x) × SeenUpTo me.0.part x
 
   abbrev pub Revokes : Telling
   Revokes s me found after = (place : ℕ) → s.word ≡ token_index me.0.count place → after ≡ (noted (revoked me.0 place) s.word found, me.1)
 
-  -- an even tracker says that the processor is out
+  -- an even tracker says that the processor is out; its edition is the last published one
   abbrev pub Drains : Telling
   Drains s me found after = (place : ℕ) → s.word ≡ tracker_index place → MatchBool (found % 2 == 0)
-      ((e : E) × (after ≡ (noted (drained me.0 place) s.word found, (place, Edition e) ∷ me.1)) × (m.number e ≡ me.0.number))
+      ((e : E) × (after ≡ (noted (drained me.0 place) s.word found, (place, Edition (Some e)) ∷ me.1)) × (m.number e ≡ me.0.number) × IsLast me.0 (m.name e) (m.tag e))
       (after ≡ (noted me.0 s.word found, me.1))
 
   pub record ReadsNumber (s : Step (Slot E B)) (me : Seated) (found : ℕ) (after : Seated) : Type 0 where
     pub after_is : after ≡ (noted (number_read me.0 found) s.word found, me.1)
     pub operator : me.0.role ≡ Operator → found ≡ me.0.number
     pub processor : me.0.role ≡ Processor → me.0.part.held ≤ found
+    pub seen : me.0.role ≡ Processor → SeenUpTo me.0.part found
 
   abbrev pub Publishes : Telling
   Publishes s me found after = after ≡ (noted (published m me.0 me.1) s.word found, rest_from me.0.count me.1)
@@ -63,9 +65,9 @@ module _ {E B T L I : Type 0} (m : Meanings E B T L I) where
   -- a free book is at home; nobody but the operator has it once all are drained
   pub record TakesBook (s : Step (Slot E B)) (me : Seated) (found : ℕ) (after : Seated) : Type 0 where
     pub tried : MatchBool (found == 0)
-        ((book : B) × (after ≡ (noted (book_taken me.0 book) s.word found, (0, Book book) ∷ me.1)) × FoundBy m me.0 book)
+        ((book : B) × (after ≡ (noted (book_taken me.0 book) s.word found, (0, Book (Some book)) ∷ me.1)) × FoundBy m me.0 book)
         ((after ≡ (noted me.0 s.word found, me.1)) × (found ≤ me.0.count + 1))
     pub free : me.0.role ≡ Operator → AllDrained me.0 → me.0.book ≡ None → found ≡ 0
 
   abbrev pub GivesBook : Telling
-  GivesBook s me found after = (book : B) → me.1 ≡ (0, Book book) ∷ rest me.1 → after ≡ (noted (book_given m me.0 book) s.word found, rest me.1)
+  GivesBook s me found after = (book : B) → me.1 ≡ (0, Book (Some book)) ∷ rest me.1 → after ≡ (noted (book_given m me.0 book) s.word found, rest me.1)

@@ -1,11 +1,11 @@
 -- Seats between two sections and between two writes, and the operator's at the opening and the closing.
 use Rattle.std.specs.Prelude.{◌≡◌, ◌⊎◌, ℕ, ◌+◌, ◌<◌, ◌≤◌, true, false, Some, None, [], ◌∷◌, length}
 use Rattle.rm_core.specs.declared.phase.Phase.TheVariants.{Out, In}
-use Rattle.rm_table.specs.declared.role.Role.TheVariants.{Processor, Operator}
+use Rattle.rm_table.specs.declared.role.Role.TheVariants.{Processor, Operator, Receipt}
 use Rattle.rm_table.specs.declared.slot.Slot.TheVariants.{Edition}
 use Rattle.rm_table.specs.declared.part.Part.{Part}
 use Rattle.rm_table.specs.declared.view.View.{View}
-use Rattle.rm_table.specs.Moves.{Hand, kept_at, IsKept, IsOperator, NoneRevoked, NoneDrained}
+use Rattle.rm_table.specs.Moves.{Hand, kept_at, IsOperator, NoneRevoked, NoneDrained}
 
 module _ {E B T L I : Type 0} where
   -- a processor's seat between two sections: it is out, holds neither lock, and has no slot in its hand
@@ -23,12 +23,20 @@ module _ {E B T L I : Type 0} where
     pub unheld : v.behind ≡ false
     pub bookless : v.book ≡ None
     pub edition : E
-    pub hand_is : hand ≡ (v.place, Edition edition) ∷ []
+    pub hand_is : hand ≡ (v.place, Edition (Some edition)) ∷ []
     pub reading : v.part.reading ≡ Some edition
 
-  -- the operator's seat between two writes
+  -- a receipt's seat
+  pub record IsReceipt (v : View E B T L I) (hand : Hand E B) : Type 0 where
+    pub receipt : v.role ≡ Receipt
+    pub empty_hand : hand ≡ []
+
+  -- The operator's seat between two writes: it keeps no part, since every seat is split off, and holds neither lock. No token is revoked for a
+  -- publication to come, and every publication is in the book.
   pub record IsAtRest (v : View E B T L I) (hand : Hand E B) : Type 0 where
     pub operator : IsOperator v
+    pub some : 0 < v.count
+    pub unpublished : v.stale ≡ false
     pub kept_size : length v.kept ≡ v.count + 1
     pub unheld : v.behind ≡ false
     pub bookless : v.book ≡ None
@@ -39,12 +47,14 @@ module _ {E B T L I : Type 0} where
     pub counts : v.opened + length v.history ≡ v.number + 1
     pub empty_hand : hand ≡ []
 
-  -- the opening seat, of which the places below `next` are split off
-  pub record IsOpening (next : ℕ) (v : View E B T L I) (hand : Hand E B) : Type 0 where
+  -- The opening seat, of which the places below `next` are split off: of each other processor it keeps this part.
+  pub record IsOpening (next : ℕ) (parts : ℕ → Part E L I) (v : View E B T L I) (hand : Hand E B) : Type 0 where
     pub operator : v.role ≡ Operator
     pub opening : v.closing ≡ false
+    pub some : 0 < v.count
+    pub unpublished : v.stale ≡ false
     pub gone : (k : ℕ) (part : Part E L I) → k < next → kept_at v k ≡ Some (Some part) → ⊥
-    pub kept : (k : ℕ) → next ≤ k → k ≤ v.count → IsKept v k
+    pub kept : (k : ℕ) → next ≤ k → k ≤ v.count → kept_at v k ≡ Some (Some (parts k))
     pub kept_size : length v.kept ≡ v.count + 1
     pub unheld : v.behind ≡ false
     pub bookless : v.book ≡ None
@@ -55,15 +65,23 @@ module _ {E B T L I : Type 0} where
     pub counts : v.opened + length v.history ≡ v.number + 1
     pub empty_hand : hand ≡ []
 
-  -- the operator's seat, into which the places from `next` on are joined
-  pub record IsClosing (next : ℕ) (v : View E B T L I) : Type 0 where
+  -- The operator's seat, into which the places from `next` on are joined: of each it keeps this part, and no token is revoked.
+  pub record IsClosing (next : ℕ) (parts : ℕ → Part E L I) (v : View E B T L I) : Type 0 where
     pub operator : v.role ≡ Operator
     pub closing : v.closing ≡ true
-    pub kept : (k : ℕ) → next ≤ k → k ≤ v.count → IsKept v k
+    pub kept : (k : ℕ) → next ≤ k → k ≤ v.count → kept_at v k ≡ Some (Some (parts k))
     pub kept_size : length v.kept ≡ v.count + 1
     pub bookless : v.book ≡ None
+    pub unrevoked : NoneRevoked v
     pub undrained : NoneDrained v
 
-  -- the operator's seat as the places from `next` on were split off and joined again
-  abbrev pub IsRejoined : ℕ → View E B T L I → Hand E B → Type 0
-  IsRejoined next v hand = ((v.count < next) × IsAtRest v hand) ⊎ IsClosing next v
+  -- the operator's seat as the places from `next` on were split off and joined again, with these parts
+  abbrev pub IsRejoined : ℕ → (ℕ → Part E L I) → View E B T L I → Hand E B → Type 0
+  IsRejoined next parts v hand = ((v.count < next) × IsAtRest v hand) ⊎ IsClosing next parts v
+
+  -- the same two, whatever the parts are
+  abbrev pub OpensFrom : ℕ → View E B T L I → Hand E B → Type 0
+  OpensFrom next v hand = (parts : ℕ → Part E L I) × IsOpening next parts v hand
+
+  abbrev pub IsRejoinedFrom : ℕ → View E B T L I → Hand E B → Type 0
+  IsRejoinedFrom next v hand = (parts : ℕ → Part E L I) × IsRejoined next parts v hand

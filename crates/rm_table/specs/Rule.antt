@@ -7,13 +7,14 @@ use Rattle.rm_core.specs.declared.phase.Phase.TheVariants.{Out, In}
 use Rattle.rm_core.specs.declared.token.Token.TheVariants.{Held, Revoked}
 use Rattle.rm_core.specs.CoreState.{CoreState, Safe, Fits, IsProcessor, processor_of}
 use Rattle.rm_core.specs.declared.processor_state.ProcessorState.{ProcessorState}
-use Rattle.rm_table.specs.declared.role.Role.TheVariants.{Spent, Processor, Operator}
+use Rattle.rm_table.specs.declared.role.Role.TheVariants.{Processor, Operator, Receipt}
 use Rattle.rm_table.specs.declared.slot.Slot.{Slot}
 use Rattle.rm_table.specs.declared.slot.Slot.TheVariants.{Edition, Book}
 use Rattle.rm_table.specs.declared.part.Part.{Part}
 use Rattle.rm_table.specs.declared.view.View.{View}
 use Rattle.rm_table.specs.Layout.{index_of_word, words_of, number_index, behind_index, book_index, tracker_index, token_index, tracker_word, token_word, holder_word, is_held_by}
 use Rattle.rm_table.specs.Meanings.{Meanings, values_from, BeginsWith}
+use Rattle.rm_table.specs.Moves.{IsKept}
 
 -- The state that words, slots and views show together. Of the lock's core: the published number N, the number n of processors, who holds
 -- the lock behind, and each processor by its place. Beside it: which seat has each place, what is kept of each processor, the
@@ -86,6 +87,23 @@ pub record Numbers {E L I : Type 0} (n : ℕ) (s : CoreState) (part : ℕ → Pa
   pub read : (k x : ℕ) → k ≤ n → s.holder ≡ Some k → (part k).read ≡ Some x → x ≡ s.number
   pub refusal : (k x : ℕ) → (part k).refusal ≡ Some x → IsPending s k x
 
+module _ {E B T L I : Type 0} where
+  -- Part 8: a receipt keeps a prefix of the history, from the opening on. It has at least one name, and its number is that of the last.
+  pub record KeepsPrefix (opened : ℕ) (history : List (L × T)) (v : View E B T L I) : Type 0 where
+    pub opened_is : v.opened ≡ opened
+    pub prefix : BeginsWith history v.history
+    pub begun : v.opened ≤ v.number
+    pub counts : v.opened + length v.history ≡ v.number + 1
+
+  -- the view is that of the processor at that place, or the operator's, which keeps it
+  abbrev pub IsSeatOf : View E B T L I → ℕ → Type 0
+  IsSeatOf v k = ((v.role ≡ Processor) × (v.place ≡ k)) ⊎ ((v.role ≡ Operator) × IsKept v k)
+
+  -- Every seat exists: each processor has a seat of its own, or the operator's keeps its place, and there is the operator's.
+  pub record EverySeat (n : ℕ) (seat : ℕ → ℕ) (views : List (View E B T L I)) : Type 0 where
+    pub processors : (k : ℕ) → 0 < k → k ≤ n → (v : View E B T L I) × (get_elem? views (seat k) ≡ at.some v) × IsSeatOf v k
+    pub operator : (v : View E B T L I) × (get_elem? views (seat (n + 1)) ≡ at.some v) × (v.role ≡ Operator)
+
 module _ {E B T L I : Type 0} (m : Meanings E B T L I) where
   -- the edition is the one that is published
   pub record Current (number : ℕ) (name : L) (tag : T) (e : E) : Type 0 where
@@ -97,9 +115,9 @@ module _ {E B T L I : Type 0} (m : Meanings E B T L I) where
   -- the operator while i is drained. The book is at home where nobody has it.
   pub record Slots (number n : ℕ) (state : ℕ → ProcessorState) (name : L) (tag : T) (holder : ℕ) (book : B) (homes : List (at.Option (Slot E B))) : Type 0 where
     pub size : length homes ≡ n + 1
-    pub home : (k : ℕ) (y : Slot E B) → 0 < k → k ≤ n → get_elem? homes k ≡ at.some (at.some y) → (e : E) × (y ≡ Edition e) × Current number name tag e
+    pub home : (k : ℕ) (y : Slot E B) → 0 < k → k ≤ n → get_elem? homes k ≡ at.some (at.some y) → (e : E) × (y ≡ Edition (Some e)) × Current number name tag e
     pub away : (k : ℕ) → 0 < k → k ≤ n → get_elem? homes k ≡ at.some at.none → ((state k).phase ≡ In) ⊎ ((state k).drained ≡ true)
-    pub book_home : (y : Slot E B) → get_elem? homes 0 ≡ at.some (at.some y) → y ≡ Book book
+    pub book_home : (y : Slot E B) → get_elem? homes 0 ≡ at.some (at.some y) → y ≡ Book (Some book)
     pub book_away : get_elem? homes 0 ≡ at.some at.none → holder ≢ 0
 
   -- Part 3: who is in reads the published edition, which its check found in its slot. Each number and name that a processor has seen
@@ -127,7 +145,7 @@ module _ {E B T L I : Type 0} (m : Meanings E B T L I) where
   abbrev pub Ready : B → Bool → Type 0
   Ready book ready = ready ≡ true → m.book_ready book ≡ true
 
-  -- What a seat knows is so, where the seat isn't spent.
+  -- What the seat of a processor or of the operator knows is so.
   pub record Live (c : Core E B T L I) (id : ℕ) (v : View E B T L I) : Type 0 where
     pub count : v.count ≡ c.count
     pub low : 0 < v.place
@@ -165,10 +183,12 @@ module _ {E B T L I : Type 0} (m : Meanings E B T L I) where
     pub drained : (k : ℕ) → 0 < k → k ≤ c.count → slice_index_or v.drained k false ≡ (c.state k).drained
     pub kept : (k : ℕ) (part : Part E L I) → get_elem? v.kept k ≡ at.some (Some part) → KeptAt c id v.closing k part
 
+  -- A spent seat knows nothing.
   pub record Agrees (c : Core E B T L I) (id : ℕ) (v : View E B T L I) : Type 0 where
-    pub live : v.role ≢ Spent → Live c id v
+    pub live : (v.role ≡ Processor) ⊎ (v.role ≡ Operator) → Live c id v
     pub processor : v.role ≡ Processor → v.place ≤ c.count
     pub operator : v.role ≡ Operator → Keeps c id v
+    pub receipt : v.role ≡ Receipt → KeepsPrefix c.opened c.history v
 
   -- The whole rule, at the state that is shown.
   pub record Shows (c : Core E B T L I) (t : State (Slot E B) (View E B T L I)) : Type 0 where
@@ -181,6 +201,7 @@ module _ {E B T L I : Type 0} (m : Meanings E B T L I) where
     pub lists : Lists (c.count) c.book c.stale c.own c.part
     pub numbers : Numbers c.count (core_of c) c.part
     pub readiness : Ready c.book c.ready
+    pub seats : EverySeat c.count c.seat t.views
     pub each : (id : ℕ) (v : View E B T L I) → get_elem? t.views id ≡ at.some v → Agrees c id v
 
   abbrev pub Whole : State (Slot E B) (View E B T L I) → Type 0

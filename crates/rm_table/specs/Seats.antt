@@ -26,7 +26,7 @@ Unbegun {E} {L} {I} closing kept = closing ≡ false → (k : ℕ) (part : Part 
 -- the numbers that a seat stores by are those that it knows
 pub record StoresBy {E B T L I : Type 0} (processors place number tracker : ℕ) (table : TableId) (v : View E B T L I) : Type 0 where
   pub sized : IsSized processors table
-  pub placed : (0 < place) × (place ≤ processors + 1)
+  pub placed : place ≤ processors + 1
   pub within : v.role ≡ Processor → place ≤ processors
   pub count_is : v.count ≡ processors
   pub place_is : v.place ≡ place

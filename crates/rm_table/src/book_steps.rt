@@ -1,16 +1,52 @@
-ghost use Rattle.std.specs.Prelude.{◌≡◌, ℕ, ◌∷◌, Option, None};
+ghost use Rattle.std.specs.Prelude.{◌≡◌, ℕ, ◌∷◌, Option, Some, None};
 ghost use Rattle.atomic_table.specs.Table.{rest, turned};
 ghost use Rattle.rm_table.specs.Layout.{book_index};
 ghost use Rattle.rm_table.specs.Meanings.{meanings};
 ghost use Rattle.rm_table.specs.Moves.{noted, book_given, IsWorking, HasBook, AllDrained};
-ghost use Rattle.rm_table.specs.Answers.{TriedBook, edition_slot, book_slot};
-ghost use Rattle.rm_table.specs.declared.slot.Slot.TheVariants.{Book};
+ghost use Rattle.rm_table.specs.Answers.{TriedBook};
+ghost use Rattle.rm_table.specs.declared.slot.Slot.TheVariants.{Edition, Book};
 
+use crate::padded_slot::PaddedSlot;
 use crate::plays::{GiveBook, TakeBook};
+use crate::rule::{LockRule, LockView, Opening};
 use crate::table::index_at;
-use crate::{RmSeat, RmTable, Role, Slot, Tried};
+use crate::{RmSeat, RmTable, Role, Tried};
+use atomic_table::{Seat, Shared};
 use fw_base::{Kept, Numbered};
 use rm_core::Phase;
+
+type SharedTable<E, B> = Shared<PaddedSlot<E, B>, LockView<E, B>, Opening<E, B>, LockRule>;
+
+// Puts an edition, or nothing, into that slot, which lies on top of the seat's hand.
+fn replace_edition_at<E: Numbered<Tag = B::Facts>, B: Kept>(
+    table: &SharedTable<E, B>,
+    seat: &mut Seat<PaddedSlot<E, B>, LockView<E, B>>,
+    slot: usize,
+    new: Option<E>,
+) -> Option<E>
+    requires table { seat.old.table_id ≡ table.now.table_id }
+    requires on_top { (old : Option E) × (seat.old.me.1 ≡ (slot, Edition old) ∷ rest seat.old.me.1) }
+    ensures same { (seat.new.table_id ≡ seat.old.table_id) × (seat.new.id ≡ seat.old.id) }
+    ensures was { seat.old.me.1 ≡ (slot, Edition result) ∷ rest seat.old.me.1 }
+    ensures now { seat.new.me ≡ (seat.old.me.0, (slot, Edition new) ∷ rest seat.old.me.1) }
+{
+    seat.slot_mut(table, slot).replace_edition(new)
+}
+
+// Puts the book, or nothing, into its slot, which lies on top of the seat's hand.
+fn replace_book_at<E: Numbered<Tag = B::Facts>, B: Kept>(
+    table: &SharedTable<E, B>,
+    seat: &mut Seat<PaddedSlot<E, B>, LockView<E, B>>,
+    new: Option<B>,
+) -> Option<B>
+    requires table { seat.old.table_id ≡ table.now.table_id }
+    requires on_top { (old : Option B) × (seat.old.me.1 ≡ (0, Book old) ∷ rest seat.old.me.1) }
+    ensures same { (seat.new.table_id ≡ seat.old.table_id) × (seat.new.id ≡ seat.old.id) }
+    ensures was { seat.old.me.1 ≡ (0, Book result) ∷ rest seat.old.me.1 }
+    ensures now { seat.new.me ≡ (seat.old.me.0, (0, Book new) ∷ rest seat.old.me.1) }
+{
+    seat.slot_mut(table, 0).replace_book(new)
+}
 
 impl<E: Numbered<Tag = B::Facts>, B: Kept> RmTable<E, B> {
     /// A processor that is in, or the operator, tries once to take the book. Where another has it nothing
@@ -43,15 +79,15 @@ impl<E: Numbered<Tag = B::Facts>, B: Kept> RmTable<E, B> {
         requires working { IsWorking seat.old.me.0 }
         requires book { HasBook (meanings E.number E.tag E.name B.number B.tag B.ready B.of B.facts_item) seat.old.me.0 seat.old.me.1 }
         ensures table { seat.new.table_id ≡ seat.old.table_id }
-        ensures step { (book : B) → seat.old.me.1 ≡ (0, Book book) ∷ rest seat.old.me.1 → seat.new.me ≡ (noted (book_given (meanings E.number E.tag E.name B.number B.tag B.ready B.of B.facts_item) seat.old.me.0 book) book_index 0, rest seat.old.me.1) }
+        ensures step { (book : B) → seat.old.me.1 ≡ (0, Book (Some book)) ∷ rest seat.old.me.1 → seat.new.me ≡ (noted (book_given (meanings E.number E.tag E.name B.number B.tag B.ready B.of B.facts_item) seat.old.me.0 book) book_index 0, rest seat.old.me.1) }
     {
         self.table
             .shared
             .store::<GiveBook>(&mut seat.seat, index_at(2), 0);
     }
 
-    /// Puts a value into the processor's slot, which lies on top of the hand, and answers what it held. No
-    /// step on a word.
+    /// Puts an edition into the processor's slot, or nothing, and answers what it held. The slot lies on top
+    /// of the hand. No step on a word, and no bytes are moved but those of the two editions.
     pub fn exchange_edition(
         &self,
         seat: &mut RmSeat<E, B>,
@@ -59,44 +95,24 @@ impl<E: Numbered<Tag = B::Facts>, B: Kept> RmTable<E, B> {
         new: Option<E>,
     ) -> Option<E>
         requires table { seat.old.table_id ≡ self.now }
-        requires on_top { (old : Option E) × (seat.old.me.1 ≡ (processor, edition_slot old) ∷ rest seat.old.me.1) }
+        requires on_top { (old : Option E) × (seat.old.me.1 ≡ (processor, Edition old) ∷ rest seat.old.me.1) }
         ensures table { seat.new.table_id ≡ seat.old.table_id }
-        ensures was { seat.old.me.1 ≡ (processor, edition_slot result) ∷ rest seat.old.me.1 }
-        ensures now { seat.new.me ≡ (seat.old.me.0, (processor, edition_slot new) ∷ rest seat.old.me.1) }
+        ensures was { seat.old.me.1 ≡ (processor, Edition result) ∷ rest seat.old.me.1 }
+        ensures now { seat.new.me ≡ (seat.old.me.0, (processor, Edition new) ∷ rest seat.old.me.1) }
     {
-        let slot = match new {
-            Some(edition) => Slot::Edition(edition),
-            None => Slot::Empty,
-        };
-        match self
-            .table
-            .shared
-            .exchange(&mut seat.seat, processor as usize, slot)
-        {
-            Slot::Edition(edition) => Some(edition),
-            Slot::Empty => None,
-            Slot::Book(_) => unreachable!(),
-        }
+        replace_edition_at(&self.table.shared, &mut seat.seat, processor as usize, new)
     }
 
-    /// Puts a value into the book's slot, which lies on top of the hand, and answers what it held. No step
-    /// on a word.
+    /// Puts the book into its slot, or nothing, and answers what it held. The slot lies on top of the hand.
+    /// No step on a word.
     pub fn exchange_book(&self, seat: &mut RmSeat<E, B>, new: Option<B>) -> Option<B>
         requires table { seat.old.table_id ≡ self.now }
-        requires on_top { (old : Option B) × (seat.old.me.1 ≡ (0, book_slot old) ∷ rest seat.old.me.1) }
+        requires on_top { (old : Option B) × (seat.old.me.1 ≡ (0, Book old) ∷ rest seat.old.me.1) }
         ensures table { seat.new.table_id ≡ seat.old.table_id }
-        ensures was { seat.old.me.1 ≡ (0, book_slot result) ∷ rest seat.old.me.1 }
-        ensures now { seat.new.me ≡ (seat.old.me.0, (0, book_slot new) ∷ rest seat.old.me.1) }
+        ensures was { seat.old.me.1 ≡ (0, Book result) ∷ rest seat.old.me.1 }
+        ensures now { seat.new.me ≡ (seat.old.me.0, (0, Book new) ∷ rest seat.old.me.1) }
     {
-        let slot = match new {
-            Some(book) => Slot::Book(book),
-            None => Slot::Empty,
-        };
-        match self.table.shared.exchange(&mut seat.seat, 0, slot) {
-            Slot::Book(book) => Some(book),
-            Slot::Empty => None,
-            Slot::Edition(_) => unreachable!(),
-        }
+        replace_book_at(&self.table.shared, &mut seat.seat, new)
     }
 }
 

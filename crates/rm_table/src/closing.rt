@@ -6,6 +6,7 @@ ghost use Rattle.rm_table.specs.Moves.{AllJoined, NoneDrained};
 ghost use Rattle.rm_table.specs.Ends.{ClosesWith};
 ghost use Rattle.rm_table.specs.declared.slot.Slot.TheVariants.{Edition, Book};
 
+use crate::padded_slot::PaddedSlot;
 use crate::table::tracker_at;
 use crate::{RmSeat, RmTable, Role, Slot};
 use fw_base::{Kept, Numbered};
@@ -22,23 +23,23 @@ pub struct Closed<E, B> {
     pub editions: Vec<E>,
 }
 
-fn edition_in<E: Drop, B: Drop>(slot: Slot<E, B>) -> E
-    requires { (e : E) × (slot ≡ Edition e) }
-    ensures { slot ≡ Edition result }
+fn edition_in<E: Drop, B: Drop>(slot: PaddedSlot<E, B>) -> E
+    requires { (e : E) × (slot ≡ Edition (Some e)) }
+    ensures { slot ≡ Edition (Some result) }
 {
-    match slot {
-        Slot::Edition(edition) => edition,
-        Slot::Empty | Slot::Book(_) => unreachable!(),
+    match slot.into_slot() {
+        Slot::Edition(Some(edition)) => edition,
+        Slot::Edition(None) | Slot::Book(_) => unreachable!(),
     }
 }
 
-fn book_in<E: Drop, B: Drop>(slot: Slot<E, B>) -> B
-    requires { (b : B) × (slot ≡ Book b) }
-    ensures { slot ≡ Book result }
+fn book_in<E: Drop, B: Drop>(slot: PaddedSlot<E, B>) -> B
+    requires { (b : B) × (slot ≡ Book (Some b)) }
+    ensures { slot ≡ Book (Some result) }
 {
-    match slot {
-        Slot::Book(book) => book,
-        Slot::Empty | Slot::Edition(_) => unreachable!(),
+    match slot.into_slot() {
+        Slot::Book(Some(book)) => book,
+        Slot::Book(None) | Slot::Edition(_) => unreachable!(),
     }
 }
 
@@ -64,18 +65,18 @@ fn trackers_of<S>(
 
 // Takes the editions of all processors out of their slots.
 fn take_editions<E: Drop, B: Drop>(
-    closed: &mut atomic_table::Closed<Slot<E, B>, Global>,
+    closed: &mut atomic_table::Closed<PaddedSlot<E, B>, Global>,
     processors: u32,
     mut editions: Vec<E>,
 ) -> Vec<E>
     requires few { processors ≤ 64 }
     requires size { slots_len closed.old.slots ≡ processors + 1 }
     requires filled { (k : ℕ) → 0 < k → k ≤ processors → slice_index_or (slots_filled closed.old.slots) k false ≡ true }
-    requires editions { (k : ℕ) → 0 < k → k ≤ processors → (e : E) × (slice_get (slots_items closed.old.slots) k ≡ Some (Edition e)) }
+    requires editions { (k : ℕ) → 0 < k → k ≤ processors → (e : E) × (slice_get (slots_items closed.old.slots) k ≡ Some (Edition (Some e))) }
     requires empty { editions.items ≡ [] }
     requires room { processors ≤ vec_capacity editions }
     ensures count { vec_len result ≡ processors }
-    ensures each { (j : ℕ) (e : E) → slice_get result.items j ≡ Some e → slice_get (slots_items closed.old.slots) (j + 1) ≡ Some (Edition e) }
+    ensures each { (j : ℕ) (e : E) → slice_get result.items j ≡ Some e → slice_get (slots_items closed.old.slots) (j + 1) ≡ Some (Edition (Some e)) }
     ensures taken { (k : ℕ) → 0 < k → k ≤ processors → slice_index_or (slots_filled closed.new.slots) k false ≡ false }
     ensures first { slice_index_or (slots_filled closed.new.slots) 0 false ≡ slice_index_or (slots_filled closed.old.slots) 0 false }
     ensures size { slots_len closed.new.slots ≡ slots_len closed.old.slots }

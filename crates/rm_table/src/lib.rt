@@ -18,6 +18,7 @@ mod closing;
 pub mod laws;
 mod lock_steps;
 mod opening;
+mod padded_slot;
 mod part;
 mod plays;
 mod reader_steps;

@@ -3,6 +3,7 @@ ghost use Rattle.rm_table.specs.Layout.{words_of};
 ghost use Rattle.rm_table.specs.Meanings.{meanings};
 ghost use Rattle.rm_table.specs.Ends.{first_words, first_slots, first_view, Opens};
 
+use crate::padded_slot::PaddedSlot;
 use crate::rule::Opening;
 use crate::{RmSeat, RmTable, Slot};
 use atomic_table::Table;
@@ -32,14 +33,14 @@ fn slots_at_opening<E: Drop, B: Drop>(
     alloc: Global,
     editions: Vec<E>,
     book: B,
-) -> Result<Vec<Slot<E, B>>, AllocError>
+) -> Result<Vec<PaddedSlot<E, B>>, AllocError>
     requires { vec_len editions ≤ 64 }
     ensures { IfOk result (λ slots. slots.items ≡ first_slots book editions.items) }
 {
     let mut slots = Vec::with_capacity(alloc, editions.len() + 1)?;
-    slots.push(Slot::Book(book))?;
+    slots.push(PaddedSlot::new(Slot::Book(Some(book))))?;
     for edition in editions {
-        slots.push(Slot::Edition(edition))?;
+        slots.push(PaddedSlot::new(Slot::Edition(Some(edition))))?;
     }
     Ok(slots)
 }

@@ -6,7 +6,7 @@ pub struct Part<E, L, I> {
     pub sections: u64,
     /// The number that it last held or regained.
     pub held: u64,
-    /// The number that it was refused with and hasn't regained from.
+    /// The greatest number that it was refused with since it last regained its token.
     pub refusal: Option<u64>,
     /// The number that it read since it took the lock behind.
     pub read: Option<u64>,
@@ -16,7 +16,7 @@ pub struct Part<E, L, I> {
     pub own: LinkedList<I>,
     /// List 0 of the book as it was at the opening.
     pub first: LinkedList<I>,
-    /// Number and name of each edition that its checks found.
+    /// Number and name of each edition that its checks found, or that a receipt told it of.
     pub pairs: LinkedList<(u64, L)>,
     /// How often it took the lock behind.
     pub behind_taken: u64,

@@ -7,4 +7,6 @@ pub enum Role {
     Processor,
     /// The operator's, the one writer's. It is the opening seat too.
     Operator,
+    /// A receipt's: it has the history that the operator had when it was made.
+    Receipt,
 }

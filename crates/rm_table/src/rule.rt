@@ -3,7 +3,8 @@ ghost use Rattle.rm_table.specs.Meanings.{meanings};
 ghost use Rattle.rm_table.specs.Rule.{Whole};
 ghost use Rattle.rm_table.specs.Ends.{first_view};
 
-use crate::{Slot, View};
+use crate::View;
+use crate::padded_slot::PaddedSlot;
 use atomic_table::TableRule;
 use fw_base::{Kept, Numbered};
 use std::snapshot::Snapshot;
@@ -22,8 +23,11 @@ pub struct Opening<E, B> {
 /// The running rule of the lock's table.
 pub struct LockRule;
 
-impl<E: Numbered<Tag = B::Facts>, B: Kept> TableRule<Slot<E, B>, LockView<E, B>, Opening<E, B>>
-    for LockRule {
+impl<E: Numbered<Tag = B::Facts>, B: Kept> TableRule<
+    PaddedSlot<E, B>,
+    LockView<E, B>,
+    Opening<E, B>,
+> for LockRule {
     ghost holds = { λ key. Whole (meanings E.number E.tag E.name B.number B.tag B.ready B.of B.facts_item) };
 
     ghost first = { λ key. first_view (meanings E.number E.tag E.name B.number B.tag B.ready B.of B.facts_item) key.processors key.edition.value key.book.value };

@@ -1,4 +1,4 @@
-use crate::Slot;
+use crate::padded_slot::PaddedSlot;
 use crate::rule::LockView;
 use atomic_table::Seat;
 use fw_base::{Kept, Numbered};
@@ -8,7 +8,7 @@ use std::marker::Model;
 /// in its hand exist for proofs alone.
 #[derive(Drop)]
 pub struct RmSeat<E: Numbered<Tag = B::Facts>, B: Kept> {
-    pub(crate) seat: Seat<Slot<E, B>, LockView<E, B>>,
+    pub(crate) seat: Seat<PaddedSlot<E, B>, LockView<E, B>>,
     pub(crate) processors: u32,
     pub(crate) place: u32,
     pub(crate) number: u64,

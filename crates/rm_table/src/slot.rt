@@ -1,8 +1,7 @@
-/// What a slot of the table holds. Slot 0 has the book, slot i the edition of processor i, and a slot
-/// is empty while its value is lent.
+/// What a slot of the table holds: slot 0 the book, slot i the edition of processor i, or nothing while its
+/// value is out.
 #[derive(Debug, Drop)]
 pub enum Slot<E, B> {
-    Empty,
-    Edition(E),
-    Book(B),
+    Edition(Option<E>),
+    Book(Option<B>),
 }

@@ -1,7 +1,7 @@
 ghost use Rattle.std.specs.Prelude.{◌≡◌, ℕ, ◌+◌, ◌*◌, ◌<◌, ◌≤◌};
 ghost use Rattle.rm_table.specs.Layout.{index_of_word, tracker_index, token_index};
 
-use crate::Slot;
+use crate::padded_slot::PaddedSlot;
 use crate::rule::{LockRule, LockView, Opening};
 use atomic_table::Table;
 use fw_base::{Kept, Numbered};
@@ -11,7 +11,7 @@ use std::marker::Model;
 /// The table under a read-mostly lock of 1 to 64 processors and one operator.
 #[derive(Drop)]
 pub struct RmTable<E: Numbered<Tag = B::Facts>, B: Kept> {
-    pub(crate) table: Table<Slot<E, B>, LockView<E, B>, Opening<E, B>, LockRule, Global>,
+    pub(crate) table: Table<PaddedSlot<E, B>, LockView<E, B>, Opening<E, B>, LockRule, Global>,
     pub(crate) processors: u32,
     // the memory that `close` needs
     pub(crate) trackers: Vec<u64>,

@@ -5,4 +5,5 @@ mod publication;
 mod publication_of_two;
 mod rows;
 mod threads;
+mod told;
 mod walks;

@@ -9,7 +9,7 @@ pub struct View<E, B, T, L, I> {
     pub role: Role,
     /// The number of processors.
     pub count: u64,
-    /// The processor's place, from 1; the operator's is one past the last.
+    /// The processor's place, from 1; the operator's is one past the last, and a receipt's is 0.
     pub place: u64,
     pub phase: Phase,
     pub part: Part<E, L, I>,
@@ -17,11 +17,12 @@ pub struct View<E, B, T, L, I> {
     pub behind: bool,
     /// The book as taken, while it has it.
     pub book: Option<B>,
-    /// The published number, for the operator.
+    /// The published number, for the operator; for a receipt the one when it was made.
     pub number: u64,
     /// The number at the opening.
     pub opened: u64,
-    /// Name and tag of each edition published, one for each number from the opening one on.
+    /// Name and tag of each edition published, one for each number from the opening one on. A receipt's
+    /// are those when it was made.
     pub history: LinkedList<(L, T)>,
     /// The operator's own list, the book's list 0.
     pub own: LinkedList<I>,
@@ -37,6 +38,7 @@ pub struct View<E, B, T, L, I> {
     pub closing: bool,
     /// By place, what is kept of a processor whose seat isn't split off yet, or was joined again.
     pub kept: LinkedList<Option<Part<E, L, I>>>,
-    /// Index of the word and value found or stored, of each step on a word that the seat made.
+    /// Index of the word and value found or stored, of each step on a word that the seat made, but for the
+    /// loads of a split and a join.
     pub steps: LinkedList<(u64, u64)>,
 }

@@ -1,5 +1,5 @@
 ghost use Rattle.std.specs.Prelude.{◌≡◌, ℕ, ◌+◌, ◌-◌, ◌<◌, ◌≤◌};
-ghost use Rattle.rm_table.specs.Rests.{IsOpening, IsRejoined};
+ghost use Rattle.rm_table.specs.Rests.{OpensFrom, IsRejoinedFrom};
 
 use super::ledger::Ledger;
 use super::walks::{LockTable, Seat, open_lock, section};
@@ -18,14 +18,14 @@ fn one_section_each(
     processors: u32,
 )
     requires table { operator.old.table_id ≡ table.now }
-    requires opening { IsOpening place operator.old.me.0 operator.old.me.1 }
+    requires opening { OpensFrom place operator.old.me.0 operator.old.me.1 }
     requires count { operator.old.me.0.count ≡ processors }
     requires above { 0 < place }
     requires within { place ≤ processors + 1 }
     requires few { processors ≤ 64 }
     ensures table { operator.new.table_id ≡ operator.old.table_id }
     ensures count { operator.new.me.0.count ≡ processors }
-    ensures rejoined { IsRejoined place operator.new.me.0 operator.new.me.1 }
+    ensures rejoined { IsRejoinedFrom place operator.new.me.0 operator.new.me.1 }
 {
     if place > processors {
         return;
@@ -37,7 +37,6 @@ fn one_section_each(
 }
 
 #[test]
-#[tactic(auto, using(crate::proofs::Resting::rejoined_closing, crate::proofs::Resting::all_joined))]
 fn opens_and_closes_for_one_processor_and_for_64(rt: HostRuntime) -> Result<(), Fail> {
     for processors in [1, 64] {
         let OpenTable { table, mut seat } = open_lock(rt.alloc(), processors)?;

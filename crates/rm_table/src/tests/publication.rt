@@ -1,7 +1,7 @@
 ghost use Rattle.std.specs.Prelude.{◌≡◌, ℕ, ◌+◌, ◌-◌, ◌^◌, ◌<◌, true, false, None, [], ◌∷◌, length, replicate, IfOk};
 ghost use Rattle.rm_table.specs.Layout.{book_index};
 ghost use Rattle.rm_table.specs.Moves.{IsOperator, is_revoked, is_drained, noted, book_taken};
-ghost use Rattle.rm_table.specs.declared.slot.Slot.TheVariants.{Empty, Edition as Home};
+ghost use Rattle.rm_table.specs.declared.slot.Slot.TheVariants.{Edition as Home, Book as Held};
 ghost use Rattle.rm_table.specs.Rests.{IsIdle, IsAtRest};
 
 use super::edition::Edition;
@@ -15,13 +15,13 @@ use std::process::Abort;
 use std::test::Fail;
 
 // A table of one processor at number 1, and its two seats.
-struct Single {
-    table: LockTable,
-    operator: Seat,
-    processor: Seat,
+pub(crate) struct Single {
+    pub(crate) table: LockTable,
+    pub(crate) operator: Seat,
+    pub(crate) processor: Seat,
 }
 
-fn open_single(alloc: Global) -> Result<Single, Fail>
+pub(crate) fn open_single(alloc: Global) -> Result<Single, Fail>
     ensures tables { IfOk result (λ s. (s.operator.table_id ≡ s.table) × (s.processor.table_id ≡ s.table)) }
     ensures operator { IfOk result (λ s. IsAtRest s.operator.me.0 s.operator.me.1) }
     ensures count { IfOk result (λ s. (s.operator.me.0.count ≡ 1) × (s.operator.me.0.number ≡ 1)) }
@@ -41,7 +41,7 @@ fn open_single(alloc: Global) -> Result<Single, Fail>
 }
 
 // The operator takes the lock behind and the token.
-fn take_token(rt: &impl Abort, table: &LockTable, operator: &mut Seat)
+pub(crate) fn take_token(rt: &impl Abort, table: &LockTable, operator: &mut Seat)
     requires table { operator.old.table_id ≡ table.now }
     requires at_rest { IsAtRest operator.old.me.0 operator.old.me.1 }
     requires count { operator.old.me.0.count ≡ 1 }
@@ -60,7 +60,7 @@ fn take_token(rt: &impl Abort, table: &LockTable, operator: &mut Seat)
 }
 
 // The operator finds the processor out, and puts the next edition into its slot.
-fn renew(rt: &impl Abort, table: &LockTable, operator: &mut Seat, next: u64)
+pub(crate) fn renew(rt: &impl Abort, table: &LockTable, operator: &mut Seat, next: u64)
     requires table { operator.old.table_id ≡ table.now }
     requires operator { IsOperator operator.old.me.0 }
     requires same { (operator.old.me.0.count ≡ 1) × (operator.old.me.1 ≡ []) }
@@ -72,7 +72,7 @@ fn renew(rt: &impl Abort, table: &LockTable, operator: &mut Seat, next: u64)
     ensures table { operator.new.table_id ≡ operator.old.table_id }
     ensures operator { IsOperator operator.new.me.0 }
     ensures same { (operator.new.me.0.count ≡ 1) × (operator.new.me.0.number ≡ operator.old.me.0.number) }
-    ensures hand { operator.new.me.1 ≡ (1, Home (record { number = next })) ∷ [] }
+    ensures hand { operator.new.me.1 ≡ (1, Home (Some (record { number = next }))) ∷ [] }
     ensures locks { (operator.new.me.0.behind ≡ true) × (operator.new.me.0.book ≡ None) }
     ensures drained { is_drained operator.new.me.0 1 ≡ true }
     ensures size { length operator.new.me.0.kept ≡ 2 }
@@ -88,7 +88,7 @@ pub(crate) fn take_ledger(rt: &impl Abort, table: &LockTable, operator: &mut Sea
     requires table { operator.old.table_id ≡ table.now }
     requires operator { IsOperator operator.old.me.0 }
     ensures table { operator.new.table_id ≡ operator.old.table_id }
-    ensures seat { operator.new.me ≡ (noted (book_taken operator.old.me.0 result) book_index 0, (0, Empty) ∷ operator.old.me.1) }
+    ensures seat { operator.new.me ≡ (noted (book_taken operator.old.me.0 result) book_index 0, (0, Held None) ∷ operator.old.me.1) }
     ensures number { result.number ≡ operator.old.me.0.number }
     ensures publications { replicate result.publications 0 ≡ operator.old.me.0.own }
 {
@@ -100,11 +100,11 @@ pub(crate) fn take_ledger(rt: &impl Abort, table: &LockTable, operator: &mut Sea
 }
 
 // The operator, with the processor's next edition in hand, publishes it, and gives book and lock back.
-fn publish_next(rt: &impl Abort, table: &LockTable, operator: &mut Seat, next: u64)
+pub(crate) fn publish_next(rt: &impl Abort, table: &LockTable, operator: &mut Seat, next: u64)
     requires table { operator.old.table_id ≡ table.now }
     requires operator { IsOperator operator.old.me.0 }
     requires same { (operator.old.me.0.count ≡ 1) × (operator.old.me.0.number + 1 ≡ next) }
-    requires hand { operator.old.me.1 ≡ (1, Home (record { number = next })) ∷ [] }
+    requires hand { operator.old.me.1 ≡ (1, Home (Some (record { number = next }))) ∷ [] }
     requires locks { (operator.old.me.0.behind ≡ true) × (operator.old.me.0.book ≡ None) }
     requires drained { is_drained operator.old.me.0 1 ≡ true }
     requires size { length operator.old.me.0.kept ≡ 2 }

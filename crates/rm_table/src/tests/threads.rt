@@ -1,6 +1,6 @@
 ghost use Rattle.std.specs.Prelude.{◌≡◌, ℕ, ◌+◌, ◌-◌, ◌<◌, ◌≤◌};
 ghost use Rattle.std.specs.Thread.{IsSync};
-ghost use Rattle.rm_table.specs.Rests.{IsIdle, IsInside, IsOpening, IsRejoined};
+ghost use Rattle.rm_table.specs.Rests.{IsIdle, IsInside, OpensFrom, IsRejoinedFrom};
 
 use super::walks::{LockTable, Seat, open_lock};
 use crate::{OpenTable, Tried};
@@ -69,14 +69,14 @@ fn sections_in_threads<R: Threads + Sync>(
     processors: u32,
 ) -> Seat
     requires table { operator.table_id ≡ table.now }
-    requires opening { IsOpening place operator.me.0 operator.me.1 }
+    requires opening { OpensFrom place operator.me.0 operator.me.1 }
     requires count { operator.me.0.count ≡ processors }
     requires above { 0 < place }
     requires within { place ≤ processors + 1 }
     requires few { processors ≤ 64 }
     ensures table { result.table_id ≡ table.now }
     ensures count { result.me.0.count ≡ processors }
-    ensures rejoined { IsRejoined place result.me.0 result.me.1 }
+    ensures rejoined { IsRejoinedFrom place result.me.0 result.me.1 }
 {
     if place > processors {
         return operator;
@@ -89,8 +89,8 @@ fn sections_in_threads<R: Threads + Sync>(
             ensures { (result.table_id ≡ table.entry.now) × (result.me.0.place ≡ place) × IsIdle result.me.0 result.me.1 }
         { sections_with_book(table, seat, place) },
         move || -> Seat
-            requires { IsSync R.row × (operator.table_id ≡ table.now) × IsOpening (place + 1) operator.me.0 operator.me.1 × (operator.me.0.count ≡ processors) × (0 < place) × (place ≤ processors) × (processors ≤ 64) }
-            ensures { (result.table_id ≡ table.entry.now) × (result.me.0.count ≡ processors) × IsRejoined (place + 1) result.me.0 result.me.1 }
+            requires { IsSync R.row × (operator.table_id ≡ table.now) × OpensFrom (place + 1) operator.me.0 operator.me.1 × (operator.me.0.count ≡ processors) × (0 < place) × (place ≤ processors) × (processors ≤ 64) }
+            ensures { (result.table_id ≡ table.entry.now) × (result.me.0.count ≡ processors) × IsRejoinedFrom (place + 1) result.me.0 result.me.1 }
         { sections_in_threads(rt, table, operator, place + 1, processors) },
     );
     table.join_seat(&mut operator, seat);

@@ -1,6 +1,6 @@
 ghost use Rattle.std.specs.Prelude.{◌≡◌, ℕ, ◌+◌, ◌-◌, ◌^◌, ◌<◌, ◌≤◌, true, false, [], None, IfOk, length};
 ghost use Rattle.rm_table.specs.Moves.{IsOperator, is_revoked, is_drained};
-ghost use Rattle.rm_table.specs.Rests.{IsIdle, IsAtRest, IsOpening};
+ghost use Rattle.rm_table.specs.Rests.{IsIdle, IsAtRest, OpensFrom};
 
 use super::edition::Edition;
 use super::ledger::Ledger;
@@ -19,7 +19,7 @@ pub(crate) fn open_lock(alloc: Global, processors: u32) -> Result<OpenTable<Edit
     requires some { 0 < processors }
     requires few { processors ≤ 64 }
     ensures table { IfOk result (λ o. o.seat.table_id ≡ o.table) }
-    ensures opening { IfOk result (λ o. IsOpening 1 o.seat.me.0 o.seat.me.1) }
+    ensures opening { IfOk result (λ o. OpensFrom 1 o.seat.me.0 o.seat.me.1) }
     ensures count { IfOk result (λ o. (o.seat.me.0.count ≡ processors) × (o.seat.me.0.number ≡ 1)) }
 {
     let editions = vec![in alloc; Edition { number: 1 }; processors as usize]?;

@@ -27,5 +27,5 @@ loop-place-preserved g c =
       (λ k low high. ap (λ fs. slice_index_or fs k false) now.1 ∙ index_else filled c.loop-place.place k false false (λ same. omega arith) ∙ h.6 k (omega arith) high),
       (λ k low below. ap (λ fs. slice_index_or fs k false) now.1 ∙ cleared filled c.loop-place.place k (λ other. h.7 k low (grind (arith, other)))),
       ap (λ fs. slice_index_or fs 0 false) now.1 ∙ index_else filled c.loop-place.place 0 false false (λ same. omega arith) ∙ h.8,
-      (λ j e is. pushed_items (λ x. Edition x) c.loop-place.editions.items (slots_items c.args.closed.now.slots) c.loop-place.place c.loop-place.editions.len c.edition_in.result c.loop-place.editions.ok.0 h.3 h.9 here j e (ap (λ ys. slice_get ys j) (sym p.items) ∙ is)),
+      (λ j e is. pushed_items (λ x. Edition (Some x)) c.loop-place.editions.items (slots_items c.args.closed.now.slots) c.loop-place.place c.loop-place.editions.len c.edition_in.result c.loop-place.editions.ok.0 h.3 h.9 here j e (ap (λ ys. slice_get ys j) (sym p.items) ∙ is)),
     )

@@ -11,4 +11,4 @@ invariant-loop-place g l =
     × ((k : ℕ) → l.place ≤ k → k ≤ l.processors → slice_index_or (slots_filled l.closed.slots) k false ≡ true)
     × ((k : ℕ) → 0 < k → k < l.place → slice_index_or (slots_filled l.closed.slots) k false ≡ false)
     × (slice_index_or (slots_filled l.closed.slots) 0 false ≡ slice_index_or (slots_filled l.initial.closed.slots) 0 false)
-    × ((j : ℕ) (e : g.row.E.Denot) → slice_get l.editions.items j ≡ Some e → slice_get (slots_items l.initial.closed.slots) (j + 1) ≡ Some (Edition e))
+    × ((j : ℕ) (e : g.row.E.Denot) → slice_get l.editions.items j ≡ Some e → slice_get (slots_items l.initial.closed.slots) (j + 1) ≡ Some (Edition (Some e)))

@@ -1,5 +1,5 @@
 use Rattle.rm_table.proofs.Calls.{raise_makes, check_makes, lower_makes, regain_makes}
-use Rattle.rm_table.proofs.LockCalls.{take_back_makes, give_back_makes, read_number_makes, revoke_makes, drain_makes, publish_makes, take_book_makes, give_book_makes, split_makes, join_makes}
+use Rattle.rm_table.proofs.LockCalls.{take_back_makes, give_back_makes, read_number_makes, revoke_makes, drain_makes, publish_makes, take_book_makes, give_book_makes, split_makes, join_makes, receipt_makes, hear_makes}
 use Rattle.rm_table.proofs.laws.each_kind_is_its_event.Goals as goal
 
 pub returns-clause-raise : goal.returns-clause-raise
@@ -43,3 +43,9 @@ returns-clause-split_seat g c = split_makes _
 
 pub returns-clause-join_seat : goal.returns-clause-join_seat
 returns-clause-join_seat g c = join_makes _
+
+pub returns-clause-split_receipt : goal.returns-clause-split_receipt
+returns-clause-split_receipt g c = receipt_makes _
+
+pub returns-clause-join_receipt : goal.returns-clause-join_receipt
+returns-clause-join_receipt g c = hear_makes _

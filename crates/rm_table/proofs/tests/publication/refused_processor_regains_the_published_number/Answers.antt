@@ -3,4 +3,4 @@ use Rattle.rm_table.proofs.Writes.{join_one}
 use Rattle.rm_table.proofs.tests.publication.refused_processor_regains_the_published_number.Goals as goal
 
 pub close-closed-requires-clause-joined : goal.close-closed-requires-clause-joined
-close-closed-requires-clause-joined g c = join_one c.publish_next.new.operator.me c.join_seat.new.into.me c.section-4.new.seat.me.0 c.join_seat.ensures.both (search rules) c.publish_next.ensures.same.0 c.publish_next.ensures.at_rest
+close-closed-requires-clause-joined g c = join_one c.publish_next.new.operator.me c.join_seat.new.into.me c.section-4.new.seat.me.0 (c.join_seat.ensures.both c.publish_next.ensures.at_rest.operator.role) (search rules) c.publish_next.ensures.same.0 c.publish_next.ensures.at_rest

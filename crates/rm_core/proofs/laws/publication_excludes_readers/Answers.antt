@@ -1,5 +1,5 @@
 use Rattle.rm_core.proofs.OneRun.{inside_number, nobody_in, drained_stays_out}
-use Rattle.rm_core.proofs.laws.writer_excludes_readers.Goals as goal
+use Rattle.rm_core.proofs.laws.publication_excludes_readers.Goals as goal
 
 pub returns-clause-inside : goal.returns-clause-inside
 returns-clause-inside c = inside_number
