@@ -6,6 +6,7 @@ DESTDIR =
 
 PROGRAM = bin/ipfw_replay
 LOCK_BENCH = bin/lock_bench
+STATES_BENCH = bin/states_bench
 
 # Fails with one line where the toolchain's command is missing.
 need_rt = @command -v $(RT) >/dev/null || { \
@@ -22,10 +23,10 @@ $(PROGRAM): bin/sources
 	@cp crates/ipfw_cli/out/ipfw_cli $@.new && mv $@.new $@
 	@echo "built $@"
 
-$(LOCK_BENCH): bin/sources
+$(LOCK_BENCH) $(STATES_BENCH): bin/%: bin/sources
 	$(need_rt)
-	cd crates/lock_bench && $(RT) run >/dev/null
-	@cp crates/lock_bench/out/lock_bench $@.new && mv $@.new $@
+	cd crates/$* && $(RT) run >/dev/null
+	@cp crates/$*/out/$* $@.new && mv $@.new $@
 	@echo "built $@"
 
 # The checksum of each source. The file is replaced only where one of them changed, so that nothing is built
@@ -45,8 +46,9 @@ test:
 	@$(MAKE) --no-print-directory $(PROGRAM)
 	tests/run $(PROGRAM)
 
-bench: $(PROGRAM) $(LOCK_BENCH)
+bench: $(PROGRAM) $(LOCK_BENCH) $(STATES_BENCH)
 	bench/run $(PROGRAM)
+	$(STATES_BENCH) 1000000
 	$(LOCK_BENCH) 10000000
 
 install: $(PROGRAM)
@@ -60,7 +62,7 @@ help:
 	@echo "make            proves the crates and builds bin/ipfw_replay, where something changed"
 	@echo "make example    builds, and replays examples/first: a real capture beside a script of rules"
 	@echo "make test       proves and tests every crate (rt ci), then runs the program's own checks (tests/run)"
-	@echo "make bench      builds, and times the program on large captures, beside tcpdump where it is installed (needs python3), and the lock's sections"
+	@echo "make bench      builds, and times the program on large captures, beside tcpdump where it is installed (needs python3), the states' asks, and the lock's sections"
 	@echo "make install    builds, and copies the program to DESTDIR/PREFIX/bin (PREFIX is $(PREFIX))"
 	@echo "make clean      removes all that was built and what the proofs keep"
 	@echo
