@@ -223,40 +223,48 @@ fn syn_with(flags: u8) -> [u8; 40] {
     packet
 }
 
-/// `longest_prefix_decides`, `established_needs_ack_or_rst` and `lookup_of_a_port`.
-#[test]
-fn tables_and_flags(rt: HostRuntime) -> Result<(), Fail> {
-    let alloc = rt.alloc();
-    let from = [
-        syn_from([10, 1, 2, 3]),
-        syn_from([10, 2, 2, 3]),
-        syn_from([11, 0, 0, 1]),
-    ];
-    let answer = syn_with(0x12);
-    let rows: [(&str, &str, &[&[u8]], &str); 3] = [
-        (
-            "longest_prefix_decides",
-            "table nets add 10.0.0.0/8 1\ntable nets add 10.1.0.0/16 2\nadd 100 allow ip from table(nets,2) to any\nadd 200 deny ip from table(nets,1) to any\n",
-            &[&from[0], &from[1], &from[2]],
-            "1.1 allow 00100 at 1\n1.2 deny 00200 at 1\n1.3 deny 65535 at 1\nend 1 records 3\n",
-        ),
-        (
-            "established_needs_ack_or_rst",
-            "add 100 allow tcp from any to any established\n",
-            &[&SYN, &answer],
-            "1.1 deny 65535 at 1\n1.2 allow 00100 at 1\nend 1 records 2\n",
-        ),
-        (
-            "lookup_of_a_port",
-            "table ports create type number\ntable ports add 80 1\nadd 100 allow tcp from any to any lookup dst-port ports\n",
-            &[&SYN],
-            "1.1 allow 00100 at 1\nend 1 records 1\n",
-        ),
-    ];
-    for (name, script, packets, begins) in rows {
-        let seen = replay(&rt, alloc, script.as_bytes(), &raw(alloc, packets)?, &[])?;
-        assert!(rt; seen.text.starts_with(begins.as_bytes()), "{name}");
-        assert_eq!(rt; seen.status, 0, "{name}");
-    }
+/// Runs a script over a capture, and compares how the report begins.
+fn check_start<R: Threads + Wait + Abort>(
+    rt: &R,
+    alloc: Global,
+    script: &str,
+    capture: &[u8],
+    begins: &str,
+) -> Result<(), Fail> {
+    let seen = replay(rt, alloc, script.as_bytes(), capture, &[])?;
+    assert!(rt; seen.text.starts_with(begins.as_bytes()), "{begins}");
+    assert_eq!(rt; seen.status, 0, "{begins}");
     Ok(())
+}
+
+#[test]
+fn longest_prefix_decides(rt: HostRuntime) -> Result<(), Fail> {
+    let script = "table nets add 10.0.0.0/8 1\ntable nets add 10.1.0.0/16 2\n\
+        add 100 allow ip from table(nets,2) to any\nadd 200 deny ip from table(nets,1) to any\n";
+    let begins = "1.1 allow 00100 at 1\n1.2 deny 00200 at 1\n1.3 deny 65535 at 1\nend 1 records 3\n";
+    let within_both = syn_from([10, 1, 2, 3]);
+    let within_one = syn_from([10, 2, 2, 3]);
+    let without = syn_from([11, 0, 0, 1]);
+    let packets: [&[u8]; 3] = [&within_both, &within_one, &without];
+    let capture = raw(rt.alloc(), &packets)?;
+    check_start(&rt, rt.alloc(), script, &capture, begins)
+}
+
+#[test]
+fn established_needs_ack_or_rst(rt: HostRuntime) -> Result<(), Fail> {
+    let script = "add 100 allow tcp from any to any established\n";
+    let begins = "1.1 deny 65535 at 1\n1.2 allow 00100 at 1\nend 1 records 2\n";
+    let asks = SYN;
+    let answers = syn_with(0x12);
+    let packets: [&[u8]; 2] = [&asks, &answers];
+    let capture = raw(rt.alloc(), &packets)?;
+    check_start(&rt, rt.alloc(), script, &capture, begins)
+}
+
+#[test]
+fn lookup_of_a_port(rt: HostRuntime) -> Result<(), Fail> {
+    let script = "table ports create type number\ntable ports add 80 1\n\
+        add 100 allow tcp from any to any lookup dst-port ports\n";
+    let capture = raw(rt.alloc(), &[&SYN])?;
+    check_start(&rt, rt.alloc(), script, &capture, "1.1 allow 00100 at 1\nend 1 records 1\n")
 }

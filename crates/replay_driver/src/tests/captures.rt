@@ -59,30 +59,43 @@ pub fn push_record(capture: &mut Vec<u8>, second: u32, parts: &[&[u8]]) -> Resul
     Ok(())
 }
 
+/// Appends a record of a packet with ports: what stands before its addresses, and what behind its ports.
+fn push_between(
+    capture: &mut Vec<u8>,
+    second: u32,
+    start: &[u8],
+    source: &End,
+    destination: &End,
+    rest: &[u8],
+) -> Result<(), Fail> {
+    let port = source.1.to_be_bytes();
+    let other = destination.1.to_be_bytes();
+    let parts: [&[u8]; 6] = [start, &source.0, &destination.0, &port, &other, rest];
+    push_record(capture, second, &parts)
+}
+
 /// Appends a record of a packet.
-fn push_packet(capture: &mut Vec<u8>, second: u32, packet: Packet) -> Result<(), Fail> {
+fn push_packet(capture: &mut Vec<u8>, second: u32, packet: &Packet) -> Result<(), Fail> {
     match packet {
-        Packet::Tcp((source, port), (destination, other), flags) => {
+        Packet::Tcp(source, destination, flags) => {
             let start = header_start(40, 0, 6);
-            let end = [0, 0, 0, 0, 0, 0, 0, 0, 0x50, flags, 0xff, 0xff, 0, 0, 0, 0];
-            let (port, other) = (port.to_be_bytes(), other.to_be_bytes());
-            let parts: [&[u8]; 6] = [&start, &source, &destination, &port, &other, &end];
-            push_record(capture, second, &parts)
+            let rest = [0, 0, 0, 0, 0, 0, 0, 0, 0x50, *flags, 0xff, 0xff, 0, 0, 0, 0];
+            push_between(capture, second, &start, source, destination, &rest)
         }
-        Packet::Udp((source, port), (destination, other)) => {
+        Packet::Udp(source, destination) => {
             let start = header_start(28, 0, 17);
-            let (port, other) = (port.to_be_bytes(), other.to_be_bytes());
-            let parts: [&[u8]; 6] = [&start, &source, &destination, &port, &other, &[0, 8, 0, 0]];
-            push_record(capture, second, &parts)
+            push_between(capture, second, &start, source, destination, &[0, 8, 0, 0])
         }
         Packet::Icmp(source, destination, kind) => {
             let start = header_start(28, 0, 1);
-            let parts: [&[u8]; 4] = [&start, &source, &destination, &[kind, 0, 0, 0, 0, 0, 0, 0]];
+            let rest = [*kind, 0, 0, 0, 0, 0, 0, 0];
+            let parts: [&[u8]; 4] = [&start, source, destination, &rest];
             push_record(capture, second, &parts)
         }
         Packet::Fragment(source, destination) => {
             let start = header_start(28, 0xb9, 17);
-            let parts: [&[u8]; 4] = [&start, &source, &destination, &[0, 0, 0, 0, 0, 8, 0, 0]];
+            let rest = [0, 0, 0, 0, 0, 8, 0, 0];
+            let parts: [&[u8]; 4] = [&start, source, destination, &rest];
             push_record(capture, second, &parts)
         }
     }
@@ -92,7 +105,7 @@ fn push_packet(capture: &mut Vec<u8>, second: u32, packet: Packet) -> Result<(),
 pub fn capture_of(alloc: Global, packets: &[(u32, Packet)]) -> Result<Vec<u8>, Fail> {
     let mut capture = Vec::from_slice(alloc, &RAW_HEADER)?;
     for (second, packet) in packets {
-        push_packet(&mut capture, *second, *packet)?;
+        push_packet(&mut capture, *second, packet)?;
     }
     Ok(capture)
 }
