@@ -241,7 +241,8 @@ fn check_start<R: Threads + Wait + Abort>(
 fn longest_prefix_decides(rt: HostRuntime) -> Result<(), Fail> {
     let script = "table nets add 10.0.0.0/8 1\ntable nets add 10.1.0.0/16 2\n\
         add 100 allow ip from table(nets,2) to any\nadd 200 deny ip from table(nets,1) to any\n";
-    let begins = "1.1 allow 00100 at 1\n1.2 deny 00200 at 1\n1.3 deny 65535 at 1\nend 1 records 3\n";
+    let begins =
+        "1.1 allow 00100 at 1\n1.2 deny 00200 at 1\n1.3 deny 65535 at 1\nend 1 records 3\n";
     let within_both = syn_from([10, 1, 2, 3]);
     let within_one = syn_from([10, 2, 2, 3]);
     let without = syn_from([11, 0, 0, 1]);
@@ -266,5 +267,11 @@ fn lookup_of_a_port(rt: HostRuntime) -> Result<(), Fail> {
     let script = "table ports create type number\ntable ports add 80 1\n\
         add 100 allow tcp from any to any lookup dst-port ports\n";
     let capture = raw(rt.alloc(), &[&SYN])?;
-    check_start(&rt, rt.alloc(), script, &capture, "1.1 allow 00100 at 1\nend 1 records 1\n")
+    check_start(
+        &rt,
+        rt.alloc(),
+        script,
+        &capture,
+        "1.1 allow 00100 at 1\nend 1 records 1\n",
+    )
 }

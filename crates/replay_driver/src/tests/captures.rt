@@ -43,48 +43,64 @@ fn header_start(total: u8, fragment: u8, protocol: u8) -> [u8; 12] {
     [0x45, 0, 0, total, 0, 0, 0, fragment, 0x40, protocol, 0, 0]
 }
 
-/// Appends a little-endian record of these parts: that second, fraction 0, its length twice.
+/// Appends a little-endian record's heading: that second, fraction 0, its length twice.
+fn push_heading(capture: &mut Vec<u8>, second: u32, length: u32) -> Result<(), Fail> {
+    capture.extend_from_slice(&second.to_le_bytes())?;
+    capture.extend_from_slice(&[0, 0, 0, 0])?;
+    capture.extend_from_slice(&length.to_le_bytes())?;
+    capture.extend_from_slice(&length.to_le_bytes())?;
+    Ok(())
+}
+
+/// Appends a little-endian record of these parts.
 pub fn push_record(capture: &mut Vec<u8>, second: u32, parts: &[&[u8]]) -> Result<(), Fail> {
     let mut length = 0u32;
     for part in parts {
         length = length.saturating_add(u32::try_from(part.len()).unwrap_or(0));
     }
-    capture.extend_from_slice(&second.to_le_bytes())?;
-    capture.extend_from_slice(&[0, 0, 0, 0])?;
-    capture.extend_from_slice(&length.to_le_bytes())?;
-    capture.extend_from_slice(&length.to_le_bytes())?;
+    push_heading(capture, second, length)?;
     for part in parts {
         capture.extend_from_slice(part)?;
     }
     Ok(())
 }
 
-/// Appends a record of a packet with ports: what stands before its addresses, and what behind its ports.
-fn push_between(
+/// Appends the addresses of two ends, and then their ports.
+fn push_ends(capture: &mut Vec<u8>, source: &End, destination: &End) -> Result<(), Fail> {
+    capture.extend_from_slice(&source.0)?;
+    capture.extend_from_slice(&destination.0)?;
+    capture.extend_from_slice(&source.1.to_be_bytes())?;
+    capture.extend_from_slice(&destination.1.to_be_bytes())?;
+    Ok(())
+}
+
+/// Appends a record of a packet with ports, of this total length and protocol, up to its ports.
+fn push_with_ports(
     capture: &mut Vec<u8>,
     second: u32,
-    start: &[u8],
+    total: u8,
+    protocol: u8,
     source: &End,
     destination: &End,
-    rest: &[u8],
 ) -> Result<(), Fail> {
-    let port = source.1.to_be_bytes();
-    let other = destination.1.to_be_bytes();
-    let parts: [&[u8]; 6] = [start, &source.0, &destination.0, &port, &other, rest];
-    push_record(capture, second, &parts)
+    push_heading(capture, second, u32::from(total))?;
+    capture.extend_from_slice(&header_start(total, 0, protocol))?;
+    push_ends(capture, source, destination)
 }
 
 /// Appends a record of a packet.
 fn push_packet(capture: &mut Vec<u8>, second: u32, packet: &Packet) -> Result<(), Fail> {
     match packet {
         Packet::Tcp(source, destination, flags) => {
-            let start = header_start(40, 0, 6);
             let rest = [0, 0, 0, 0, 0, 0, 0, 0, 0x50, *flags, 0xff, 0xff, 0, 0, 0, 0];
-            push_between(capture, second, &start, source, destination, &rest)
+            push_with_ports(capture, second, 40, 6, source, destination)?;
+            capture.extend_from_slice(&rest)?;
+            Ok(())
         }
         Packet::Udp(source, destination) => {
-            let start = header_start(28, 0, 17);
-            push_between(capture, second, &start, source, destination, &[0, 8, 0, 0])
+            push_with_ports(capture, second, 28, 17, source, destination)?;
+            capture.extend_from_slice(&[0, 8, 0, 0])?;
+            Ok(())
         }
         Packet::Icmp(source, destination, kind) => {
             let start = header_start(28, 0, 1);
