@@ -6,3 +6,4 @@ pub mod Splits
 pub mod Joins
 pub mod Givings
 pub mod Begins
+pub mod Callers

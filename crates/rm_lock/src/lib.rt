@@ -24,6 +24,8 @@ mod publishing;
 mod reader_calls;
 mod reading;
 mod slots;
+#[cfg(test)]
+mod tests;
 mod waits;
 mod write_calls;
 mod writing;
