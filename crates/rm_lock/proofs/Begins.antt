@@ -1,12 +1,12 @@
 -- The operator's seat through the beginning of a write.
-use Rattle.std.proofs.Common.{◌≡◌, ℕ, ◌+◌, ◌-◌, ◌^◌, ◌<◌, ◌≤◌, Bool, true, false, Some, None, List, [], ◌∷◌, length, refl, sym, ◌∙◌, ap, subst, arith}
+use Rattle.std.proofs.Common.{◌≡◌, ℕ, ◌+◌, ◌-◌, ◌^◌, ◌<◌, Bool, true, false, List, [], length, refl, sym, ◌∙◌, ap, subst, arith}
 use Rattle.std.specs.Prelude.{slice_index_or}
 use Rattle.atomic_table.specs.Table.{Me}
 use Rattle.atomic_table.specs.Seated.{TableId}
 use Rattle.rm_table.specs.declared.slot.Slot.{Slot}
 use Rattle.rm_table.specs.declared.view.View.{View}
 use Rattle.rm_table.specs.Meanings.{Meanings}
-use Rattle.rm_table.specs.Moves.{editions_from, IsOperator, NoneRevoked, NoneDrained, AllRevoked, AllDrained}
+use Rattle.rm_table.specs.Moves.{editions_from, IsOperator, NoneRevoked, NoneDrained, AllRevoked}
 use Rattle.rm_lock.specs.Tokens.{TokenState, IsAtRestBy, WritesBy, AreOld}
 use Rattle.rm_lock.specs.Calls.{TakenBehind, took_behind, steady, Begins, AreNext, Publishes}
 use Rattle.rm_lock.specs.Writes.{unmarked, HasFoundAll, IsWriting}
@@ -123,8 +123,7 @@ module _ {E B T L I : Type 0} where
     pub may_write : (token : TokenState E B T L I) (table : TableId) (s0 s1 : Me (Slot E B) (View E B T L I)) (editions : List E) (facts : T) → record { table_id = table; view = s0.0 } ≡ token → s1 ≡ (s0.0, editions_from 1 editions []) → length editions ≡ token.view.count → AreNext m token.view.number editions facts
         → (length editions ≡ s1.0.count) × (s1.1 ≡ editions_from 1 editions []) × AreNext m s1.0.number editions facts
     may_write token table s0 s1 editions facts is now count next =
-        let view : token.view ≡ s1.0 = sym (ap (λ (u : TokenState E B T L I). u.view) is) ∙ sym (ap (λ (s : Me (Slot E B) (View E B T L I)). s.0) now) in
-        (
+        let view : token.view ≡ s1.0 = sym (ap (λ (u : TokenState E B T L I). u.view) is) ∙ sym (ap (λ (s : Me (Slot E B) (View E B T L I)). s.0) now) in (
           count ∙ ap (λ (v : View E B T L I). v.count) view,
           ap (λ (s : Me (Slot E B) (View E B T L I)). s.1) now,
           subst (λ (v : View E B T L I). AreNext m v.number editions facts) view next,

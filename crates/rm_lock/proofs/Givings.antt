@@ -1,16 +1,13 @@
 -- The book given back, by a processor and by the operator.
-use Rattle.std.proofs.Common.{◌≡◌, ◌≢◌, ◌⊎◌, inl, inr, ℕ, true, false, Some, None, List, [], ◌∷◌, refl, sym, ◌∙◌, ap, subst}
-use Rattle.std.specs.Prelude.{IsSome}
+use Rattle.std.proofs.Common.{◌≡◌, inr, ℕ, false, Some, ◌∷◌, refl, sym, ◌∙◌, ap, subst}
 use Rattle.atomic_table.specs.Table.{Me, rest}
 use Rattle.atomic_table.specs.Seated.{TableId}
-use Rattle.rm_table.specs.declared.role.Role.TheVariants.{Processor, Operator}
 use Rattle.rm_table.specs.declared.slot.Slot.{Slot}
-use Rattle.rm_table.specs.declared.slot.Slot.TheVariants.{Edition, Book}
+use Rattle.rm_table.specs.declared.slot.Slot.TheVariants.{Book}
 use Rattle.rm_table.specs.declared.view.View.{View}
 use Rattle.rm_table.specs.Layout.{book_index}
 use Rattle.rm_table.specs.Meanings.{Meanings}
-use Rattle.rm_table.specs.Moves.{Hand, noted, book_given, HasBook, LeftBy, LeftByOperator, IsOperator, IsWorking}
-use Rattle.rm_table.specs.Rests.{IsAtRest}
+use Rattle.rm_table.specs.Moves.{Hand, noted, book_given, HasBook, IsWorking}
 use Rattle.rm_table.proofs.Base.{some_of}
 use Rattle.rm_lock.specs.Tokens.{BookTokenState, HoldsBy, IsInBy, KeepsBy, IsAtRestBy}
 use Rattle.rm_lock.specs.Calls.{IsAsTaken, IsAsFound, gave_book}

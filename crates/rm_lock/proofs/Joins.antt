@@ -1,15 +1,12 @@
 -- The seats of all processors joined into the operator's, one by one.
-use Rattle.std.proofs.Common.{◌≡◌, ◌≢◌, ◌⊎◌, inl, inr, ℕ, zero, suc, ◌+◌, ◌-◌, ◌*◌, ◌%◌, ◌^◌, ◌<◌, ◌≤◌, true, false, Some, None, List, [], ◌∷◌, ◌++◌, length, length-set, refl, sym, ◌∙◌, ap, subst, arith}
-use Rattle.std.specs.Prelude.{slice_get, slice_set, slice_index_or, take}
-use Rattle.std.proofs.lemmas.Bool.Decides.{eqb_tells}
+use Rattle.std.proofs.Common.{◌≡◌, ◌≢◌, ◌⊎◌, inl, inr, ℕ, ◌+◌, ◌-◌, ◌<◌, true, Some, List, [], ◌∷◌, ◌++◌, length, length-set, refl, sym, ◌∙◌, ap, subst, arith}
+use Rattle.std.specs.Prelude.{slice_get, slice_index_or, take}
 use Rattle.atomic_table.specs.Table.{Me}
 use Rattle.atomic_table.specs.Seated.{TableId}
-use Rattle.rm_table.specs.declared.role.Role.TheVariants.{Operator}
 use Rattle.rm_table.specs.declared.slot.Slot.{Slot}
 use Rattle.rm_table.specs.declared.view.View.{View}
-use Rattle.rm_table.specs.declared.part.Part.{Part}
 use Rattle.rm_table.specs.Meanings.{Meanings}
-use Rattle.rm_table.specs.Moves.{joined, kept_at, AllSplit, AllJoined, NoneRevoked, NoneDrained}
+use Rattle.rm_table.specs.Moves.{joined, kept_at, AllSplit, AllJoined, NoneRevoked}
 use Rattle.rm_table.specs.Ends.{ClosesWith}
 use Rattle.rm_table.specs.Rests.{IsAtRest}
 use Rattle.rm_table.proofs.Base.{get_set_here, get_set_else, snoc_get}
@@ -50,8 +47,7 @@ module _ {E B T L I : Type 0} where
 
   pub joining_all : (old : Me (Slot E B) (View E B T L I)) (tokens : List (TokenState E B T L I)) (s : Me (Slot E B) (View E B T L I)) → 0 < old.0.count → EachOnce old.0.count tokens → Joining old tokens s → AllJoined s.0
   joining_all old tokens s some each j =
-      let count : s.0.count ≡ old.0.count = ap (λ (v : View E B T L I). v.count) j.same in
-      (
+      let count : s.0.count ≡ old.0.count = ap (λ (v : View E B T L I). v.count) j.same in (
         by_state j.state,
         λ k low high. let e = each.all k low (omega arith) in (e.1.view.part, ap (λ (n : ℕ). kept_at s.0 n) (sym e.3) ∙ j.kept e.0 e.1 e.2),
       )
@@ -70,7 +66,7 @@ module _ {E B T L I : Type 0} where
       let w = e.within (length tokens) p here in
       let size = rests.at_rest.kept_size in
       joining_one old tokens p s new (then ∙ ap (λ (u : TokenState E B T L I). (joined s.0 u.view, s.1)) shown) (let low = w.0 in let high = w.1 in omega arith)
-        (λ i q there same. let before = get_within tokens i q there in let i_is = e.once i (length tokens) q p (get_prefix tokens all i q so_far there) here same in absurd (omega arith)) j
+      (λ i q there same. let before = get_within tokens i q there in let i_is = e.once i (length tokens) q p (get_prefix tokens all i q so_far there) here same in absurd (omega arith)) j
 
   pub joined_everyone : (token : TokenState E B T L I) (table : TableId) (processors number : ℕ) (old : Me (Slot E B) (View E B T L I)) (all tokens : List (TokenState E B T L I)) (s : Me (Slot E B) (View E B T L I)) → record { table_id = table; view = old.0 } ≡ token → IsAtRestBy processors number old.0 old.1
       → EachOnce token.view.count all → tokens ≡ all → Joining old tokens s → AllJoined s.0

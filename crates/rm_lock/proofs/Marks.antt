@@ -1,6 +1,6 @@
 -- A write's beginning: the tokens are revoked one by one, and the processors found out one by one.
-use Rattle.std.proofs.Common.{◌≡◌, ◌≢◌, ◌⊎◌, inl, inr, ℕ, zero, suc, ◌+◌, ◌-◌, ◌<◌, ◌≤◌, true, false, Some, List, [], ◌∷◌, length, length-set, refl, sym, ◌∙◌, ap, subst, arith}
-use Rattle.std.specs.Prelude.{slice_get, slice_set}
+use Rattle.std.proofs.Common.{◌≡◌, inl, inr, ℕ, zero, suc, ◌+◌, ◌<◌, ◌≤◌, true, false, Some, List, [], ◌∷◌, length, length-set, refl, sym, ◌∙◌, ap, subst, arith}
+use Rattle.std.specs.Prelude.{slice_get}
 use Rattle.std.proofs.lemmas.Bool.Decides.{eqb_tells}
 use Rattle.atomic_table.specs.Table.{Me}
 use Rattle.rm_table.specs.declared.slot.Slot.{Slot}
@@ -8,9 +8,8 @@ use Rattle.rm_table.specs.declared.slot.Slot.TheVariants.{Edition}
 use Rattle.rm_table.specs.declared.view.View.{View}
 use Rattle.rm_table.specs.Layout.{tracker_index}
 use Rattle.rm_table.specs.Meanings.{Meanings}
-use Rattle.rm_table.specs.Moves.{noted, revoked, drained, is_revoked, is_drained, editions_from, IsOperator, IsLast, NoneRevoked, NoneDrained, AllRevoked, AllDrained}
+use Rattle.rm_table.specs.Moves.{noted, revoked, drained, is_revoked, is_drained, editions_from, IsOperator, IsLast, NoneRevoked, NoneDrained, AllRevoked}
 use Rattle.rm_table.proofs.Base.{index_here, index_else}
-use Rattle.rm_lock.specs.Tokens.{AreOld}
 use Rattle.rm_lock.specs.Calls.{waited, FoundOut}
 use Rattle.rm_lock.specs.Writes.{unmarked, HasFoundAll}
 
@@ -104,14 +103,14 @@ module _ {E B T L I : Type 0} where
         olds_with zero x at =
             let is : e ≡ x = cc in
             subst (λ (y : E). (m.number y ≡ old.0.number) × IsLast old.0 (m.name y) (m.tag y)) is
-              (number ∙ ap (λ (v : View E B T L I). v.number) d.same, subst (λ (v : View E B T L I). IsLast v (m.name e) (m.tag e)) d.same last)
+            (number ∙ ap (λ (v : View E B T L I). v.number) d.same, subst (λ (v : View E B T L I). IsLast v (m.name e) (m.tag e)) d.same last)
         olds_with (suc j) x at = d.olds j x at
 
     -- one more
     pub draining_one : (at place : ℕ) (old s new : Me (Slot E B) (View E B T L I)) → at ≡ place + 1 → at < length old.0.drained → FoundOut m s at new → Draining at old s → Draining place old new
     draining_one at place old s new is within f d =
         let go : (p : ℕ) → p ≡ place + 1 → p < length old.0.drained → FoundOut m s p new → Draining p old s → Draining place old new = λ p e. subst (λ (q : ℕ). q < length old.0.drained → FoundOut m s q new → Draining q old s → Draining place old new) (sym e)
-            (λ w g c. subst (λ (z : Me (Slot E B) (View E B T L I)). Draining place old z) (sym g.3) (draining_step place g.1 g.0 g.2 old s w g.4 g.5 c)) in
+        (λ w g c. subst (λ (z : Me (Slot E B) (View E B T L I)). Draining place old z) (sym g.3) (draining_step place g.1 g.0 g.2 old s w g.4 g.5 c)) in
         go at is within f d
 
     pub draining_all : (old s : Me (Slot E B) (View E B T L I)) → Draining 0 old s → HasFoundAll m old s

@@ -1,19 +1,17 @@
 -- The operator's seat through a publication.
-use Rattle.std.proofs.Common.{◌≡◌, ◌≢◌, ◌⊎◌, inr, ℕ, zero, suc, ◌+◌, ◌-◌, ◌^◌, ◌<◌, ◌≤◌, true, false, Some, None, List, [], ◌∷◌, ◌++◌, length, refl, sym, ◌∙◌, ap, subst, arith}
-use Rattle.std.specs.Prelude.{slice_get, replicate}
+use Rattle.std.proofs.Common.{◌≡◌, ◌≢◌, inr, ℕ, ◌+◌, ◌<◌, ◌≤◌, true, false, Some, None, List, [], ◌∷◌, ◌++◌, length, refl, sym, ◌∙◌, ap, subst, arith}
+use Rattle.std.specs.Prelude.{slice_get}
 use Rattle.std.proofs.lemmas.List.{length-replicate}
 use Rattle.atomic_table.specs.Table.{Me, rest, turned}
-use Rattle.rm_table.specs.declared.role.Role.TheVariants.{Operator}
 use Rattle.rm_table.specs.declared.tried.Tried.{Tried}
 use Rattle.rm_table.specs.declared.tried.Tried.TheVariants.{Taken}
 use Rattle.rm_table.specs.declared.slot.Slot.{Slot}
-use Rattle.rm_table.specs.declared.slot.Slot.TheVariants.{Edition, Book}
+use Rattle.rm_table.specs.declared.slot.Slot.TheVariants.{Book}
 use Rattle.rm_table.specs.declared.view.View.{View}
 use Rattle.rm_table.specs.Layout.{number_index, book_index, behind_index}
 use Rattle.rm_table.specs.Meanings.{Meanings}
-use Rattle.rm_table.specs.Moves.{Hand, noted, book_taken, book_given, behind_given, published, published_as, rest_from, editions_from, HasNext, HasBook, IsOperator, IsWorking, NoneRevoked, FoundBy}
+use Rattle.rm_table.specs.Moves.{Hand, noted, book_taken, book_given, behind_given, published, published_as, rest_from, editions_from, HasNext, HasBook, IsWorking, NoneRevoked, FoundBy}
 use Rattle.rm_table.specs.Answers.{TriedBook}
-use Rattle.rm_table.specs.Rests.{IsAtRest}
 use Rattle.rm_table.proofs.Publishing.{flag_of-replicate}
 use Rattle.rm_table.proofs.Writes.{written_hand, published_of, has_written}
 use Rattle.rm_lock.specs.Calls.{AreNext, Publishes, wrote}
@@ -46,8 +44,7 @@ module _ {E B T L I : Type 0} (m : Meanings E B T L I) where
   pub taken_out : (me after new : Me (Slot E B) (View E B T L I)) (book : B) → TriedBook m me Taken after → after.1 ≡ (0, Book (Some book)) ∷ rest after.1 → new ≡ (after.0, (0, Book None) ∷ rest after.1)
       → (new ≡ (noted (book_taken me.0 book) book_index 0, (0, Book None) ∷ me.1)) × FoundBy m me.0 book
   taken_out me after new book t was now =
-      let same : book ≡ t.0 = ap (λ (h : Hand E B). book_on book h) (sym was ∙ ap (λ (s : Me (Slot E B) (View E B T L I)). s.1) t.1) in
-      (
+      let same : book ≡ t.0 = ap (λ (h : Hand E B). book_on book h) (sym was ∙ ap (λ (s : Me (Slot E B) (View E B T L I)). s.1) t.1) in (
         now ∙ ap (λ (s : Me (Slot E B) (View E B T L I)). (s.0, (0, Book None) ∷ rest s.1)) t.1 ∙ ap (λ (b : B). (noted (book_taken me.0 b) book_index 0, (0, Book None) ∷ me.1)) (sym same),
         subst (λ (b : B). FoundBy m me.0 b) (sym same) t.2,
       )
@@ -131,7 +128,7 @@ module _ {E B T L I : Type 0} (m : Meanings E B T L I) where
       let f = edition_there s0 s4 editions facts t in
       let tagged : m.tag f.0 ≡ facts = (t.next 0 0 f.0 f.0 f.1 f.1).1 in
       has_written m (noted (book_taken s0.0 t.taken) book_index 0) f.0 t.taken t.book number_index (s0.0.number + 1) s5 (was_published s0 s4 s5 editions facts t e5) t.writing.operator.role refl t.writing.counts t.number (tagged ∙ sym t.tag) t.list_0
-        (t.item ∙ ap (λ (g : T). m.of t.taken 0 ++ m.item g ∷ []) (sym tagged)) t.others
+      (t.item ∙ ap (λ (g : T). m.of t.taken 0 ++ m.item g ∷ []) (sym tagged)) t.others
 
   -- the seat once the book is given back
   after_give : (s0 s4 s5 s6 : Me (Slot E B) (View E B T L I)) (editions : List E) (facts : T) (t : TakenIn s0 s4 editions facts) → s5 ≡ (noted (published m s4.0 s4.1) number_index (s4.0.number + 1), rest_from s4.0.count s4.1)
@@ -162,9 +159,8 @@ module _ {E B T L I : Type 0} (m : Meanings E B T L I) where
       let f = edition_there s0 s4 editions facts t in
       let tagged : m.tag f.0 ≡ facts = (t.next 0 0 f.0 f.0 f.1 f.1).1 in
       let is : s7 ≡ (wrote m s0.0 t.taken (m.name f.0) facts t.book, []) =
-          e7 ∙ ap (λ (s : Me (Slot E B) (View E B T L I)). (noted (behind_given s.0) behind_index 0, s.1)) (after_give s0 s4 s5 s6 editions facts t e5 step)
-          ∙ ap (λ (g : T). (wrote m s0.0 t.taken (m.name f.0) g t.book, [])) tagged in
-      (
+      e7 ∙ ap (λ (s : Me (Slot E B) (View E B T L I)). (noted (behind_given s.0) behind_index 0, s.1)) (after_give s0 s4 s5 s6 editions facts t e5 step)
+      ∙ ap (λ (g : T). (wrote m s0.0 t.taken (m.name f.0) g t.book, [])) tagged in (
         record { edition = f.0; first = f.1; taken = t.taken; book = t.book; after_is = ap (λ (s : Me (Slot E B) (View E B T L I)). s.0) is },
         ap (λ (s : Me (Slot E B) (View E B T L I)). s.1) is,
       )

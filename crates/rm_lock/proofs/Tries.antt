@@ -1,8 +1,7 @@
 -- Waiting: tries and looks at one word, of which only the last changes anything.
-use Rattle.std.proofs.Common.{◌≡◌, ◌≢◌, ◌⊎◌, inl, inr, ℕ, Some, None, List, [], ◌∷◌, refl, sym, ◌∙◌, ap, subst}
+use Rattle.std.proofs.Common.{◌≡◌, inl, inr, ℕ, Some, List, [], ◌∷◌, refl, sym, ◌∙◌, ap, subst}
 use Rattle.atomic_table.specs.Table.{Me}
 use Rattle.rm_core.specs.declared.heard.Heard.TheVariants.{Drained}
-use Rattle.rm_table.specs.declared.role.Role.TheVariants.{Processor}
 use Rattle.rm_table.specs.declared.slot.Slot.{Slot}
 use Rattle.rm_table.specs.declared.slot.Slot.TheVariants.{Edition}
 use Rattle.rm_table.specs.declared.view.View.{View}

@@ -1,5 +1,5 @@
 -- What each call of the lock does to its token, after rmlock(9): which steps it makes on the words, and what the token knows then.
-use Rattle.std.specs.Prelude.{◌≡◌, ◌≢◌, ℕ, ◌+◌, ◌-◌, ◌<◌, ◌≤◌, true, false, Some, None, List, [], ◌∷◌, ◌++◌, length, slice_get}
+use Rattle.std.specs.Prelude.{◌≡◌, ℕ, ◌+◌, ◌<◌, ◌≤◌, true, false, Some, None, List, [], ◌∷◌, ◌++◌, slice_get}
 use Rattle.atomic_table.specs.Table.{Me}
 use Rattle.rm_core.specs.declared.phase.Phase.TheVariants.{Out, Raised}
 use Rattle.rm_table.specs.declared.slot.Slot.{Slot}

@@ -1,5 +1,5 @@
 -- The lock as it opens and as it closes.
-use Rattle.std.specs.Prelude.{◌≡◌, ℕ, ◌+◌, ◌-◌, ◌*◌, ◌%◌, ◌^◌, ◌<◌, ◌≤◌, true, false, Some, None, List, [], length, slice_get}
+use Rattle.std.specs.Prelude.{◌≡◌, ℕ, ◌-◌, ◌*◌, ◌%◌, ◌^◌, ◌<◌, ◌≤◌, true, false, Some, List, [], length, slice_get}
 use Rattle.atomic_table.specs.Seated.{TableId}
 use Rattle.rm_table.specs.declared.view.View.{View}
 use Rattle.rm_table.specs.declared.part.Part.{Part}

@@ -6,7 +6,7 @@ use Rattle.rm_table.specs.declared.role.Role.TheVariants.{Processor}
 use Rattle.rm_table.specs.declared.slot.Slot.TheVariants.{Edition, Book}
 use Rattle.rm_table.specs.declared.view.View.{View}
 use Rattle.rm_table.specs.Meanings.{Meanings}
-use Rattle.rm_table.specs.Moves.{Hand, IsOperator, IsLast, AllRevoked, AllDrained, NoneRevoked, NoneDrained, editions_from}
+use Rattle.rm_table.specs.Moves.{Hand, IsOperator, IsLast, AllRevoked, AllDrained, editions_from}
 use Rattle.rm_table.specs.Rests.{IsIdle, IsAtRest}
 
 -- A token: its lock's table, and what it knows.

@@ -1,5 +1,5 @@
 -- The operator between the calls that make up a write.
-use Rattle.std.specs.Prelude.{◌≡◌, ℕ, ◌+◌, ◌-◌, ◌^◌, ◌<◌, true, false, None, List, [], length}
+use Rattle.std.specs.Prelude.{◌≡◌, ◌+◌, ◌-◌, ◌^◌, ◌<◌, true, false, None, List, [], length}
 use Rattle.rm_table.specs.declared.view.View.{View}
 use Rattle.rm_table.specs.Meanings.{Meanings}
 use Rattle.rm_table.specs.Moves.{IsOperator, AllDrained, editions_from}

@@ -3,8 +3,7 @@ ghost use Rattle.rm_table.specs.Meanings.{meanings};
 ghost use Rattle.rm_lock.specs.Calls.{TakesBook, OpensBook, IsAsTaken, IsAsFound, gave_book};
 
 use crate::slots::{put_book, take_out_book};
-use crate::waits;
-use crate::{Holding, Keeping, Operator, Reading, RmLock};
+use crate::{Holding, Keeping, Operator, Reading, RmLock, waits};
 use fw_base::{Kept, Numbered};
 use std::sync::Wait;
 

@@ -5,7 +5,7 @@ ghost use Rattle.rm_table.specs.Ends.{Opens};
 ghost use Rattle.rm_table.specs.Rests.{IsOpening, IsAtRest};
 ghost use Rattle.rm_lock.specs.Ends.{OpensAs, unkept, new_token};
 
-use crate::{Operator, Opened, Processor, RmLock};
+use crate::{Opened, Operator, Processor, RmLock};
 use fw_base::{Kept, Numbered, OutOfMemory};
 use rm_table::{OpenTable, RmSeat, RmTable};
 use std::alloc::{AllocError, Global};

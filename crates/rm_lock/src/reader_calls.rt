@@ -3,8 +3,7 @@ ghost use Rattle.rm_table.specs.Meanings.{meanings};
 ghost use Rattle.rm_lock.specs.Calls.{Enters, ended, Regains};
 
 use crate::slots::{put_edition, take_edition};
-use crate::waits;
-use crate::{Entry, Processor, Reading, RmLock};
+use crate::{Entry, Processor, Reading, RmLock, waits};
 use fw_base::{Kept, Numbered};
 use rm_core::Heard;
 use std::sync::Wait;

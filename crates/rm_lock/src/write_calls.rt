@@ -4,8 +4,7 @@ ghost use Rattle.rm_lock.specs.Calls.{Begins, AreNext, Publishes};
 ghost use Rattle.rm_lock.specs.Tokens.{AreOld};
 
 use crate::publishing::{drain_all, exchange_all, publish_book, revoke_all};
-use crate::waits;
-use crate::{Operator, RmLock, Writing};
+use crate::{Operator, RmLock, Writing, waits};
 use fw_base::{Kept, Numbered};
 use std::sync::Wait;
 

@@ -1,5 +1,5 @@
-use Rattle.std.proofs.Common.{rules, ◌≡◌, ◌+◌, ◌∙◌, ap, sym, subst, refl}
-use Rattle.rm_lock.proofs.Splits.{Splitting, splitting_none, splitting_one, may_be_split, may_count, new_is_out, split_rests, all_tokens}
+use Rattle.std.proofs.Common.{rules, ◌+◌, ap, sym, subst}
+use Rattle.rm_lock.proofs.Splits.{Splitting, splitting_one, may_be_split, may_count, new_is_out, split_rests, all_tokens}
 use Rattle.rm_lock.proofs.opening.split_all.Goals as goal
 
 pub split_seat-seat-requires-clause-operator : goal.split_seat-seat-requires-clause-operator
@@ -23,7 +23,7 @@ loop-place-preserved g c = (
   search rules,
   search rules,
   λ parts o. subst (λ ts. Splitting (c.loop-place.place + 1) c.args.table.now parts c.args.seat.now.me c.split_seat-seat.new.seat.me ts) (sym c.in_ok-push.ensures.items)
-    (splitting_one c.loop-place.place c.args.table.now c.split_seat-seat.result.table_id parts c.args.seat.now.me c.loop-place.seat.me c.split_seat-seat.new.seat.me c.split_seat-seat.result.me c.loop-place.tokens.items (search rules) (let e = ap (λ v. v.count) (c.loop-place.invariant.3 c.requires.opening.0 c.requires.opening.1).same in let n = c.requires.count in let test = c.loop-place-test.true in may_count c.loop-place.place c.args.processors c.loop-place.seat.me.0.count c.args.seat.now.me.0.count (search rules) e n) (search rules) (c.split_seat-seat.ensures.left (search rules)) (c.split_seat-seat.ensures.right (search rules)) (c.loop-place.invariant.3 parts o)),
+      (splitting_one c.loop-place.place c.args.table.now c.split_seat-seat.result.table_id parts c.args.seat.now.me c.loop-place.seat.me c.split_seat-seat.new.seat.me c.split_seat-seat.result.me c.loop-place.tokens.items (search rules) (let e = ap (λ v. v.count) (c.loop-place.invariant.3 c.requires.opening.0 c.requires.opening.1).same in let n = c.requires.count in let test = c.loop-place-test.true in may_count c.loop-place.place c.args.processors c.loop-place.seat.me.0.count c.args.seat.now.me.0.count (search rules) e n) (search rules) (c.split_seat-seat.ensures.left (search rules)) (c.split_seat-seat.ensures.right (search rules)) (c.loop-place.invariant.3 parts o)),
 )
 
 pub returns-clause-at_rest : goal.returns-clause-at_rest

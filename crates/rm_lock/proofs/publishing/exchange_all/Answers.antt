@@ -1,4 +1,4 @@
-use Rattle.std.proofs.Common.{rules, arith, refl, ◌∙◌, ap}
+use Rattle.std.proofs.Common.{rules, refl, ◌∙◌, ap}
 use Rattle.rm_lock.proofs.Hands.{exchanging_none, exchanging_one, next_kept, get_found}
 use Rattle.rm_lock.proofs.publishing.exchange_all.Goals as goal
 
@@ -17,7 +17,7 @@ loop-index-preserved g c = (
   search rules,
   ap (λ z. z.0) c.exchange_one.ensures.now ∙ c.loop-index.invariant.3,
   λ olds count hand.
-    exchanging_one c.loop-index.index olds c.args.editions.now.items c.loop-index.editions.items _ c.loop-index.seat.me.1 c.exchange_one.new.seat.me.1 c.exchange_one.new.edition c.index_mut.result.now
+      exchanging_one c.loop-index.index olds c.args.editions.now.items c.loop-index.editions.items _ c.loop-index.seat.me.1 c.exchange_one.new.seat.me.1 c.exchange_one.new.edition c.index_mut.result.now
       (let e = count in search rules) (search rules) c.exchange_one.ensures.was (get_found c.loop-index.editions.items c.loop-index.index c.index_mut.result.now (search rules) c.index_mut.ensures.value)
       (ap (λ z. z.1) c.exchange_one.ensures.now) refl (c.loop-index.invariant.4 olds count hand),
 )

@@ -1,4 +1,4 @@
-use Rattle.std.proofs.Common.{◌≡◌, ◌≤◌, ℕ, List, []}
+use Rattle.std.proofs.Common.{◌≡◌, ◌≤◌, List, []}
 use Rattle.std.specs.Prelude.{vec_len, length}
 use Rattle.rm_table.specs.Moves.{editions_from}
 use Rattle.rm_lock.proofs.Hands.{Exchanging}

@@ -1,4 +1,3 @@
-use Rattle.std.proofs.Common.{rules}
 use Rattle.rm_table.specs.Meanings.{meanings}
 use Rattle.rm_lock.proofs.Publications.{taken_in, may_publish, may_give, may_give_back, publishes}
 use Rattle.rm_lock.proofs.publishing.publish_book.Goals as goal

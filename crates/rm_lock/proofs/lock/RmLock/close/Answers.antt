@@ -1,4 +1,4 @@
-use Rattle.std.proofs.Common.{rules, refl, sym, ap, ◌∙◌, subst}
+use Rattle.std.proofs.Common.{rules, sym, ◌∙◌}
 use Rattle.std.proofs.lemmas.Iterator.Adapters.{YieldsList-from_vec}
 use Rattle.std.proofs.lemmas.Iterator.Consumers.{YieldsList-turn, YieldsList-so_far, YieldsList-end}
 use Rattle.std.proofs.lemmas.List.{map-id}
@@ -11,9 +11,13 @@ loop-processor-preserved g c =
     let gives = c.into_iter-processor-iterator.ensures.into_iter_gives in
     let list = YieldsList-from_vec c.args.processors.items gives.0 (gives.1 ∙ c.args.processors.ok.0) in
     let turn = YieldsList-turn list c.loop-processor.yielded c.loop-processor.processor-iterator c.loop-processor.yielded_by c.next.result c.next.new.self c.in-Some.processor c.in-Some.is c.next.ensures.steps in
-    let so_far = YieldsList-so_far list c.loop-processor.yielded c.loop-processor.processor-iterator c.loop-processor.yielded_by in
-    (tt, tt, search rules, joins_next c.args.operator c.operator.inside.seat.table_id c.operator.inside.processors c.operator.inside.number c.operator.inside.seat.me c.args.processors.items c.loop-processor.yielded c.in-Some.processor c.processor.inside.seat.table_id c.loop-processor.seat.me c.processor.inside.seat.me c.join_seat.new.into.me
-      c.operator.view_is c.operator.invariant c.requires.each c.processor.view_is (c.join_seat.ensures.both (search rules)) (sym (map-id c.loop-processor.yielded) ∙ so_far) turn.0 turn.1 c.loop-processor.invariant.3)
+    let so_far = YieldsList-so_far list c.loop-processor.yielded c.loop-processor.processor-iterator c.loop-processor.yielded_by in (
+      tt,
+      tt,
+      search rules,
+      joins_next c.args.operator c.operator.inside.seat.table_id c.operator.inside.processors c.operator.inside.number c.operator.inside.seat.me c.args.processors.items c.loop-processor.yielded c.in-Some.processor c.processor.inside.seat.table_id c.loop-processor.seat.me c.processor.inside.seat.me c.join_seat.new.into.me
+          c.operator.view_is c.operator.invariant c.requires.each c.processor.view_is (c.join_seat.ensures.both (search rules)) (sym (map-id c.loop-processor.yielded) ∙ so_far) turn.0 turn.1 c.loop-processor.invariant.3,
+    )
 
 pub close-requires-clause-joined : goal.close-requires-clause-joined
 close-requires-clause-joined g c =

@@ -1,8 +1,5 @@
 use Rattle.std.proofs.Common.{rules, arith, ◌≡◌, ◌<◌, ◌∙◌, ap, refl}
-use Rattle.std.specs.Prelude.{replicate, slice_get, Some}
-use Rattle.rm_lock.specs.contracts.tests.edition.EditionNumbered.TheImpl as edition
-use Rattle.rm_lock.specs.contracts.tests.ledger.LedgerKept.TheImpl as ledger
-use Rattle.rm_table.specs.Meanings.{meanings}
+use Rattle.std.specs.Prelude.{replicate}
 use Rattle.rm_table.proofs.Resting.{opens_alike, first_of-replicate}
 use Rattle.rm_lock.specs.declared.tests.edition.Edition.{Edition}
 use Rattle.rm_lock.proofs.Callers.{popped_two}
