@@ -2,7 +2,9 @@ ghost use Rattle.std.specs.Prelude.{◌≡◌, IfOk};
 
 use super::edition::Edition;
 use super::ledger::Ledger;
-use super::walks::{Lock, Reader, Writer, made_ready, publish_next, refused, regained, section};
+use super::walks::{
+    Lock, Reader, Writer, made_ready, publish_next, refused, regained, section, section_with_entry,
+};
 use crate::{Opened, RmLock};
 use std::alloc::Global;
 use std::process::Abort;
@@ -60,5 +62,21 @@ fn lock_of_one_processor(rt: HostRuntime) -> Result<(), Fail> {
     assert_eq!(rt; closed.trackers, vec![in rt.alloc(); 6; 1]?);
     assert_eq!(rt; closed.editions.len(), 1);
     assert_eq!(rt; (closed.book.number, closed.book.publications), (2, 2));
+    Ok(())
+}
+
+#[test]
+fn book_has_the_entry_of_a_section(rt: HostRuntime) -> Result<(), Fail> {
+    let Single {
+        lock,
+        processor,
+        operator,
+    } = open_single(&rt, rt.alloc())?;
+    let processor = section_with_entry(&rt, &lock, processor);
+    let mut processors = Vec::with_capacity(rt.alloc(), 1)?;
+    processors.push_reserved(processor);
+    let closed = lock.close(processors, operator);
+    assert_eq!(rt; closed.trackers, vec![in rt.alloc(); 2; 1]?);
+    assert_eq!(rt; (closed.book.number, closed.book.entries), (1, 1));
     Ok(())
 }

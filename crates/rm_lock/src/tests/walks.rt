@@ -95,3 +95,22 @@ pub(crate) fn publish_next<R: Abort + Wait>(
     assert_eq!(rt; o.number(), next);
     o
 }
+
+// One section, in which the processor at place 1 takes the book and adds an entry to its own list.
+pub(crate) fn section_with_entry<R: Abort + Wait>(rt: &R, lock: &Lock, p: Reader) -> Reader
+    requires lock { p.table_id ≡ lock.now }
+    requires place { p.view.place ≡ 1 }
+    ensures lock { result.table_id ≡ lock.now }
+    ensures place { result.view.place ≡ 1 }
+{
+    match lock.enter(p) {
+        Entry::In(r) => {
+            let mut h = lock.take_book(rt, r);
+            assert_eq!(rt; h.edition().number(), h.number());
+            let book = h.book();
+            book.entries = book.entries.saturating_add(1);
+            lock.leave(lock.give_book(h))
+        }
+        Entry::Revoked(_, _) => panic!(rt; "refused"),
+    }
+}
