@@ -1,5 +1,5 @@
 -- What a step of the seat with one place leaves as it was for every other seat.
-use Rattle.std.proofs.Common.{◌≡◌, ◌≢◌, ◌⊎◌, inl, inr, ℕ, ◌+◌, ◌<◌, ◌≤◌, Bool, List, [], ◌++◌, sym, ◌∙◌, ap, arith, subst, ⊎_elim, append-nil, append_assoc}
+use Rattle.std.proofs.Common.{◌≡◌, ◌≢◌, inr, ℕ, ◌+◌, ◌<◌, Bool, List, [], ◌++◌, sym, ◌∙◌, ap, arith, subst, ⊎_elim, append-nil, append_assoc}
 use Rattle.std.specs.Prelude.{slice_set}
 use mathlib.Core.Option as at
 use lib.ListN.{get_elem?}
@@ -10,7 +10,7 @@ use Rattle.rm_table.specs.declared.part.Part.{Part}
 use Rattle.rm_table.specs.declared.view.View.{View}
 use Rattle.rm_table.specs.Layout.{is_held_by}
 use Rattle.rm_table.specs.Meanings.{Meanings, BeginsWith}
-use Rattle.rm_table.specs.Rule.{Core, lent, Live, KeptAt, Keeps, KeepsPrefix, IsSeatOf, EverySeat, Agrees}
+use Rattle.rm_table.specs.Rule.{Core, lent, Live, KeptAt, Keeps, IsSeatOf, EverySeat, Agrees}
 use Rattle.rm_table.proofs.Base.{get_within}
 
 module _ {A : Type 0} where
@@ -96,7 +96,7 @@ module _ {E B T L I : Type 0} (m : Meanings E B T L I) where
         let k : Keeps m c j u = a.operator role in
         let other : p ≢ c.count + 1 = λ same. apart (sym l.seat ∙ ap c.seat (k.place ∙ sym same) ∙ seat) in
         keeps_stays c d p j u b (b.operator other) (λ same. apart (sym same ∙ seat)) k;
-    receipt = λ role. let r = a.receipt role in record { opened_is = r.opened_is ∙ sym b.opened; prefix = begins_longer d.history c.history u.history b.history r.prefix; counts = r.counts };
+    receipt = λ role. let r = a.receipt role in record { opened_is = r.opened_is ∙ sym b.opened; prefix = begins_longer d.history c.history u.history b.history r.prefix; begun = r.begun; counts = r.counts };
   }
 
   -- the views after a step of the seat that has place p

@@ -1,21 +1,20 @@
 -- What words, slots and views show at every moment between two steps.
-use Rattle.std.proofs.Common.{◌≡◌, ◌≢◌, ℕ, zero, suc, ◌+◌, ◌-◌, ◌<◌, ◌≤◌, ◌⊎◌, inl, inr, Bool, true, false, Option, Some, None, List, [], ◌∷◌, ◌++◌, length, refl, sym, ◌∙◌, ap, arith, subst, ⊎_elim, eq-eqb, ne_eqb}
-use Rattle.std.specs.Prelude.{slice_get, slice_index, slice_index_or, if◌then◌else◌, ◌==◌}
+use Rattle.std.proofs.Common.{◌≡◌, ◌≢◌, ℕ, suc, ◌+◌, ◌-◌, ◌<◌, ◌≤◌, ◌⊎◌, inl, inr, Bool, true, false, Option, Some, None, List, [], ◌∷◌, ◌++◌, length, refl, sym, ◌∙◌, ap, arith, subst, ⊎_elim, eq-eqb}
+use Rattle.std.specs.Prelude.{slice_get, slice_index, if◌then◌else◌, ◌==◌}
 use Rattle.std.proofs.lemmas.Bool.{eqb-true}
 use mathlib.Core.Option as at
 use lib.ListN.{get_elem?}
 use Rattle.atomic_table.specs.Table.{State}
 use Rattle.rm_core.specs.declared.phase.Phase.TheVariants.{Out, In}
-use Rattle.rm_core.specs.declared.processor_state.ProcessorState.{ProcessorState}
 use Rattle.rm_core.proofs.Changes.{All-processor_of}
 use Rattle.rm_table.specs.declared.role.Role.TheVariants.{Processor, Operator}
 use Rattle.rm_table.specs.declared.slot.Slot.{Slot}
 use Rattle.rm_table.specs.declared.part.Part.{Part}
 use Rattle.rm_table.specs.declared.view.View.{View}
-use Rattle.rm_table.specs.Layout.{number_index, behind_index, book_index, holder_word, is_held_by}
+use Rattle.rm_table.specs.Layout.{number_index, behind_index, holder_word, is_held_by}
 use Rattle.rm_table.specs.Meanings.{Meanings, numbered, BeginsWith}
-use Rattle.rm_table.specs.Moves.{IsLast, is_drained}
-use Rattle.rm_table.specs.Rule.{Core, core_of, Live, KeptAt, Keeps, IsSeatOf, Shows, Whole}
+use Rattle.rm_table.specs.Moves.{IsLast}
+use Rattle.rm_table.specs.Rule.{Core, core_of, Live, KeptAt, Keeps, IsSeatOf, Shows}
 use Rattle.rm_table.specs.Moments.{HasSeat, IsReader, IsCountedOut, ReadsPublished, ReadingLaw, StayingLaw, HomeLaw, AwayLaw, ApartLaw, SeatLaw, OperatorLaw, PlaceLaw, BehindLaw, BookLaw, SeenLaw, ToldLaw, HeardLaw}
 use Rattle.rm_table.proofs.Base.{there, get_within, at_slice, slice_at}
 use Rattle.rm_table.proofs.Own.{in_history}
@@ -216,9 +215,9 @@ module _ {E B T L I : Type 0} (m : Meanings E B T L I) where
       let c : Core E B T L I = whole.0 in
       let k : Keeps m c i o = (whole.1.each i o o_at).operator o_role in
       let p = (whole.1.each id r r_at).receipt r_role in
-      (p.opened_is ∙ sym k.opened, p.counts, subst (λ (h : List (L × T)). BeginsWith h r.history) (sym k.history) p.prefix)
+      (p.opened_is ∙ sym k.opened, p.begun, p.counts, subst (λ (h : List (L × T)). BeginsWith h r.history) (sym k.history) p.prefix)
 
   pub heard_holds : HeardLaw m
-  heard_holds v r number counts begun seen =
+  heard_holds v r number begun counts seen =
       let got = last_numbered r.opened r.history r.number counts (omega arith) in
       seen (length v.part.pairs + got.0) r.number got.1 (get_behind v.part.pairs (numbered r.opened r.history) got.0 (r.number, got.1) got.2)

@@ -78,7 +78,7 @@ module _ {E B T L I : Type 0} (m : Meanings E B T L I) where
     agrees_moved was j u seat apart a = record {
       live = λ role. let l = a.live role in live_moved j u (λ same. apart (sym l.seat ∙ ap c.seat same ∙ seat)) l;
       processor = a.processor;
-      receipt = λ role. let r = a.receipt role in record { opened_is = r.opened_is; prefix = r.prefix; counts = r.counts };
+      receipt = λ role. let r = a.receipt role in record { opened_is = r.opened_is; prefix = r.prefix; begun = r.begun; counts = r.counts };
       operator = λ role. let l = a.operator role in
           keeps_moved j u u u.kept u.closing refl refl (λ i part got. let q = l.kept i part got in kept_moved j i u.closing part (λ same. apart (sym q.seat ∙ ap c.seat same ∙ seat)) q) l;
     }
@@ -309,7 +309,7 @@ module _ {E B T L I : Type 0} (m : Meanings E B T L I) where
                 live = λ never. ⊎_elim (λ one. absurd cc) (λ one. absurd cc) never;
                 processor = λ never. absurd cc;
                 operator = λ never. absurd cc;
-                receipt = λ _. record { opened_is = o.opened; prefix = subst (λ (h : List (L × T)). BeginsWith h v.history) o.history (begins_same v.history); counts = let h = ap (λ (h : List (L × T)). length h) o.history in let n = o.number in let p = o.opened in let e = shows.past.counts in omega arith };
+                receipt = λ _. record { opened_is = o.opened; prefix = subst (λ (h : List (L × T)). BeginsWith h v.history) o.history (begins_same v.history); begun = let n = o.number in let p = o.opened in let b = shows.past.begun in omega arith; counts = let h = ap (λ (h : List (L × T)). length h) o.history in let n = o.number in let p = o.opened in let e = shows.past.counts in omega arith };
               }))
               (at_end t.views (receipt_view v) u j is);
         })

@@ -41,10 +41,10 @@ greater_is (Some t) number x is =
     greater_of (suc a) zero = inl (omega arith)
     greater_of (suc a) (suc b) = elim (greater_of a b) as (λ _. (max (suc a) (suc b) ≡ suc a) ⊎ (max (suc a) (suc b) ≡ suc b)) [ inl e ↦ inl (omega (arith, e)) | inr e ↦ inr (omega (arith, e)) ]
 
--- a refusal that stands is at most the greater one, and so is the new one
-pub greater_least : (standing : Option ℕ) (number t : ℕ) → standing ≡ Some t → t ≤ greater_refusal standing number
-greater_least None number t is = absurd cc
-greater_least (Some s) number t is = let same : s ≡ t = cc in omega (arith, same)
+-- a new refusal is at most the greater one, and so is the one that stood
+pub greater_least : (standing : Option ℕ) (number : ℕ) → (number ≤ greater_refusal standing number) × ((t : ℕ) → standing ≡ Some t → t ≤ greater_refusal standing number)
+greater_least None number = (omega arith, λ t is. absurd cc)
+greater_least (Some s) number = (omega arith, λ t is. let same : s ≡ t = cc in omega (arith, same))
 
 module _ {E B T L I : Type 0} (m : Meanings E B T L I) where
   -- whoever isn't revoked isn't drained, so whoever holds its token isn't

@@ -5,7 +5,6 @@ use Rattle.rm_core.specs.declared.heard.Heard.TheVariants.{Held, Revoked, Draine
 use Rattle.rm_table.specs.declared.role.Role.TheVariants.{Processor, Operator}
 use Rattle.rm_table.specs.declared.tried.Tried.{Tried}
 use Rattle.rm_table.specs.declared.tried.Tried.TheVariants.{Taken, HeldBy}
-use Rattle.rm_table.specs.declared.slot.Slot.{Slot}
 use Rattle.rm_table.specs.declared.slot.Slot.TheVariants.{Edition, Book}
 use Rattle.rm_table.specs.Layout.{number_index, behind_index, book_index, tracker_index, token_index}
 use Rattle.rm_table.specs.Meanings.{Meanings}

@@ -1,5 +1,5 @@
 -- What holds at every moment between two atomic steps of a lock, in words, slots and views alone: whatever threads have the seats.
-use Rattle.std.specs.Prelude.{◌≡◌, ◌≢◌, ◌⊎◌, ℕ, ◌+◌, ◌-◌, ◌<◌, ◌≤◌, true, Some, List, length, slice_get, slice_index}
+use Rattle.std.specs.Prelude.{◌≡◌, ◌≢◌, ◌⊎◌, ℕ, ◌+◌, ◌-◌, ◌<◌, ◌≤◌, true, Some, length, slice_get, slice_index}
 use mathlib.Core.Option as at
 use lib.ListN.{get_elem?}
 use Rattle.atomic_table.specs.Table.{State}
@@ -82,11 +82,12 @@ module _ {E B T L I : Type 0} (m : Meanings E B T L I) where
   SeenLaw = (t : State (Slot E B) (View E B T L I)) → Whole m t → (id i : ℕ) (v o : View E B T L I) → HasSeat t id v → HasSeat t i o → v.role ≡ Processor → o.role ≡ Operator
       → (j x : ℕ) (name : L) → slice_get v.part.pairs j ≡ Some (x, name) → (o.opened ≤ x) × (x ≤ slice_index t.words number_index) × ((tag : T) × (slice_get o.history (x - o.opened) ≡ Some (name, tag)))
 
-  -- the operator's history begins with a receipt's, which ends with the name of the receipt's number
+  -- the operator's history begins with a receipt's, which has the names from the opening one to that of the receipt's number
   abbrev pub ToldLaw : Type 0
-  ToldLaw = (t : State (Slot E B) (View E B T L I)) → Whole m t → (id i : ℕ) (r o : View E B T L I) → HasSeat t id r → HasSeat t i o → r.role ≡ Receipt → o.role ≡ Operator → (r.opened ≡ o.opened) × (r.opened + length r.history ≡ r.number + 1) × BeginsWith o.history r.history
+  ToldLaw = (t : State (Slot E B) (View E B T L I)) → Whole m t → (id i : ℕ) (r o : View E B T L I) → HasSeat t id r → HasSeat t i o → r.role ≡ Receipt → o.role ≡ Operator
+      → (r.opened ≡ o.opened) × (r.opened ≤ r.number) × (r.opened + length r.history ≡ r.number + 1) × BeginsWith o.history r.history
 
   -- A processor that has heard a receipt has seen the receipt's number: what no pair that it saw is past is that number or a later one. With the
   -- answers of a check and of a regain: it reads that edition or a later one.
   abbrev pub HeardLaw : Type 0
-  HeardLaw = (v r : View E B T L I) (number : ℕ) → r.opened + length r.history ≡ r.number + 1 → r.opened ≤ r.number → SeenUpTo (informed v r).part number → r.number ≤ number
+  HeardLaw = (v r : View E B T L I) (number : ℕ) → r.opened ≤ r.number → r.opened + length r.history ≡ r.number + 1 → SeenUpTo (informed v r).part number → r.number ≤ number

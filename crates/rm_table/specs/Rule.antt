@@ -88,10 +88,11 @@ pub record Numbers {E L I : Type 0} (n : ℕ) (s : CoreState) (part : ℕ → Pa
   pub refusal : (k x : ℕ) → (part k).refusal ≡ Some x → IsPending s k x
 
 module _ {E B T L I : Type 0} where
-  -- Part 8: a receipt keeps a prefix of the history, from the opening on. Its number is that of the last name of this prefix.
+  -- Part 8: a receipt keeps a prefix of the history, from the opening on. It has at least one name, and its number is that of the last.
   pub record KeepsPrefix (opened : ℕ) (history : List (L × T)) (v : View E B T L I) : Type 0 where
     pub opened_is : v.opened ≡ opened
     pub prefix : BeginsWith history v.history
+    pub begun : v.opened ≤ v.number
     pub counts : v.opened + length v.history ≡ v.number + 1
 
   -- the view is that of the processor at that place, or the operator's, which keeps it

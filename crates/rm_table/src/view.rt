@@ -38,6 +38,7 @@ pub struct View<E, B, T, L, I> {
     pub closing: bool,
     /// By place, what is kept of a processor whose seat isn't split off yet, or was joined again.
     pub kept: LinkedList<Option<Part<E, L, I>>>,
-    /// Index of the word and value found or stored, of each step on a word that the seat made.
+    /// Index of the word and value found or stored, of each step on a word that the seat made, but for the
+    /// loads of a split and a join.
     pub steps: LinkedList<(u64, u64)>,
 }

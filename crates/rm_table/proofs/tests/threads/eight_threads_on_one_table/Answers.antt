@@ -1,4 +1,4 @@
-use Rattle.std.proofs.Common.{rules, arith}
+use Rattle.std.proofs.Common.{arith}
 use Rattle.rm_table.proofs.Writes.{joined_all}
 use Rattle.rm_table.proofs.tests.threads.eight_threads_on_one_table.Goals as goal
 

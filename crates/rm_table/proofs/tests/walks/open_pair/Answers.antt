@@ -1,5 +1,5 @@
 use Rattle.std.proofs.Common.{rules, arith}
-use Rattle.rm_table.proofs.Resting.{after_split, may_split, split_is_idle, opening_ends}
+use Rattle.rm_table.proofs.Resting.{after_split, may_split, opening_ends}
 use Rattle.rm_table.proofs.tests.walks.open_pair.Goals as goal
 
 pub split_seat-second-requires-clause-kept : goal.split_seat-second-requires-clause-kept
