@@ -1,0 +1,39 @@
+use Rattle.std.proofs.Common.{rules, arith, ◌≡◌, ◌<◌, ◌∙◌, ap, refl}
+use Rattle.std.specs.Prelude.{replicate}
+use Rattle.rm_table.proofs.Resting.{opens_alike, first_of-replicate}
+use Rattle.rm_lock.specs.declared.tests.edition.Edition.{Edition}
+use Rattle.rm_lock.proofs.Callers.{popped_two}
+use Rattle.rm_lock.proofs.tests.two_processors.open_pair.Goals as goal
+
+pub open-requires-clause-opens : goal.open-requires-clause-opens
+open-requires-clause-opens g c =
+    let e : Edition = record { number = 1 } in
+    let is : c.in_ok-editions.editions.items ≡ replicate 2 e = c.in_ok-editions.ensures.items_if_clones_equal (search rules) in
+    let some : 0 < 2 = omega arith in
+    rw is (e, first_of-replicate e 2 some, opens_alike _ 2 e _ some refl refl)
+
+pub returns-clause-first : goal.returns-clause-first
+returns-clause-first g c =
+    let e : Edition = record { number = 1 } in
+    let is : c.in_ok-editions.editions.items ≡ replicate 2 e = c.in_ok-editions.ensures.items_if_clones_equal (search rules) in
+    let some : 0 < 2 = omega arith in
+    let o = c.in_ok-lock.ensures.opened e (rw is (first_of-replicate e 2 some)) in
+    let p = popped_two _ _ c.in_ok-lock.field-0.processors.items c.pop.new.self.items c.pop-2.new.self.items c.in-Some-Some.first c.in-Some-Some.second (search rules) o.processors c.in-Some-Some.ensures.items c.in-Some-Some.ensures'.items in
+    (ap (λ t. t.table_id) p.0, ap (λ t. t.view.place) p.0)
+
+pub returns-clause-second : goal.returns-clause-second
+returns-clause-second g c =
+    let e : Edition = record { number = 1 } in
+    let is : c.in_ok-editions.editions.items ≡ replicate 2 e = c.in_ok-editions.ensures.items_if_clones_equal (search rules) in
+    let some : 0 < 2 = omega arith in
+    let o = c.in_ok-lock.ensures.opened e (rw is (first_of-replicate e 2 some)) in
+    let p = popped_two _ _ c.in_ok-lock.field-0.processors.items c.pop.new.self.items c.pop-2.new.self.items c.in-Some-Some.first c.in-Some-Some.second (search rules) o.processors c.in-Some-Some.ensures.items c.in-Some-Some.ensures'.items in
+    (ap (λ t. t.table_id) p.1, ap (λ t. t.view.place) p.1)
+
+pub returns-clause-operator : goal.returns-clause-operator
+returns-clause-operator g c =
+    let e : Edition = record { number = 1 } in
+    let is : c.in_ok-editions.editions.items ≡ replicate 2 e = c.in_ok-editions.ensures.items_if_clones_equal (search rules) in
+    let some : 0 < 2 = omega arith in
+    let o = c.in_ok-lock.ensures.opened e (rw is (first_of-replicate e 2 some)) in
+    (o.lock, ap (λ v. v.count) o.knows ∙ search rules, ap (λ v. v.number) o.knows)

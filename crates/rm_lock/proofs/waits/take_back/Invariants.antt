@@ -1,0 +1,8 @@
+use Rattle.std.proofs.Common.{◌≡◌}
+use Rattle.rm_table.specs.Layout.{behind_index}
+use Rattle.rm_table.specs.Moves.{IsWorking}
+use Rattle.rm_lock.proofs.Tries.{Waiting}
+use Rattle.rm_lock.proofs.waits.take_back.Given as goal
+
+abbrev pub invariant-loop : goal.invariant-loop
+invariant-loop g l = (l.seat.table_id ≡ l.table) × IsWorking l.seat.me.0 × Waiting behind_index l.initial.seat.me l.seat.me

@@ -1,0 +1,154 @@
+-- What each call of the lock does to its token, after rmlock(9): which steps it makes on the words, and what the token knows then.
+use Rattle.std.specs.Prelude.{◌≡◌, ℕ, ◌+◌, ◌<◌, ◌≤◌, true, false, Some, None, List, [], ◌∷◌, ◌++◌, slice_get}
+use Rattle.atomic_table.specs.Table.{Me}
+use Rattle.rm_core.specs.declared.phase.Phase.TheVariants.{Out, Raised}
+use Rattle.rm_table.specs.declared.slot.Slot.{Slot}
+use Rattle.rm_table.specs.declared.slot.Slot.TheVariants.{Edition, Book}
+use Rattle.rm_table.specs.declared.view.View.{View}
+use Rattle.rm_table.specs.Layout.{number_index, behind_index, book_index, tracker_index, token_index, tracker_word}
+use Rattle.rm_table.specs.Meanings.{Meanings, BeginsWith}
+use Rattle.rm_table.specs.Moves.{noted, raised, entered, refused, lowered, behind_taken, behind_given, number_read, regained, book_taken, book_given, drained, published_as, SeenUpTo, IsLast, LeftBy, FoundBy, AllRevoked, AllDrained}
+use Rattle.rm_lock.specs.Tokens.{TokenState}
+use Rattle.rm_lock.specs.declared.entry.Entry.{Entry}
+use Rattle.rm_lock.specs.declared.entry.Entry.TheVariants.{In, Revoked}
+
+-- these steps, and behind them one load of that word for each number, the last number first
+abbrev pub looked : List (ℕ × ℕ) → ℕ → List ℕ → List (ℕ × ℕ)
+looked steps index [] = steps
+looked steps index (x ∷ xs) = looked steps index xs ++ (index, x) ∷ []
+
+module _ {E B T L I : Type 0} where
+  -- tries or looks at that word, which found these numbers, the last one first, and changed nothing
+  abbrev pub waited : View E B T L I → ℕ → List ℕ → View E B T L I
+  waited v index others = record v { steps = looked v.steps index others }
+
+  -- raise: one store
+  abbrev pub began : View E B T L I → View E B T L I
+  began v = noted (raised v) (tracker_index v.place) (tracker_word (v.part.sections + 1) Raised)
+
+  -- lower: one store. It is what a call to leave does
+  abbrev pub ended : View E B T L I → View E B T L I
+  ended v = noted (lowered v) (tracker_index v.place) (tracker_word v.part.sections Out)
+
+  -- a section that was refused: raise, a check whose load saw this number, lower
+  abbrev pub turned_away : View E B T L I → ℕ → View E B T L I
+  turned_away v number = ended (noted (refused (began v) number) (token_index v.count v.place) number)
+
+  -- the lock behind was taken, after tries that found these holders
+  abbrev pub took_behind : View E B T L I → List ℕ → View E B T L I
+  took_behind v others = noted (behind_taken (waited v behind_index others)) behind_index 0
+
+  -- regain: take the lock behind, read the number, store into the own token, give the lock behind back
+  abbrev pub came_back : View E B T L I → List ℕ → ℕ → View E B T L I
+  came_back v others number =
+      noted (behind_given (noted (regained (noted (number_read (took_behind v others) number) number_index number) number) (token_index v.count v.place) 0)) behind_index 0
+
+  -- The processor has its token again. It took the lock behind once, and knows the number that it read under it, the published one. That is at
+  -- least every number that it was refused with since it last regained, the one that it knew, and every one that it saw.
+  pub record Regains (before after : View E B T L I) : Type 0 where
+    pub others : List ℕ
+    pub number : ℕ
+    pub after_is : after ≡ came_back before others number
+    pub refusals : (t : ℕ) → before.part.refusal ≡ Some t → t ≤ number
+    pub held : before.part.held ≤ number
+    pub seen : SeenUpTo before.part number
+
+  -- the book was taken, after tries that found these holders
+  abbrev pub took_book : View E B T L I → List ℕ → B → View E B T L I
+  took_book v others book = noted (book_taken (waited v book_index others) book) book_index 0
+
+  -- what the operator knows, but for whom it has revoked and found out, the lock behind, and its steps
+  abbrev pub steady : View E B T L I → View E B T L I
+  steady v = record v { behind = false; part = record v.part { read = None; behind_taken = 0 }; revoked = []; drained = []; steps = [] }
+
+  -- Every token is revoked for the next number, and every processor was found out. Beside that the operator knows what it knew.
+  pub record Begins (before after : View E B T L I) : Type 0 where
+    pub revoked : AllRevoked after
+    pub drained : AllDrained after
+    pub same : steady after ≡ steady before
+
+  -- one wait for the lock behind
+  abbrev pub TakenBehind : Me (Slot E B) (View E B T L I) → Me (Slot E B) (View E B T L I) → Type 0
+  TakenBehind me after = (others : List ℕ) × (after ≡ (took_behind me.0 others, me.1))
+
+  module _ (m : Meanings E B T L I) where
+    -- a section that was entered: raise, and a check whose load saw that the token is held
+    abbrev pub came_in : View E B T L I → E → View E B T L I
+    came_in v e = noted (entered m (began v) e) (token_index v.count v.place) 0
+
+    -- What a call to enter does. In: the edition is of the number that the processor knew, which was the published one at the check, and no
+    -- earlier than any that it saw. Refused: the load of its token saw the number, which is greater than the one that it knew.
+    abbrev pub Enters : TokenState E B T L I → Entry E B L T I → Type 0
+    Enters before (In r) = (r.table_id ≡ before.table_id)
+        × ((e : E) × (r.view ≡ came_in before.view e) × (m.number e ≡ before.view.part.held) × SeenUpTo before.view.part (m.number e))
+    Enters before (Revoked p number) = (p.table_id ≡ before.table_id)
+        × (p.view ≡ turned_away before.view number) × (before.view.part.held < number)
+
+    -- What a processor finds in the book: number and tag of its edition, its own list as it left it, and a list 0 that begins with the one at the
+    -- opening.
+    pub record TakesBook (before after : View E B T L I) (book : B) : Type 0 where
+      pub others : List ℕ
+      pub after_is : after ≡ took_book before others book
+      pub number : m.book_number book ≡ before.part.held
+      pub edition : E
+      pub reading : before.part.reading ≡ Some edition
+      pub tag : m.book_tag book ≡ m.tag edition
+      pub own : m.of book before.place ≡ before.part.own
+      pub first : BeginsWith (m.of book 0) before.part.first
+
+    -- the book's number, tag and lists but the processor's own are as taken, and it is ready if it was
+    abbrev pub IsAsTaken : View E B T L I → B → Type 0
+    IsAsTaken v book = (taken : B) → v.book ≡ Some taken → LeftBy m v.place taken book
+
+    -- give book: one store
+    abbrev pub gave_book : View E B T L I → B → View E B T L I
+    gave_book v book = noted (book_given m v book) book_index 0
+
+    -- What the operator finds in the book: the published number with its tag, list 0 as its own, and room where it knows of it.
+    pub record OpensBook (before after : View E B T L I) (book : B) : Type 0 where
+      pub others : List ℕ
+      pub after_is : after ≡ took_book before others book
+      pub number : m.book_number book ≡ before.number
+      pub name : L
+      pub tag : IsLast before name (m.book_tag book)
+      pub list_0 : m.of book 0 ≡ before.own
+      pub ready : before.ready ≡ true → m.book_ready book ≡ true
+
+    -- the book's number, tag and every list are as taken, and it is ready if it was
+    pub record LeftAlone (taken book : B) : Type 0 where
+      pub number : m.book_number book ≡ m.book_number taken
+      pub tag : m.book_tag book ≡ m.book_tag taken
+      pub lists : (k : ℕ) → m.of book k ≡ m.of taken k
+      pub ready : m.book_ready taken ≡ true → m.book_ready book ≡ true
+
+    abbrev pub IsAsFound : View E B T L I → B → Type 0
+    IsAsFound v book = (taken : B) → v.book ≡ Some taken → LeftAlone taken book
+
+    -- one wait for the book
+    abbrev pub TakenBook : Me (Slot E B) (View E B T L I) → Me (Slot E B) (View E B T L I) → Type 0
+    TakenBook me after = (others : List ℕ) × (book : B) × (after ≡ (took_book me.0 others book, (0, Book (Some book)) ∷ me.1)) × FoundBy m me.0 book
+
+    -- one wait for a processor: the last look found it out, and its edition, the last published one, is in hand
+    abbrev pub FoundOut : Me (Slot E B) (View E B T L I) → ℕ → Me (Slot E B) (View E B T L I) → Type 0
+    FoundOut me place after = (others : List ℕ) × (found : ℕ) × (e : E)
+        × (after ≡ (noted (drained (waited me.0 (tracker_index place) others) place) (tracker_index place) found, (place, Edition (Some e)) ∷ me.1))
+        × (m.number e ≡ me.0.number) × IsLast me.0 (m.name e) (m.tag e)
+
+    -- the editions of a publication with these facts: of the next number, of one name, and tagged by the facts
+    abbrev pub AreNext : ℕ → List E → T → Type 0
+    AreNext number editions facts = (j i : ℕ) (e d : E) → slice_get editions j ≡ Some e → slice_get editions i ≡ Some d
+        → (m.number e ≡ number + 1) × (m.tag e ≡ facts) × (m.name e ≡ m.name d)
+
+    -- take book by one try, publish, give book, give back: four steps on words
+    abbrev pub wrote : View E B T L I → B → L → T → B → View E B T L I
+    wrote v taken name tag book =
+        noted (behind_given (noted (book_given m (noted (published_as m (noted (book_taken v taken) book_index 0) name tag) number_index (v.number + 1)) book) book_index 0)) behind_index 0
+
+    -- What a publication does: the history has the name of the editions and the facts as its last, the operator's list has the facts' item as its
+    -- last, and the next number is published. The one try for the book found it free.
+    pub record Publishes (before : View E B T L I) (editions : List E) (facts : T) (after : View E B T L I) : Type 0 where
+      pub edition : E
+      pub first : slice_get editions 0 ≡ Some edition
+      pub taken : B
+      pub book : B
+      pub after_is : after ≡ wrote before taken (m.name edition) facts book

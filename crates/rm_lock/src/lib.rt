@@ -1,0 +1,31 @@
+//! A read-mostly lock, rmlock(9), over numbered editions and a book.
+#![tactic(auto)]
+
+pub use entry::Entry;
+pub use holding::Holding;
+pub use keeping::Keeping;
+pub use lock::{Opened, RmLock};
+pub use operator::Operator;
+pub use processor::Processor;
+pub use reading::Reading;
+pub use rm_table::Closed;
+pub use writing::Writing;
+
+mod book_calls;
+mod closing;
+mod entry;
+mod holding;
+mod keeping;
+mod lock;
+mod opening;
+mod operator;
+mod processor;
+mod publishing;
+mod reader_calls;
+mod reading;
+mod slots;
+#[cfg(test)]
+mod tests;
+mod waits;
+mod write_calls;
+mod writing;

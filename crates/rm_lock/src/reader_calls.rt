@@ -1,0 +1,94 @@
+ghost use Rattle.std.specs.Prelude.{◌≡◌, IsSome};
+ghost use Rattle.rm_table.specs.Meanings.{meanings};
+ghost use Rattle.rm_lock.specs.Calls.{Enters, ended, Regains};
+
+use crate::slots::{put_edition, take_edition};
+use crate::{Entry, Processor, Reading, RmLock, waits};
+use fw_base::{Kept, Numbered};
+use rm_core::Heard;
+use std::sync::Wait;
+
+impl<E: Numbered<Tag = B::Facts>, B: Kept> RmLock<E, B> {
+    /// The processor begins a section: raise and check, and lower where it is refused. Where it is in, it reads an
+    /// edition of the number and name that were published at the check. `Revoked` tells the number that its
+    /// one load of its token saw, which is greater than the processor's own. It waits for nobody.
+    pub fn enter(&self, p: Processor<E, B>) -> Entry<E, B>
+        requires lock { p.table_id ≡ self.now }
+        ensures entry { Enters (meanings E.number E.tag E.name B.number B.tag B.ready B.of B.facts_item) p result }
+    {
+        let Processor {
+            mut seat,
+            place,
+            number,
+        } = p;
+        self.table.raise(&mut seat);
+        match self.table.check(&mut seat) {
+            Heard::Held => {
+                let edition = take_edition(&self.table, &mut seat, place);
+                Entry::In(Reading {
+                    seat,
+                    edition,
+                    place,
+                })
+            }
+            Heard::Revoked(refusal) => {
+                self.table.lower(&mut seat);
+                Entry::Revoked(
+                    Processor {
+                        seat,
+                        place,
+                        number,
+                    },
+                    refusal,
+                )
+            }
+            Heard::Drained | Heard::NotOut | Heard::Number(_) | Heard::Nothing => unreachable!(),
+        }
+    }
+
+    /// The processor ends its section, and its edition goes back to its slot. It waits for nobody.
+    pub fn leave(&self, r: Reading<E, B>) -> Processor<E, B>
+        requires lock { r.table_id ≡ self.now }
+        ensures lock { result.table_id ≡ self.now }
+        ensures left { result.view ≡ ended r.view }
+    {
+        let Reading {
+            mut seat,
+            edition,
+            place,
+        } = r;
+        let number = edition.number();
+        put_edition(&self.table, &mut seat, place, edition);
+        self.table.lower(&mut seat);
+        Processor {
+            seat,
+            place,
+            number,
+        }
+    }
+
+    /// A processor that was refused takes its token again under the lock behind, for which it waits. Its number
+    /// is then the published one, and at least every number that it was refused with since it last
+    /// regained.
+    pub fn regain<R: Wait>(&self, rt: &R, p: Processor<E, B>) -> Processor<E, B>
+        requires lock { p.table_id ≡ self.now }
+        requires refused { IsSome p.view.part.refusal }
+        ensures lock { result.table_id ≡ self.now }
+        ensures regained { Regains p.view result.view }
+    {
+        let Processor {
+            mut seat,
+            place,
+            number: _,
+        } = p;
+        waits::take_back(&self.table, rt, &mut seat);
+        let number = self.table.read_number(&mut seat);
+        self.table.regain(&mut seat);
+        self.table.give_back(&mut seat);
+        Processor {
+            seat,
+            place,
+            number,
+        }
+    }
+}

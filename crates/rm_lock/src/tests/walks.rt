@@ -1,0 +1,116 @@
+ghost use Rattle.std.specs.Prelude.{◌≡◌, ◌+◌, ◌-◌, ◌^◌, ◌<◌, true, IsSome, All, vec_len};
+
+use super::edition::Edition;
+use super::ledger::Ledger;
+use crate::{Entry, Operator, Processor, RmLock};
+use fw_base::{Kept, Numbered};
+use std::process::Abort;
+use std::sync::Wait;
+
+pub(crate) type Lock = RmLock<Edition, Ledger>;
+
+pub(crate) type Reader = Processor<Edition, Ledger>;
+
+pub(crate) type Writer = Operator<Edition, Ledger>;
+
+// One section, in which the edition has that number.
+pub(crate) fn section(rt: &impl Abort, lock: &Lock, p: Reader, number: u64) -> Reader
+    requires lock { p.table_id ≡ lock.now }
+    ensures lock { result.table_id ≡ lock.now }
+    ensures place { result.view.place ≡ p.view.place }
+{
+    match lock.enter(p) {
+        Entry::In(r) => {
+            assert_eq!(rt; r.number(), number);
+            assert_eq!(rt; r.edition().number(), number);
+            lock.leave(r)
+        }
+        Entry::Revoked(_, _) => panic!(rt; "refused"),
+    }
+}
+
+// The processor is refused, with that number.
+pub(crate) fn refused(rt: &impl Abort, lock: &Lock, p: Reader, number: u64) -> Reader
+    requires lock { p.table_id ≡ lock.now }
+    ensures lock { result.table_id ≡ lock.now }
+    ensures place { result.view.place ≡ p.view.place }
+    ensures refused { IsSome result.view.part.refusal }
+{
+    match lock.enter(p) {
+        Entry::In(_) => panic!(rt; "let in"),
+        Entry::Revoked(p, refusal) => {
+            assert_eq!(rt; refusal, number);
+            p
+        }
+    }
+}
+
+// The processor takes its token again, and knows that number.
+pub(crate) fn regained<R: Abort + Wait>(rt: &R, lock: &Lock, p: Reader, number: u64) -> Reader
+    requires lock { p.table_id ≡ lock.now }
+    requires refused { IsSome p.view.part.refusal }
+    ensures lock { result.table_id ≡ lock.now }
+    ensures place { result.view.place ≡ p.view.place }
+{
+    let p = lock.regain(rt, p);
+    assert_eq!(rt; p.number(), number);
+    p
+}
+
+// The operator looks into the book, and knows that it is ready.
+pub(crate) fn made_ready<R: Abort + Wait>(rt: &R, lock: &Lock, o: Writer) -> Writer
+    requires lock { o.table_id ≡ lock.now }
+    ensures lock { result.table_id ≡ lock.now }
+    ensures same { (result.view.count ≡ o.view.count) × (result.view.number ≡ o.view.number) }
+    ensures ready { result.view.ready ≡ true }
+{
+    let mut k = lock.open_book(rt, o);
+    let ready = k.book().is_ready();
+    assert!(rt; ready);
+    lock.shut_book(k)
+}
+
+// The operator publishes these editions of the next number, and has the old ones back.
+pub(crate) fn publish_next<R: Abort + Wait>(
+    rt: &R,
+    lock: &Lock,
+    o: Writer,
+    editions: Vec<Edition>,
+    next: u64,
+) -> Writer
+    requires lock { o.table_id ≡ lock.now }
+    requires ready { o.view.ready ≡ true }
+    requires room { next < 2 ^ 64 }
+    requires number { o.view.number + 1 ≡ next }
+    requires count { vec_len editions ≡ o.view.count }
+    requires next { All (λ e. e.number ≡ next) editions.items }
+    ensures lock { result.table_id ≡ lock.now }
+    ensures same { (result.view.count ≡ o.view.count) × (result.view.number ≡ next) }
+{
+    let writing = lock.begin_write(rt, o);
+    let (o, old) = lock.publish(writing, editions, next);
+    for edition in &old {
+        assert!(rt; edition.number < next);
+    }
+    assert_eq!(rt; o.number(), next);
+    o
+}
+
+// One section, in which the processor at place 1 takes the book and adds an entry to its own list.
+pub(crate) fn section_with_entry<R: Abort + Wait>(rt: &R, lock: &Lock, p: Reader) -> Reader
+    requires lock { p.table_id ≡ lock.now }
+    requires place { p.view.place ≡ 1 }
+    ensures lock { result.table_id ≡ lock.now }
+    ensures place { result.view.place ≡ 1 }
+{
+    match lock.enter(p) {
+        Entry::In(r) => {
+            let mut h = lock.take_book(rt, r);
+            assert_eq!(rt; h.edition().number(), h.number());
+            let book = h.book();
+            book.entries = book.entries.saturating_add(1);
+            lock.leave(lock.give_book(h))
+        }
+        Entry::Revoked(_, _) => panic!(rt; "refused"),
+    }
+}
