@@ -54,6 +54,8 @@ bench: $(PROGRAM) $(LOCK_BENCH) $(STATES_BENCH)
 install: $(PROGRAM)
 	install -d $(DESTDIR)$(PREFIX)/bin
 	install -m 755 $(PROGRAM) $(DESTDIR)$(PREFIX)/bin/ipfw_replay
+	install -d $(DESTDIR)$(PREFIX)/share/man/man1
+	install -m 644 docs/ipfw_replay.1 $(DESTDIR)$(PREFIX)/share/man/man1/ipfw_replay.1
 
 clean:
 	rm -rf bin crates/*/out
@@ -63,7 +65,7 @@ help:
 	@echo "make example    builds, and replays examples/first: a real capture beside a script of rules"
 	@echo "make test       proves and tests every crate (rt ci), then runs the program's own checks (tests/run)"
 	@echo "make bench      builds, and times the program on large captures, beside tcpdump where it is installed (needs python3), the states' asks, and the lock's sections"
-	@echo "make install    builds, and copies the program to DESTDIR/PREFIX/bin (PREFIX is $(PREFIX))"
+	@echo "make install    builds, and copies the program and its manual page below DESTDIR/PREFIX ($(PREFIX))"
 	@echo "make clean      removes all that was built and what the proofs keep"
 	@echo
 	@echo "RT=COMMAND names another command than rt for the Rattle toolchain."

@@ -76,7 +76,18 @@ const REFUSED: [Row; 9] = [
     },
 ];
 
-const ACCEPTED: [Row; 9] = [
+/// `canonical_text_of_a_rule` and `pace_in_live_script` among them; pace may stand in a serial run.
+const ACCEPTED: [Row; 11] = [
+    Row {
+        script: "add 5 set 3 pass log logamount 10 6 from not 10.1.2.3/8,me 80,1000-2000 to any not domain in recv em* tcpflags syn,!ack\n",
+        status: 0,
+        text: "1.1 deny 65535 at 1\nend 1 records 1\neditions 1\nrules 2\n00005 0 0 set 3 allow log logamount 10 tcp from not 10.0.0.0/8,me 80,1000-2000 to any not 53 in recv em* tcpflags syn,!ack\n",
+    },
+    Row {
+        script: "live\nafter 1\n",
+        status: 0,
+        text: "1.1 deny 65535 at 1\nend 1 records 1\neditions 1\nrules 1\n",
+    },
     Row {
         script: "add 100 reset tcp from any to any",
         status: 0,
