@@ -44,6 +44,7 @@ is_name_byte b = is_ascii_alphanumeric b || (b == 95 || (b == 46 || b == 45))
 unfoldable pub is_interface : List ℕ → Bool
 is_interface name = (nat_le 1 (length name) && nat_le (length name) 15) && list_all is_name_byte name
 
+-- `in` or `out`, and no other word
 unfoldable pub direction_of : List ℕ → Option Direction
 direction_of word =
     if is_same word (codes "in") then Some In
@@ -68,6 +69,7 @@ captures_of (word ∷ words) = capture_of word >>= λ capture. option_map (λ re
 
 -- ---- a load's word
 
+-- a decimal digit
 abbrev pub is_digit : ℕ → Bool
 is_digit b = nat_le 48 b && nat_le b 57
 
@@ -80,6 +82,7 @@ load_number word =
 
 -- ---- options and positional words
 
+-- the word behind which all words are operands
 abbrev pub is_divider : List ℕ → Bool
 is_divider word = is_same word (codes "--")
 
@@ -99,9 +102,11 @@ is_option [] = false
 is_option (byte ∷ []) = false
 is_option (byte ∷ other ∷ rest) = byte == 45
 
+-- the options, in their order
 abbrev pub options_of : List (List ℕ) → List (List ℕ)
 options_of words = filter is_option (words_before words)
 
+-- the operands: words that are no options, and all words behind the divider
 abbrev pub positional_of : List (List ℕ) → List (List ℕ)
 positional_of words = filter (λ word. not (is_option word)) (words_before words) ++ words_behind words
 
@@ -116,6 +121,7 @@ pub record Arguments : Type 0 where
   pub journal : Bool
   pub positional : List (List ℕ)
 
+-- whether the journal is asked for, and the operands
 abbrev pub arguments_of : List (List ℕ) → Option Arguments
 arguments_of words = option_map (λ journal. record { journal = journal; positional = positional_of words }) (journal_of (options_of words))
 

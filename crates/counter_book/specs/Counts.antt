@@ -2,6 +2,7 @@
 use Rattle.std.specs.Prelude.{ℕ, ◌+◌, ◌%◌, ◌^◌, List, unwrap_or, slice_get, sum_by}
 use Rattle.counter_book.specs.declared.count.Count.{Count}
 
+-- nothing counted
 abbrev pub no_count : Count
 no_count = record { packets = 0; bytes = 0 }
 

@@ -14,12 +14,15 @@ use Rattle.dyn_states.specs.Slots.{is_held, slot}
 abbrev pub Entry : Type 0
 Entry = Reverse (ℕ × ℕ)
 
+-- the pairs in the queue
 abbrev pub entries : ExpiryQueue → List Entry
 entries queue = heap_items queue.heap
 
+-- how many pairs there are
 abbrev pub entry_count : ExpiryQueue → ℕ
 entry_count queue = heap_len queue.heap
 
+-- for how many there is memory
 abbrev pub entry_room : ExpiryQueue → ℕ
 entry_room queue = heap_capacity queue.heap
 
@@ -35,9 +38,11 @@ due_count clock queue = count_by (is_due clock) (entries queue)
 abbrev pub serves : ℕ → ℕ → Entry → Bool
 serves place expiry e = e.0.1 == place && nat_le e.0.0 expiry
 
+-- the earlier expiry is the greater pair; of equal ones the earlier place
 abbrev pub entry_cmp : Entry → Entry → Ordering
 entry_cmp a b = ordering_then (nat_cmp b.0.0 a.0.0) (nat_cmp b.0.1 a.0.1)
 
+-- the queue's heap is in order
 abbrev pub IsQueue : ExpiryQueue → Type 0
 IsQueue queue = IsHeap entry_cmp (entries queue)
 

@@ -8,12 +8,15 @@ use Rattle.fw_rule.specs.Values.{Values}
 abbrev pub kept_flags : ℕ → ℕ
 kept_flags flags = bit_and flags 7
 
+-- FIN was seen
 abbrev pub has_fin : ℕ → Bool
 has_fin flags = has_bit flags 0
 
+-- SYN was seen
 abbrev pub has_syn : ℕ → Bool
 has_syn flags = has_bit flags 1
 
+-- RST was seen
 abbrev pub has_rst : ℕ → Bool
 has_rst flags = has_bit flags 2
 

@@ -23,6 +23,7 @@ amount_of counts pair = unwrap_or (get pair_eq counts.amounts pair) 0
 abbrev pub pair_count : LimitCounts → ℕ
 pair_count counts = hash_map_len counts.amounts
 
+-- how many pairs are known, and for how many more there is memory
 abbrev pub pair_room : LimitCounts → ℕ
 pair_room counts = hash_map_len counts.amounts + spare counts.amounts
 

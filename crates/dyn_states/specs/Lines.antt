@@ -17,6 +17,7 @@ is_upward f = nat_lt f.source.0 f.destination.0 || (f.source.0 == f.destination.
 abbrev pub upward : Flow → Flow
 upward f = if is_upward f then f else reversed f
 
+-- the line of a flow and a name
 abbrev pub line_of : Flow → ℕ → Line
 line_of flow name = record { flow = upward flow; name = name }
 
@@ -24,11 +25,13 @@ line_of flow name = record { flow = upward flow; name = name }
 abbrev pub line_at : State → Line
 line_at s = line_of s.flow s.name
 
+-- two flows are one
 abbrev pub flow_eq : Flow → Flow → Bool
 flow_eq a b =
     a.source.0 == b.source.0 && (a.destination.0 == b.destination.0
     && (a.source_port == b.source_port && (a.destination_port == b.destination_port && a.protocol == b.protocol)))
 
+-- two lines are one
 abbrev pub line_eq : Line → Line → Bool
 line_eq a b = flow_eq a.flow b.flow && a.name == b.name
 
@@ -44,6 +47,7 @@ place_of lines line = get line_eq lines.places line
 abbrev pub line_count : Lines → ℕ
 line_count lines = hash_map_len lines.places
 
+-- how many lines there are, and for how many more there is memory
 abbrev pub line_room : Lines → ℕ
 line_room lines = hash_map_len lines.places + spare lines.places
 

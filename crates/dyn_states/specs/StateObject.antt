@@ -20,6 +20,7 @@ use Rattle.dyn_states.specs.Flows.{matches_flow, way_of}
 use Rattle.dyn_states.specs.RuleLists.{has_id}
 use Rattle.dyn_states.specs.Lifetimes.{kept_flags, lifetime}
 
+-- The states in order of making, the clock, and the settings.
 pub record StateObject : Type 0 where
   pub states : List State
   pub clock : ℕ
@@ -69,9 +70,11 @@ abbrev pub found_reply : Flow → Option State → Reply
 found_reply flow None = NotFound
 found_reply flow (Some s) = Found s.rule (way_of s.flow flow)
 
+-- what a lookup answers
 unfoldable pub lookup_reply : StateObject → Flow → FlowName → Reply
 lookup_reply o flow name = found_reply flow (find (considers flow name) o.states)
 
+-- the state that was found has seen the packet; no other changes
 unfoldable pub after_lookup : StateObject → Flow → ℕ → FlowName → StateObject
 after_lookup o flow flags name = record o { states = with_first (considers flow name) (touched o flow flags) o.states }
 
@@ -86,6 +89,7 @@ parameter DstPort flow = flow.destination_port
 abbrev pub counts_for : RuleRef → LimitMask → Flow → State → Bool
 counts_for rule mask flow s = s.rule.id == rule.id && parameter mask s.flow == parameter mask flow
 
+-- how many states a limit counts
 unfoldable pub limit_count : StateObject → RuleRef → LimitMask → Flow → ℕ
 limit_count o rule mask flow = count_by (counts_for rule mask flow) o.states
 
@@ -99,6 +103,7 @@ limit_reply o rule (Some limit) flow =
 abbrev pub full_reply : StateObject → Reply
 full_reply o = if nat_le o.settings.max (length o.states) then TableFull (length o.states) else Created
 
+-- that answer, or the one by `dyn_max`
 abbrev pub or_full : StateObject → Option Reply → Reply
 or_full o None = full_reply o
 or_full o (Some reply) = reply
@@ -121,6 +126,7 @@ new_state o flow flags rule limit name =
       reverse = 0;
     })
 
+-- a state was made
 abbrev pub is_created : Reply → Bool
 is_created (Found rule way) = false
 is_created NotFound = false
@@ -129,6 +135,7 @@ is_created Exists = false
 is_created (LimitReached count) = false
 is_created (TableFull count) = false
 
+-- where the answer is `Created`, one state more
 unfoldable pub after_install : StateObject → Flow → ℕ → RuleRef → Option (LimitMask × ℕ) → ℕ → StateObject
 after_install o flow flags rule limit name =
     if is_created (install_reply o flow rule limit name)
@@ -163,6 +170,7 @@ abbrev pub states_after : Bool → List ℕ → List State → List State
 states_after true rules states = map (handed_over rules) states
 states_after false rules states = filter (has_rule rules) states
 
+-- what a publication leaves
 unfoldable pub after_publication : StateObject → List ℕ → Values → StateObject
 after_publication o rules settings = record {
   states = states_after settings.keep rules o.states;

@@ -27,6 +27,7 @@ use Rattle.eval_engine.specs.Question.{Question}
 unfoldable pub is_disabled : Question → Rule → Bool
 is_disabled q rule = nat_lt rule.set 32 && has_bit q.edition.config.disabled rule.set
 
+-- the body holds of the packet; a rule without one holds of none
 abbrev pub is_body_held : Question → Option Body → Bool
 is_body_held q None = false
 is_body_held q (Some body) = holds body q.edition.config.tables q.edition.config.locals q.packet q.port
@@ -76,6 +77,7 @@ name_at q rule = flow_name q.edition.config.names rule
 abbrev pub rule_ref : Rule → RuleRef
 rule_ref rule = record { id = rule.id; number = rule.number }
 
+-- is there a state of this rule's flow name
 abbrev pub lookup_by : Question → Rule → Flow → Op
 lookup_by q rule flow = Lookup flow (flags_of q.packet) q.second (name_at q rule)
 
@@ -84,6 +86,7 @@ abbrev pub limit_of : StateOpt → Option (LimitMask × ℕ)
 limit_of (Keep name) = None
 limit_of (Limit mask most name) = Some (mask, most)
 
+-- make a state for this rule
 abbrev pub install_by : Question → Rule → StateOpt → Flow → Op
 install_by q rule state flow =
     Install flow (flags_of q.packet) q.second (rule_ref rule) (limit_of state) (number_of q.edition.config.names (state_name state))

@@ -33,6 +33,7 @@ pub record Progress : Type 0 where
   pub hits : List ℕ
   pub stop : Stop
 
+-- the ask that it waits for, if any
 abbrev pub asks_of : Stop → List Op
 asks_of (EndsWith judgement) = []
 asks_of (WaitsFor op pause) = op ∷ []
@@ -55,16 +56,20 @@ unfoldable pub progress_from : Question → Progress → List Reply → Progress
 progress_from q progress [] = progress
 progress_from q progress (reply ∷ replies) = progress_from q (replied q progress.asks progress.hits reply progress.stop) replies
 
+-- how far it is after these replies
 abbrev pub progress_of : Question → List Reply → Progress
 progress_of q replies = progress_from q (progress_by [] [] (begun q)) replies
 
+-- how it ended
 abbrev pub outcome_of : Stop → Outcome
 outcome_of (EndsWith judgement) = Whole judgement
 outcome_of (WaitsFor op pause) = OpenAt op
 outcome_of Mismatch = Neither
 
+-- what it comes to
 abbrev pub evaluated : Progress → Evaluated
 evaluated progress = record { asks = progress.asks; hits = progress.hits; outcome = outcome_of progress.stop }
 
+-- what an evaluation comes to, given the replies to its asks
 unfoldable pub evaluate : Question → List Reply → Evaluated
 evaluate q replies = evaluated (progress_of q replies)

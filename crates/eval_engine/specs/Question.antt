@@ -4,6 +4,7 @@ use Rattle.fw_base.specs.declared.port.Port.{Port}
 use Rattle.ip6_headers.specs.declared.any_ip.AnyIp.{AnyIp}
 use Rattle.generation_store.specs.Published.{Published}
 
+-- The edition, the packet, where it was captured, and its second.
 pub record Question : Type 0 where
   pub edition : Published
   pub packet : AnyIp

@@ -41,6 +41,7 @@ abbrev pub outcome_at : Stage → Outcome
 outcome_at (Judged judgement) = Whole judgement
 outcome_at (Asks op paused) = OpenAt op
 
+-- the ask that has no reply yet
 abbrev pub asks_at : Stage → List Op
 asks_at (Judged judgement) = []
 asks_at (Asks op paused) = op ∷ []
@@ -50,6 +51,7 @@ abbrev pub is_searched : Searched → FlowName → Bool
 is_searched searched Any = searched.any
 is_searched searched (Named number) = has_bit searched.named number
 
+-- the names that were looked up; nothing more is where a state was found
 abbrev pub seen_by : Searched → Seen
 seen_by searched = if searched.found then Done else Names (is_searched searched)
 
@@ -61,10 +63,12 @@ callers_of callers = innermost_first callers.numbers callers.depth
 abbrev pub pause_of : Question → Paused → Pause
 pause_of q paused = pause_at (seen_by paused.searched) (callers_of paused.callers) (drop paused.place q.edition.config.rules)
 
+-- how the definition stops at this stage
 abbrev pub stop_at : Question → Stage → Stop
 stop_at q (Judged judgement) = EndsWith judgement
 stop_at q (Asks op paused) = WaitsFor op (pause_of q paused)
 
+-- a lookup or an install
 abbrev pub kind_of : Op → AskKind
 kind_of (Lookup flow flags second name) = kind.Lookup
 kind_of (Install flow flags second rule limit name) = kind.Install
@@ -79,6 +83,7 @@ pub record IsAnswered (q : Question) (paused : Paused) (reply : Reply) : Type 0 
   pub waiting : IsOpenAt q op paused
   pub fits : is_reply_to q.edition.config.rules op reply ≡ true
 
+-- a stage asks what its pause waits for, and an install names a rule of the edition
 abbrev pub IsAskOf : Question → Stage → Type 0
 IsAskOf q (Judged judgement) = ⊤
 IsAskOf q (Asks op paused) = IsOpenAt q op paused × InstallsRuleOf q.edition.config.rules op

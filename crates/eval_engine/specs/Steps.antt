@@ -12,6 +12,7 @@ use Rattle.eval_engine.specs.declared.step.Step.{Step}
 use Rattle.eval_engine.specs.declared.step.Step.TheVariants.{On, Stop}
 use Rattle.eval_engine.specs.declared.stage.Stage.{Stage}
 
+-- what is evaluated, as the definition names it
 abbrev pub question_of : Search → Question
 question_of search = record { edition = search.edition.now; packet = search.packet.now; port = search.port.now; second = search.second }
 
@@ -52,6 +53,7 @@ pub record Nears (q : Question) (trace next : Trace) (before now : List Count) :
   pub remains : Remains q trace next before now
   pub sooner : length_of next < length_of trace
 
+-- where a step leads: on to a place, or to a stop
 abbrev pub Leads : Question → Seen → Trace → Step → List Count → List Count → Type 0
 Leads q seen trace (On at) before now = Nears q trace (walk_at q seen at) before now
 Leads q seen trace (Stop stage) before now = Comes q trace stage before now

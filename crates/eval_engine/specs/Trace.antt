@@ -11,6 +11,7 @@ pub data Seen : Type 0 where
   Done : Seen
   Names : (FlowName → Bool) → Seen
 
+-- two flow names are one
 abbrev pub is_same_name : FlowName → FlowName → Bool
 is_same_name Any Any = true
 is_same_name Any (Named number) = false
@@ -27,6 +28,7 @@ abbrev pub with_seen : Seen → FlowName → Seen
 with_seen Done name = Done
 with_seen (Names names) name = Names (λ other. names other || is_same_name name other)
 
+-- nothing was looked up yet
 abbrev pub no_names : Seen
 no_names = Names (λ name. false)
 
@@ -55,6 +57,7 @@ hits_of (PassesOver trace) = hits_of trace
 hits_of (Counts counter trace) = counter ∷ hits_of trace
 hits_of (Stops stop) = []
 
+-- how the trace stops
 unfoldable pub stop_of : Trace → Stop
 stop_of (PassesOver trace) = stop_of trace
 stop_of (Counts counter trace) = stop_of trace

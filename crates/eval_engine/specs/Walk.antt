@@ -81,9 +81,11 @@ abbrev pub meets : Question → Pause → Rule → Trace → Trace → Trace
 meets q pause rule passed acted =
     if is_disabled q rule then passed else looks q pause rule passed acted (lookup_flow q pause.seen rule)
 
+-- the pause before this suffix
 abbrev pub pause_at : Seen → List ℕ → List Rule → Pause
 pause_at seen callers suffix = record { seen = seen; callers = callers; suffix = suffix }
 
+-- the rules of the suffix from this number on; behind the last one the packet is denied
 unfoldable pub walk : Option Walk → Question → Seen → Walk
 walk deeper q seen number [] callers back = denied_at_end q
 walk deeper q seen number (rule ∷ rest) callers back =
@@ -118,6 +120,7 @@ abbrev pub follows_before : Question → Seen → List ℕ → Rule → List Rul
 follows_before q seen callers rule rest =
     follows q (deeper_walk (calls_left callers) q seen) rule (walk_from q seen callers rest) callers (way_back (calls_left callers) q seen callers) rule.action
 
+-- `return`: to the innermost caller, or on with the rest
 abbrev pub return_before : Question → Seen → List ℕ → List Rule → Trace
 return_before q seen callers rest = return_to (way_back (calls_left callers) q seen callers) (walk_from q seen callers rest)
 
@@ -130,10 +133,12 @@ abbrev pub acts_from : Question → Seen → List ℕ → List Rule → Trace
 acts_from q seen callers [] = denied_at_end q
 acts_from q seen callers (rule ∷ rest) = acts_before q seen callers rule rest
 
+-- the first rule of the suffix makes a state, if it has a state option, and then acts
 abbrev pub installs_before : Question → Seen → List ℕ → Rule → List Rule → Trace
 installs_before q seen callers rule rest =
     installs q (pause_at seen callers (rule ∷ rest)) rule (PassesOver (walk_from q seen callers rest 0)) (acts_before q seen callers rule rest) (state_of rule) (any_flow_of q.packet)
 
+-- the first rule of the suffix is tested by its body
 abbrev pub tests_before : Question → Seen → List ℕ → Rule → List Rule → Trace
 tests_before q seen callers rule rest =
     tests q (pause_at seen callers (rule ∷ rest)) rule (PassesOver (walk_from q seen callers rest 0)) (acts_before q seen callers rule rest)

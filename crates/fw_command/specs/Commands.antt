@@ -33,6 +33,7 @@ delete end words = do
 unfoldable pub zero_counters : List Word → Result Command Fault
 zero_counters words = numbers words >>= λ found. Ok (Zero found)
 
+-- one address of `local`: four numbers, without a prefix's length
 unfoldable pub address : Word → Result Addr Fault
 address word = address_number word >>= λ a. Ok (record { 0 = a })
 

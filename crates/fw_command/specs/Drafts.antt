@@ -14,6 +14,7 @@ pub record Draft : Type 0 where
   pub before : List Line
   pub live : List Step
 
+-- a command behind the lines before it, among the first ones or, behind `live`, among the steps
 abbrev pub taken_order : Bool → Line → Draft → Draft
 taken_order false line draft = record { before = draft.before ++ line ∷ []; live = draft.live }
 taken_order true line draft = record { before = draft.before; live = draft.live ++ Run line ∷ [] }
@@ -29,6 +30,7 @@ taken place (After column count) draft = record { before = draft.before; live = 
 abbrev pub appended : Draft → Script → Script
 appended draft script = record { before = draft.before ++ script.before; live_at = script.live_at; live = draft.live ++ script.live }
 
+-- the script of the lines behind, with what was read before them, or its fault
 abbrev pub with_draft : Draft → Result Script ScriptFault → Result Script ScriptFault
 with_draft draft (Ok script) = Ok (appended draft script)
 with_draft draft (Err fault) = Err fault

@@ -17,6 +17,7 @@ use Rattle.fw_command.specs.declared.script_fault.ScriptFault.{ScriptFault}
 use Rattle.fw_command.specs.declared.script_fault.ScriptFault.TheVariants.{TooLong, TooManyLines, Parse, PaceInLive, TooManyLive, OutOfMemory}
 
 infixl 10 ◌>>=◌
+-- the second step on what the first gives, or the first fault
 abbrev pub ◌>>=◌ : {X Y : Type 0} → Result X ScriptFault → (X → Result Y ScriptFault) → Result Y ScriptFault
 (Ok x) >>= f = f x
 (Err e) >>= f = Err e

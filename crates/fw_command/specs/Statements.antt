@@ -42,6 +42,7 @@ words_say live line (word ∷ words) =
     if same word.text (codes "add") then addition line
     else statement live (end_column (length (before_comment line)) (words_of line)) word words
 
+-- what a line says, or where its first byte stands that may not be there
 abbrev pub says_unless : Bool → List ℕ → Option ℕ → Result Statement Fault
 says_unless live line (Some at) = fault_at (at + 1) BadByte
 says_unless live line None = words_say live line (map (word_of line) (words_of line))

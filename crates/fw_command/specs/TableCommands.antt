@@ -16,6 +16,7 @@ use Rattle.ipfw_parser.specs.Names.{table_name}
 use Rattle.ipfw_parser.specs.Addresses.{prefix}
 use Rattle.fw_command.specs.Ends.{finished}
 
+-- a dot stands in the text
 unfoldable pub has_dot : List ℕ → Bool
 has_dot text = list_any (λ byte. byte == 46) text
 
@@ -23,6 +24,7 @@ has_dot text = list_any (λ byte. byte == 46) text
 unfoldable pub key : Word → Result Key Fault
 key word = if has_dot word.text then (prefix word >>= λ n. Ok (Net n)) else (number 0 4294967295 word >>= λ n. Ok (Number n))
 
+-- the type that stands behind `type`
 unfoldable pub table_type : Word → Result TableType Fault
 table_type word =
     if same word.text (codes "addr") then Ok Addresses

@@ -6,6 +6,7 @@ use Rattle.ipfw_parser.specs.declared.kind.Kind.TheVariants.{UnknownWord, Missin
 use Rattle.fw_command.specs.declared.script_fault.ScriptFault.{ScriptFault}
 use Rattle.fw_command.specs.declared.script_fault.ScriptFault.TheVariants.{TooLong, TooManyLines, Parse, PaceInLive, TooManyLive, OutOfMemory}
 
+-- the word for a fault's kind
 unfoldable pub kind_text : Kind → List ℕ
 kind_text UnknownWord = codes "UnknownWord"
 kind_text MissingWord = codes "MissingWord"

@@ -7,6 +7,7 @@ use Rattle.fw_command.specs.declared.step.Step.{Step}
 use Rattle.fw_command.specs.declared.step.Step.TheVariants.{Run, After}
 use Rattle.fw_command.specs.declared.script.Script.{Script}
 
+-- a line's command is well formed
 abbrev pub IsLine : Line → Type 0
 IsLine line = IsWellFormed line.command
 
@@ -15,6 +16,7 @@ abbrev pub IsStep : Step → Type 0
 IsStep (Run line) = IsLine line
 IsStep (After count) = count ≤ 33554432
 
+-- Every command of the script is well formed, before `live` and behind it.
 pub record IsScript (script : Script) : Type 0 where
   pub before : AllByRecursion IsLine script.before
   pub live : AllByRecursion IsStep script.live

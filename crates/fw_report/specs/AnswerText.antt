@@ -24,12 +24,15 @@ rule_line rule = rule_text rule ++ codes "\n"
 unfoldable pub length_text : ℕ → ℕ → List ℕ
 length_text bits value = codes "/" ++ (decimal bits ++ (codes " " ++ (decimal value ++ codes "\n")))
 
+-- an entry of a table of addresses
 unfoldable pub address_line : Network × ℕ → List ℕ
 address_line entry = address_text entry.0.address ++ length_text entry.0.bits entry.1
 
+-- an entry of a table of numbers
 unfoldable pub number_line : ℕ × ℕ → List ℕ
 number_line entry = decimal entry.0 ++ (codes " " ++ (decimal entry.1 ++ codes "\n"))
 
+-- all entries of a table
 abbrev pub table_lines : Table → List ℕ
 table_lines (Addresses entries) = flat_map address_line entries
 table_lines (Numbers entries) = flat_map number_line entries
@@ -47,16 +50,20 @@ origin line edition = codes " line " ++ (decimal line ++ (codes " edition " ++ (
 unfoldable pub count_line : ℕ → List ℕ
 count_line count = codes "rules " ++ (decimal count ++ codes "\n")
 
+-- the answer to `list`
 unfoldable pub rules_listing : ℕ → ℕ → List Rule → List ℕ
 rules_listing line edition rules = codes "list" ++ (origin line edition ++ (count_line (length rules) ++ flat_map rule_line rules))
 
+-- the answer to `table NAME list`
 unfoldable pub table_listing : ℕ → ℕ → List ℕ → Table → List ℕ
 table_listing line edition name table = codes "table " ++ (name ++ (table_size table ++ (origin line edition ++ table_lines table)))
 
+-- that, where the edition has the table
 abbrev pub named_listing : ℕ → ℕ → List ℕ → Option Table → List ℕ
 named_listing line edition name None = []
 named_listing line edition name (Some table) = table_listing line edition name table
 
+-- a listing, by the configuration that stood then
 abbrev pub config_listing : ℕ → ℕ → Option (List ℕ) → Configuration → List ℕ
 config_listing line edition None config = rules_listing line edition config.rules
 config_listing line edition (Some name) config = named_listing line edition name (table_named config.tables name)
@@ -69,6 +76,7 @@ is_numbered number edition = edition.number == number
 abbrev pub edition_of : List Published → ℕ → Option Published
 edition_of editions number = find (is_numbered number) editions
 
+-- a listing, by the edition of its number
 abbrev pub listing : ℕ → ℕ → Option (List ℕ) → Option Published → List ℕ
 listing line number table None = []
 listing line number table (Some edition) = config_listing line number table edition.config
@@ -77,6 +85,7 @@ listing line number table (Some edition) = config_listing line number table edit
 unfoldable pub refused_line : ℕ → ApplyFault → List ℕ
 refused_line line fault = codes "refused line " ++ (decimal line ++ (codes " " ++ (word_of fault ++ codes "\n")))
 
+-- the answer to a line
 abbrev pub reply_text : List Published → ℕ → Answer → List ℕ
 reply_text editions line (Refused fault) = refused_line line fault
 reply_text editions line (Listed number table) = listing line number table (edition_of editions number)

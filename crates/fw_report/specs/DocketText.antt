@@ -20,6 +20,7 @@ verdict_word Deny = codes "deny"
 verdict_word Reset = codes "reset"
 verdict_word (Unreach code) = codes "unreach "
 
+-- the code of `unreach`; nothing behind other verdicts
 abbrev pub verdict_code : Verdict → List ℕ
 verdict_code Allow = []
 verdict_code Deny = []
@@ -32,6 +33,7 @@ cause_word Rule = []
 cause_word (Limit count) = codes " limit "
 cause_word (Full count) = codes " full "
 
+-- the count behind `limit` or `full`
 abbrev pub cause_count : Cause → List ℕ
 cause_count Rule = []
 cause_count (Limit count) = decimal count

@@ -31,6 +31,7 @@ hits_text lane (hits ∷ rest) = hits_line lane hits ++ hits_text (lane + 1) res
 abbrev pub name_at : List (List ℕ) → ℕ → List ℕ
 name_at names name = slice_index_or names name []
 
+-- a flow name, or `any`
 abbrev pub name_word : List (List ℕ) → FlowName → List ℕ
 name_word names Any = codes "any"
 name_word names (Named name) = name_at names name
@@ -39,6 +40,7 @@ name_word names (Named name) = name_at names name
 unfoldable pub lookup_text : List (List ℕ) → FlowName → List ℕ
 lookup_text names name = codes " lookup :" ++ name_word names name
 
+-- what an install asks for
 unfoldable pub install_text : List (List ℕ) → ℕ → Option (LimitMask × ℕ) → ℕ → List ℕ
 install_text names id None name = codes " install " ++ (decimal id ++ (codes " keep :" ++ name_at names name))
 install_text names id (Some limit) name =
@@ -55,9 +57,11 @@ flag_letters true false true = codes "FR"
 flag_letters false true true = codes "SR"
 flag_letters true true true = codes "FSR"
 
+-- the letters of the flags that are set
 abbrev pub flags_word : ℕ → List ℕ
 flags_word flags = flag_letters (has_bit flags 0) (has_bit flags 1) (has_bit flags 2)
 
+-- the direction in which a state was found
 abbrev pub way_word : Way → List ℕ
 way_word Forward = codes "forward"
 way_word Reverse = codes "reverse"
@@ -79,25 +83,31 @@ ask_start lane at second = codes "ask " ++ (decimal lane ++ (codes "." ++ (decim
 unfoldable pub ask_end : ℕ → Reply → List ℕ
 ask_end flags reply = codes " " ++ (flags_word flags ++ (codes " " ++ reply_end reply))
 
+-- the flow that is asked for
 abbrev pub flow_of : Op → Flow
 flow_of (Lookup flow flags second name) = flow
 flow_of (Install flow flags second rule limit name) = flow
 
+-- the flags that are asked with
 abbrev pub flags_of : Op → ℕ
 flags_of (Lookup flow flags second name) = flags
 flags_of (Install flow flags second rule limit name) = flags
 
+-- the second of the ask
 abbrev pub second_of : Op → ℕ
 second_of (Lookup flow flags second name) = second
 second_of (Install flow flags second rule limit name) = second
 
+-- what is asked
 abbrev pub op_text : List (List ℕ) → Op → List ℕ
 op_text names (Lookup flow flags second name) = lookup_text names name
 op_text names (Install flow flags second rule limit name) = install_text names rule.id limit name
 
+-- the line of an ask
 unfoldable pub ask_line : List (List ℕ) → ℕ → ℕ → Op → Reply → List ℕ
 ask_line names lane at op reply = ask_start lane at (second_of op) ++ (op_text names op ++ (flow_text (flow_of op) ++ ask_end (flags_of op) reply))
 
+-- the line of a publication
 unfoldable pub publish_line : ℕ → List ℕ
 publish_line number = codes "publish " ++ (decimal number ++ codes "\n")
 
@@ -120,6 +130,7 @@ lanes_text lane (docket ∷ dockets) (tracker ∷ trackers) = lane_line lane doc
 unfoldable pub journal_heading : ℕ → List ℕ
 journal_heading entries = codes "journal 2 " ++ (decimal entries ++ codes "\n")
 
+-- the journal, and a line for each lane
 unfoldable pub journal_text : List (List ℕ) → List Entry → List DocketValue → List ℕ → List ℕ
 journal_text names entries dockets trackers = journal_heading (length entries) ++ (flat_map (entry_line names) entries ++ lanes_text 1 dockets trackers)
 

@@ -12,5 +12,6 @@ part_text (Text bytes) = bytes.now
 part_text (Number n) = decimal n
 part_text (RuleNumber n) = five_digits n
 
+-- the parts' texts, one behind the other
 abbrev pub parts_text : List Part → List ℕ
 parts_text parts = flat_map part_text parts

@@ -35,6 +35,7 @@ unfoldable pub closing_text : Recorded → Bool → Configuration → List ℕ
 closing_text r journal config =
     last_text config r.tallies r.journal.object ++ (hits_text 1 r.hits ++ optional_journal journal config.names r.journal.entries r.dockets r.trackers)
 
+-- what follows by the last edition
 abbrev pub last_closing : Recorded → Bool → Option Published → List ℕ
 last_closing r journal None = []
 last_closing r journal (Some edition) = closing_text r journal edition.config

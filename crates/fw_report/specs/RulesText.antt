@@ -25,6 +25,7 @@ sets_text mask (suc sets) set = set_text mask set ++ sets_text mask sets (set + 
 unfoldable pub disabled_line : ℕ → List ℕ
 disabled_line disabled = codes "disabled" ++ (sets_text disabled 32 0 ++ codes "\n")
 
+-- the line of the disabled sets
 abbrev pub disabled_text : ℕ → List ℕ
 disabled_text disabled = if disabled == 0 then [] else disabled_line disabled
 
@@ -38,5 +39,6 @@ counts_text tallies rule =
 unfoldable pub counted_line : List (List Count) → Rule → List ℕ
 counted_line tallies rule = counts_text tallies rule ++ (rest_text rule ++ codes "\n")
 
+-- the rules with their counts
 unfoldable pub rules_text : List (List Count) → List Rule → List ℕ
 rules_text tallies rules = count_line (length rules) ++ flat_map (counted_line tallies) rules

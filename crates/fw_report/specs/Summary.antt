@@ -6,12 +6,14 @@ use Rattle.eval_engine.specs.declared.docket_entry.DocketEntry.TheVariants.{Othe
 use Rattle.eval_engine.specs.declared.verdict.Verdict.{Verdict}
 use Rattle.eval_engine.specs.declared.verdict.Verdict.TheVariants.{Allow, Deny, Reset, Unreach}
 
+-- the packet was let through
 abbrev pub is_allow : Verdict → Bool
 is_allow Allow = true
 is_allow Deny = false
 is_allow Reset = false
 is_allow (Unreach code) = false
 
+-- the packet was dropped without an answer
 abbrev pub is_deny : Verdict → Bool
 is_deny Allow = false
 is_deny Deny = true
@@ -28,9 +30,11 @@ is_judged is (Judged judgement) = is judgement.verdict
 abbrev pub records_in : List DocketValue → ℕ
 records_in dockets = sum_by (λ docket. length docket.entries) dockets
 
+-- how many records were judged so
 abbrev pub judged_in : (Verdict → Bool) → List DocketValue → ℕ
 judged_in is dockets = sum_by (λ docket. count_by (is_judged is) docket.entries) dockets
 
+-- the six lines
 unfoldable pub summary_text : List DocketValue → ℕ → ℕ → ℕ → List ℕ
 summary_text dockets editions entries states =
     codes "records " ++ (decimal (records_in dockets)

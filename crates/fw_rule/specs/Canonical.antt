@@ -36,6 +36,7 @@ use Rattle.fw_rule.specs.declared.rule.Rule.{Rule}
 abbrev pub Words : Type 0
 Words = List (List ℕ)
 
+-- a list of one word
 abbrev pub one_word : List ℕ → Words
 one_word word = word ∷ []
 
@@ -70,6 +71,7 @@ looked_up_words (Some name) = flow_words name
 abbrev pub check_state_words : Option (List ℕ) → Words
 check_state_words name = codes "check-state" ∷ looked_up_words name
 
+-- the action with what it names
 abbrev pub action_words : Action → Words
 action_words Allow = codes "allow" ∷ []
 action_words Deny = codes "deny" ∷ []
@@ -85,6 +87,7 @@ action_words (CheckState name) = check_state_words name
 abbrev pub amount_words : ℕ → Words
 amount_words amount = if amount == 0 then codes "log" ∷ [] else codes "log" ∷ codes "logamount" ∷ decimal amount ∷ []
 
+-- `log` with its amount, where the rule logs
 abbrev pub log_words : Option ℕ → Words
 log_words None = []
 log_words (Some amount) = amount_words amount
@@ -112,6 +115,7 @@ family_word Six protocol = codes "ip6"
 unfoldable pub network_text : Network → List ℕ
 network_text n = address_text n.address ++ (if n.bits == 32 then [] else 47 ∷ decimal n.bits)
 
+-- an element of an address list
 abbrev pub item_text : AddrItem → List ℕ
 item_text Any = codes "any"
 item_text Me = codes "me"
@@ -120,6 +124,7 @@ item_text (Net6 network) = network6_text network
 item_text (InTable name) = codes "table(" ++ (name ++ codes ")")
 item_text (TableValue name value) = codes "table(" ++ (name ++ (codes "," ++ (decimal value ++ codes ")")))
 
+-- `not` where the item is negated
 abbrev pub negation : Bool → Words
 negation negated = if negated then codes "not" ∷ [] else []
 
@@ -127,6 +132,7 @@ negation negated = if negated then codes "not" ∷ [] else []
 abbrev pub list_words : Bool → Words → Words
 list_words negated elements = negation negated ++ join_with_byte 44 elements ∷ []
 
+-- an address list
 abbrev pub addr_words : AddrSpec → Words
 addr_words spec = list_words spec.negated (map item_text spec.items)
 
@@ -134,6 +140,7 @@ addr_words spec = list_words spec.negated (map item_text spec.items)
 unfoldable pub range_text : Ports → List ℕ
 range_text r = decimal r.low ++ (if r.low == r.high then [] else 45 ∷ decimal r.high)
 
+-- a port list, where there is one
 abbrev pub port_words : Option PortList → Words
 port_words None = []
 port_words (Some ports) = list_words ports.negated (map range_text ports.ranges)
@@ -142,6 +149,7 @@ port_words (Some ports) = list_words ports.negated (map range_text ports.ranges)
 abbrev pub sign_of : Bool → Bool → Option (List ℕ)
 sign_of set clear = if set then Some [] else if clear then Some (codes "!") else None
 
+-- a name behind its sign, where it has one
 abbrev pub signed : Option (List ℕ) → List ℕ → Words
 signed None name = []
 signed (Some sign) name = (sign ++ name) ∷ []
@@ -164,17 +172,20 @@ unfoldable pub numbers_where : (ℕ → Bool) → ℕ → ℕ → Words
 numbers_where test zero k = []
 numbers_where test (suc n) k = (if test k then decimal k ∷ [] else []) ++ numbers_where test n (k + 1)
 
+-- an interface, a start of one with `*`, or `any`
 abbrev pub iface_text : Iface → List ℕ
 iface_text AnyIface = codes "any"
 iface_text (Exact name) = name
 iface_text (Begins name) = name ++ codes "*"
 
+-- the field that a table is asked for
 abbrev pub field_word : Field → List ℕ
 field_word SrcIp = codes "src-ip"
 field_word DstIp = codes "dst-ip"
 field_word SrcPortField = codes "src-port"
 field_word DstPortField = codes "dst-port"
 
+-- an option without its `not`
 abbrev pub test_words : Test → Words
 test_words Inward = codes "in" ∷ []
 test_words Outward = codes "out" ∷ []
@@ -190,9 +201,11 @@ test_words (Icmp6Types types) = codes "icmp6types" ∷ join_with_byte 44 (number
 test_words (IpOptions present absent) = codes "ipoptions" ∷ join_with_byte 44 (signed_names option_names 0 present absent) ∷ []
 test_words (Lookup field table) = codes "lookup" ∷ field_word field ∷ table ∷ []
 
+-- an option
 abbrev pub option_words : Opt → Words
 option_words option = negation option.negated ++ test_words option.test
 
+-- what a limit counts by
 abbrev pub mask_word : LimitMask → List ℕ
 mask_word SrcAddr = codes "src-addr"
 mask_word SrcPort = codes "src-port"
@@ -208,6 +221,7 @@ abbrev pub state_option_words : StateOpt → Words
 state_option_words (Keep name) = codes "keep-state" ∷ flow_words name
 state_option_words (Limit mask most name) = limit_words mask most ++ flow_words name
 
+-- the state option, where there is one
 abbrev pub state_words : Option StateOpt → Words
 state_words None = []
 state_words (Some state) = state_option_words state
@@ -216,15 +230,18 @@ state_words (Some state) = state_option_words state
 abbrev pub placed_words : List Opt → Option StateOpt → ℕ → Words
 placed_words options state at = flat_map option_words (take at options) ++ (state_words state ++ flat_map option_words (drop at options))
 
+-- all options of a body
 abbrev pub options_words : Body → Words
 options_words body = placed_words body.options body.state body.state_at
 
+-- a body, from its protocol to its last option
 abbrev pub body_words : Body → Words
 body_words body =
     family_word body.family body.protocol
     ∷ codes "from" ∷ (addr_words body.source ++ (port_words body.source_ports
     ++ (codes "to" ∷ (addr_words body.destination ++ (port_words body.destination_ports ++ options_words body)))))
 
+-- a body, where the rule has one
 abbrev pub optional_body : Option Body → Words
 optional_body None = []
 optional_body (Some body) = body_words body
@@ -233,6 +250,7 @@ optional_body (Some body) = body_words body
 abbrev pub rest_words : Rule → Words
 rest_words rule = set_words rule.set ++ (action_words rule.action ++ (log_words rule.log ++ optional_body rule.body))
 
+-- a rule, its number in five digits first
 abbrev pub rule_words : Rule → Words
 rule_words rule = five_digits rule.number ∷ rest_words rule
 

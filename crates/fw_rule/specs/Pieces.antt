@@ -5,9 +5,11 @@ use Rattle.std.specs.Fmt.{decimal}
 use Rattle.fw_rule.specs.declared.piece.Piece.{Piece}
 use Rattle.fw_rule.specs.declared.piece.Piece.TheVariants.{Text, Number}
 
+-- the text of one piece
 abbrev pub piece_text : Piece → List ℕ
 piece_text (Text bytes) = bytes.now
 piece_text (Number n) = decimal n
 
+-- the pieces' texts, one behind the other
 abbrev pub pieces_text : List Piece → List ℕ
 pieces_text pieces = flat_map piece_text pieces

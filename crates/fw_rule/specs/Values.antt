@@ -15,6 +15,7 @@ pub record Values : Type 0 where
   pub max : ℕ
   pub keep : Bool
 
+-- the settings as plain values
 abbrev pub values_of : Settings → Values
 values_of s = record { ack = s.ack; syn = s.syn; fin = s.fin; rst = s.rst; udp = s.udp; short = s.short; max = s.max; keep = s.keep }
 

@@ -44,6 +44,7 @@ IsSet n = n ≤ 31
 abbrev pub IsValue : ℕ → Type 0
 IsValue n = n ≤ 4294967295
 
+-- an action: the number or code that it names is in its range
 abbrev pub IsAction : Action → Type 0
 IsAction Allow = ⊤
 IsAction Deny = ⊤
@@ -59,9 +60,11 @@ IsAction (CheckState name) = IfSome name IsFlowName
 abbrev pub IsPrefix : Network → Type 0
 IsPrefix n = n.bits ≤ 32
 
+-- a prefix's length of IPv6
 abbrev pub IsPrefix6 : Network6 → Type 0
 IsPrefix6 n = n.bits ≤ 128
 
+-- an element of an address list
 abbrev pub IsItem : AddrItem → Type 0
 IsItem Any = ⊤
 IsItem Me = ⊤
@@ -70,12 +73,15 @@ IsItem (Net6 n) = IsPrefix6 n
 IsItem (InTable name) = ⊤
 IsItem (TableValue name value) = IsValue value
 
+-- an address list
 abbrev pub IsAddrSpec : AddrSpec → Type 0
 IsAddrSpec spec = AllByRecursion IsItem spec.items
 
+-- a port range rises
 abbrev pub IsRange : Ports → Type 0
 IsRange r = (r.low ≤ r.high) × (r.high ≤ 65535)
 
+-- a port list
 abbrev pub IsPortList : PortList → Type 0
 IsPortList ports = AllByRecursion IsRange ports.ranges
 
@@ -100,10 +106,12 @@ IsTest (Icmp6Types types) = IsTypeSet types
 IsTest (IpOptions present absent) = ⊤
 IsTest (Lookup field table) = ⊤
 
+-- a state option: a flow name, and a limit of 1 to 65535
 abbrev pub IsState : StateOpt → Type 0
 IsState (Keep name) = IsFlowName name
 IsState (Limit mask most name) = IsFromTo 1 65535 most × IsFlowName name
 
+-- Every number of a body is in its range.
 pub record IsBody (body : Body) : Type 0 where
   pub protocol : body.protocol ≤ 255
   pub source : IsAddrSpec body.source
@@ -134,10 +142,12 @@ pub record IsDraft (draft : RuleDraft) : Type 0 where
   pub log : IfSome draft.log IsValue
   pub body : HasBody draft.action draft.body
 
+-- a table's key
 abbrev pub IsKey : Key → Type 0
 IsKey (NetKey n) = IsPrefix n
 IsKey (Number n) = IsValue n
 
+-- a command on a table
 abbrev pub IsTableCommand : TableCommand → Type 0
 IsTableCommand (Create type) = ⊤
 IsTableCommand Destroy = ⊤
@@ -147,6 +157,7 @@ IsTableCommand Clear = ⊤
 IsTableCommand (SwapWith other) = ⊤
 IsTableCommand ListEntries = ⊤
 
+-- every number of a command is in its range
 abbrev pub IsWellFormed : Command → Type 0
 IsWellFormed (Add draft) = IsDraft draft
 IsWellFormed (Delete numbers) = AllByRecursion IsNumber numbers

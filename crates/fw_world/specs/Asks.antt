@@ -30,9 +30,11 @@ asks_in (Asked after (Ask lane at op reply) ∷ items) = record { after = after;
 abbrev pub asks_of_record : ℕ → List LaneAsk → List LaneAsk
 asks_of_record at asks = filter (λ ask. ask.at == at) asks
 
+-- what was asked
 abbrev pub ops_of : List LaneAsk → List Op
 ops_of asks = map (λ ask. ask.op) asks
 
+-- what was answered
 abbrev pub replies_of : List LaneAsk → List Reply
 replies_of asks = map (λ ask. ask.reply) asks
 
@@ -58,5 +60,6 @@ abbrev pub IsOfLanes : ℕ → Entry → Type 0
 IsOfLanes lanes (Publish number) = ⊤
 IsOfLanes lanes (Ask lane at op reply) = (1 ≤ lane) × (lane ≤ lanes)
 
+-- each ask of the journal is of one of so many lanes
 abbrev pub AreOfLanes : ℕ → List Entry → Type 0
 AreOfLanes lanes entries = AllByRecursion (IsOfLanes lanes) entries

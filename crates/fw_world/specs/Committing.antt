@@ -15,6 +15,7 @@ pub record IsRefusal (world : WorldValue) (command : Command) (fault : ApplyFaul
   pub last : IsLastOf world.editions edition
   pub refused : apply edition.config command ≡ Err fault
 
+-- why a command isn't published: it is refused, or memory ran out
 abbrev pub IsCommitFault : WorldValue → Command → CommitFault → Type 0
 IsCommitFault world command (Refused fault) = IsRefusal world command fault
 IsCommitFault world command OutOfMemory = ⊤

@@ -18,5 +18,6 @@ abbrev pub pending_of : Bool → ℕ
 pending_of true = 0
 pending_of false = 1
 
+-- what holds of a lane within a section
 abbrev pub IsInside : InsideValue → Type 0
 IsInside inside = IsLane (pending_of inside.judged) inside.lane

@@ -10,6 +10,7 @@ use Rattle.fw_world.specs.Lane.{LaneValue}
 use Rattle.fw_world.specs.Legal.{lane_asks, StandFor}
 use Rattle.fw_world.specs.Sections.{judged_editions}
 
+-- The editions from the first on, and the journal of all asks.
 pub record WorldValue : Type 0 where
   pub editions : List Published
   pub journal : Journal

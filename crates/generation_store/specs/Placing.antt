@@ -6,9 +6,11 @@ use Rattle.dyn_states.specs.RuleLists.{has_id}
 use Rattle.generation_store.specs.Published.{has_identity, place_of}
 use Rattle.generation_store.specs.declared.placed.Placed.{Placed}
 
+-- the identity of a rule with its place
 abbrev pub identity_of : Placed → ℕ
 identity_of placed = placed.identity
 
+-- the place of a rule with its identity
 abbrev pub place_alone : Placed → ℕ
 place_alone placed = placed.place
 

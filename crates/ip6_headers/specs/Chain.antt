@@ -3,6 +3,7 @@
 use Rattle.std.specs.Prelude.{ℕ, ◌+◌, ◌*◌, ◌/◌, List, [], ◌∷◌, length, zero, suc, find, unwrap_or, Bool, not, ◌||◌, ◌==◌, nat_le, if◌then◌else◌}
 use Rattle.packet_headers.specs.Octets.{octet, two_octets}
 
+-- A header behind the first 40 bytes.
 pub record Header : Type 0 where
   -- what it is, as the header before it says
   pub number : ℕ
@@ -12,18 +13,23 @@ pub record Header : Type 0 where
 abbrev pub hop_by_hop : ℕ
 hop_by_hop = 0
 
+-- the routing header
 abbrev pub routing : ℕ
 routing = 43
 
+-- the fragment header
 abbrev pub fragment : ℕ
 fragment = 44
 
+-- the authentication header
 abbrev pub authentication : ℕ
 authentication = 51
 
+-- the header of options for the destination
 abbrev pub destination_options : ℕ
 destination_options = 60
 
+-- one of the five numbers
 abbrev pub is_extension : ℕ → Bool
 is_extension number =
     (number == hop_by_hop || number == routing)
@@ -37,6 +43,7 @@ length_told number count =
     else if number == authentication then 4 * count + 8
     else 8 * count + 8
 
+-- how many bytes the header has, by its second byte
 abbrev pub header_length : List ℕ → Header → ℕ
 header_length packet header = length_told header.number (octet packet (header.place + 1))
 
@@ -68,6 +75,7 @@ next_header packet header = record {
   place = end_place packet header;
 }
 
+-- the header directly behind the first 40 bytes
 abbrev pub first_header : List ℕ → Header
 first_header packet = record { number = octet packet 6; place = 40 }
 

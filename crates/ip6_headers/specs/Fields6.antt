@@ -1,6 +1,7 @@
 -- What an IPv6 packet's headers say (RFC 8200 sections 3 and 4).
 use Rattle.std.specs.Prelude.{ℕ, List}
 
+-- Each field that a rule may test.
 pub record Fields6 : Type 0 where
   pub source : ℕ
   pub destination : ℕ

@@ -3,6 +3,7 @@ use Rattle.std.specs.Prelude.{ℕ, List, [], drop, not, if◌then◌else◌}
 use Rattle.packet_headers.specs.Octets.{octet}
 use Rattle.ip6_headers.specs.Chain.{Header, is_extension, is_whole, fragment_offset}
 
+-- The last header's number, the fragment's offset, and the bytes behind the extension headers.
 pub record Layer : Type 0 where
   pub protocol : ℕ
   pub offset : ℕ

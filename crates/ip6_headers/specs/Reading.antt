@@ -77,6 +77,7 @@ fields_with packet layer = record {
 abbrev pub within_total : List ℕ → List ℕ
 within_total packet = take (total_length6 packet) packet
 
+-- what stands behind the last extension header
 abbrev pub layer_of : List ℕ → Layer
 layer_of bytes = layer_at bytes (last_header bytes)
 
@@ -99,5 +100,6 @@ abbrev pub read_either : Option (List ℕ) → Link → List ℕ → AnyPacket
 read_either (Some packet) link bytes = read_ipv6 packet
 read_either None link bytes = of_ipv4 (read link bytes)
 
+-- a captured frame: IPv6, IPv4, malformed or other
 unfoldable pub read_any : Link → List ℕ → AnyPacket
 read_any link bytes = read_either (ipv6_packet link bytes) link bytes

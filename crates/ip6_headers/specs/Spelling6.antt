@@ -55,6 +55,7 @@ packet6_bytes h next behind =
     ++ (to_be_bytes w16 (length behind)
     ++ (next ∷ h.hop_limit ∷ (h.source ++ (h.destination ++ behind))))
 
+-- what the spelled headers say
 abbrev pub fields6_of : Header6 → ℕ → List ℕ → List ℕ → Fields6
 fields6_of h last behind payload = record {
   source = address_at h.source 0;

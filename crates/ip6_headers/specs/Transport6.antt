@@ -5,6 +5,7 @@ use Rattle.packet_headers.specs.Octets.{octet, two_octets}
 use Rattle.packet_headers.specs.Transport.{tcp, udp}
 use Rattle.ip6_headers.specs.Fields6.{Fields6}
 
+-- the number of ICMPv6
 abbrev pub icmp6 : ℕ
 icmp6 = 58
 

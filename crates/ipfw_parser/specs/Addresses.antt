@@ -24,6 +24,7 @@ abbrev pub with_rest : Option ℕ → Option (List ℕ) → Option (ℕ × List 
 with_rest (Some n) (Some rest) = Some (n, rest)
 with_rest other more = None
 
+-- an octet before a dot, and the text behind the dot
 unfoldable pub octet_and_dot : List ℕ → Option (ℕ × List ℕ)
 octet_and_dot text = with_rest (octet (before 46 text)) (behind 46 text)
 
@@ -36,13 +37,16 @@ address_in text =
     then_some (octet c.1) (λ d.
     Some (from_be_bytes w32 (a.0 ∷ b.0 ∷ c.0 ∷ d ∷ []))))))
 
+-- the address, or the fault of its column
 abbrev pub found_address : ℕ → Option ℕ → Result ℕ Fault
 found_address column (Some a) = Ok a
 found_address column None = fault_at column BadAddress
 
+-- an address without a prefix's length
 unfoldable pub address : Word → Result ℕ Fault
 address word = found_address word.column (address_in word.text)
 
+-- the prefix's length, or the fault of its column
 abbrev pub found_length : ℕ → Option ℕ → Result ℕ Fault
 found_length column (Some bits) = Ok bits
 found_length column None = fault_at column BadPrefix
@@ -67,6 +71,7 @@ part_len text = unwrap_or (position (λ b. b == 44 || b == 41) text) (length tex
 unfoldable pub closes : List ℕ → Bool
 closes text = same text (codes ")")
 
+-- a value follows a table's name
 unfoldable pub starts_with_comma : List ℕ → Bool
 starts_with_comma [] = false
 starts_with_comma (byte ∷ bytes) = byte == 44
@@ -90,9 +95,11 @@ table_item word = do
   name ← table_name (record { column = word.column; text = take (part_len word.text) word.text })
   table_end name (record { column = word.column; text = drop (part_len word.text) word.text })
 
+-- a prefix of IPv4 as an element
 abbrev pub net_item : Result Network Fault → Result AddrItem Fault
 net_item reading = reading >>= λ n. Ok (Net n)
 
+-- a prefix of IPv6 as an element
 abbrev pub net6_item : Result Network6 Fault → Result AddrItem Fault
 net6_item reading = reading >>= λ n. Ok (Net6 n)
 
@@ -109,6 +116,7 @@ item word =
 unfoldable pub items : Word → Result (List AddrItem) Fault
 items word = each item word.column (elements_outside false word.text)
 
+-- `not` or nothing, and a list of addresses
 unfoldable pub addr_spec : ℕ → List Word → Reading AddrSpec
 addr_spec end words = do
   negated ← negation end words

@@ -41,6 +41,7 @@ each_group (text ∷ texts) =
 unfoldable pub colon_parts : List ℕ → List (List ℕ)
 colon_parts text = slice_split (λ byte. byte == 58) text
 
+-- the texts between the colons of what is left
 abbrev pub colon_parts_left : Option (List ℕ) → List (List ℕ)
 colon_parts_left None = []
 colon_parts_left (Some text) = colon_parts text
@@ -63,6 +64,7 @@ whole groups = if nat_eq (length groups) 8 then Some groups else None
 unfoldable pub filled : List ℕ → List ℕ → Option (List ℕ)
 filled front back = if nat_le (length front + length back) 7 then Some (front ++ (replicate (8 - (length front + length back)) 0 ++ back)) else None
 
+-- the eight groups of a text, by where its first `::` stands
 abbrev pub groups_by : List ℕ → Option ℕ → Option (List ℕ)
 groups_by text None = then_some (side text) whole
 groups_by text (Some at) =
@@ -79,9 +81,11 @@ abbrev pub address6_after : ℕ → List ℕ → ℕ
 address6_after n [] = n
 address6_after n (one ∷ groups) = address6_after (65536 * n + one) groups
 
+-- the number of 128 bits that the text stands for
 unfoldable pub address6_in : List ℕ → Option ℕ
 address6_in text = option_map (address6_after 0) (eight_groups text)
 
+-- an address of IPv6
 unfoldable pub address6 : Word → Result ℕ Fault
 address6 word = found_or BadAddress word.column (address6_in word.text)
 

@@ -63,6 +63,7 @@ pub record IsFlowForm (name : List ℕ) : Type 0 where
   pub bytes : is_name 63 name ≡ true
   pub one : IsFlowName name
 
+-- an option that the grammar yields
 abbrev pub IsTestForm : Test → Type 0
 IsTestForm Inward = ⊤
 IsTestForm Outward = ⊤
@@ -78,6 +79,7 @@ IsTestForm (Icmp6Types types) = IsTypesForm types
 IsTestForm (IpOptions present absent) = AreSigns 4 present absent
 IsTestForm (Lookup field name) = is_name 63 name ≡ true
 
+-- a state option that the grammar yields
 abbrev pub IsStateForm : StateOpt → Type 0
 IsStateForm (Keep name) = IsFlowForm name
 IsStateForm (Limit mask most name) = IsFromTo 1 65535 most × IsFlowForm name
@@ -95,6 +97,7 @@ IsFamilyForm AnyIp protocol = ⊤
 IsFamilyForm Four protocol = protocol ≡ 0
 IsFamilyForm Six protocol = protocol ≡ 0
 
+-- A body that the grammar yields.
 pub record IsBodyForm (body : Body) : Type 0 where
   pub family : IsFamilyForm body.family body.protocol
   pub protocol : body.protocol ≤ 255
@@ -121,6 +124,7 @@ HasForm (Call number) log body = HasBehind log body
 HasForm Return log body = HasBehind log body
 HasForm (CheckState flow) log body = IfSome flow IsFlowForm × IfSome log (λ _. ⊥) × IfSome body (λ _. ⊥)
 
+-- A rule that the grammar yields.
 pub record IsDraftForm (draft : RuleDraft) : Type 0 where
   pub number : IfSome draft.number (λ n. n ≤ 65535)
   pub set : IsSet draft.set

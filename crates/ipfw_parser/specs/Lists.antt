@@ -32,6 +32,7 @@ abbrev pub elements_left : Option (List ℕ) → List (List ℕ)
 elements_left None = []
 elements_left (Some text) = elements text
 
+-- the elements of what is left, outside parentheses
 abbrev pub elements_outside_left : Option (List ℕ) → List (List ℕ)
 elements_outside_left None = []
 elements_outside_left (Some text) = elements_outside false text
@@ -51,6 +52,7 @@ type_mask mask column (text ∷ texts) = do
   n ← number 0 31 (record { column = column; text = text })
   type_mask (bit_or mask (2 ^ n)) column texts
 
+-- a list of ICMP types
 unfoldable pub types : Word → Result ℕ Fault
 types word = type_mask 0 word.column (elements word.text)
 
@@ -61,6 +63,7 @@ type_set set column (text ∷ texts) = do
   n ← number 0 255 (record { column = column; text = text })
   type_set (with_type set n) column texts
 
+-- a list of ICMPv6 types
 unfoldable pub types6 : Word → Result TypeSet Fault
 types6 word = type_set no_types word.column (elements word.text)
 
@@ -69,6 +72,7 @@ pub record Masks : Type 0 where
   pub set : ℕ
   pub clear : ℕ
 
+-- an element begins with !
 unfoldable pub is_negated : List ℕ → Bool
 is_negated [] = false
 is_negated (byte ∷ bytes) = byte == 33
@@ -77,13 +81,16 @@ is_negated (byte ∷ bytes) = byte == 33
 unfoldable pub bare : List ℕ → List ℕ
 bare text = if is_negated text then drop 1 text else text
 
+-- the masks with the bit of one more name
 abbrev pub with_name : Masks → Bool → ℕ → Masks
 with_name masks negated k = if negated then record masks { clear = bit_or masks.clear (2 ^ k) } else record masks { set = bit_or masks.set (2 ^ k) }
 
+-- the place of a name, or the fault of its column
 abbrev pub flag_found : ℕ → Option ℕ → Result ℕ Fault
 flag_found column (Some k) = Ok k
 flag_found column None = fault_at column BadFlag
 
+-- the masks of all elements, from left to right
 unfoldable pub sign_masks : List (List ℕ) → Masks → ℕ → List (List ℕ) → Result Masks Fault
 sign_masks names masks column [] = Ok masks
 sign_masks names masks column (text ∷ texts) = do

@@ -16,6 +16,7 @@ is_name_byte b = (nat_le 97 b && nat_le b 122) || (nat_le 65 b && nat_le b 90) |
 unfoldable pub is_name : ℕ → List ℕ → Bool
 is_name most text = list_all is_name_byte text && (nat_le 1 (length text) && nat_le (length text) most)
 
+-- a table's name, of one to 63 bytes
 unfoldable pub table_name : Word → Result (List ℕ) Fault
 table_name word = if is_name 63 word.text then Ok word.text else fault_at word.column BadName
 
@@ -32,6 +33,7 @@ is_any_flow text = same (drop 1 text) (codes "any")
 unfoldable pub flow_name : Word → Result (List ℕ) Fault
 flow_name word = if is_name 63 (drop 1 word.text) then Ok (drop 1 word.text) else fault_at word.column BadName
 
+-- an interface's name stands for all that begin so
 unfoldable pub ends_with_star : List ℕ → Bool
 ends_with_star text = nat_le 1 (length text) && slice_index text (length text - 1) == 42
 
@@ -48,11 +50,13 @@ iface word =
 unfoldable pub place : List (List ℕ) → List ℕ → Option ℕ
 place table text = position (λ name. same text name) table
 
+-- the services that have a name
 unfoldable pub service_names : List (List ℕ)
 service_names =
     codes "ftp" ∷ codes "ssh" ∷ codes "telnet" ∷ codes "smtp" ∷ codes "domain" ∷ codes "bootps" ∷ codes "bootpc" ∷ codes "tftp" ∷ codes "http" ∷ codes "pop3" ∷ codes "ntp" ∷ codes "imap" ∷ codes "snmp"
     ∷ codes "https" ∷ codes "imaps" ∷ codes "pop3s" ∷ []
 
+-- their ports, in the same order
 unfoldable pub service_ports : List ℕ
 service_ports = 21 ∷ 22 ∷ 23 ∷ 25 ∷ 53 ∷ 67 ∷ 68 ∷ 69 ∷ 80 ∷ 110 ∷ 123 ∷ 143 ∷ 161 ∷ 443 ∷ 993 ∷ 995 ∷ []
 
@@ -60,6 +64,7 @@ service_ports = 21 ∷ 22 ∷ 23 ∷ 25 ∷ 53 ∷ 67 ∷ 68 ∷ 69 ∷ 80 ∷ 1
 unfoldable pub service : List ℕ → Option ℕ
 service text = option_and_then (λ k. slice_get service_ports k) (place service_names text)
 
+-- the number that the word stands for, or its fault
 abbrev pub found : Word → Option ℕ → Result ℕ Fault
 found word (Some k) = Ok k
 found word None = fault_at word.column UnknownWord

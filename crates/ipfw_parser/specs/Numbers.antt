@@ -4,6 +4,7 @@ use Rattle.std.specs.List.{list_all}
 use Rattle.ipfw_parser.specs.declared.kind.Kind.TheVariants.{BadNumber, NumberRange, UnknownWord}
 use Rattle.ipfw_parser.specs.Reading.{Word, Fault, fault_at}
 
+-- a decimal digit
 abbrev pub is_digit : ℕ → Bool
 is_digit byte = nat_le 48 byte && nat_le byte 57
 
@@ -25,6 +26,7 @@ abbrev pub up_to : ℕ → Option ℕ → Option ℕ
 up_to most None = None
 up_to most (Some n) = if nat_le n most then Some n else None
 
+-- the number, where it is in its range, or its fault
 abbrev pub number_by : ℕ → ℕ → ℕ → Option ℕ → Result ℕ Fault
 number_by least most column None = fault_at column BadNumber
 number_by least most column (Some n) = if nat_le least n && nat_le n most then Ok n else fault_at column NumberRange
@@ -33,6 +35,7 @@ number_by least most column (Some n) = if nat_le least n && nat_le n most then O
 unfoldable pub number : ℕ → ℕ → Word → Result ℕ Fault
 number least most word = number_by least most word.column (decimal 10 word.text)
 
+-- the text begins with a digit
 unfoldable pub starts_with_digit : List ℕ → Bool
 starts_with_digit [] = false
 starts_with_digit (byte ∷ bytes) = is_digit byte

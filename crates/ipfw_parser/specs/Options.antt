@@ -17,6 +17,7 @@ use Rattle.ipfw_parser.specs.Numbers.{number}
 use Rattle.ipfw_parser.specs.Names.{iface, table_name, starts_with_colon, is_any_flow, flow_name}
 use Rattle.ipfw_parser.specs.Lists.{types, types6, signs}
 
+-- the field that a table is asked for
 unfoldable pub field : Word → Result Field Fault
 field word =
     if same word.text (codes "src-ip") then Ok SrcIp
@@ -25,6 +26,7 @@ field word =
     else if same word.text (codes "dst-port") then Ok DstPortField
     else fault_at word.column UnknownWord
 
+-- what a limit counts by
 unfoldable pub limit_mask : Word → Result LimitMask Fault
 limit_mask word =
     if same word.text (codes "src-addr") then Ok SrcAddr
@@ -52,9 +54,11 @@ lookup end words = do
   name ← table_name table.0
   Ok (Lookup found name, table.1)
 
+-- the flags behind `tcpflags`
 abbrev pub tcp_flags : Word → Result Test Fault
 tcp_flags word = signs flag_names word >>= λ masks. Ok (TcpFlags masks.set masks.clear)
 
+-- the options behind `ipoptions`
 abbrev pub ip_options : Word → Result Test Fault
 ip_options word = signs option_names word >>= λ masks. Ok (IpOptions masks.set masks.clear)
 
@@ -69,10 +73,12 @@ test_of name word =
     else if same name (codes "icmp6types") then (types6 word >>= λ set. Ok (Icmp6Types set))
     else ip_options word
 
+-- one word stands behind this one
 unfoldable pub has_argument : List ℕ → Bool
 has_argument text =
     same text (codes "recv") || (same text (codes "xmit") || (same text (codes "via") || (same text (codes "tcpflags") || (same text (codes "icmptypes") || (same text (codes "icmp6types") || same text (codes "ipoptions"))))))
 
+-- the option that begins with this word, with what stands behind it
 abbrev pub test_by : ℕ → Word → List Word → Option Test → Reading Test
 test_by end word words (Some test) = Ok (test, words)
 test_by end word words None =
@@ -87,6 +93,7 @@ test_by end word words None =
 unfoldable pub test : ℕ → Word → List Word → Reading Test
 test end word words = test_by end word words (plain_test word.text)
 
+-- the word begins a state option
 unfoldable pub is_state : List ℕ → Bool
 is_state text = same text (codes "keep-state") || same text (codes "limit")
 

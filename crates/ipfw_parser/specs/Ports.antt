@@ -9,10 +9,12 @@ use Rattle.ipfw_parser.specs.Names.{service}
 use Rattle.ipfw_parser.specs.Lists.{elements, each}
 use Rattle.ipfw_parser.specs.Addresses.{before, behind}
 
+-- the port, or the fault of its column
 abbrev pub found_port : ℕ → Option ℕ → Result ℕ Fault
 found_port column (Some p) = Ok p
 found_port column None = fault_at column BadPort
 
+-- a service's port, else a number
 abbrev pub port_by : Word → Option ℕ → Result ℕ Fault
 port_by word (Some p) = Ok p
 port_by word None = found_port word.column (up_to 65535 (decimal 10 word.text))
@@ -28,6 +30,7 @@ range_to column low (Some text) = do
   high ← port (record { column = column; text = text })
   if nat_le low high then Ok (record { low = low; high = high }) else fault_at column BadRange
 
+-- a range of ports
 unfoldable pub range : Word → Result Ports Fault
 range word = do
   low ← port (record { column = word.column; text = before 45 word.text })
@@ -37,6 +40,7 @@ range word = do
 unfoldable pub ranges : Word → Result (List Ports) Fault
 ranges word = each range word.column (elements word.text)
 
+-- `not` or nothing, and a list of ranges
 unfoldable pub port_list : ℕ → List Word → Reading PortList
 port_list end words = do
   negated ← negation end words
@@ -44,6 +48,7 @@ port_list end words = do
   found ← ranges list.0
   Ok (record { negated = negated.0; ranges = found }, list.1)
 
+-- a list of ports that is there
 abbrev pub some_ports : Reading PortList → Reading (Option PortList)
 some_ports reading = reading >>= λ found. Ok (Some found.0, found.1)
 

@@ -17,10 +17,12 @@ pub record Fault : Type 0 where
   pub column : ℕ
   pub kind : Kind
 
+-- the fault of that kind in that column
 abbrev pub fault_at : {X : Type 0} → ℕ → Kind → Result X Fault
 fault_at column kind = Err (record { column = column; kind = kind })
 
 infixl 10 ◌>>=◌
+-- the second step on what the first read, or the first fault
 abbrev pub ◌>>=◌ : {X Y : Type 0} → Result X Fault → (X → Result Y Fault) → Result Y Fault
 (Ok x) >>= f = f x
 (Err e) >>= f = Err e
@@ -34,6 +36,7 @@ abbrev pub Fails : {Y : Type 0} → ParseFault → Result Y Fault → Type 0
 Fails OutOfMemory reading = Unit {0}
 Fails (At column kind) reading = reading ≡ fault_at column kind
 
+-- a value is what reading gives; an error is its fault, or want of memory
 abbrev pub Gives : {X Y : Type 0} → (X → Y) → Result X ParseFault → Result Y Fault → Type 0
 Gives view (Ok x) reading = reading ≡ Ok (view x)
 Gives view (Err e) reading = Fails e reading

@@ -23,6 +23,7 @@ rule_number end words = do
   next ← first end words
   if starts_with_digit next.0.text then (number 0 65535 next.0 >>= λ n. Ok (Some n, next.1)) else Ok (None, words)
 
+-- the set behind `set`
 unfoldable pub set_behind : ℕ → List Word → Reading ℕ
 set_behind end words = do
   which ← first end words
@@ -46,6 +47,7 @@ plain_action text =
     else if same text (codes "return") then Some Return
     else None
 
+-- the action that begins with this word, with what stands behind it
 abbrev pub action_by : ℕ → Word → List Word → Option Action → Reading Action
 action_by end word words (Some action) = Ok (action, words)
 action_by end word words None =
@@ -67,6 +69,7 @@ action_by end word words None =
 unfoldable pub action : ℕ → Word → List Word → Reading Action
 action end word words = action_by end word words (plain_action word.text)
 
+-- the amount behind `logamount`
 unfoldable pub amount_behind : ℕ → List Word → Reading ℕ
 amount_behind end words = do
   next ← first end words
@@ -165,6 +168,7 @@ rule end words = do
   next ← first end in_set.1
   if same next.0.text (codes "check-state") then check_state numbered.0 in_set.0 next.1 else matching numbered.0 in_set.0 end next.0 next.1
 
+-- one past the line's last word; one past the part before # where there is none
 abbrev pub end_behind : ℕ → Option Token → ℕ
 end_behind part None = part + 1
 end_behind part (Some token) = token.end + 1

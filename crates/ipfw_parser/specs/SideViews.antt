@@ -9,12 +9,15 @@ abbrev pub side_of : Option (List ℕ) → Option Side
 side_of None = None
 side_of (Some groups) = if nat_le (length groups) 8 then Some (record { value = address6_after 0 groups; count = length groups }) else None
 
+-- the number of eight groups
 unfoldable pub whole_value : Side → Option ℕ
 whole_value found = if found.count == 8 then Some found.value else None
 
+-- the number of the groups before and behind a `::`
 unfoldable pub filled_value : Side → Side → Option ℕ
 filled_value front back = if nat_le (front.count + back.count) 7 then Some (front.value * 2 ^ (16 * (8 - front.count)) + back.value) else None
 
+-- the number of an address, by where its first `::` stands
 abbrev pub value_by : List ℕ → Option ℕ → Option ℕ
 value_by text None = then_some (side_of (side text)) whole_value
 value_by text (Some at) =

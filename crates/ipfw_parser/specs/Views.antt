@@ -4,8 +4,10 @@ use Rattle.ipfw_parser.specs.Reading.{Word, word_of}
 use Rattle.ipfw_parser.specs.declared.word.Word.{Word as TextWord}
 use Rattle.ipfw_parser.specs.declared.words.Words.{Words}
 
+-- a word with its column
 abbrev pub view : TextWord → Word
 view word = record { column = word.column; text = word.text.now }
 
+-- the words as a list
 abbrev pub list_of : Words → List Word
 list_of words = map (word_of words.line.now) words.tokens.now

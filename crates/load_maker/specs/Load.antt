@@ -7,6 +7,7 @@ use Rattle.load_maker.specs.Packets.{packet_of, record_of}
 abbrev pub next_draw : ℕ → ℕ
 next_draw x = (x * 6364136223846793005 + 1442695040888963407) % 2 ^ 64
 
+-- what the generator gives in this state
 abbrev pub drawn : ℕ → ℕ
 drawn x = x / 2 ^ 33
 
@@ -34,6 +35,7 @@ capture_header =
 unfoldable pub capture_of : ℕ → List ℕ
 capture_of n = capture_header ++ records_from n 1 n
 
+-- the rules of the load's script, before its live command
 unfoldable pub script_start : List ℕ
 script_start = codes "add 100 check-state\nadd 200 allow tcp from 10.0.0.0/24 to any 80 setup keep-state\nadd 300 allow udp from 10.0.0.0/24 to any 53 keep-state\nadd 400 allow icmp from any to any icmptypes 0,8\nadd 500 deny ip from any to any\nlive\nafter "
 

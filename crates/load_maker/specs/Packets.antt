@@ -10,6 +10,7 @@ server = 0xc000_0201
 abbrev pub clients : ℕ
 clients = 0x0a00_0000
 
+-- the network of the other hosts
 abbrev pub strangers : ℕ
 strangers = 0xc633_6400
 
@@ -21,10 +22,12 @@ header_start total protocol = 0x45 ∷ 0 ∷ 0 ∷ total ∷ 0 ∷ 0 ∷ 0 ∷ 0
 abbrev pub tcp_end : ℕ → List ℕ
 tcp_end flags = 0 ∷ 0 ∷ 0 ∷ 0 ∷ 0 ∷ 0 ∷ 0 ∷ 0 ∷ 0x50 ∷ flags ∷ 0xff ∷ 0xff ∷ 0 ∷ 0 ∷ 0 ∷ 0 ∷ []
 
+-- a TCP segment of these ends and flags
 unfoldable pub tcp_packet : ℕ → ℕ → ℕ → ℕ → ℕ → List ℕ
 tcp_packet source port destination other flags =
     header_start 40 6 ++ (to_be_bytes w32 source ++ (to_be_bytes w32 destination ++ (to_be_bytes w16 port ++ (to_be_bytes w16 other ++ tcp_end flags))))
 
+-- a UDP datagram of these ends
 unfoldable pub udp_packet : ℕ → ℕ → ℕ → ℕ → List ℕ
 udp_packet source port destination other =
     header_start 28 17 ++ (to_be_bytes w32 source ++ (to_be_bytes w32 destination ++ (to_be_bytes w16 port ++ (to_be_bytes w16 other ++ (0 ∷ 8 ∷ 0 ∷ 0 ∷ [])))))

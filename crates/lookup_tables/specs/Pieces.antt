@@ -12,6 +12,7 @@ use Rattle.lookup_tables.specs.declared.piece.Piece.{Piece}
 abbrev pub no_piece : Piece
 no_piece = record { first = record { 0 = 0 }; value = None; prefix = record { address = 0; bits = 0 } }
 
+-- the piece in this place
 abbrev pub piece_at : List Piece → ℕ → Piece
 piece_at pieces place = slice_index_or pieces place no_piece
 

@@ -1,6 +1,7 @@
 -- What an IPv4 packet's header says (RFC 791 section 3.1).
 use Rattle.std.specs.Prelude.{ℕ, List}
 
+-- Each field that a rule may test.
 pub record Fields : Type 0 where
   pub source : ℕ
   pub destination : ℕ

@@ -17,6 +17,7 @@ pub data Reading : Type 0 where
 abbrev pub ipv4_type : ℕ
 ipv4_type = 0x0800
 
+-- the type of a VLAN tag
 abbrev pub vlan_type : ℕ
 vlan_type = 0x8100
 
@@ -24,9 +25,11 @@ vlan_type = 0x8100
 abbrev pub version : List ℕ → ℕ
 version packet = octet packet 0 / 16
 
+-- the header's length in words of 4 bytes
 abbrev pub header_words : List ℕ → ℕ
 header_words packet = octet packet 0 % 16
 
+-- the header's length in bytes
 abbrev pub header_length : List ℕ → ℕ
 header_length packet = 4 * header_words packet
 
@@ -34,6 +37,7 @@ header_length packet = 4 * header_words packet
 abbrev pub total_length : List ℕ → ℕ
 total_length packet = if two_octets packet 2 == 0 then length packet else two_octets packet 2
 
+-- what the header says, by its byte positions
 abbrev pub fields : List ℕ → Fields
 fields packet = record {
   source = four_octets packet 12;

@@ -44,6 +44,7 @@ packet_bytes h payload =
     ++ (to_be_bytes w32 h.destination
     ++ (h.options ++ payload))))))))
 
+-- what the spelled header says
 abbrev pub fields_of : Header → List ℕ → Fields
 fields_of h payload = record {
   source = h.source;

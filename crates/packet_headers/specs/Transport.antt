@@ -7,9 +7,11 @@ use Rattle.packet_headers.specs.Fields.{Fields}
 abbrev pub icmp : ℕ
 icmp = 1
 
+-- the number of TCP
 abbrev pub tcp : ℕ
 tcp = 6
 
+-- the number of UDP
 abbrev pub udp : ℕ
 udp = 17
 

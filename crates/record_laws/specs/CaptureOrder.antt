@@ -12,5 +12,6 @@ pub record GivesEachRecord (captures : List (List Captured)) : Type 0 where
   pub each : (capture : ℕ) (records : List Captured) → slice_get captures capture ≡ Some records → taken_of capture (in_order captures) ≡ records
   pub all : length (in_order captures) ≡ record_count captures
 
+-- each capture gives all its records in their order, whatever the captures
 abbrev pub CapturesKeepTheirOrder : Type 0
 CapturesKeepTheirOrder = (captures : List (List Captured)) → GivesEachRecord captures

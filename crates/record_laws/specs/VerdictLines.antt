@@ -23,9 +23,11 @@ abbrev pub begins_with_digit : List ℕ → Bool
 begins_with_digit [] = false
 begins_with_digit (byte ∷ rest) = nat_le 48 byte && nat_le byte 57
 
+-- the lines of records
 abbrev pub verdict_lines : List ℕ → List (List ℕ)
 verdict_lines text = filter begins_with_digit (lines_of text)
 
+-- the lines of captures' ends
 abbrev pub other_lines : List ℕ → List (List ℕ)
 other_lines text = filter (λ line. not (begins_with_digit line)) (lines_of text)
 

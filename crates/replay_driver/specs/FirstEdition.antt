@@ -22,6 +22,7 @@ use Rattle.replay_driver.specs.declared.script_error.ScriptError.{ScriptError}
 use Rattle.replay_driver.specs.declared.script_error.ScriptError.TheVariants.{Fault, Refused, OutOfMemory}
 
 infixl 10 ◌>>=◌
+-- the second step on what the first gives, or the first error
 abbrev pub ◌>>=◌ : {X Y : Type 0} → Result X ScriptError → (X → Result Y ScriptError) → Result Y ScriptError
 (Ok x) >>= f = f x
 (Err e) >>= f = Err e
@@ -46,6 +47,7 @@ configured config (line ∷ lines) = do
 abbrev pub shown : ℕ → Option (List ℕ) → Option LineAnswer
 shown line table = Some (answered line (Listed 1 table))
 
+-- the answer to a listing of this table
 abbrev pub table_shown : Configuration → ℕ → List ℕ → Result (Option LineAnswer) ScriptError
 table_shown config line name =
     if is_some (table_named config.tables name) then Ok (shown line (Some name))
@@ -57,6 +59,7 @@ listed_first config line None = Ok None
 listed_first config line (Some Rules) = Ok (shown line None)
 listed_first config line (Some (Entries name)) = table_shown config line name
 
+-- the answer before the others, where there is one
 abbrev pub with_answer : Option LineAnswer → List LineAnswer → List LineAnswer
 with_answer None answers = answers
 with_answer (Some answer) answers = answer ∷ answers
@@ -69,6 +72,7 @@ listings_of config (line ∷ lines) = do
   others ← listings_of config lines
   Ok (with_answer answer others)
 
+-- the script, or its first fault
 abbrev pub read_script : Result Script ScriptFault → Result Script ScriptError
 read_script (Ok script) = Ok script
 read_script (Err fault) = Err (Fault fault)

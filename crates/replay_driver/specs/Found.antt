@@ -120,9 +120,11 @@ capture_over bytes = record {
   source = record { left = bytes; pieces = []; turn = 0; allowed = None; failures = 0 };
 }
 
+-- a source over memory tells what is left
 abbrev pub known_left : MemoryBytes → Option (List ℕ)
 known_left source = Some source.left
 
+-- how often a source over memory failed
 abbrev pub failures_of : MemoryBytes → ℕ
 failures_of source = source.failures
 

@@ -54,6 +54,7 @@ pub record IsFaulty {S : Type 0} (outcome : Outcome S) : Type 0 where
 abbrev pub FailedRead : CaptureEnd → Type 0
 FailedRead end = (at : ℕ) × (count : ℕ) × (end ≡ Stopped at ReadFault count) × (0 < count)
 
+-- some capture's source failed
 abbrev pub HasFailedRead : List CaptureEnd → Type 0
 HasFailedRead [] = ⊥
 HasFailedRead (end ∷ ends) = FailedRead end ⊎ HasFailedRead ends

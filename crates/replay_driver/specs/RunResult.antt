@@ -21,6 +21,7 @@ use Rattle.replay_driver.specs.declared.run_result.RunResult.TheVariants.{Usage,
 unfoldable pub usage_text : List ℕ
 usage_text = codes "usage: ipfw_replay serial|live [--journal] SCRIPT in|out:IF:CAPTURE .. | load N\n"
 
+-- which name could not be opened or read
 unfoldable pub unread_text : List ℕ → List ℕ
 unread_text name = codes "cannot read " ++ (name ++ codes "\n")
 
@@ -55,6 +56,7 @@ abbrev pub is_stopped : CaptureEnd → Bool
 is_stopped (Read records) = false
 is_stopped (Stopped at fault count) = true
 
+-- the answer says that a command was refused
 abbrev pub is_refusal : Answer → Bool
 is_refusal (answer.Refused fault) = true
 is_refusal (answer.Listed edition table) = false
@@ -72,6 +74,7 @@ report_status captures answers =
     else if list_any is_refused answers then 2
     else 0
 
+-- the status that the text is written with
 abbrev pub result_status : RunResult → ℕ
 result_status Usage = 1
 result_status (Unread name) = 4
@@ -79,6 +82,7 @@ result_status (Unready error) = 2
 result_status (Reported kept ends journal) = report_status ends.captures ends.answers
 result_status (Summed kept ends) = report_status ends.captures ends.answers
 
+-- the text that is written
 unfoldable pub result_text : RunResult → List ℕ
 result_text Usage = usage_text
 result_text (Unread name) = unread_text name
@@ -94,6 +98,7 @@ result_kept (Unready error) = None
 result_kept (Reported kept ends journal) = Some kept
 result_kept (Summed kept ends) = Some kept
 
+-- how the captures ended, where some were replayed
 abbrev pub result_ends : RunResult → List CaptureEnd
 result_ends Usage = []
 result_ends (Unread name) = []
@@ -101,6 +106,7 @@ result_ends (Unready error) = []
 result_ends (Reported kept ends journal) = ends.captures
 result_ends (Summed kept ends) = ends.captures
 
+-- the answers to lines of the script, where captures were replayed
 abbrev pub result_answers : RunResult → List LineAnswer
 result_answers Usage = []
 result_answers (Unread name) = []

@@ -6,9 +6,11 @@ use Rattle.replay_driver.specs.declared.refused_line.RefusedLine.{RefusedLine}
 use Rattle.replay_driver.specs.declared.script_error.ScriptError.{ScriptError}
 use Rattle.replay_driver.specs.declared.script_error.ScriptError.TheVariants.{Fault, Refused, OutOfMemory}
 
+-- which line's command is refused, and why
 unfoldable pub refused_text : RefusedLine → List ℕ
 refused_text refused = codes "script line " ++ (decimal refused.line ++ (codes " " ++ (word_of refused.fault ++ codes "\n")))
 
+-- the first fault of a script, or its first refused command
 unfoldable pub error_text : ScriptError → List ℕ
 error_text (Fault fault) = fault_text fault
 error_text (Refused refused) = refused_text refused

@@ -15,6 +15,7 @@ pub data Job : Type 0 where
   Replays : ReplayNames → Job
   Loads : (records : ℕ) → Job
 
+-- what the words ask for, where it is carried out
 abbrev pub served : CommandWords → Option Job
 served (Replay Serial journal script captures) = Some (Replays (record { journal = journal; script = script; captures = captures }))
 served (Replay Live journal script captures) = None

@@ -21,6 +21,7 @@ pub record CoreState : Type 0 where
   -- processor 1 first
   pub processors : List ProcessorState
 
+-- the state of these parts
 abbrev pub state_of : ℕ → Option ℕ → List ProcessorState → CoreState
 state_of number holder processors = record { number = number; holder = holder; processors = processors }
 
@@ -68,6 +69,7 @@ abbrev pub with_token_read : Token → ProcessorState → ProcessorState
 with_token_read Held p = record p { phase = In }
 with_token_read (Revoked number) p = p
 
+-- a processor after it has read its token: it is in if that is held
 abbrev pub after_check : ProcessorState → ProcessorState
 after_check p = with_token_read p.token p
 
@@ -77,6 +79,7 @@ with_tracker_read Out p = record p { drained = true }
 with_tracker_read Raised p = p
 with_tracker_read In p = p
 
+-- a processor after the writer has looked for it: it is drained if it is out
 abbrev pub after_drain : ProcessorState → ProcessorState
 after_drain p = with_tracker_read p.phase p
 

@@ -16,14 +16,17 @@ abbrev pub after_all : CoreState → List Event → CoreState
 after_all s [] = s
 after_all s (e ∷ es) = after_all (after s e) es
 
+-- processor i takes its token again
 abbrev pub is_regain_of : ℕ → Event → Bool
 is_regain_of i (Regain j) = i == j
 is_regain_of i _ = false
 
+-- processor i reads its token
 abbrev pub is_check_of : ℕ → Event → Bool
 is_check_of i (Check j) = i == j
 is_check_of i _ = false
 
+-- the token was found held
 abbrev pub is_held : Heard → Bool
 is_held Held = true
 is_held _ = false
@@ -39,6 +42,7 @@ number_entered i known s [] = known
 number_entered i known s (e ∷ es) =
     number_entered i (if is_check_of i e && is_held (heard s e) then s.number else known) (after s e) es
 
+-- a publication
 abbrev pub is_publish : Event → Bool
 is_publish Publish = true
 is_publish _ = false

@@ -7,6 +7,7 @@ use Rattle.rm_core.specs.declared.phase.Phase.TheVariants.{Out, Raised, In}
 use Rattle.rm_core.specs.declared.token.Token.{Token}
 use Rattle.rm_core.specs.declared.token.Token.TheVariants.{Held, Revoked}
 
+-- where word w stands in the table
 abbrev pub index_of_word : ℕ → ℕ
 index_of_word w = 8 * w
 

@@ -1,6 +1,7 @@
 -- What an edition and a book mean to the lock, and what of a step is plain data.
 use Rattle.std.specs.Prelude.{◌≡◌, ℕ, zero, suc, ◌+◌, ◌==◌, Bool, List, [], ◌∷◌, ◌++◌, if◌then◌else◌}
 
+-- Number, tag and name of an edition; number, tag, readiness and lists of a book; and the item that a tag is in a list.
 pub record Meanings (E B T L I : Type 0) : Type 0 where
   pub number : E → ℕ
   pub tag : E → T
@@ -11,6 +12,7 @@ pub record Meanings (E B T L I : Type 0) : Type 0 where
   pub of : B → ℕ → List I
   pub item : T → I
 
+-- the meanings of these parts
 abbrev pub meanings : {E B T L I : Type 0} → (E → ℕ) → (E → T) → (E → L) → (B → ℕ) → (B → T) → (B → Bool) → (B → ℕ → List I) → (T → I) → Meanings E B T L I
 meanings number tag name book_number book_tag book_ready of item = record { number = number; tag = tag; name = name; book_number = book_number; book_tag = book_tag; book_ready = book_ready; of = of; item = item }
 

@@ -40,6 +40,7 @@ pub record Core (E B T L I : Type 0) : Type 0 where
 abbrev pub core_of : {E B T L I : Type 0} → Core E B T L I → CoreState
 core_of c = record { number = c.number; holder = c.behind; processors = values_from c.state 1 c.count }
 
+-- the book, where this place has it
 abbrev pub lent : {B : Type 0} → ℕ → B → ℕ → Option B
 lent holder book place = if holder == place then Some book else None
 
@@ -53,9 +54,11 @@ pub record Words (n number behind holder : ℕ) (tracker token : ℕ → ℕ) (w
   pub tokens : (k : ℕ) → 0 < k → k ≤ n → slice_index words (token_index n k) ≡ token k
   pub between : (w k : ℕ) → w ≤ 2 * n + 2 → 0 < k → k < 8 → slice_index words (index_of_word w + k) ≡ 0
 
+-- what the tracker's word of processor k says
 abbrev pub tracker_of : {E L I : Type 0} → (ℕ → ProcessorState) → (ℕ → Part E L I) → ℕ → ℕ
 tracker_of state part k = tracker_word (part k).sections (state k).phase
 
+-- what the token's word of processor k says
 abbrev pub token_of : (ℕ → ProcessorState) → ℕ → ℕ
 token_of state k = token_word (state k).token
 

@@ -9,6 +9,7 @@ abbrev pub Answer : Type 0 → Type 0
 Answer X = Result X ApplyFault
 
 infixl 10 ◌>>=◌
+-- the second step on what the first answers, or the first refusal
 abbrev pub ◌>>=◌ : {X Y : Type 0} → Answer X → (X → Answer Y) → Answer Y
 (Ok x) >>= f = f x
 (Err fault) >>= f = Err fault

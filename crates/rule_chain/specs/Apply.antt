@@ -31,6 +31,7 @@ with_rule c draft = record c {
   greatest_counter = c.greatest_counter + 1;
 }
 
+-- `add`: the number, the rules, the counters, the flow names and the tables are tested in this order
 unfoldable pub add_rule : Configuration → RuleDraft → Answer Configuration
 add_rule c draft =
     if chosen_number c.rules draft.number == 65535 then Err ReservedRule
@@ -43,12 +44,15 @@ add_rule c draft =
 abbrev pub deletion_fault : List Rule → ℕ → Option ApplyFault
 deletion_fault rules number = if number == 65535 then Some ReservedRule else if has_rule rules number then None else Some NoSuchRule
 
+-- `delete` of numbers, all or none
 unfoldable pub delete_rules : Configuration → List ℕ → Answer Configuration
 delete_rules c numbers = unless (first_fault (deletion_fault c.rules) numbers) (Ok (record c { rules = without_numbers numbers c.rules }))
 
+-- `delete set`
 unfoldable pub delete_set : Configuration → ℕ → Answer Configuration
 delete_set c set = Ok (record c { rules = without_set set c.rules })
 
+-- `flush`: every rule goes that isn't in set 31
 unfoldable pub flush_rules : Configuration → Answer Configuration
 flush_rules c = Ok (record c { rules = flushed c.rules })
 
@@ -63,6 +67,7 @@ zeroed c numbers = record c {
   greatest_counter = c.greatest_counter + count_of (is_zeroed numbers) c.rules;
 }
 
+-- `zero` of numbers, or of all rules where none is named
 unfoldable pub zero_counters : Configuration → List ℕ → Answer Configuration
 zero_counters c numbers =
     unless (first_fault (zeroing_fault c.rules) numbers)
@@ -72,12 +77,15 @@ zero_counters c numbers =
 abbrev pub mask_after : ℕ → ℕ → ℕ → ℕ
 mask_after mask disable enable = bit_and (bit_or mask disable) (4294967295 - enable)
 
+-- `set disable` and `set enable`; set 31 can't be disabled
 unfoldable pub set_mask : Configuration → ℕ → ℕ → Answer Configuration
 set_mask c disable enable = if has_bit disable 31 then Err ReservedSet else Ok (record c { disabled = mask_after c.disabled disable enable })
 
+-- `set move S to S`
 unfoldable pub move_set : Configuration → ℕ → ℕ → Answer Configuration
 move_set c from to = if from == 31 || to == 31 then Err ReservedSet else Ok (record c { rules = move_rules (set_moved from to) c.rules })
 
+-- `set move rule N to S`
 unfoldable pub move_rule : Configuration → ℕ → ℕ → Answer Configuration
 move_rule c number to =
     if to == 31 then Err ReservedSet
@@ -93,16 +101,20 @@ swap_sets c first second = if first == 31 || second == 31 then Err ReservedSet e
 abbrev pub with_address : List Addr → Addr → List Addr
 with_address locals a = if list_any (λ b. b.0 == a.0) locals then locals else locals ++ a ∷ []
 
+-- the addresses, and behind them each new one that isn't there
 unfoldable pub with_addresses : List Addr → List Addr → List Addr
 with_addresses locals [] = locals
 with_addresses locals (a ∷ more) = with_addresses (with_address locals a) more
 
+-- `local`
 unfoldable pub add_locals : Configuration → List Addr → Answer Configuration
 add_locals c addresses = Ok (record c { locals = with_addresses c.locals addresses })
 
+-- a command on a table
 unfoldable pub change_table : Configuration → List ℕ → TableCommand → Answer Configuration
 change_table c name command = change_tables c.tables c.rules name command >>= λ tables. Ok (record c { tables = tables })
 
+-- `sysctl`
 abbrev pub change_setting : Configuration → Setting → ℕ → Configuration
 change_setting c setting value = record c { values = with_value c.values setting value }
 

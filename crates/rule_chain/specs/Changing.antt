@@ -5,6 +5,7 @@ use Rattle.fw_rule.specs.declared.command.Command.TheVariants.{Add, Delete, Dele
 use Rattle.fw_rule.specs.declared.table_command.TableCommand.{TableCommand}
 use Rattle.fw_rule.specs.declared.table_command.TableCommand.TheVariants.{Create, Destroy, Add as AddEntry, Remove, Clear, SwapWith, ListEntries}
 
+-- the command on a table changes it
 abbrev pub changes_table : TableCommand → Bool
 changes_table (Create kind) = true
 changes_table Destroy = true
@@ -14,6 +15,7 @@ changes_table Clear = true
 changes_table (SwapWith other) = true
 changes_table ListEntries = false
 
+-- the command makes an edition
 abbrev pub is_changing : Command → Bool
 is_changing (Add draft) = true
 is_changing (Delete numbers) = true

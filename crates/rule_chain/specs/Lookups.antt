@@ -18,6 +18,7 @@ use Rattle.rule_chain.specs.declared.apply_fault.ApplyFault.TheVariants.{NoSuchT
 use Rattle.rule_chain.specs.Answers.{Answer, ◌>>=◌}
 use Rattle.rule_chain.specs.Uses.{Use, names_table}
 
+-- the table under its name, in the place of any other
 abbrev pub put_table : NamedTables → List ℕ → Table → NamedTables
 put_table tables name table = with_entry name_cmp tables name table
 
@@ -35,10 +36,12 @@ is_of Numbers (NumberTable entries) = true
 
 -- Uses. A table that isn't there is made.
 
+-- a use makes its table where there is none; one of the other type is refused
 abbrev pub use_found : NamedTables → Use → Option Table → Answer NamedTables
 use_found tables u None = Ok (put_table tables u.name (empty_table u.kind))
 use_found tables u (Some table) = if is_of u.kind table then Ok tables else Err WrongType
 
+-- the tables after a use
 abbrev pub with_use : NamedTables → Use → Answer NamedTables
 with_use tables u = use_found tables u (table_named tables u.name)
 
@@ -49,24 +52,29 @@ with_uses tables (u ∷ uses) = with_use tables u >>= λ made. with_uses made us
 
 -- Entries
 
+-- an entry is put in where its key isn't there
 abbrev pub added : {X : Type 0} → Bool → X → Answer X
 added there entries = if there then Err EntryExists else Ok entries
 
+-- an entry is taken out where its key is there
 abbrev pub removed : {X : Type 0} → Bool → X → Answer X
 removed there entries = if there then Ok entries else Err NoSuchEntry
 
+-- an entry more, of a key that fits the table's type
 abbrev pub add_key : Table → Key → ℕ → Answer Table
 add_key (AddressTable entries) (Net prefix) value = added (is_some (value_of network_cmp entries prefix)) (AddressTable (with_entry network_cmp entries prefix value))
 add_key (NumberTable entries) (Number n) value = added (is_some (value_of nat_cmp entries n)) (NumberTable (with_entry nat_cmp entries n value))
 add_key (AddressTable entries) (Number n) value = Err WrongType
 add_key (NumberTable entries) (Net prefix) value = Err WrongType
 
+-- an entry less
 abbrev pub remove_key : Table → Key → Answer Table
 remove_key (AddressTable entries) (Net prefix) = removed (is_some (value_of network_cmp entries prefix)) (AddressTable (without_key network_cmp entries prefix))
 remove_key (NumberTable entries) (Number n) = removed (is_some (value_of nat_cmp entries n)) (NumberTable (without_key nat_cmp entries n))
 remove_key (AddressTable entries) (Number n) = Err WrongType
 remove_key (NumberTable entries) (Net prefix) = Err WrongType
 
+-- a table of the same type without an entry
 abbrev pub cleared : Table → Table
 cleared (AddressTable entries) = AddressTable []
 cleared (NumberTable entries) = NumberTable []
@@ -80,6 +88,7 @@ are_alike (NumberTable entries) (AddressTable others) = false
 
 -- Commands
 
+-- a table that has to be there
 abbrev pub found : Option Table → Answer Table
 found None = Err NoSuchTable
 found (Some table) = Ok table
@@ -89,30 +98,36 @@ abbrev pub found_or_new : Option Table → Table
 found_or_new None = AddressTable []
 found_or_new (Some table) = table
 
+-- `table NAME create`
 unfoldable pub create_table : NamedTables → List ℕ → TableType → Answer NamedTables
 create_table tables name kind = if is_some (table_named tables name) then Err EntryExists else Ok (put_table tables name (empty_table kind))
 
+-- `table NAME destroy`; not where a rule names it
 unfoldable pub destroy_table : NamedTables → List Rule → List ℕ → Answer NamedTables
 destroy_table tables rules name = do
   table ← found (table_named tables name)
   if list_any (names_table name) rules then Err TableInUse else Ok (without_key name_cmp tables name)
 
+-- `table NAME add`, which makes the table where there is none
 unfoldable pub add_entry : NamedTables → List ℕ → Key → ℕ → Answer NamedTables
 add_entry tables name key value = do
   table ← add_key (found_or_new (table_named tables name)) key value
   Ok (put_table tables name table)
 
+-- `table NAME delete`
 unfoldable pub remove_entry_of : NamedTables → List ℕ → Key → Answer NamedTables
 remove_entry_of tables name key = do
   table ← found (table_named tables name)
   rest ← remove_key table key
   Ok (put_table tables name rest)
 
+-- `table NAME flush`
 unfoldable pub clear_table : NamedTables → List ℕ → Answer NamedTables
 clear_table tables name = do
   table ← found (table_named tables name)
   Ok (put_table tables name (cleared table))
 
+-- `table NAME swap`, of tables of one type
 unfoldable pub swap_tables : NamedTables → List ℕ → List ℕ → Answer NamedTables
 swap_tables tables name other = do
   first ← found (table_named tables name)

@@ -5,6 +5,7 @@ use Rattle.rule_chain.specs.declared.moves.Moves.{Moves}
 use Rattle.rule_chain.specs.declared.moves.Moves.TheVariants.{Set, Number, Swap}
 use Rattle.rule_chain.specs.Rules.{set_moved, set_of_number, set_swapped}
 
+-- the set of a rule after the command
 abbrev pub set_after : Moves → Rule → ℕ
 set_after (Set from to) = set_moved from to
 set_after (Number number to) = set_of_number number to

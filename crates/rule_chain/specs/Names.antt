@@ -27,6 +27,7 @@ action_name (Call number) = None
 action_name Return = None
 action_name (CheckState name) = name
 
+-- the flow name of a state option
 abbrev pub state_name : StateOpt → List ℕ
 state_name (Keep name) = name
 state_name (Limit mask most name) = name
@@ -55,6 +56,7 @@ with_name names name =
     else if nat_le 64 (length names) then Err TooManyNames
     else Ok (names ++ name ∷ [])
 
+-- the names after an `add` that may name one
 unfoldable pub with_name_of : List (List ℕ) → Option (List ℕ) → Answer (List (List ℕ))
 with_name_of names None = Ok names
 with_name_of names (Some name) = with_name names name

@@ -9,6 +9,7 @@ use Rattle.fw_rule.specs.declared.family.Family.TheVariants.{AnyIp}
 use Rattle.fw_rule.specs.declared.rule.Rule.{Rule}
 use Rattle.fw_rule.specs.declared.rule_draft.RuleDraft.{RuleDraft}
 
+-- the rule has this number
 abbrev pub is_numbered : ℕ → Rule → Bool
 is_numbered number rule = rule.number == number
 
@@ -55,6 +56,7 @@ greatest_number (rule ∷ rules) = if nat_lt rule.number 65535 then max rule.num
 abbrev pub number_behind : ℕ → ℕ
 number_behind greatest = if nat_le (greatest + 100) 65534 then greatest + 100 else greatest
 
+-- the number of an `add` without one
 unfoldable pub automatic_number : List Rule → ℕ
 automatic_number rules = number_behind (greatest_number rules)
 
@@ -63,6 +65,7 @@ abbrev pub chosen_number : List Rule → Option ℕ → ℕ
 chosen_number rules None = automatic_number rules
 chosen_number rules (Some number) = if number == 0 then automatic_number rules else number
 
+-- the rule of a draft, under its number, identity and counter number
 abbrev pub rule_of : RuleDraft → ℕ → ℕ → ℕ → Rule
 rule_of draft number id counter = record { number = number; set = draft.set; id = id; counter = counter; action = draft.action; log = draft.log; body = draft.body }
 

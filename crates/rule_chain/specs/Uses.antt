@@ -20,6 +20,7 @@ pub record Use : Type 0 where
   pub name : List ℕ
   pub kind : TableType
 
+-- the table that an element of an address list names
 abbrev pub item_use : AddrItem → Option Use
 item_use (InTable name) = Some (record { name = name; kind = Addresses })
 item_use (TableValue name value) = Some (record { name = name; kind = Addresses })
@@ -35,6 +36,7 @@ field_kind DstIp = Addresses
 field_kind SrcPort = Numbers
 field_kind DstPort = Numbers
 
+-- the table that an option looks up
 abbrev pub test_use : Test → Option Use
 test_use (Lookup field name) = Some (record { name = name; kind = field_kind field })
 test_use Inward = None
@@ -50,6 +52,7 @@ test_use (IcmpTypes types) = None
 test_use (Icmp6Types types) = None
 test_use (IpOptions present absent) = None
 
+-- the same of an option that may be negated
 abbrev pub option_use : Opt → Option Use
 option_use option = test_use option.test
 
@@ -57,6 +60,7 @@ option_use option = test_use option.test
 abbrev pub body_uses : Body → List Use
 body_uses body = filter_map item_use body.source.items ++ (filter_map item_use body.destination.items ++ filter_map option_use body.options)
 
+-- all tables of a rule that may lack a body
 abbrev pub uses_of : Option Body → List Use
 uses_of None = []
 uses_of (Some body) = body_uses body

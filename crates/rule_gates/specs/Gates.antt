@@ -32,6 +32,7 @@ admits gate key =
     && (is_within gate.source_ports key.source_port
     && admits_version gate.family key.is_six))))
 
+-- the body holds; a rule without one has nothing to hold
 abbrev pub is_body_held : Option Body → NamedTables → List Addr → AnyIp → Port → Bool
 is_body_held None tables locals packet port = false
 is_body_held (Some body) tables locals packet port = holds body tables locals packet port

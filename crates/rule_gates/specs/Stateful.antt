@@ -6,6 +6,7 @@ use Rattle.fw_rule.specs.declared.body.Body.{Body}
 use Rattle.fw_rule.specs.declared.rule.Rule.{Rule}
 use Rattle.fw_rule.specs.declared.state_opt.StateOpt.{StateOpt}
 
+-- the rule looks states up and has no body
 abbrev pub is_check_state : Action → Bool
 is_check_state Allow = false
 is_check_state Deny = false
@@ -17,6 +18,7 @@ is_check_state (Call number) = false
 is_check_state Return = false
 is_check_state (CheckState name) = true
 
+-- the state option of a body, where there is one
 abbrev pub body_state : Option Body → Option StateOpt
 body_state None = None
 body_state (Some body) = body.state

@@ -3,6 +3,7 @@
 use Rattle.std.specs.Prelude.{ℕ, ◌*◌, ◌/◌, ◌%◌, ◌^◌, List, [], ◌∷◌}
 use Rattle.rule_match.specs.Packet.{Address, V4, V6}
 
+-- the whole address as one number
 abbrev pub number_of : Address → ℕ
 number_of (V4 address) = address
 number_of (V6 address) = address

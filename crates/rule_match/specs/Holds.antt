@@ -44,6 +44,7 @@ holds_protocol asked protocol = asked == 0 || asked == protocol
 abbrev pub has_address : Network → ℕ → Bool
 has_address net address = address / size_of net.bits == net.address / size_of net.bits
 
+-- the same of a prefix of IPv6
 abbrev pub has_address6 : Network6 → ℕ → Bool
 has_address6 net address = address / prefix6.size_of net.bits == net.address / prefix6.size_of net.bits
 
@@ -70,6 +71,7 @@ holds_item6 address (Net6 net) = has_address6 net address
 holds_item6 address (InTable name) = false
 holds_item6 address (TableValue name value) = false
 
+-- an element of an address list, by the packet's version
 abbrev pub holds_item : NamedTables → List Addr → Address → AddrItem → Bool
 holds_item tables locals (V4 address) item = holds_item4 tables locals address item
 holds_item tables locals (V6 address) item = holds_item6 address item
@@ -83,6 +85,7 @@ abbrev pub holds_ports : Option ℕ → Option PortList → Bool
 holds_ports port None = true
 holds_ports port (Some asked) = as_signed asked.negated (is_in_ranges port asked.ranges)
 
+-- an option, negated or not
 abbrev pub holds_option : NamedTables → AnyIp → Port → Opt → Bool
 holds_option tables packet port option = as_signed option.negated (holds_test tables packet port option.test)
 

@@ -9,10 +9,12 @@ use Rattle.fw_base.specs.declared.port.Port.{Port}
 use Rattle.fw_rule.specs.declared.iface.Iface.{Iface}
 use Rattle.fw_rule.specs.declared.iface.Iface.TheVariants.{AnyIface, Exact, Begins}
 
+-- the packet came in
 abbrev pub is_in : Direction → Bool
 is_in In = true
 is_in Out = false
 
+-- the packet went out
 abbrev pub is_out : Direction → Bool
 is_out In = false
 is_out Out = true

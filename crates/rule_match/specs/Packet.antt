@@ -10,10 +10,12 @@ pub data Address : Type 0 where
   V4 : ℕ → Address
   V6 : ℕ → Address
 
+-- the source address
 abbrev pub source_of : AnyIp → Address
 source_of (Four packet) = V4 packet.source
 source_of (Six packet) = V6 packet.source
 
+-- the destination address
 abbrev pub destination_of : AnyIp → Address
 destination_of (Four packet) = V4 packet.destination
 destination_of (Six packet) = V6 packet.destination

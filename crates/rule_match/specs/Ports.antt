@@ -10,9 +10,11 @@ use Rattle.ip6_headers.specs.Either.{any_ports_of}
 abbrev pub source_port : AnyIp → Option ℕ
 source_port packet = option_map (λ ports. ports.0) (any_ports_of packet)
 
+-- the destination port, where there is one
 abbrev pub destination_port : AnyIp → Option ℕ
 destination_port packet = option_map (λ ports. ports.1) (any_ports_of packet)
 
+-- the port is in the range, its ends included
 abbrev pub is_in_range : ℕ → Ports → Bool
 is_in_range port range = nat_le range.low port && nat_le port range.high
 

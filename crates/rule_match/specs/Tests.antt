@@ -19,9 +19,11 @@ use Rattle.rule_match.specs.Tables.{field_value}
 abbrev pub syn : ℕ
 syn = 1
 
+-- RST, by its bit's number
 abbrev pub rst : ℕ
 rst = 2
 
+-- ACK, by its bit's number
 abbrev pub ack : ℕ
 ack = 4
 
@@ -54,12 +56,15 @@ has_icmpv6_type types (Some type) = type_set.has_type types type
 abbrev pub strict_source_route : ℕ
 strict_source_route = 137
 
+-- `lsrr`
 abbrev pub loose_source_route : ℕ
 loose_source_route = 131
 
+-- `rr`
 abbrev pub record_route : ℕ
 record_route = 7
 
+-- `ts`
 abbrev pub time_stamp : ℕ
 time_stamp = 68
 
@@ -80,6 +85,7 @@ abbrev pub holds_ip_options : ℕ → ℕ → AnyIp → Bool
 holds_ip_options present absent (Four packet) = has_options present absent packet.options
 holds_ip_options present absent (Six packet) = false
 
+-- what each option holds of
 abbrev pub holds_test : NamedTables → AnyIp → Port → Test → Bool
 holds_test tables packet port Inward = is_in port.direction
 holds_test tables packet port Outward = is_out port.direction

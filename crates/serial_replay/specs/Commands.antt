@@ -20,6 +20,7 @@ pub data Listing : Type 0 where
   Rules : Listing
   Entries : List ℕ → Listing
 
+-- `table NAME list` is a listing, and no other command on a table
 abbrev pub table_listing : List ℕ → TableCommand → Option Listing
 table_listing name (entries.Create type) = None
 table_listing name entries.Destroy = None
@@ -45,6 +46,7 @@ listing_of (Table name command) = table_listing name command
 listing_of (Sysctl setting value) = None
 listing_of (Local addresses) = None
 
+-- the answer under its line
 abbrev pub answered : ℕ → Answer → LineAnswer
 answered line answer = record { line = line; answer = answer }
 
@@ -65,10 +67,12 @@ abbrev pub after_applied : Standing → ℕ → Command → Applied Configuratio
 after_applied s line command (Ok made) = record s { config = made; number = s.number + 1; accepted = s.accepted ++ command ∷ [] }
 after_applied s line command (Err fault) = record s { answers = s.answers ++ answered line (Refused fault) ∷ [] }
 
+-- what stands after a command: a listing is answered by the edition that stands then
 abbrev pub after_command : Standing → ℕ → Command → Option Listing → Standing
 after_command s line command None = after_applied s line command (apply s.config command)
 after_command s line command (Some listing) = record s { answers = s.answers ++ answered line (listed_answer s.config s.number listing) ∷ [] }
 
+-- what stands after a line
 abbrev pub after_line : Standing → Line → Standing
 after_line s line = after_command s line.line line.command (listing_of line.command)
 

@@ -72,6 +72,7 @@ abbrev pub ReplaysTurn : Option Origin → RunState → RunState → Turn → Ty
 ReplaysTurn None old new turn = ⊥
 ReplaysTurn (Some origin) old new turn = ReplaysInput turn.capture old new (input_of origin.link origin.port turn.taken)
 
+-- an event: a line ran, or a record was taken
 abbrev pub Replays : List Origin → RunState → RunState → Event → Type 0
 Replays origins old new (Ran line) = RunsLine old new line.command (listing_of line.command)
 Replays origins old new (Taken turn) = ReplaysTurn (slice_get origins turn.capture) old new turn

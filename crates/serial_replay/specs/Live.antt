@@ -20,6 +20,7 @@ use Rattle.serial_replay.specs.Commands.{Standing, Listing, listing_of, listed_a
 use Rattle.serial_replay.specs.Events.{RunState, RunsLine, ReplaysInput}
 use Rattle.serial_replay.specs.declared.live_world.LiveWorld.{LiveWorld}
 
+-- the world with its lanes
 abbrev pub state_of : LiveWorld → RunState
 state_of live = record { world = live.world; lanes = live.lanes.items }
 

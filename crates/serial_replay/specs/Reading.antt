@@ -41,6 +41,7 @@ pub record Origin : Type 0 where
   pub link : Link
   pub port : Port
 
+-- where a capture was taken, and of which link type its header says it is
 abbrev pub origin_of : Track → Origin
 origin_of track = record { link = link_in (header_of (take 24 track.bytes)); port = track.port }
 

@@ -21,6 +21,7 @@ earlier None other = other
 earlier (Some head) None = Some head
 earlier (Some head) (Some other) = if is_before other.moment head.moment then Some other else Some head
 
+-- the head of a capture that has a record left
 abbrev pub head_at : ℕ → Option Moment → Option Head
 head_at capture None = None
 head_at capture (Some moment) = Some (record { capture = capture; moment = moment })
@@ -53,6 +54,7 @@ abbrev pub next_of : List Captured → Option Captured
 next_of [] = None
 next_of (r ∷ rest) = Some r
 
+-- when a capture's next record was taken
 abbrev pub next_moment : List Captured → Option Moment
 next_moment [] = None
 next_moment (r ∷ rest) = Some (moment_of r)

@@ -8,6 +8,7 @@ use Rattle.lru.specs.LruCache.{promoted}
 use Rattle.verdict_cache.specs.Key.{same_key}
 use Rattle.verdict_cache.specs.declared.key.Key.{Key}
 
+-- The list, for how many pairs there is room, and of which edition they are.
 pub record Kept (V : Type 0) : Type 0 where
   -- how many pairs there may be, at least one
   pub capacity : ℕ

@@ -40,9 +40,11 @@ same_options a b =
     && (beq a.loose_source_route b.loose_source_route
     && (beq a.record_route b.record_route && beq a.time_stamp b.time_stamp))
 
+-- two pairs of ports are one
 abbrev pub same_ports : ℕ × ℕ → ℕ × ℕ → Bool
 same_ports a b = a.0 == b.0 && a.1 == b.1
 
+-- two keys are one
 abbrev pub same_key : Key → Key → Bool
 same_key a b =
     a.source.0 == b.source.0 && (a.destination.0 == b.destination.0 && (a.protocol == b.protocol
