@@ -5,10 +5,9 @@
 #
 # A line of the script is 'local ADDRESS ..', 'table NAME create type number', 'table NAME add KEY [VALUE]', or
 # 'add NUMBER allow|deny PROTOCOL from ADDRESSES [PORTS] to ADDRESSES [PORTS] [OPTION ..]'. A line of FIELDS.tsv has
-# the fields that its first line names: the 1st is the packet's number, the 4th and 5th its addresses, the 6th its
-# protocol's number, the 8th its fragment offset, the 9th and 10th its ports, the 11th its TCP flags, the 12th its
-# ICMP type, the 13th its kind (ip, ip6, other, or malformed with a number), the 17th the types of its IP options.
-# An address of IPv6 is one of no table, of no prefix of IPv4 and not the host's own.
+# the fields that its first line names behind '#': among them 'kind' (ip, ip6, other, or malformed with a number) and
+# 'opts', the types of the packet's IP options. An address of IPv6 is one of no table, of no prefix of IPv4 and not the
+# host's own.
 
 BEGIN {
     FS = "\t"
@@ -30,14 +29,22 @@ BEGIN {
             take_line(line)
 }
 
-/^#/ { next }
+/^#/ {
+    sub(/^#/, "")
+    for (n = 1; n <= NF; n++)
+        column[$n] = n
+    next
+}
 
 {
     records++
-    print "1." $1 " " ($13 ~ /^ip6?$/ ? judgement() : $13)
+    print "1." field("frame") " " (field("kind") ~ /^ip6?$/ ? judgement() : field("kind"))
 }
 
 END { print "end 1 records " records + 0 }
+
+# The packet's field of that name.
+function field(name) { return $(column[name]) }
 
 function take_line(line,    words, count, n) {
     count = split(line, words, " +")
@@ -74,11 +81,11 @@ function judgement(    place) {
 function holds(text) {
     split(text, word, " +")
     at = 1
-    return protocol_holds(word[at++]) && end_holds("from", $4, $9) && end_holds("to", $5, $10) && options_hold()
+    return protocol_holds(word[at++]) && end_holds("from", field("src"), field("sport")) && end_holds("to", field("dst"), field("dport")) && options_hold()
 }
 
 function protocol_holds(name) {
-    return name == "ip" || name == "all" || name + 0 == $6 || ((name in number_of) && number_of[name] == $6)
+    return name == "ip" || name == "all" || name + 0 == field("proto") || ((name in number_of) && number_of[name] == field("proto"))
 }
 
 # from or to, addresses and perhaps ports.
@@ -172,7 +179,7 @@ function options_hold(    negated, held) {
     return 1
 }
 
-function option_holds(name,    field, table) {
+function option_holds(name,    asked, table) {
     if (name == "in" || name == "out")
         return direction == name
     if (name == "recv")
@@ -182,22 +189,22 @@ function option_holds(name,    field, table) {
     if (name == "via")
         return named(word[at++])
     if (name == "established")
-        return $11 != "" && (has_flag(4) || has_flag(16))
+        return field("flags") != "" && (has_flag(4) || has_flag(16))
     if (name == "setup")
-        return $11 != "" && has_flag(2) && !has_flag(16)
+        return field("flags") != "" && has_flag(2) && !has_flag(16)
     if (name == "frag")
-        return $8 + 0 != 0
+        return field("offset") + 0 != 0
     if (name == "tcpflags")
         return flags_hold(word[at++])
     if (name == "icmptypes")
         return type_holds(word[at++])
     if (name == "ipoptions")
         return ip_options_hold(word[at++])
-    field = word[at++]
+    asked = word[at++]
     table = word[at++]
-    if (field ~ /ip$/)
-        return longest(table, field == "src-ip" ? $4 : $5) != ""
-    return has_key(table, field == "src-port" ? $9 : $10)
+    if (asked ~ /ip$/)
+        return longest(table, asked == "src-ip" ? field("src") : field("dst")) != ""
+    return has_key(table, asked == "src-port" ? field("sport") : field("dport"))
 }
 
 function named(pattern) {
@@ -208,13 +215,13 @@ function named(pattern) {
 
 # Whether the flags, written in hexadecimal, have that power of two.
 function has_flag(flag,    n, flags) {
-    for (n = 3; n <= length($11); n++)
-        flags = flags * 16 + index("0123456789abcdef", substr($11, n, 1)) - 1
+    for (n = 3; n <= length(field("flags")); n++)
+        flags = flags * 16 + index("0123456789abcdef", substr(field("flags"), n, 1)) - 1
     return int(flags / flag) % 2 == 1
 }
 
 function flags_hold(list,    element, count, n, name) {
-    if ($11 == "")
+    if (field("flags") == "")
         return 0
     count = split(list, element, ",")
     for (n = 1; n <= count; n++) {
@@ -228,13 +235,13 @@ function flags_hold(list,    element, count, n, name) {
 function type_holds(list,    element, count, n) {
     count = split(list, element, ",")
     for (n = 1; n <= count; n++)
-        if ($12 != "" && element[n] + 0 == $12 + 0)
+        if (field("icmp") != "" && element[n] + 0 == field("icmp") + 0)
             return 1
     return 0
 }
 
 function ip_options_hold(list,    element, count, n, name) {
-    if ($13 == "ip6")
+    if (field("kind") == "ip6")
         return 0
     count = split(list, element, ",")
     for (n = 1; n <= count; n++) {
@@ -245,7 +252,7 @@ function ip_options_hold(list,    element, count, n, name) {
     return 1
 }
 
-function has_ip_option(type) { return index("," $17 ",", "," type ",") != 0 }
+function has_ip_option(type) { return index("," field("opts") ",", "," type ",") != 0 }
 
 function within(address, prefix,    parts, size) {
     if (address ~ /:/)
