@@ -27,7 +27,8 @@ impl<K> Model for Buffered<K> {
 
     ghost view = { λ b. record { sink = b.sink; pending = drop b.start b.buffer.items } };
 
-    ghost invariant = { λ b. (b.start ≤ vec_len b.buffer) × (BUFFER_BYTES ≤ vec_capacity b.buffer) };
+    ghost invariant = { λ b. (b.start ≤ vec_len b.buffer)
+        × (BUFFER_BYTES ≤ vec_capacity b.buffer) };
 }
 
 impl<K: Sink> Buffered<K> {
@@ -45,7 +46,8 @@ impl<K: Sink> Buffered<K> {
     /// Hands the sink all that is buffered. Where the sink fails, what it didn't take stays buffered.
     pub fn flush(&mut self) -> Result<(), Failed>
         ensures all { OnOk result (self.new.pending ≡ []) }
-        ensures same { Keeps (append_known (K.written self.old.sink) self.old.pending) (append_known (K.written self.new.sink) self.new.pending) }
+        ensures same { Keeps (append_known (K.written self.old.sink) self.old.pending)
+            (append_known (K.written self.new.sink) self.new.pending) }
         ensures cause { HasCause (K.faults self.old.sink) (K.faults self.new.sink) result }
     {
         while self.start < self.buffer.len() {
@@ -67,7 +69,8 @@ impl<K: Sink> Buffered<K> {
 
 /// Appends the bytes where there is room for them all, and says whether there was.
 fn push_within(buffer: &mut Vec<u8>, bytes: &[u8]) -> bool
-    ensures items { buffer.new.items ≡ (if result then buffer.old.items ++ bytes.now else buffer.old.items) }
+    ensures items { buffer.new.items ≡ (if result then buffer.old.items ++ bytes.now
+        else buffer.old.items) }
     ensures capacity { vec_capacity buffer.old ≤ vec_capacity buffer.new }
 {
     if bytes.len() > buffer.capacity() - buffer.len() {

@@ -21,7 +21,8 @@ pub trait Library {
     /// the list. Where it fails the list stays, and the name is the last one refused; it fails only
     /// where the count of faults rose.
     fn open(&mut self, name: Name) -> Result<Self::Reader, Failed>
-        ensures opened { IfOk result (λ reader. TakesOut (pairs self.old) (pairs self.new) name (Self.Reader.left reader)) }
+        ensures opened { IfOk result (λ reader.
+            TakesOut (pairs self.old) (pairs self.new) name (Self.Reader.left reader)) }
         ensures fresh { IfOk result (λ reader. Self.Reader.faults reader ≡ 0) }
         ensures not_refused { OnOk result (refused self.new ≡ refused self.old) }
         ensures stays { OnErr result (pairs self.new ≡ pairs self.old) }

@@ -24,7 +24,12 @@ impl Model for MemoryLibrary {
 
     ghost Value = { MemoryShelf };
 
-    ghost view = { λ l. record { sources = l.sources.items; refusing = l.refusing.items; failures = l.failures; last_refused = l.last_refused } };
+    ghost view = { λ l. record {
+      sources = l.sources.items;
+      refusing = l.refusing.items;
+      failures = l.failures;
+      last_refused = l.last_refused;
+    } };
 
     ghost invariant = { λ l. All IsFresh l.sources.items };
 }
@@ -32,7 +37,12 @@ impl Model for MemoryLibrary {
 impl MemoryLibrary {
     /// A library with no sources, which refuses no name.
     pub fn new(alloc: Global) -> MemoryLibrary
-        ensures { result ≡ record { sources = []; refusing = []; failures = 0; last_refused = None } }
+        ensures { result ≡ record {
+          sources = [];
+          refusing = [];
+          failures = 0;
+          last_refused = None;
+        } }
     {
         MemoryLibrary {
             sources: Vec::new(alloc),
@@ -45,7 +55,8 @@ impl MemoryLibrary {
     /// Adds a source, no read of which has failed, behind those that are there under the name.
     pub fn add(&mut self, name: Name, source: MemorySource) -> Result<(), OutOfMemory>
         requires { source.failures ≡ 0 }
-        ensures ok { OnOk result (self.new ≡ record self.old { sources = self.old.sources ++ (name, source) ∷ [] }) }
+        ensures ok { OnOk result (self.new
+            ≡ record self.old { sources = self.old.sources ++ (name, source) ∷ [] }) }
         ensures err { OnErr result (self.new ≡ self.old) }
     {
         self.sources.push((name, source))?;
@@ -69,7 +80,10 @@ impl MemoryLibrary {
     /// Counts a failed opening of this name.
     fn fail(&mut self, name: Name) -> Result<MemorySource, Failed>
         ensures failed { result ≡ Err (record {}) }
-        ensures counted { self.new ≡ record self.old { failures = one_more self.old.failures; last_refused = Some name } }
+        ensures counted { self.new ≡ record self.old {
+          failures = one_more self.old.failures;
+          last_refused = Some name;
+        } }
         ensures cause { HasCause self.old.failures self.new.failures result }
     {
         self.failures = self.failures.saturating_add(1);
@@ -79,7 +93,8 @@ impl MemoryLibrary {
 
     /// Has each opening of this name fail.
     pub fn refuse(&mut self, name: Name) -> Result<(), OutOfMemory>
-        ensures ok { OnOk result (self.new ≡ record self.old { refusing = self.old.refusing ++ name ∷ [] }) }
+        ensures ok { OnOk result (self.new
+            ≡ record self.old { refusing = self.old.refusing ++ name ∷ [] }) }
         ensures err { OnErr result (self.new ≡ self.old) }
     {
         self.refusing.push(name)?;
@@ -96,7 +111,8 @@ fn is_refusing(refusing: &[Name], name: &Name) -> bool
 
 /// The place of the first source of that name.
 fn place_of(sources: &[(Name, MemorySource)], name: &Name) -> Option<usize>
-    ensures { MatchOption result (take_source name.now sources.now ≡ None) (λ place. IsFirstAt name.now sources.now place) }
+    ensures { MatchOption result (take_source name.now sources.now ≡ None) (λ place.
+        IsFirstAt name.now sources.now place) }
 {
     for (place, (other, _)) in sources.iter().enumerate() {
         if other == name {
@@ -117,10 +133,13 @@ impl Library for MemoryLibrary {
 
     #[tactic(auto, using(crate::proofs::FirstElements::takes_out))]
     fn open(&mut self, name: Name) -> Result<MemorySource, Failed>
-        ensures opened { IfOk result (λ reader. TakesOut (Some (pairs_of self.old.sources)) (Some (pairs_of self.new.sources)) name (Some reader.left)) }
+        ensures opened { IfOk result (λ reader.
+            TakesOut (Some (pairs_of self.old.sources)) (Some (pairs_of self.new.sources)) name
+            (Some reader.left)) }
         ensures fresh { IfOk result (λ reader. reader.failures ≡ 0) }
         ensures not_refused { OnOk result (self.new.last_refused ≡ self.old.last_refused) }
-        ensures stays { OnErr result (Some (pairs_of self.new.sources) ≡ Some (pairs_of self.old.sources)) }
+        ensures stays { OnErr result (Some (pairs_of self.new.sources)
+            ≡ Some (pairs_of self.old.sources)) }
         ensures refused { OnErr result (self.new.last_refused ≡ Some name) }
         ensures cause { HasCause self.old.failures self.new.failures result }
         ensures steady { OnOk result (self.new.failures ≡ self.old.failures) }

@@ -36,7 +36,8 @@ impl Model for MemorySource {
       failures = s.failures;
     } };
 
-    ghost invariant = { λ s. (s.taken ≤ vec_len s.bytes) × IsTurnOf s.pieces.items s.turn × IfSome s.cut (λ cut. s.taken ≤ cut) };
+    ghost invariant = { λ s. (s.taken ≤ vec_len s.bytes) × IsTurnOf s.pieces.items s.turn
+        × IfSome s.cut (λ cut. s.taken ≤ cut) };
 }
 
 impl MemorySource {
@@ -44,7 +45,13 @@ impl MemorySource {
     /// size of 0 counts as 1, and with no sizes a call gives as much as fits. With `cut`, each call
     /// fails once that many bytes were given.
     pub fn new(bytes: Vec<u8>, pieces: Vec<usize>, cut: Option<u64>) -> MemorySource
-        ensures { result ≡ record { left = bytes.items; pieces = pieces.items; turn = 0; allowed = cut; failures = 0 } }
+        ensures { result ≡ record {
+          left = bytes.items;
+          pieces = pieces.items;
+          turn = 0;
+          allowed = cut;
+          failures = 0;
+        } }
     {
         MemorySource {
             bytes,

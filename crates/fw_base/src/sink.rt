@@ -26,7 +26,8 @@ pub trait Sink: Drop {
 
 /// Writes the whole text. Where the sink fails, a front of the text was written.
 pub fn write_text<K: Sink>(out: &mut K, text: &[u8]) -> Result<(), Failed>
-    ensures { WritesText (K.written out.old) (K.written out.new) (K.faults out.old) (K.faults out.new) text.now result }
+    ensures { WritesText (K.written out.old) (K.written out.new) (K.faults out.old)
+        (K.faults out.new) text.now result }
 {
     let mut rest = text;
     while !rest.is_empty() {
@@ -38,7 +39,8 @@ pub fn write_text<K: Sink>(out: &mut K, text: &[u8]) -> Result<(), Failed>
 
 /// Writes the pieces one after the other. Where the sink fails, a front of them was written.
 pub fn write_pieces<K: Sink>(out: &mut K, pieces: &[&[u8]]) -> Result<(), Failed>
-    ensures { WritesText (K.written out.old) (K.written out.new) (K.faults out.old) (K.faults out.new) (flat_map (λ piece. piece.now) pieces.now) result }
+    ensures { WritesText (K.written out.old) (K.written out.new) (K.faults out.old)
+        (K.faults out.new) (flat_map (λ piece. piece.now) pieces.now) result }
 {
     for piece in pieces {
         write_text(out, piece)?;

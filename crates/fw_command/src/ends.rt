@@ -29,7 +29,8 @@ pub(crate) fn number_behind(
     end: u32,
     words: Words<'_>,
 ) -> Result<(u64, Words<'_>), ParseFault>
-    ensures value { Gives (λ r. (r.0, list_of r.1)) result (spec.number_behind least most end (list_of words.entry)) }
+    ensures value { Gives (λ r. (r.0, list_of r.1)) result
+        (spec.number_behind least most end (list_of words.entry)) }
     ensures within { IfOk result (λ r. r.0 ≤ most) }
 {
     let (next, words) = words.first(end)?;

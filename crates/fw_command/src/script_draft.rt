@@ -27,7 +27,8 @@ impl ScriptDraft {
     }
 
     fn order(&mut self, live: bool, line: Line) -> Result<(), ScriptFault>
-        ensures taken { OnOk result (draft_view self.new ≡ taken_order live line (draft_view self.old)) }
+        ensures taken { OnOk result (draft_view self.new
+            ≡ taken_order live line (draft_view self.old)) }
         ensures memory { IfErr result (λ e. e ≡ ScriptFault.OutOfMemory) }
     {
         if live {
@@ -40,7 +41,8 @@ impl ScriptDraft {
 
     /// Takes what the line at this place says.
     pub(crate) fn take(&mut self, place: Place, statement: Statement) -> Result<(), ScriptFault>
-        ensures taken { OnOk result (draft_view self.new ≡ taken place statement (draft_view self.old)) }
+        ensures taken { OnOk result (draft_view self.new
+            ≡ taken place statement (draft_view self.old)) }
         ensures memory { IfErr result (λ e. e ≡ ScriptFault.OutOfMemory) }
     {
         match statement {
@@ -58,7 +60,11 @@ impl ScriptDraft {
 
     /// As a script, in the memory that they have; `live` stands on this line.
     pub(crate) fn script(self, live_at: Option<u32>) -> Script
-        ensures { result ≡ record { before = self.before.items; live_at = live_at; live = self.live.items } }
+        ensures { result ≡ record {
+          before = self.before.items;
+          live_at = live_at;
+          live = self.live.items;
+        } }
     {
         Script {
             before: Items::from_vec(self.before),

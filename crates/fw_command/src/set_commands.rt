@@ -26,7 +26,8 @@ fn ends_sets(to_enable: bool, word: Word<'_>) -> bool
 
 /// Sets up to the line's end, or up to `enable` where it may follow, as bits beside those before.
 fn more_sets(to_enable: bool, before: u32, words: Words<'_>) -> Result<(u32, Words<'_>), ParseFault>
-    ensures { Gives (λ r. (r.0, list_of r.1)) result (spec.more_sets to_enable before (list_of words.entry)) }
+    ensures { Gives (λ r. (r.0, list_of r.1)) result
+        (spec.more_sets to_enable before (list_of words.entry)) }
 {
     let mut mask = before;
     let mut rest = words;
@@ -43,7 +44,8 @@ fn more_sets(to_enable: bool, before: u32, words: Words<'_>) -> Result<(u32, Wor
 /// The same, with one set at least.
 #[tactic(auto, unfolding(crate::specs::SetCommands::sets))]
 fn sets(to_enable: bool, end: u32, words: Words<'_>) -> Result<(u32, Words<'_>), ParseFault>
-    ensures { Gives (λ r. (r.0, list_of r.1)) result (spec.sets to_enable end (list_of words.entry)) }
+    ensures { Gives (λ r. (r.0, list_of r.1)) result
+        (spec.sets to_enable end (list_of words.entry)) }
 {
     let (next, words) = words.first(end)?;
     let bit = set_bit(next)?;

@@ -38,7 +38,8 @@ fn after_line<'a>(
     word: Word<'a>,
     words: Words<'a>,
 ) -> Result<Statement, ParseFault>
-    ensures { Gives (λ s. s) result (spec.after_line live end (view word.entry) (list_of words.entry)) }
+    ensures { Gives (λ s. s) result
+        (spec.after_line live end (view word.entry) (list_of words.entry)) }
 {
     if live {
         after_count(word.column, end, words)
@@ -56,7 +57,8 @@ fn statement<'a>(
     word: Word<'a>,
     words: Words<'a>,
 ) -> Result<Statement, ParseFault>
-    ensures { Gives (λ s. s) result (spec.statement live end (view word.entry) (list_of words.entry)) }
+    ensures { Gives (λ s. s) result
+        (spec.statement live end (view word.entry) (list_of words.entry)) }
 {
     if word.is(b"live") {
         live_line(live, word, words)
@@ -86,7 +88,8 @@ fn words_say(
 ) -> Result<Statement, ParseFault>
     requires short { length line.now ≤ 1048576 }
     requires tokens { tokens.now ≡ lex.words_of line.now }
-    ensures { Gives (λ s. s) result (spec.words_say live line.now (map (word_of line.now) (lex.words_of line.now))) }
+    ensures { Gives (λ s. s) result
+        (spec.words_say live line.now (map (word_of line.now) (lex.words_of line.now))) }
 {
     let words = words_of(line, tokens);
     match words.next() {

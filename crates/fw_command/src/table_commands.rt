@@ -106,7 +106,8 @@ fn table_command(
     end: u32,
     words: Words<'_>,
 ) -> Result<(TableCommand, Words<'_>), ParseFault>
-    ensures { Gives (λ r. (r.0, list_of r.1)) result (spec.table_command end (list_of words.entry)) }
+    ensures { Gives (λ r. (r.0, list_of r.1)) result
+        (spec.table_command end (list_of words.entry)) }
 {
     let (next, words) = words.first(end)?;
     if next.is(b"create") {

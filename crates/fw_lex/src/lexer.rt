@@ -81,11 +81,14 @@ pub fn tokens(alloc: Global, line: &[u8]) -> Result<Vec<Token>, LexFault>
 
     // The words, in order.
     ensures words { IfOk result (λ tokens. tokens.items ≡ words_of line.now) }
-    ensures longest { IfOk result (λ tokens. AreLongestRuns (words.before_comment line.now) tokens.items) }
+    ensures longest { IfOk result (λ tokens.
+        AreLongestRuns (words.before_comment line.now) tokens.items) }
 
     // The first byte that may not stand, exactly where there is one.
-    ensures bad { IfSome (first_bad (words.before_comment line.now)) (λ at. result ≡ Err (LexFault.BadByte (at + 1) (slice_index (words.before_comment line.now) at))) }
-    ensures good { IfNone (first_bad (words.before_comment line.now)) (IsOkUnless result LexFault.OutOfMemory) }
+    ensures bad { IfSome (first_bad (words.before_comment line.now)) (λ at. result
+        ≡ Err (LexFault.BadByte (at + 1) (slice_index (words.before_comment line.now) at))) }
+    ensures good { IfNone (first_bad (words.before_comment line.now))
+        (IsOkUnless result LexFault.OutOfMemory) }
 {
     let part = before_comment(line);
     match first_unreadable(part) {

@@ -13,7 +13,8 @@ use fw_base::{Addr, Failed, PortRange, Prefix, Sink};
 /// written.
 #[tactic(auto, unfolding(fw_base::specs::Addr::address_text))]
 pub fn write_address<K: Sink>(out: &mut K, address: Addr) -> Result<(), Failed>
-    ensures { WritesText (K.written out.old) (K.written out.new) (K.faults out.old) (K.faults out.new) (address_text address.0) result }
+    ensures { WritesText (K.written out.old) (K.written out.new) (K.faults out.old)
+        (K.faults out.new) (address_text address.0) result }
 {
     let [first, second, third, fourth] = address.0.to_be_bytes();
     let dot = Piece::Text(b".");
@@ -27,7 +28,8 @@ pub fn write_address<K: Sink>(out: &mut K, address: Addr) -> Result<(), Failed>
 /// Writes a prefix, one of 32 without its length.
 #[tactic(auto, unfolding(crate::specs::Canonical::network_text))]
 fn write_prefix<K: Sink>(out: &mut K, prefix: Prefix) -> Result<(), Failed>
-    ensures { WritesText (K.written out.old) (K.written out.new) (K.faults out.old) (K.faults out.new) (network_text prefix) result }
+    ensures { WritesText (K.written out.old) (K.written out.new) (K.faults out.old)
+        (K.faults out.new) (network_text prefix) result }
 {
     write_address(out, prefix.address())?;
     let bits = prefix.length();

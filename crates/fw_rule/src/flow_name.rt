@@ -15,7 +15,8 @@ pub const ANY_FLOW: &[u8] = b"any";
 
 /// Writes the name behind a space and a colon, but for `default`.
 pub(crate) fn write_flow_name<K: Sink>(out: &mut K, name: &Name) -> Result<(), Failed>
-    ensures { WritesText (K.written out.old) (K.written out.new) (K.faults out.old) (K.faults out.new) (spaced (text.flow_words name.now)) result }
+    ensures { WritesText (K.written out.old) (K.written out.new) (K.faults out.old)
+        (K.faults out.new) (spaced (text.flow_words name.now)) result }
 {
     if name.bytes() == DEFAULT_FLOW {
         Ok(())

@@ -24,7 +24,12 @@ impl Model for Columns {
 
     ghost Value = { ColumnsValue };
 
-    ghost view = { λ c. record { dockets = c.dockets.items; tallies = c.tallies.items; trackers = c.trackers.items; room = c.room } };
+    ghost view = { λ c. record {
+      dockets = c.dockets.items;
+      tallies = c.tallies.items;
+      trackers = c.trackers.items;
+      room = c.room;
+    } };
 
     ghost invariant = { λ c. (vec_len c.dockets + c.room ≤ vec_capacity c.dockets)
         × (vec_len c.tallies + c.room ≤ vec_capacity c.tallies)

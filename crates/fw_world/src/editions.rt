@@ -41,7 +41,8 @@ pub(crate) fn next_edition(
     requires begun { 1 ≤ length editions.now }
     requires command { IsWellFormed command.now }
     requires changing { IsChanging command.now }
-    ensures next { IfOk result (λ edition. IsNextEdition (map arc_value editions.now) command.now (arc_value edition)) }
+    ensures next { IfOk result (λ edition.
+        IsNextEdition (map arc_value editions.now) command.now (arc_value edition)) }
     ensures cause { IfErr result (IsCauseOf (map arc_value editions.now) command.now) }
 {
     let number = editions.len() as u64 + 1;

@@ -24,12 +24,15 @@ pub(crate) fn evaluate_packet<B: AsksBook>(
     tally: &mut Tally,
 ) -> Result<Judgement, OutOfMemory>
     requires lane { B.serves book.old lane }
-    requires rules { (id : ℕ) → has_id (B.rules book.old) id ≡ has_identity edition.now.config.rules id }
+    requires rules { (id : ℕ)
+        → has_id (B.rules book.old) id ≡ has_identity edition.now.config.rules id }
     requires lawful { IsConfiguration edition.now.config }
     requires fitted { edition.now.config.greatest_counter < length tally.old }
-    ensures judged { IfOk result (Evaluates (λ old op reply new. B.enters old lane at op reply new) book.old book.new
+    ensures judged { IfOk result
+        (Evaluates (λ old op reply new. B.enters old lane at op reply new) book.old book.new
         (record { edition = edition.now; packet = packet.now; port = port.now; second = second }) tally.old tally.new) }
-    ensures asked { AsksSome (λ old op reply new. B.enters old lane at op reply new) book.old book.new }
+    ensures asked { AsksSome (λ old op reply new. B.enters old lane at op reply new) book.old
+        book.new }
 {
     let mut stage = begin(edition, packet, port, second, tally);
     loop {

@@ -124,13 +124,23 @@ impl LaneState {
         second: u32,
     ) -> Result<Judgement, OutOfMemory>
         requires lane { B.serves book.old self.old.place }
-        requires rules { (id : ℕ) → has_id (B.rules book.old) id ≡ has_identity edition.now.config.rules id }
-        ensures judged { IfOk result (Evaluates (λ old op reply new. B.enters old self.old.place (length self.old.docket.entries + 1) op reply new) book.old book.new
+        requires rules { (id : ℕ)
+            → has_id (B.rules book.old) id ≡ has_identity edition.now.config.rules id }
+        ensures judged { IfOk result
+            (Evaluates (λ old op reply new.
+            B.enters old self.old.place (length self.old.docket.entries + 1) op reply new) book.old
+            book.new
             (record { edition = edition.now; packet = packet.now; port = port.now; second = second }) self.old.tally self.new.tally) }
-        ensures lane { IfOk result (λ judgement. self.new ≡ record (with_entry (Judged judgement) self.old) { tally = self.new.tally }) }
+        ensures lane { IfOk result (λ judgement. self.new
+            ≡ record (with_entry (Judged judgement) self.old) { tally = self.new.tally }) }
         ensures working { OnOk result (self.old.failed ≡ false) }
-        ensures asked { AsksSome (λ old op reply new. B.enters old self.old.place (length self.old.docket.entries + 1) op reply new) book.old book.new }
-        ensures failed { OnErr result (self.new ≡ record self.old { tally = self.new.tally; failed = true }) }
+        ensures asked { AsksSome (λ old op reply new.
+            B.enters old self.old.place (length self.old.docket.entries + 1) op reply new) book.old
+            book.new }
+        ensures failed { OnErr result (self.new ≡ record self.old {
+          tally = self.new.tally;
+          failed = true;
+        }) }
         ensures idle { self.old.failed ≡ true → book.new ≡ book.old }
     {
         let place = self.place;

@@ -27,7 +27,12 @@ pub(crate) struct LaneWork {
 
 impl LaneWork {
     pub(crate) fn new(alloc: Global) -> LaneWork
-        ensures { result ≡ record { docket = record { entries = []; refused = 0 }; tally = []; failed = false; loose = 0 } }
+        ensures { result ≡ record {
+          docket = record { entries = []; refused = 0 };
+          tally = [];
+          failed = false;
+          loose = 0;
+        } }
     {
         LaneWork {
             docket: Docket::new(alloc),
@@ -48,7 +53,13 @@ impl LaneWork {
 
     /// Enters a record. Where memory is wanted the lane has failed.
     pub(crate) fn enter(&mut self, entry: DocketEntry) -> Result<(), OutOfMemory>
-        ensures entered { OnOk result (self.new ≡ record self.old { docket = record self.old.docket { entries = self.old.docket.entries ++ entry ∷ [] } }) }
+        ensures entered { OnOk result (self.new
+            ≡ record self.old {
+              docket = record self.old.docket {
+                entries = self.old.docket.entries
+                    ++ entry ∷ [];
+              };
+            }) }
         ensures working { OnOk result (self.old.failed ≡ false) }
         ensures failed { OnErr result (self.new ≡ record self.old { failed = true }) }
     {
@@ -72,16 +83,23 @@ impl LaneWork {
         second: u32,
     ) -> Result<Judgement, OutOfMemory>
         requires lane { B.serves book.old lane }
-        requires rules { (id : ℕ) → has_id (B.rules book.old) id ≡ has_identity edition.now.config.rules id }
-        ensures judged { IfOk result (Evaluates (λ old op reply new. B.enters old lane (length self.old.docket.entries + 1) op reply new) book.old book.new
+        requires rules { (id : ℕ)
+            → has_id (B.rules book.old) id ≡ has_identity edition.now.config.rules id }
+        ensures judged { IfOk result
+            (Evaluates (λ old op reply new.
+            B.enters old lane (length self.old.docket.entries + 1) op reply new) book.old book.new
             (record { edition = edition.now; packet = packet.now; port = port.now; second = second }) self.old.tally self.new.tally) }
         ensures entered { IfOk result (λ judgement. self.new ≡ record self.old {
           docket = record self.old.docket { entries = self.old.docket.entries ++ Judged judgement ∷ [] };
           tally = self.new.tally;
         }) }
         ensures working { OnOk result (self.old.failed ≡ false) }
-        ensures asked { AsksSome (λ old op reply new. B.enters old lane (length self.old.docket.entries + 1) op reply new) book.old book.new }
-        ensures failed { OnErr result (self.new ≡ record self.old { tally = self.new.tally; failed = true }) }
+        ensures asked { AsksSome (λ old op reply new.
+            B.enters old lane (length self.old.docket.entries + 1) op reply new) book.old book.new }
+        ensures failed { OnErr result (self.new ≡ record self.old {
+          tally = self.new.tally;
+          failed = true;
+        }) }
         ensures idle { self.old.failed ≡ true → book.new ≡ book.old }
     {
         if self.failed {
@@ -102,14 +120,18 @@ impl LaneWork {
         second: u32,
     ) -> Result<Judgement, OutOfMemory>
         requires lane { B.serves book.old lane }
-        requires rules { (id : ℕ) → has_id (B.rules book.old) id ≡ has_identity edition.now.config.rules id }
-        ensures judged { IfOk result (Evaluates (λ old op reply new. B.enters old lane (length self.old.docket.entries + 1) op reply new) book.old book.new
+        requires rules { (id : ℕ)
+            → has_id (B.rules book.old) id ≡ has_identity edition.now.config.rules id }
+        ensures judged { IfOk result
+            (Evaluates (λ old op reply new.
+            B.enters old lane (length self.old.docket.entries + 1) op reply new) book.old book.new
             (record { edition = edition.now; packet = packet.now; port = port.now; second = second }) self.old.tally self.new.tally) }
         ensures entered { IfOk result (λ judgement. self.new ≡ record self.old {
           docket = record self.old.docket { entries = self.old.docket.entries ++ Judged judgement ∷ [] };
           tally = self.new.tally;
         }) }
-        ensures asked { AsksSome (λ old op reply new. B.enters old lane (length self.old.docket.entries + 1) op reply new) book.old book.new }
+        ensures asked { AsksSome (λ old op reply new.
+            B.enters old lane (length self.old.docket.entries + 1) op reply new) book.old book.new }
         ensures unentered { OnErr result (self.new ≡ record self.old { tally = self.new.tally }) }
     {
         let at = self.docket.entries().len() as u64 + 1;

@@ -27,7 +27,8 @@ impl Model for SerialDesk {
 impl SerialDesk {
     /// The configuration of the last edition.
     pub fn config(&self) -> &Config
-        ensures { (edition : Published) × IsLastOf self.now edition × (result.now ≡ edition.config) }
+        ensures { (edition : Published) × IsLastOf self.now edition
+            × (result.now ≡ edition.config) }
     {
         last_edition(self.store.all()).config()
     }

@@ -16,5 +16,6 @@ impl Model for SerialInside {
 
     ghost view = { λ inside. record { lane = inside.state; judged = inside.judged } };
 
-    ghost invariant = { λ inside. IsInside (record { lane = inside.state; judged = inside.judged }) };
+    ghost invariant = { λ inside.
+        IsInside (record { lane = inside.state; judged = inside.judged }) };
 }

@@ -57,7 +57,8 @@ impl Model for SerialWorld {
 
     ghost view = { λ w. record { editions = w.store.editions; journal = w.book } };
 
-    ghost invariant = { λ w. IsWorld (record { editions = w.store.editions; journal = w.book }) × (w.columns ≡ no_columns w.book.lanes) };
+    ghost invariant = { λ w. IsWorld (record { editions = w.store.editions; journal = w.book })
+        × (w.columns ≡ no_columns w.book.lanes) };
 }
 
 /// The lanes of a world that is opened.
@@ -124,15 +125,23 @@ impl SerialWorld {
         second: u32,
     ) -> Result<Judgement, OutOfMemory>
         requires place { (1 ≤ lane.old.place) × (lane.old.place ≤ self.old.journal.lanes) }
-        ensures judged { IfOk result (λ judgement. Judges self.old self.new lane.old.place (length lane.old.docket.entries + 1) packet.now port.now second lane.old.tally lane.new.tally judgement) }
-        ensures lane { IfOk result (λ judgement. lane.new ≡ record (with_entry (Judged judgement) lane.old) { tally = lane.new.tally }) }
+        ensures judged { IfOk result (λ judgement.
+            Judges self.old self.new lane.old.place (length lane.old.docket.entries + 1) packet.now
+            port.now second lane.old.tally lane.new.tally judgement) }
+        ensures lane { IfOk result (λ judgement. lane.new
+            ≡ record (with_entry (Judged judgement) lane.old) { tally = lane.new.tally }) }
         ensures working { OnOk result (lane.old.failed ≡ false) }
         ensures asks { ChangesAsksOf lane.old.place self.old self.new }
-        ensures stands { OnOk result ((inputs : List Input) → LaneStandsFor self.old lane.old inputs → LaneStandsFor self.new lane.new (inputs ++ Packet packet.now port.now second ∷ [])) }
-        ensures failed { OnErr result (lane.new ≡ record lane.old { tally = lane.new.tally; failed = true }) }
+        ensures stands { OnOk result ((inputs : List Input) → LaneStandsFor self.old lane.old inputs
+            → LaneStandsFor self.new lane.new (inputs ++ Packet packet.now port.now second ∷ [])) }
+        ensures failed { OnErr result (lane.new ≡ record lane.old {
+          tally = lane.new.tally;
+          failed = true;
+        }) }
         ensures idle { lane.old.failed ≡ true → self.new ≡ self.old }
         ensures of_world { IsLaneOf self.old lane.old → IsLaneOf self.new lane.new }
-        ensures kept { IsLaneOf self.old lane.old → IsLane 1 lane.old → IsLane (pending_of (is_ok result)) lane.new }
+        ensures kept { IsLaneOf self.old lane.old → IsLane 1 lane.old
+            → IsLane (pending_of (is_ok result)) lane.new }
     {
         let edition = last_edition(self.store.all());
         lane.judge(&mut self.book, edition, packet, port, second)
@@ -192,13 +201,23 @@ impl SerialWorld {
     ) -> (SerialInside, Result<Judgement, OutOfMemory>)
         requires of_world { IsLaneOf self.old inside.lane }
         requires fresh { inside.judged ≡ false }
-        ensures judged { IfOk result.1 (λ judgement. Judges self.old self.new inside.lane.place (length inside.lane.docket.entries + 1) packet.now port.now second inside.lane.tally result.0.lane.tally judgement) }
-        ensures lane { IfOk result.1 (λ judgement. result.0 ≡ record { lane = record (with_entry (Judged judgement) inside.lane) { tally = result.0.lane.tally }; judged = true }) }
+        ensures judged { IfOk result.1 (λ judgement.
+            Judges self.old self.new inside.lane.place (length inside.lane.docket.entries + 1)
+            packet.now port.now second inside.lane.tally result.0.lane.tally judgement) }
+        ensures lane { IfOk result.1 (λ judgement. result.0
+            ≡ record { lane = record (with_entry (Judged judgement) inside.lane) { tally = result.0.lane.tally }; judged = true }) }
         ensures working { OnOk result.1 (inside.lane.failed ≡ false) }
-        ensures stands { OnOk result.1 ((inputs : List Input) → LaneStandsFor self.old inside.lane inputs → LaneStandsFor self.new result.0.lane (inputs ++ Packet packet.now port.now second ∷ [])) }
+        ensures stands { OnOk result.1 ((inputs : List Input)
+            → LaneStandsFor self.old inside.lane inputs
+            → LaneStandsFor self.new result.0.lane (inputs ++ Packet packet.now port.now second
+            ∷ [])) }
         ensures asks { ChangesAsksOf inside.lane.place self.old self.new }
         ensures of_world { IsLaneOf self.new result.0.lane }
-        ensures failed { OnErr result.1 (result.0 ≡ record { lane = record inside.lane { tally = result.0.lane.tally; failed = true }; judged = false }) }
+        ensures failed { OnErr result.1 (result.0
+            ≡ record {
+              lane = record inside.lane { tally = result.0.lane.tally; failed = true };
+              judged = false;
+            }) }
         ensures idle { inside.lane.failed ≡ true → self.new ≡ self.old }
     {
         let SerialInside {
@@ -221,14 +240,24 @@ impl SerialWorld {
     ) -> Result<Judgement, OutOfMemory>
         requires of_world { IsLaneOf self.old lane.old }
         requires heeded { lane.old.refusal ≡ None }
-        ensures judged { IfOk result (λ judgement. Judges self.old self.new lane.old.place (length lane.old.docket.entries + 1) packet.now port.now second lane.old.tally lane.new.tally judgement) }
-        ensures lane { IfOk result (λ judgement. lane.new ≡ record (with_entry (Judged judgement) (admitted (published self.old) lane.old)) { tally = lane.new.tally }) }
+        ensures judged { IfOk result (λ judgement.
+            Judges self.old self.new lane.old.place (length lane.old.docket.entries + 1) packet.now
+            port.now second lane.old.tally lane.new.tally judgement) }
+        ensures lane { IfOk result (λ judgement. lane.new
+            ≡ record (with_entry (Judged judgement) (admitted (published self.old)
+            lane.old)) { tally = lane.new.tally }) }
         ensures working { OnOk result (lane.old.failed ≡ false) }
-        ensures stands { OnOk result ((inputs : List Input) → LaneStandsFor self.old lane.old inputs → LaneStandsFor self.new lane.new (inputs ++ Packet packet.now port.now second ∷ [])) }
+        ensures stands { OnOk result ((inputs : List Input) → LaneStandsFor self.old lane.old inputs
+            → LaneStandsFor self.new lane.new (inputs ++ Packet packet.now port.now second ∷ [])) }
         ensures asks { ChangesAsksOf lane.old.place self.old self.new }
         ensures of_world { IsLaneOf self.new lane.new }
         ensures heeded { lane.new.refusal ≡ None }
-        ensures failed { OnErr result (lane.new ≡ record (admitted (published self.old) lane.old) { tally = lane.new.tally; failed = true; loose = lanes.one_looser true lane.old.loose }) }
+        ensures failed { OnErr result (lane.new
+            ≡ record (admitted (published self.old) lane.old) {
+              tally = lane.new.tally;
+              failed = true;
+              loose = lanes.one_looser true lane.old.loose;
+            }) }
         ensures idle { lane.old.failed ≡ true → self.new ≡ self.old }
     {
         let published = self.published();
@@ -323,7 +352,8 @@ impl SerialWorld {
     ) -> (SerialLane, Result<(), OutOfMemory>)
         ensures lane { OnOk result.1 (result.0 ≡ with_entry (entry_for entry) lane) }
         ensures working { OnOk result.1 (lane.failed ≡ false) }
-        ensures stands { OnOk result.1 ((inputs : List Input) → LaneStandsFor self.old lane inputs → LaneStandsFor self.old result.0 (inputs ++ input_for entry ∷ [])) }
+        ensures stands { OnOk result.1 ((inputs : List Input) → LaneStandsFor self.old lane inputs
+            → LaneStandsFor self.old result.0 (inputs ++ input_for entry ∷ [])) }
         ensures of_world { IsLaneOf self.old lane → IsLaneOf self.old result.0 }
         ensures failed { OnErr result.1 (result.0 ≡ record lane { failed = true }) }
         ensures world { self.new ≡ self.old }
@@ -337,7 +367,8 @@ impl SerialWorld {
     pub fn pass_over(&mut self, lane: &mut SerialLane, entry: Skipped) -> Result<(), OutOfMemory>
         ensures lane { OnOk result (lane.new ≡ with_entry (entry_for entry) lane.old) }
         ensures working { OnOk result (lane.old.failed ≡ false) }
-        ensures stands { OnOk result ((inputs : List Input) → LaneStandsFor self.old lane.old inputs → LaneStandsFor self.old lane.new (inputs ++ input_for entry ∷ [])) }
+        ensures stands { OnOk result ((inputs : List Input) → LaneStandsFor self.old lane.old inputs
+            → LaneStandsFor self.old lane.new (inputs ++ input_for entry ∷ [])) }
         ensures of_world { IsLaneOf self.old lane.old → IsLaneOf self.old lane.new }
         ensures failed { OnErr result (lane.new ≡ record lane.old { failed = true }) }
         ensures world { self.new ≡ self.old }
@@ -353,10 +384,12 @@ impl SerialWorld {
         requires desk { desk ≡ self.editions }
         ensures failed { is_err result ≡ list_any (λ lane. lane.failed) lanes.items }
         ensures exact { IfOk result (λ r. r ≡ record_of self lanes.items) }
-        ensures legal { OnOk result ((first : Configuration) (commands : List Command) (inputs : List (List Input))
+        ensures legal { OnOk result
+            ((first : Configuration) (commands : List Command) (inputs : List (List Input))
             → DeskStandsFor desk first commands → EachStandsFor self lanes.items inputs
             → AllByRecursion (λ lane. lane.loose ≡ 0) lanes.items → IsLegal first commands inputs (record_of self lanes.items)) }
-        ensures nearly { OnOk result ((first : Configuration) (commands : List Command) (inputs : List (List Input))
+        ensures nearly { OnOk result
+            ((first : Configuration) (commands : List Command) (inputs : List (List Input))
             → DeskStandsFor desk first commands → EachStandsFor self lanes.items inputs → IsLegalButSections first commands inputs (record_of self lanes.items)) }
     {
         if any_failed(&lanes) {

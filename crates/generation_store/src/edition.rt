@@ -45,7 +45,9 @@ impl Model for Edition {
 
     ghost view = { λ e. record { number = e.number; config = e.config; facts = e.facts } };
 
-    ghost invariant = { λ e. IsIndexed (record { number = e.number; config = e.config; facts = e.facts }) e.jumps.items e.places.items e.names.items (arc_value e.gates).items };
+    ghost invariant = { λ e.
+        IsIndexed (record { number = e.number; config = e.config; facts = e.facts }) e.jumps.items
+        e.places.items e.names.items (arc_value e.gates).items };
 }
 
 impl Edition {
@@ -130,7 +132,8 @@ impl Edition {
     /// The flow name that the rule in this place looks up.
     pub fn name_of(&self, place: usize) -> FlowName
         requires { place < length self.now.config.rules }
-        ensures { (d : Rule) → result ≡ spec.flow_name self.now.config.names (slice_index_or self.now.config.rules place d) }
+        ensures { (d : Rule) → result
+            ≡ spec.flow_name self.now.config.names (slice_index_or self.now.config.rules place d) }
     {
         self.names[place]
     }

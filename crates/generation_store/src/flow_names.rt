@@ -86,7 +86,8 @@ pub(crate) fn flow_names(
 ) -> Result<Vec<FlowName>, OutOfMemory>
     requires few { length names.now ≤ 64 }
     requires named { AllByRecursion (IsNamed names.now) (map arc_value rules.now) }
-    ensures { IfOk result (λ looked_up. looked_up.items ≡ map (spec.flow_name names.now) (map arc_value rules.now)) }
+    ensures { IfOk result (λ looked_up. looked_up.items
+        ≡ map (spec.flow_name names.now) (map arc_value rules.now)) }
 {
     let mut looked_up = Vec::with_capacity(alloc, rules.len())?;
     for rule in rules {

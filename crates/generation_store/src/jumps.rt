@@ -45,7 +45,9 @@ fn jump_of(rules: &[Arc<Rule>], place: usize) -> Jump
     requires ordered { AscendsFrom 1 (map arc_value rules.now) }
     requires few { length rules.now ≤ 65535 }
     requires within { place < length rules.now }
-    ensures { (d : Rule) → result ≡ spec.jump_of (map arc_value rules.now) place (slice_index_or (map arc_value rules.now) place d) }
+    ensures { (d : Rule) → result
+        ≡ spec.jump_of (map arc_value rules.now) place
+        (slice_index_or (map arc_value rules.now) place d) }
 {
     let rule = &rules[place];
     Jump {

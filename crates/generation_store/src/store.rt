@@ -50,7 +50,10 @@ impl Store {
     /// Adds the edition as the last one. It takes no memory: the room was made before.
     pub fn push(&mut self, edition: Arc<Edition>)
         requires room { self.old.ready ≡ true }
-        ensures { self.new ≡ record { editions = self.old.editions ++ arc_value edition ∷ []; ready = false } }
+        ensures { self.new ≡ record {
+          editions = self.old.editions ++ arc_value edition ∷ [];
+          ready = false;
+        } }
     {
         self.editions.push_reserved(edition);
         self.is_ready = false;

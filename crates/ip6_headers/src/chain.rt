@@ -43,7 +43,9 @@ fn header_length(packet: &[u8], header: Header) -> usize
 /// Where the extension header ends, and the next one begins; `None` where it isn't whole.
 pub fn end_of(packet: &[u8], header: Header) -> Option<usize>
     requires { header.place ≤ length packet.now }
-    ensures value { result ≡ (if spec.is_whole packet.now header then Some (spec.end_place packet.now header) else None) }
+    ensures value { result
+        ≡ (if spec.is_whole packet.now header then Some (spec.end_place packet.now header)
+        else None) }
     ensures within { IfSome result (λ end. end ≤ length packet.now) }
     ensures further { IfSome result (λ end. header.place + 8 ≤ end) }
 {
@@ -73,7 +75,8 @@ pub fn fragment_offset(packet: &[u8], header: Header) -> u16
 /// The header behind this one; `None` where the chain ends at this one.
 fn next_header(packet: &[u8], header: Header) -> Option<Header>
     requires { header.place ≤ length packet.now }
-    ensures value { result ≡ (if spec.ends_chain packet.now header then None else Some (spec.next_header packet.now header)) }
+    ensures value { result ≡ (if spec.ends_chain packet.now header then None
+        else Some (spec.next_header packet.now header)) }
     ensures within { IfSome result (λ next. next.place ≤ length packet.now) }
     ensures further { IfSome result (λ next. header.place + 8 ≤ next.place) }
 {

@@ -18,7 +18,11 @@ impl<'a> Model for Layer<'a> {
 
     ghost Value = { layers.Layer };
 
-    ghost view = { λ l. record { protocol = l.protocol; offset = l.offset; transport = l.transport.now } };
+    ghost view = { λ l. record {
+      protocol = l.protocol;
+      offset = l.offset;
+      transport = l.transport.now;
+    } };
 }
 
 /// What the header at which the chain ends leads to.

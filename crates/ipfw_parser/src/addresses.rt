@@ -60,7 +60,8 @@ pub fn address(word: Word<'_>) -> Result<Addr, ParseFault>
 }
 
 fn prefix_length<'a>(word: Word<'a>, text: Option<&'a [u8]>) -> Result<u8, ParseFault>
-    ensures value { Gives (λ n. n) result (spec.prefix_length word.entry.column (option_copied text.entry)) }
+    ensures value { Gives (λ n. n) result
+        (spec.prefix_length word.entry.column (option_copied text.entry)) }
     ensures within { IfOk result (λ n. n ≤ 32) }
     ensures memory { NeedsNoMemory result }
 {

@@ -209,7 +209,8 @@ fn address6(word: Word<'_>) -> Result<Addr6, ParseFault>
 }
 
 fn prefix6_length<'a>(word: Word<'a>, text: Option<&'a [u8]>) -> Result<u8, ParseFault>
-    ensures value { Gives (λ n. n) result (spec.prefix6_length word.entry.column (option_copied text.entry)) }
+    ensures value { Gives (λ n. n) result
+        (spec.prefix6_length word.entry.column (option_copied text.entry)) }
     ensures within { IfOk result (λ n. n ≤ 128) }
     ensures memory { NeedsNoMemory result }
 {

@@ -80,7 +80,8 @@ fn element_len(text: &[u8]) -> usize
 fn split_behind(text: &[u8], end: usize) -> (&[u8], Option<&[u8]>)
     requires { end ≤ length text.now }
     ensures front { result.0.now ≡ take end text.now }
-    ensures rest { option_copied result.1 ≡ (if nat_lt end (length text.now) then Some (drop (end + 1) text.now) else None) }
+    ensures rest { option_copied result.1
+        ≡ (if nat_lt end (length text.now) then Some (drop (end + 1) text.now) else None) }
     ensures shorter { IfSome result.1 (λ rest. length rest.now < length text.now) }
 {
     if end < text.len() {
@@ -93,7 +94,8 @@ fn split_behind(text: &[u8], end: usize) -> (&[u8], Option<&[u8]>)
 /// The first element of a list of addresses, and the elements behind it where there are any. A comma in
 /// parentheses parts no elements.
 pub(crate) fn first_address(text: &[u8]) -> (&[u8], Option<&[u8]>)
-    ensures elements { elements_outside false text.now ≡ result.0.now ∷ elements_outside_left (option_copied result.1) }
+    ensures elements { elements_outside false text.now
+        ≡ result.0.now ∷ elements_outside_left (option_copied result.1) }
     ensures shorter { IfSome result.1 (λ rest. length rest.now < length text.now) }
 {
     split_behind(text, element_len(text))
@@ -119,7 +121,8 @@ pub(crate) fn first_element(text: &[u8]) -> (&[u8], Option<&[u8]>)
 
 /// The first group of an IPv6 address, and what stands behind its colon where there is one.
 pub(crate) fn first_group(text: &[u8]) -> (&[u8], Option<&[u8]>)
-    ensures groups { colon_parts text.now ≡ result.0.now ∷ colon_parts_left (option_copied result.1) }
+    ensures groups { colon_parts text.now
+        ≡ result.0.now ∷ colon_parts_left (option_copied result.1) }
     ensures shorter { IfSome result.1 (λ rest. length rest.now < length text.now) }
 {
     split_behind(text, place_or_end(text, b':'))

@@ -35,7 +35,8 @@ pub fn skip(words: Words<'_>, count: usize) -> Words<'_>
 /// The column one past the line's last word, or past the part before the comment where there is none.
 #[tactic(auto, unfolding(crate::specs::Rules::end_column))]
 pub fn line_end(words: Words<'_>) -> u32
-    ensures { result ≡ end_column (length (lex.before_comment words.entry.line.now)) words.entry.tokens.now }
+    ensures { result ≡ end_column (length (lex.before_comment words.entry.line.now))
+        words.entry.tokens.now }
 {
     match words.tokens.last() {
         Some(token) => token.end + 1,
@@ -66,7 +67,8 @@ pub fn parse_rule(
 #[tactic(auto, unfolding(crate::specs::Rules::rule_in))]
 fn parse_words(alloc: Global, words: Words<'_>, first: usize) -> Result<RuleDraft, ParseFault>
     requires { first ≤ length words.tokens.now }
-    ensures { Gives (λ draft. draft) result (rule_in words.entry.line.now words.entry.tokens.now first) }
+    ensures { Gives (λ draft. draft) result
+        (rule_in words.entry.line.now words.entry.tokens.now first) }
 {
     rule(alloc, line_end(words), skip(words, first))
 }

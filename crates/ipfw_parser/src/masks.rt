@@ -95,7 +95,9 @@ fn with_name(signs: Signs, negated: bool, bit: u32) -> Signs
 }
 
 fn found_place<'x>(names: &'x [&'x [u8]], word: Word<'x>) -> Result<usize, ParseFault>
-    ensures value { Gives (λ k. k) result (spec.flag_found word.entry.column (place (map (λ name. name.now) names.now) word.entry.text.now)) }
+    ensures value { Gives (λ k. k) result
+        (spec.flag_found word.entry.column
+        (place (map (λ name. name.now) names.now) word.entry.text.now)) }
     ensures within { IfOk result (λ k. k < length names.now) }
 {
     match place_in(names, word.text) {
@@ -108,7 +110,8 @@ fn found_place<'x>(names: &'x [&'x [u8]], word: Word<'x>) -> Result<usize, Parse
 #[tactic(auto, unfolding(crate::specs::Lists::signs))]
 pub(crate) fn signed_names<'x>(names: &'x [&'x [u8]], word: Word<'x>) -> Result<Signs, ParseFault>
     requires { length names.now ≤ 8 }
-    ensures { Gives signs_view result (spec.signs (map (λ name. name.now) names.now) (view word.entry)) }
+    ensures { Gives signs_view result
+        (spec.signs (map (λ name. name.now) names.now) (view word.entry)) }
 {
     let mut found = Signs { set: 0, clear: 0 };
     let mut rest = Some(word.text);

@@ -72,7 +72,8 @@ pub(crate) fn starts_with_colon(text: &[u8]) -> bool
 
 /// The part of the word behind its first byte.
 fn behind_colon(word: Word<'_>) -> Word<'_>
-    ensures { view result ≡ record { column = word.entry.column; text = drop 1 word.entry.text.now } }
+    ensures { view result
+        ≡ record { column = word.entry.column; text = drop 1 word.entry.text.now } }
 {
     let text = match word.text {
         [] => word.text,

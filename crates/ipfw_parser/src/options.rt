@@ -140,7 +140,8 @@ fn test<'a>(
     word: Word<'a>,
     words: Words<'a>,
 ) -> Result<(Test, Words<'a>), ParseFault>
-    ensures { Gives (λ r. (r.0, list_of r.1)) result (spec.test end (view word.entry) (list_of words.entry)) }
+    ensures { Gives (λ r. (r.0, list_of r.1)) result
+        (spec.test end (view word.entry) (list_of words.entry)) }
 {
     if let Some(test) = plain_test(word) {
         return Ok((test, words));
@@ -170,7 +171,8 @@ pub(crate) fn option<'a>(
     word: Word<'a>,
     words: Words<'a>,
 ) -> Result<(Opt, Words<'a>), ParseFault>
-    ensures { Gives (λ r. (r.0, list_of r.1)) result (spec.option end (view word.entry) (list_of words.entry)) }
+    ensures { Gives (λ r. (r.0, list_of r.1)) result
+        (spec.option end (view word.entry) (list_of words.entry)) }
 {
     if word.is(b"not") {
         let (next, words) = words.first(end)?;
@@ -212,7 +214,8 @@ pub(crate) fn state<'a>(
     word: Word<'a>,
     words: Words<'a>,
 ) -> Result<(StateOpt, Words<'a>), ParseFault>
-    ensures { Gives (λ r. (r.0, list_of r.1)) result (spec.state end (view word.entry) (list_of words.entry)) }
+    ensures { Gives (λ r. (r.0, list_of r.1)) result
+        (spec.state end (view word.entry) (list_of words.entry)) }
 {
     if word.is(b"keep-state") {
         let (flow, words) = made_flow(alloc, words)?;

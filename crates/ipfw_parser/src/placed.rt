@@ -23,7 +23,8 @@ pub(crate) fn options(
     end: u32,
     words: Words<'_>,
 ) -> Result<PlacedOptions, ParseFault>
-    ensures { Gives placed_view result (spec.options (length (list_of words.entry)) end false (list_of words.entry)) }
+    ensures { Gives placed_view result
+        (spec.options (length (list_of words.entry)) end false (list_of words.entry)) }
 {
     let mut found = Vec::new(alloc);
     let mut made: Option<StateOpt> = None;
@@ -51,7 +52,11 @@ pub(crate) fn options(
 }
 
 fn placed(options: Vec<Opt>, state: Option<StateOpt>, state_at: usize) -> PlacedOptions
-    ensures { placed_view result ≡ record { options = options.items; state = state; state_at = state_at } }
+    ensures { placed_view result ≡ record {
+      options = options.items;
+      state = state;
+      state_at = state_at;
+    } }
 {
     PlacedOptions {
         options: Items::from_vec(options),

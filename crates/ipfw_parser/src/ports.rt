@@ -28,7 +28,8 @@ fn port(word: Word<'_>) -> Result<u16, ParseFault>
 }
 
 fn range_to<'a>(word: Word<'a>, low: u16, text: Option<&'a [u8]>) -> Result<PortRange, ParseFault>
-    ensures { Gives (λ r. r) result (spec.range_to word.entry.column low (option_copied text.entry)) }
+    ensures { Gives (λ r. r) result
+        (spec.range_to word.entry.column low (option_copied text.entry)) }
 {
     let high = match text {
         None => low,
@@ -139,7 +140,8 @@ pub(crate) fn destination_ports(
     end: u32,
     words: Words<'_>,
 ) -> Result<(Option<PortList>, Words<'_>), ParseFault>
-    ensures { Gives (λ r. (r.0, list_of r.1)) result (spec.destination_ports end (list_of words.entry)) }
+    ensures { Gives (λ r. (r.0, list_of r.1)) result
+        (spec.destination_ports end (list_of words.entry)) }
 {
     if !begin_with_ports(words) {
         return Ok((None, words));

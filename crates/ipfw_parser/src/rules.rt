@@ -17,7 +17,8 @@ use std::alloc::Global;
 /// The words behind the next one, which is this word.
 #[tactic(auto, unfolding(crate::specs::Reading::expected))]
 pub fn expected<'a>(name: &'a [u8], end: u32, words: Words<'a>) -> Result<Words<'a>, ParseFault>
-    ensures value { Gives (λ w. list_of w) result (reading.expected name.entry.now end (list_of words.entry)) }
+    ensures value { Gives (λ w. list_of w) result
+        (reading.expected name.entry.now end (list_of words.entry)) }
     ensures memory { NeedsNoMemory result }
 {
     let (next, words) = words.first(end)?;
@@ -45,7 +46,8 @@ fn rule_number(end: u32, words: Words<'_>) -> Result<(Option<u16>, Words<'_>), P
 /// The number of a set, and the words behind it.
 #[tactic(auto, unfolding(crate::specs::Rules::set_behind))]
 pub fn set_behind(end: u32, words: Words<'_>) -> Result<(u8, Words<'_>), ParseFault>
-    ensures value { Gives (λ r. (r.0, list_of r.1)) result (spec.set_behind end (list_of words.entry)) }
+    ensures value { Gives (λ r. (r.0, list_of r.1)) result
+        (spec.set_behind end (list_of words.entry)) }
     ensures memory { NeedsNoMemory result }
 {
     let (which, words) = words.first(end)?;
@@ -90,7 +92,8 @@ fn plain_action(word: Word<'_>) -> Option<Action>
 /// An action that begins with the word.
 #[tactic(auto, unfolding(crate::specs::Rules::action))]
 fn action<'a>(end: u32, word: Word<'a>, words: Words<'a>) -> Result<(Action, Words<'a>), ParseFault>
-    ensures { Gives (λ r. (r.0, list_of r.1)) result (spec.action end (view word.entry) (list_of words.entry)) }
+    ensures { Gives (λ r. (r.0, list_of r.1)) result
+        (spec.action end (view word.entry) (list_of words.entry)) }
 {
     if let Some(action) = plain_action(word) {
         return Ok((action, words));
@@ -111,7 +114,8 @@ fn action<'a>(end: u32, word: Word<'a>, words: Words<'a>) -> Result<(Action, Wor
 
 #[tactic(auto, unfolding(crate::specs::Rules::amount_behind))]
 fn amount_behind(end: u32, words: Words<'_>) -> Result<(u32, Words<'_>), ParseFault>
-    ensures { Gives (λ r. (r.0, list_of r.1)) result (spec.amount_behind end (list_of words.entry)) }
+    ensures { Gives (λ r. (r.0, list_of r.1)) result
+        (spec.amount_behind end (list_of words.entry)) }
 {
     let (next, words) = words.first(end)?;
     Ok((number(next, 0, 4_294_967_295)? as u32, words))
@@ -278,7 +282,8 @@ fn matching<'a>(
     word: Word<'a>,
     words: Words<'a>,
 ) -> Result<RuleDraft, ParseFault>
-    ensures { Gives (λ d. d) result (spec.matching number set end (view word.entry) (list_of words.entry)) }
+    ensures { Gives (λ d. d) result
+        (spec.matching number set end (view word.entry) (list_of words.entry)) }
 {
     let (action, words) = action(end, word, words)?;
     let (log, words) = log(end, words)?;

@@ -23,7 +23,8 @@ impl<'a> Words<'a> {
 
     /// The next word, if there is one, and the words behind it.
     pub fn next(self) -> Option<(Word<'a>, Words<'a>)>
-        ensures { option_map (λ r. view r.0 ∷ list_of r.1) result ≡ some_words (list_of self.entry) }
+        ensures { option_map (λ r. view r.0 ∷ list_of r.1) result
+            ≡ some_words (list_of self.entry) }
     {
         match self.tokens {
             [] => None,
@@ -44,7 +45,8 @@ impl<'a> Words<'a> {
     #[tactic(auto, unfolding(crate::specs::Reading::first))]
     /// The next word and the words behind it. `end` is the column one past the line's last word.
     pub fn first(self, end: u32) -> Result<(Word<'a>, Words<'a>), ParseFault>
-        ensures value { Gives (λ r. (view r.0, list_of r.1)) result (reading.first end (list_of self.entry)) }
+        ensures value { Gives (λ r. (view r.0, list_of r.1)) result
+            (reading.first end (list_of self.entry)) }
         ensures memory { NeedsNoMemory result }
     {
         match self.next() {

@@ -61,7 +61,8 @@ fn put_record(
     host: u8,
     port: u16,
 ) -> Result<(), OutOfMemory>
-    ensures { OnOk result (out.new.items ≡ out.old.items ++ record_of second (packet_of kind host port)) }
+    ensures { OnOk result (out.new.items
+        ≡ out.old.items ++ record_of second (packet_of kind host port)) }
 {
     let second = second.to_le_bytes();
     let length = packet_length(kind, host, port).to_le_bytes();
@@ -72,8 +73,12 @@ fn put_record(
 /// Puts the record of that number, for which three numbers are drawn.
 fn put_drawn(out: &mut Vec<u8>, number: u32, generator: &mut Generator) -> Result<(), OutOfMemory>
     requires { 1 ≤ number }
-    ensures state { generator.new.state ≡ load.next_draw (load.next_draw (load.next_draw generator.old.state)) }
-    ensures record { OnOk result (out.new.items ≡ out.old.items ++ load.record_drawn number (load.next_draw generator.old.state) (load.next_draw (load.next_draw generator.old.state)) (load.next_draw (load.next_draw (load.next_draw generator.old.state)))) }
+    ensures state { generator.new.state
+        ≡ load.next_draw (load.next_draw (load.next_draw generator.old.state)) }
+    ensures record { OnOk result (out.new.items
+        ≡ out.old.items ++ load.record_drawn number (load.next_draw generator.old.state)
+        (load.next_draw (load.next_draw generator.old.state))
+        (load.next_draw (load.next_draw (load.next_draw generator.old.state)))) }
 {
     let kind = (generator.draw() % 4) as u8;
     let host = (generator.draw() % 200) as u8;

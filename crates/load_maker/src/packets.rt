@@ -39,7 +39,8 @@ fn put_tcp(
     other: u16,
     flags: u8,
 ) -> Result<(), OutOfMemory>
-    ensures { OnOk result (out.new.items ≡ out.old.items ++ packets.tcp_packet source port destination other flags) }
+    ensures { OnOk result (out.new.items
+        ≡ out.old.items ++ packets.tcp_packet source port destination other flags) }
 {
     let start = header_start(40, 6);
     let end = tcp_end(flags);
@@ -57,7 +58,8 @@ fn put_udp(
     destination: u32,
     other: u16,
 ) -> Result<(), OutOfMemory>
-    ensures { OnOk result (out.new.items ≡ out.old.items ++ packets.udp_packet source port destination other) }
+    ensures { OnOk result (out.new.items
+        ≡ out.old.items ++ packets.udp_packet source port destination other) }
 {
     let start = header_start(28, 17);
     let (source, destination) = (source.to_be_bytes(), destination.to_be_bytes());
@@ -71,7 +73,8 @@ fn put_udp(
 /// Puts an echo request of 28 bytes.
 #[tactic(auto, unfolding(crate::specs::Packets::echo_packet))]
 fn put_echo(out: &mut Vec<u8>, source: u32, destination: u32) -> Result<(), OutOfMemory>
-    ensures { OnOk result (out.new.items ≡ out.old.items ++ packets.echo_packet source destination) }
+    ensures { OnOk result (out.new.items
+        ≡ out.old.items ++ packets.echo_packet source destination) }
 {
     let start = header_start(28, 1);
     let (source, destination) = (source.to_be_bytes(), destination.to_be_bytes());

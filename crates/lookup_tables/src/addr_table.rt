@@ -82,7 +82,8 @@ impl AddrTable {
     /// takes no memory.
     pub fn find(&self, a: Addr) -> Option<u32>
         ensures answer { result ≡ address_answer self.now a.0 }
-        ensures longest { MatchOption result (All (λ entry. Covers entry.0 a.0 → ⊥) self.now) (λ value. (prefix : Network) × IsLongest self.now a.0 (prefix, value)) }
+        ensures longest { MatchOption result (All (λ entry. Covers entry.0 a.0 → ⊥) self.now)
+            (λ value. (prefix : Network) × IsLongest self.now a.0 (prefix, value)) }
     {
         if self.pieces.is_empty() {
             return None;

@@ -33,7 +33,8 @@ pub fn insert_entry<K: Ord + Drop>(
     requires { IsInOrder K.cmp entries.old.items }
     ensures ok { OnOk result (entries.new.items ≡ with_entry K.cmp entries.old.items key value) }
     ensures ordered { IsInOrder K.cmp entries.new.items }
-    ensures exists { IsErrOf result InsertFault.Exists ↔ IsSome (value_of K.cmp entries.old.items key) }
+    ensures exists { IsErrOf result InsertFault.Exists
+        ↔ IsSome (value_of K.cmp entries.old.items key) }
     ensures err { OnErr result (entries.new.items ≡ entries.old.items) }
 {
     match place_of(entries, &key) {

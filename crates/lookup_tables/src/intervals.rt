@@ -14,7 +14,8 @@ use fw_base::{Addr, Prefix};
 /// The address behind those of the prefix; none where 255.255.255.255 is one of them.
 fn end_of(prefix: Prefix) -> Option<Addr>
     ensures network { IsNetwork prefix }
-    ensures end { MatchOption result (2 ^ 32 ≤ prefix.address + size_of prefix.bits) (λ end. end.0 ≡ prefix.address + size_of prefix.bits) }
+    ensures end { MatchOption result (2 ^ 32 ≤ prefix.address + size_of prefix.bits) (λ end. end.0
+        ≡ prefix.address + size_of prefix.bits) }
 {
     let size = 1u64 << (32 - prefix.length());
     let end = u64::from(prefix.address().0) + size;
@@ -52,8 +53,10 @@ fn begin(pieces: &mut Vec<Piece>, prefix: Prefix)
     requires room { vec_len pieces.old < vec_capacity pieces.old }
     ensures division { IsDivision pieces.new.items }
     ensures same { 0 < length pieces.old.items → pieces.new.items ≡ pieces.old.items }
-    ensures fresh { pieces.old.items ≡ [] → (length pieces.new.items ≡ 1) × (decider (piece_at pieces.new.items 0) ≡ None) }
-    ensures room { vec_len pieces.new + vec_capacity pieces.old ≤ vec_len pieces.old + 1 + vec_capacity pieces.new }
+    ensures fresh { pieces.old.items ≡ []
+        → (length pieces.new.items ≡ 1) × (decider (piece_at pieces.new.items 0) ≡ None) }
+    ensures room { vec_len pieces.new + vec_capacity pieces.old
+        ≤ vec_len pieces.old + 1 + vec_capacity pieces.new }
 {
     if pieces.is_empty() {
         let piece = Piece {
@@ -71,7 +74,9 @@ pub(crate) fn put_prefix(pieces: &mut Vec<Piece>, prefix: Prefix, value: u32)
     requires division { 0 < length pieces.old.items → IsDivision pieces.old.items }
     requires room { vec_len pieces.old + 3 ≤ vec_capacity pieces.old }
     ensures network { IsNetwork prefix }
-    ensures kept { (entries : AddrEntries) → AreEntries entries → value_of network_cmp entries prefix ≡ None → AreKept entries pieces.old.items → AreKept (with_entry network_cmp entries prefix value) pieces.new.items }
+    ensures kept { (entries : AddrEntries) → AreEntries entries
+        → value_of network_cmp entries prefix ≡ None → AreKept entries pieces.old.items
+        → AreKept (with_entry network_cmp entries prefix value) pieces.new.items }
 {
     begin(pieces, prefix);
     let start = cut_at(pieces, prefix.address());
@@ -92,7 +97,10 @@ pub(crate) fn put_prefix(pieces: &mut Vec<Piece>, prefix: Prefix, value: u32)
 pub(crate) fn take_prefix(pieces: &mut Vec<Piece>, entries: &[(Prefix, u32)], prefix: Prefix)
     requires division { IsDivision pieces.old.items }
     requires entries { AreEntries entries.now }
-    ensures { (before : AddrEntries) → AreEntries before → (0 < length before) → IsSome (value_of network_cmp before prefix) → entries.now ≡ without_key network_cmp before prefix → AreKept before pieces.old.items → AreKept entries.now pieces.new.items }
+    ensures { (before : AddrEntries) → AreEntries before → (0 < length before)
+        → IsSome (value_of network_cmp before prefix)
+        → entries.now ≡ without_key network_cmp before prefix → AreKept before pieces.old.items
+        → AreKept entries.now pieces.new.items }
 {
     if entries.is_empty() {
         pieces.clear();

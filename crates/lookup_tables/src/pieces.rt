@@ -21,13 +21,18 @@ pub(crate) fn cut_at(pieces: &mut Vec<Piece>, address: Addr) -> usize
     requires division { IsDivision pieces.old.items }
     requires room { vec_len pieces.old < vec_capacity pieces.old }
     ensures division { IsDivision pieces.new.items }
-    ensures tells { (decided : ℕ → Option (Network × ℕ)) → Tells decided pieces.old.items → Tells decided pieces.new.items }
-    ensures ends { (is_end : ℕ → Bool) → HaveEnds is_end pieces.old.items → is_end address.0 ≡ true → HaveEnds is_end pieces.new.items }
+    ensures tells { (decided : ℕ → Option (Network × ℕ)) → Tells decided pieces.old.items
+        → Tells decided pieces.new.items }
+    ensures ends { (is_end : ℕ → Bool) → HaveEnds is_end pieces.old.items → is_end address.0 ≡ true
+        → HaveEnds is_end pieces.new.items }
     ensures within { result < length pieces.new.items }
     ensures begins { first_of pieces.new.items result ≡ address.0 }
-    ensures before { (place : ℕ) → place < length pieces.old.items → first_of pieces.old.items place < address.0 → first_of pieces.new.items place ≡ first_of pieces.old.items place }
+    ensures before { (place : ℕ) → place < length pieces.old.items
+        → first_of pieces.old.items place < address.0
+        → first_of pieces.new.items place ≡ first_of pieces.old.items place }
     ensures longer { length pieces.old.items ≤ length pieces.new.items }
-    ensures room { vec_len pieces.new + vec_capacity pieces.old ≤ vec_len pieces.old + 1 + vec_capacity pieces.new }
+    ensures room { vec_len pieces.new + vec_capacity pieces.old
+        ≤ vec_len pieces.old + 1 + vec_capacity pieces.new }
 {
     let place = place_in(pieces, address);
     let piece = pieces[place];
@@ -48,8 +53,13 @@ pub(crate) fn cut_at(pieces: &mut Vec<Piece>, address: Addr) -> usize
 pub(crate) fn join_at(pieces: &mut Vec<Piece>, address: Addr)
     requires { IsDivision pieces.old.items }
     ensures division { IsDivision pieces.new.items }
-    ensures tells { (decided : ℕ → Option (Network × ℕ)) → Tells decided pieces.old.items → Tells decided pieces.new.items }
-    ensures ends { (is_end : ℕ → Bool) (decided : ℕ → Option (Network × ℕ)) → Tells decided pieces.old.items → HaveEnds (λ a. is_end a || nat_eq a address.0) pieces.old.items → is_end 0 ≡ true → (0 < address.0 → (decided (address.0 - 1) ≡ decided address.0) ⊎ (is_end address.0 ≡ true)) → HaveEnds is_end pieces.new.items }
+    ensures tells { (decided : ℕ → Option (Network × ℕ)) → Tells decided pieces.old.items
+        → Tells decided pieces.new.items }
+    ensures ends { (is_end : ℕ → Bool) (decided : ℕ → Option (Network × ℕ))
+        → Tells decided pieces.old.items
+        → HaveEnds (λ a. is_end a || nat_eq a address.0) pieces.old.items → is_end 0 ≡ true
+        → (0 < address.0 → (decided (address.0 - 1) ≡ decided address.0)
+        ⊎ (is_end address.0 ≡ true)) → HaveEnds is_end pieces.new.items }
 {
     let place = place_in(pieces, address);
     if place > 0
@@ -64,7 +74,8 @@ pub(crate) fn join_at(pieces: &mut Vec<Piece>, address: Addr)
 pub(crate) fn change_pieces(pieces: &mut Vec<Piece>, start: usize, end: usize, change: &Change)
     requires { end ≤ vec_len pieces.old }
     ensures division { IsDivision pieces.old.items → IsDivision pieces.new.items }
-    ensures changed { start ≤ end → AreChanged change.now pieces.old.items pieces.new.items start end }
+    ensures changed { start ≤ end
+        → AreChanged change.now pieces.old.items pieces.new.items start end }
 {
     for place in start..end {
         pieces[place] = change.changed(pieces[place]);

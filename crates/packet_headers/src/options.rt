@@ -37,7 +37,8 @@ impl Iterator for OptionTypes<'_> {
 
 /// The first option's type and the bytes behind that option; `None` where no option is there.
 fn first_option(options: &[u8]) -> Option<(u8, &[u8])>
-    ensures { MatchOption result (option_types options.now ≡ []) (λ first. option_types options.now ≡ first.0 ∷ option_types first.1.now) }
+    ensures { MatchOption result (option_types options.now ≡ []) (λ first. option_types options.now
+        ≡ first.0 ∷ option_types first.1.now) }
 {
     match options {
         [END, ..] => Some((END, &options[..0])),

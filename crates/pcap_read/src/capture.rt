@@ -96,7 +96,9 @@ impl<S: Source> Capture<S> {
     /// after a failing one.
     pub fn next(&mut self) -> Result<Option<Record<'_>>, CaptureFault>
         ensures small { IfOk result (λ found. IfSome found (λ r. length r.bytes.now ≤ 262144)) }
-        ensures* advances { sem 𝓛 (Rests (the_row S.row) self.entry (λ new. Advances S.left S.faults self.old new (told result))) }
+        ensures* advances { sem 𝓛
+            (Rests (the_row S.row) self.entry (λ new.
+            Advances S.left S.faults self.old new (told result))) }
     {
         self.advance()?;
         Ok(self.current())
@@ -117,7 +119,8 @@ impl<S: Source> Capture<S> {
 
     /// Goes on to the next record.
     fn advance(&mut self) -> Result<(), CaptureFault>
-        ensures { Advances S.left S.faults self.old self.new (answered result (current_of self.new)) }
+        ensures { Advances S.left S.faults self.old self.new
+            (answered result (current_of self.new)) }
     {
         match self.stop {
             Some(Stop::End) => return Ok(()),

@@ -24,8 +24,10 @@ pub fn count_records<S: Source>(
     ensures refused { IfErr result (IsRefused S.left S.faults limit source) }
 
     // Where the source tells its bytes and didn't fail, the count and the fault are those of all of them.
-    ensures exact { (whole : List ℕ) → S.left source ≡ Some whole → IfOk result (IsExact limit whole) }
-    ensures exact_fault { (whole : List ℕ) → S.left source ≡ Some whole → IfErr result (IsExactFault limit whole) }
+    ensures exact { (whole : List ℕ) → S.left source ≡ Some whole
+        → IfOk result (IsExact limit whole) }
+    ensures exact_fault { (whole : List ℕ) → S.left source ≡ Some whole
+        → IfErr result (IsExactFault limit whole) }
 {
     match Capture::open(alloc, source, limit) {
         Ok(mut capture) => {

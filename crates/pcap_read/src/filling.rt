@@ -13,7 +13,8 @@ pub(crate) fn fill<S: Source>(
     wanted: usize,
 ) -> Result<bool, Failed>
     requires { wanted ≤ 262160 }
-    ensures fills { Fills (S.left source.old) (S.left source.new) window.old window.new wanted result }
+    ensures fills { Fills (S.left source.old) (S.left source.new) window.old window.new wanted
+        result }
     ensures enough { IfOk result (λ enough. enough ≡ true → wanted ≤ length window.new) }
     ensures cause { HasCause (S.faults source.old) (S.faults source.new) result }
     ensures steady { OnOk result (S.faults source.new ≡ S.faults source.old) }

@@ -30,7 +30,8 @@ pub(crate) fn find_record<S: Source>(
     ensures grows { Grows (S.left source.old) (S.left source.new) window.old window.new }
     ensures later { S.faults source.old ≤ S.faults source.new }
     ensures cause { HasOwnCause (S.faults source.old) (S.faults source.new) result }
-    ensures finds { Finds (IsAtEnd (S.left source.new)) (Rose (S.faults source.old) (S.faults source.new))
+    ensures finds { Finds (IsAtEnd (S.left source.new))
+        (Rose (S.faults source.old) (S.faults source.new))
         limit format given window.new result }
 {
     if !fill(window, source, 1)? {

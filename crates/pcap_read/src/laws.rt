@@ -10,7 +10,8 @@ pub fn one_front()
     // Each string has a front, and no other.
     ensures exists { (limit : ℕ) (bytes : List ℕ)
         → (records : List Captured) × (place : Place) × HasFront limit bytes records place }
-    ensures unique { (limit : ℕ) (bytes : List ℕ) (records others : List Captured) (place other : Place)
+    ensures unique { (limit : ℕ) (bytes : List ℕ) (records others : List Captured)
+        (place other : Place)
         → HasFront limit bytes records place → HasFront limit bytes others other
         → (records ≡ others) × (place ≡ other) }
 
@@ -21,7 +22,8 @@ pub fn one_front()
         → HasFront limit (header ++ concat pieces) (map (record_of format) pieces) (Open AtBoundary) }
 
     // As more bytes come, the records stay, and so does a fault that stands there at once.
-    ensures grows { (limit : ℕ) (bytes more : List ℕ) (records others : List Captured) (place other : Place)
+    ensures grows { (limit : ℕ) (bytes more : List ℕ) (records others : List Captured)
+        (place other : Place)
         → HasFront limit bytes records place → HasFront limit (bytes ++ more) others other
         → (behind : List Captured) × (others ≡ records ++ behind) }
     ensures stays { (limit : ℕ) (bytes more : List ℕ) (records : List Captured) (fault : Kind)

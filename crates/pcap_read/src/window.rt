@@ -100,7 +100,8 @@ fn make_room(buffer: &mut Vec<u8>, start: usize, end: usize) -> (usize, usize)
     ensures len { vec_len buffer.new ≡ vec_len buffer.old }
     ensures ordered { result.0 ≤ result.1 }
     ensures room { result.1 + 131072 ≤ vec_len buffer.new }
-    ensures kept { slice_range buffer.new.items result.0 result.1 ≡ slice_range buffer.old.items start end }
+    ensures kept { slice_range buffer.new.items result.0 result.1
+        ≡ slice_range buffer.old.items start end }
 {
     if start == end {
         return (0, 0);
@@ -118,7 +119,9 @@ fn read_behind<S: Source>(source: &mut S, buffer: &mut Vec<u8>, end: usize) -> R
     ensures len { vec_len buffer.new ≡ vec_len buffer.old }
     ensures kept { take end buffer.new.items ≡ take end buffer.old.items }
     ensures bound { IfOk result (λ n. end + n ≤ vec_len buffer.new) }
-    ensures bytes { IfOk result (λ n. Consumes (S.left source.old) (S.left source.new) (slice_range buffer.new.items end (end + n))) }
+    ensures bytes { IfOk result (λ n.
+        Consumes (S.left source.old) (S.left source.new)
+        (slice_range buffer.new.items end (end + n))) }
     ensures last { IfOk result (λ n. n ≡ 0 → IsAtEnd (S.left source.new)) }
     ensures err { OnErr result (Keeps (S.left source.old) (S.left source.new)) }
     ensures cause { HasCause (S.faults source.old) (S.faults source.new) result }

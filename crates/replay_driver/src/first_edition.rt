@@ -88,7 +88,8 @@ fn list_entries(
     name: &Name,
     command: &TableCommand,
 ) -> Result<Option<LineAnswer>, ScriptError>
-    ensures { Gives (λ a. a) result (spec.listed_first config.now line (table_listing name.now command.now)) }
+    ensures { Gives (λ a. a) result
+        (spec.listed_first config.now line (table_listing name.now command.now)) }
 {
     match command {
         TableCommand::ListEntries => list_table(config, line, name),
@@ -103,7 +104,8 @@ fn list_entries(
 
 /// The answer to a command on this line, if it is a listing.
 fn listing(config: &Config, line: &Line) -> Result<Option<LineAnswer>, ScriptError>
-    ensures { Gives (λ a. a) result (spec.listed_first config.now line.now.line (listing_of line.now.command)) }
+    ensures { Gives (λ a. a) result
+        (spec.listed_first config.now line.now.line (listing_of line.now.command)) }
 {
     match &line.command {
         Command::ListRules => Ok(listed(line.line, None)),

@@ -29,7 +29,11 @@ impl<K> Model for PieceSink<K> {
 
     ghost Value = { PieceText K };
 
-    ghost view = { λ p. record { sink = p.sink; pending = drop p.start p.buffer.items; begun = p.begun.value } };
+    ghost view = { λ p. record {
+      sink = p.sink;
+      pending = drop p.start p.buffer.items;
+      begun = p.begun.value;
+    } };
 
     ghost invariant = { λ p. p.start ≤ vec_len p.buffer };
 }
@@ -76,7 +80,8 @@ impl<K: Sink> PieceSink<K> {
     fn pass(&mut self, bytes: &[u8]) -> Result<usize, Failed>
         ensures bound { WritesAtMost result bytes.now }
         ensures advances { IfOk result (λ count. 0 < length bytes.now → 0 < count) }
-        ensures bytes { WriteAppends (K.written self.old.sink) (K.written self.new.sink) result bytes.now }
+        ensures bytes { WriteAppends (K.written self.old.sink) (K.written self.new.sink) result
+            bytes.now }
         ensures cause { HasCause (K.faults self.old.sink) (K.faults self.new.sink) result }
         ensures kept { self.new ≡ record self.old { sink = self.new.sink } }
     {
@@ -93,7 +98,8 @@ impl<K: Sink> PieceSink<K> {
 
 /// Appends the bytes where there is room for them all, and says whether there was.
 fn push_within(buffer: &mut Vec<u8>, bytes: &[u8]) -> bool
-    ensures { buffer.new.items ≡ (if result then buffer.old.items ++ bytes.now else buffer.old.items) }
+    ensures { buffer.new.items ≡ (if result then buffer.old.items ++ bytes.now
+        else buffer.old.items) }
 {
     if bytes.len() > buffer.capacity() - buffer.len() {
         return false;

@@ -67,7 +67,8 @@ fn find_behind_script<L: Library>(
 ) -> Result<Found<L::Reader>, OutOfMemory>
     requires { (1 ≤ length captures.now) × (length captures.now ≤ 16) }
     ensures writable { IfOk result (λ found. IsWritable found.result) }
-    ensures finds { IfOk result (λ found. FindsBehind L.pairs L.faults L.refused L.Reader.left L.Reader.faults
+    ensures finds { IfOk result (λ found.
+        FindsBehind L.pairs L.faults L.refused L.Reader.left L.Reader.faults
         journal (map capture_names captures.now) library.old library.new script bytes.now
         found.result found.sources.items) }
 {
@@ -90,7 +91,8 @@ pub(crate) fn replay_files<L: Library>(
 ) -> Result<Found<L::Reader>, OutOfMemory>
     requires { (1 ≤ length captures.now) × (length captures.now ≤ 16) }
     ensures writable { IfOk result (λ found. IsWritable found.result) }
-    ensures finds { IfOk result (λ found. FindsReplay L.pairs L.faults L.refused L.Reader.left L.Reader.faults
+    ensures finds { IfOk result (λ found.
+        FindsReplay L.pairs L.faults L.refused L.Reader.left L.Reader.faults
         (record { journal = journal; script = script.now; captures = map capture_names captures.now })
         library.old library.new found.result found.sources.items) }
 {

@@ -82,7 +82,8 @@ fn find<L: Library>(
     library: &mut L,
 ) -> Result<Found<L::Reader>, OutOfMemory>
     ensures writable { IfOk result (λ found. results.IsWritable found.result) }
-    ensures finds { IfOk result (λ found. FindsWords L.pairs L.faults L.refused L.Reader.left L.Reader.faults
+    ensures finds { IfOk result (λ found.
+        FindsWords L.pairs L.faults L.refused L.Reader.left L.Reader.faults
         (job_of (map string_bytes words.now)) library.old library.new found.result found.sources.items) }
 {
     match read_words(alloc, words)? {
@@ -156,7 +157,8 @@ where
 
     // The headline: where a record is kept, it is the legal one of the script and the captures that the words
     // name, in the order of the schedule, and its report is what the sink took; of a load, its summary.
-    ensures report { IfSome result.kept (λ kept. IfSome (job_of (map string_bytes words.now)) (λ job.
+    ensures report { IfSome result.kept (λ kept.
+        IfSome (job_of (map string_bytes words.now)) (λ job.
         IsKept K.written K.faults L.pairs L.faults L.refused L.Reader.left L.Reader.faults
         job library.old library.new out.old out.new result kept)) }
 

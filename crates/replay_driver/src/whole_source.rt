@@ -46,8 +46,12 @@ fn read_piece<S: Source>(
     bytes: &mut Vec<u8>,
 ) -> Result<usize, ReadError>
     requires { 0 < length buffer.old }
-    ensures taken { IfOk result (λ count. TakesPiece (S.left source.old) (S.left source.new) bytes.old.items bytes.new.items count (length buffer.old)) }
-    ensures failed { IfErr result (λ error. TakesNone (S.left source.old) (S.left source.new) (S.faults source.old) (S.faults source.new) error) }
+    ensures taken { IfOk result (λ count.
+        TakesPiece (S.left source.old) (S.left source.new) bytes.old.items bytes.new.items count
+        (length buffer.old)) }
+    ensures failed { IfErr result (λ error.
+        TakesNone (S.left source.old) (S.left source.new) (S.faults source.old)
+        (S.faults source.new) error) }
     ensures later { S.faults source.old ≤ S.faults source.new }
 {
     let count = source.read(buffer)?;
@@ -61,8 +65,11 @@ pub(crate) fn read_up_to<S: Source>(
     source: &mut S,
     most: usize,
 ) -> Result<Vec<u8>, ReadError>
-    ensures all { IfOk result (λ bytes. ReadsAll (S.left source.old) (S.left source.new) most bytes.items) }
-    ensures part { IfErr result (λ error. ReadsPart (S.left source.old) (S.left source.new) (S.faults source.old) (S.faults source.new) most error) }
+    ensures all { IfOk result (λ bytes.
+        ReadsAll (S.left source.old) (S.left source.new) most bytes.items) }
+    ensures part { IfErr result (λ error.
+        ReadsPart (S.left source.old) (S.left source.new) (S.faults source.old)
+        (S.faults source.new) most error) }
     ensures later { S.faults source.old ≤ S.faults source.new }
 {
     let mut bytes = Vec::new(alloc);

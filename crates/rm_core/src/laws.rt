@@ -10,15 +10,18 @@ ghost use Rattle.rm_core.specs.declared.token.Token.{Token};
 
 /// Each allowed step leads from a safe state to a safe state, and so does every run from the opening.
 pub fn states_are_safe()
-    ensures step { (s : CoreState) (event : Event) → Safe s → Allowed s event → Safe (after s event) }
+    ensures step { (s : CoreState) (event : Event) → Safe s → Allowed s event
+        → Safe (after s event) }
     ensures run { (n number : ℕ) (events : List Event) →
         IsRun (opening n number) events → Safe (after_all (opening n number) events) }
 {}
 
 /// The published number counts the publications, and fits 64 bits where it did at the opening.
 pub fn number_counts_publications()
-    ensures count { (s : CoreState) (events : List Event) → (after_all s events).number ≡ s.number + publications events }
-    ensures fits { (n number : ℕ) (events : List Event) → 0 < n → number < 2 ^ 64 → IsRun (opening n number) events →
+    ensures count { (s : CoreState) (events : List Event)
+        → (after_all s events).number ≡ s.number + publications events }
+    ensures fits { (n number : ℕ) (events : List Event) → 0 < n → number < 2 ^ 64
+        → IsRun (opening n number) events →
         (after_all (opening n number) events).number < 2 ^ 64 }
 {}
 
@@ -29,8 +32,10 @@ pub fn publication_excludes_readers()
     ensures inside { (n number i : ℕ) (events : List Event) → IsRun (opening n number) events →
         IsProcessor (after_all (opening n number) events) i (λ p. p.phase ≡ Phase.In) →
         number_entered i number (opening n number) events ≡ (after_all (opening n number) events).number }
-    ensures publication { (s : CoreState) → Safe s → Allowed s Event.Publish → All (λ p. p.phase ≢ Phase.In) s.processors }
-    ensures drained { (n number i : ℕ) (before later : List Event) → IsRun (opening n number) (before ++ (Event.Drain i ∷ later)) →
+    ensures publication { (s : CoreState) → Safe s → Allowed s Event.Publish
+        → All (λ p. p.phase ≢ Phase.In) s.processors }
+    ensures drained { (n number i : ℕ) (before later : List Event)
+        → IsRun (opening n number) (before ++ (Event.Drain i ∷ later)) →
         heard (after_all (opening n number) before) (Event.Drain i) ≡ Heard.Drained →
         All (λ event. event ≢ Event.Publish) later →
         IsProcessor (after_all (opening n number) (before ++ (Event.Drain i ∷ later))) i (λ p. p.phase ≢ Phase.In) }
@@ -43,7 +48,8 @@ pub fn tokens_tell_the_number()
     ensures held { (n number i : ℕ) (events : List Event) → IsRun (opening n number) events →
         IsProcessor (after_all (opening n number) events) i (λ p. p.token ≡ Token.Held) →
         number_regained i number (opening n number) events ≡ (after_all (opening n number) events).number }
-    ensures revoked { (n number i refusal : ℕ) (events : List Event) → IsRun (opening n number) events →
+    ensures revoked { (n number i refusal : ℕ) (events : List Event)
+        → IsRun (opening n number) events →
         IsProcessor (after_all (opening n number) events) i (λ p. p.token ≡ Token.Revoked refusal) →
         number_regained i number (opening n number) events < refusal }
     ensures refused { (n number i refusal : ℕ) (before between : List Event) →

@@ -25,7 +25,8 @@ fn replace_edition_at<E: Numbered<Tag = B::Facts>, B: Kept>(
     new: Option<E>,
 ) -> Option<E>
     requires table { seat.old.table_id ≡ table.now.table_id }
-    requires on_top { (old : Option E) × (seat.old.me.1 ≡ (slot, Edition old) ∷ rest seat.old.me.1) }
+    requires on_top { (old : Option E)
+        × (seat.old.me.1 ≡ (slot, Edition old) ∷ rest seat.old.me.1) }
     ensures same { (seat.new.table_id ≡ seat.old.table_id) × (seat.new.id ≡ seat.old.id) }
     ensures was { seat.old.me.1 ≡ (slot, Edition result) ∷ rest seat.old.me.1 }
     ensures now { seat.new.me ≡ (seat.old.me.0, (slot, Edition new) ∷ rest seat.old.me.1) }
@@ -56,8 +57,11 @@ impl<E: Numbered<Tag = B::Facts>, B: Kept> RmTable<E, B> {
         requires working { IsWorking seat.old.me.0 }
         requires inside { seat.old.me.0.role ≡ Role.Processor → seat.old.me.0.phase ≡ Phase.In }
         ensures table { seat.new.table_id ≡ seat.old.table_id }
-        ensures step { TriedBook (meanings E.number E.tag E.name B.number B.tag B.ready B.of B.facts_item) seat.old.me result seat.new.me }
-        ensures free { seat.old.me.0.role ≡ Role.Operator → AllDrained seat.old.me.0 → seat.old.me.0.book ≡ None → result ≡ Tried.Taken }
+        ensures step { TriedBook
+            (meanings E.number E.tag E.name B.number B.tag B.ready B.of B.facts_item) seat.old.me
+            result seat.new.me }
+        ensures free { seat.old.me.0.role ≡ Role.Operator → AllDrained seat.old.me.0
+            → seat.old.me.0.book ≡ None → result ≡ Tried.Taken }
     {
         let place = u64::from(seat.place);
         let found = self
@@ -77,9 +81,18 @@ impl<E: Numbered<Tag = B::Facts>, B: Kept> RmTable<E, B> {
     pub fn give_book(&self, seat: &mut RmSeat<E, B>)
         requires table { seat.old.table_id ≡ self.now }
         requires working { IsWorking seat.old.me.0 }
-        requires book { HasBook (meanings E.number E.tag E.name B.number B.tag B.ready B.of B.facts_item) seat.old.me.0 seat.old.me.1 }
+        requires book { HasBook
+            (meanings E.number E.tag E.name B.number B.tag B.ready B.of B.facts_item) seat.old.me.0
+            seat.old.me.1 }
         ensures table { seat.new.table_id ≡ seat.old.table_id }
-        ensures step { (book : B) → seat.old.me.1 ≡ (0, Book (Some book)) ∷ rest seat.old.me.1 → seat.new.me ≡ (noted (book_given (meanings E.number E.tag E.name B.number B.tag B.ready B.of B.facts_item) seat.old.me.0 book) book_index 0, rest seat.old.me.1) }
+        ensures step { (book : B) → seat.old.me.1 ≡ (0, Book (Some book)) ∷ rest seat.old.me.1
+            → seat.new.me
+            ≡ (
+              noted (book_given
+                  (meanings E.number E.tag E.name B.number B.tag B.ready B.of B.facts_item) seat.old.me.0
+                  book) book_index 0,
+              rest seat.old.me.1,
+            ) }
     {
         self.table
             .shared
@@ -95,7 +108,8 @@ impl<E: Numbered<Tag = B::Facts>, B: Kept> RmTable<E, B> {
         new: Option<E>,
     ) -> Option<E>
         requires table { seat.old.table_id ≡ self.now }
-        requires on_top { (old : Option E) × (seat.old.me.1 ≡ (processor, Edition old) ∷ rest seat.old.me.1) }
+        requires on_top { (old : Option E)
+            × (seat.old.me.1 ≡ (processor, Edition old) ∷ rest seat.old.me.1) }
         ensures table { seat.new.table_id ≡ seat.old.table_id }
         ensures was { seat.old.me.1 ≡ (processor, Edition result) ∷ rest seat.old.me.1 }
         ensures now { seat.new.me ≡ (seat.old.me.0, (processor, Edition new) ∷ rest seat.old.me.1) }

@@ -55,7 +55,9 @@ fn trackers_of<S>(
     requires empty { trackers.items ≡ [] }
     requires room { processors ≤ vec_capacity trackers }
     ensures count { vec_len result ≡ processors }
-    ensures each { (j : ℕ) → j < processors → slice_get result.items j ≡ Some (slice_index (slots_items closed.now.words) (tracker_index (j + 1))) }
+    ensures each { (j : ℕ) → j < processors
+        → slice_get result.items j
+        ≡ Some (slice_index (slots_items closed.now.words) (tracker_index (j + 1))) }
 {
     for place in 1..processors + 1 {
         trackers.push_reserved(closed.word(tracker_at(place)));
@@ -71,14 +73,19 @@ fn take_editions<E: Drop, B: Drop>(
 ) -> Vec<E>
     requires few { processors ≤ 64 }
     requires size { slots_len closed.old.slots ≡ processors + 1 }
-    requires filled { (k : ℕ) → 0 < k → k ≤ processors → slice_index_or (slots_filled closed.old.slots) k false ≡ true }
-    requires editions { (k : ℕ) → 0 < k → k ≤ processors → (e : E) × (slice_get (slots_items closed.old.slots) k ≡ Some (Edition (Some e))) }
+    requires filled { (k : ℕ) → 0 < k → k ≤ processors
+        → slice_index_or (slots_filled closed.old.slots) k false ≡ true }
+    requires editions { (k : ℕ) → 0 < k → k ≤ processors
+        → (e : E) × (slice_get (slots_items closed.old.slots) k ≡ Some (Edition (Some e))) }
     requires empty { editions.items ≡ [] }
     requires room { processors ≤ vec_capacity editions }
     ensures count { vec_len result ≡ processors }
-    ensures each { (j : ℕ) (e : E) → slice_get result.items j ≡ Some e → slice_get (slots_items closed.old.slots) (j + 1) ≡ Some (Edition (Some e)) }
-    ensures taken { (k : ℕ) → 0 < k → k ≤ processors → slice_index_or (slots_filled closed.new.slots) k false ≡ false }
-    ensures first { slice_index_or (slots_filled closed.new.slots) 0 false ≡ slice_index_or (slots_filled closed.old.slots) 0 false }
+    ensures each { (j : ℕ) (e : E) → slice_get result.items j ≡ Some e
+        → slice_get (slots_items closed.old.slots) (j + 1) ≡ Some (Edition (Some e)) }
+    ensures taken { (k : ℕ) → 0 < k → k ≤ processors
+        → slice_index_or (slots_filled closed.new.slots) k false ≡ false }
+    ensures first { slice_index_or (slots_filled closed.new.slots) 0 false
+        ≡ slice_index_or (slots_filled closed.old.slots) 0 false }
     ensures size { slots_len closed.new.slots ≡ slots_len closed.old.slots }
     ensures items { slots_items closed.new.slots ≡ slots_items closed.old.slots }
 {
@@ -97,7 +104,8 @@ impl<E: Numbered<Tag = B::Facts>, B: Kept> RmTable<E, B> {
         requires joined { AllJoined operator.me.0 }
         requires undrained { NoneDrained operator.me.0 }
         requires bookless { operator.me.0.book ≡ None }
-        ensures { ClosesWith (meanings E.number E.tag E.name B.number B.tag B.ready B.of B.facts_item) operator.me.0 result.book result.trackers.items result.editions.items }
+        ensures { ClosesWith (meanings E.number E.tag E.name B.number B.tag B.ready B.of
+            B.facts_item) operator.me.0 result.book result.trackers.items result.editions.items }
     {
         let RmTable {
             table,

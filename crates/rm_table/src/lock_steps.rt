@@ -16,7 +16,9 @@ impl<E: Numbered<Tag = B::Facts>, B: Kept> RmTable<E, B> {
         requires table { seat.old.table_id ≡ self.now }
         requires working { IsWorking seat.old.me.0 }
         ensures table { seat.new.table_id ≡ seat.old.table_id }
-        ensures step { TriedBehind (meanings E.number E.tag E.name B.number B.tag B.ready B.of B.facts_item) seat.old.me result seat.new.me }
+        ensures step { TriedBehind
+            (meanings E.number E.tag E.name B.number B.tag B.ready B.of B.facts_item) seat.old.me
+            result seat.new.me }
     {
         let place = u64::from(seat.place);
         let found = self
@@ -38,7 +40,8 @@ impl<E: Numbered<Tag = B::Facts>, B: Kept> RmTable<E, B> {
         requires behind { seat.old.me.0.behind ≡ true }
         requires unrevoked { seat.old.me.0.role ≡ Role.Operator → NoneRevoked seat.old.me.0 }
         ensures table { seat.new.table_id ≡ seat.old.table_id }
-        ensures step { seat.new.me ≡ (noted (behind_given seat.old.me.0) behind_index 0, seat.old.me.1) }
+        ensures step { seat.new.me
+            ≡ (noted (behind_given seat.old.me.0) behind_index 0, seat.old.me.1) }
     {
         self.table
             .shared
@@ -50,7 +53,9 @@ impl<E: Numbered<Tag = B::Facts>, B: Kept> RmTable<E, B> {
         requires table { seat.old.table_id ≡ self.now }
         requires working { IsWorking seat.old.me.0 }
         ensures table { seat.new.table_id ≡ seat.old.table_id }
-        ensures step { NumberRead (meanings E.number E.tag E.name B.number B.tag B.ready B.of B.facts_item) seat.old.me result seat.new.me }
+        ensures step { NumberRead
+            (meanings E.number E.tag E.name B.number B.tag B.ready B.of B.facts_item) seat.old.me
+            result seat.new.me }
     {
         self.table
             .shared

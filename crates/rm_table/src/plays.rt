@@ -10,71 +10,83 @@ use fw_base::{Kept, Numbered};
 pub(crate) struct Raise;
 
 impl<E: Numbered<Tag = B::Facts>, B: Kept> Play<PaddedSlot<E, B>, LockView<E, B>> for Raise {
-    ghost then = { Raises (meanings E.number E.tag E.name B.number B.tag B.ready B.of B.facts_item) };
+    ghost then = { Raises
+        (meanings E.number E.tag E.name B.number B.tag B.ready B.of B.facts_item) };
 }
 
 pub(crate) struct Check;
 
 impl<E: Numbered<Tag = B::Facts>, B: Kept> Play<PaddedSlot<E, B>, LockView<E, B>> for Check {
-    ghost then = { Checks (meanings E.number E.tag E.name B.number B.tag B.ready B.of B.facts_item) };
+    ghost then = { Checks
+        (meanings E.number E.tag E.name B.number B.tag B.ready B.of B.facts_item) };
 }
 
 pub(crate) struct Lower;
 
 impl<E: Numbered<Tag = B::Facts>, B: Kept> Play<PaddedSlot<E, B>, LockView<E, B>> for Lower {
-    ghost then = { Lowers (meanings E.number E.tag E.name B.number B.tag B.ready B.of B.facts_item) };
+    ghost then = { Lowers
+        (meanings E.number E.tag E.name B.number B.tag B.ready B.of B.facts_item) };
 }
 
 pub(crate) struct TakeBack;
 
 impl<E: Numbered<Tag = B::Facts>, B: Kept> Play<PaddedSlot<E, B>, LockView<E, B>> for TakeBack {
-    ghost then = { TakesBehind (meanings E.number E.tag E.name B.number B.tag B.ready B.of B.facts_item) };
+    ghost then = { TakesBehind
+        (meanings E.number E.tag E.name B.number B.tag B.ready B.of B.facts_item) };
 }
 
 pub(crate) struct GiveBack;
 
 impl<E: Numbered<Tag = B::Facts>, B: Kept> Play<PaddedSlot<E, B>, LockView<E, B>> for GiveBack {
-    ghost then = { GivesBehind (meanings E.number E.tag E.name B.number B.tag B.ready B.of B.facts_item) };
+    ghost then = { GivesBehind
+        (meanings E.number E.tag E.name B.number B.tag B.ready B.of B.facts_item) };
 }
 
 pub(crate) struct Regain;
 
 impl<E: Numbered<Tag = B::Facts>, B: Kept> Play<PaddedSlot<E, B>, LockView<E, B>> for Regain {
-    ghost then = { Regains (meanings E.number E.tag E.name B.number B.tag B.ready B.of B.facts_item) };
+    ghost then = { Regains
+        (meanings E.number E.tag E.name B.number B.tag B.ready B.of B.facts_item) };
 }
 
 pub(crate) struct Revoke;
 
 impl<E: Numbered<Tag = B::Facts>, B: Kept> Play<PaddedSlot<E, B>, LockView<E, B>> for Revoke {
-    ghost then = { Revokes (meanings E.number E.tag E.name B.number B.tag B.ready B.of B.facts_item) };
+    ghost then = { Revokes
+        (meanings E.number E.tag E.name B.number B.tag B.ready B.of B.facts_item) };
 }
 
 pub(crate) struct Drain;
 
 impl<E: Numbered<Tag = B::Facts>, B: Kept> Play<PaddedSlot<E, B>, LockView<E, B>> for Drain {
-    ghost then = { Drains (meanings E.number E.tag E.name B.number B.tag B.ready B.of B.facts_item) };
+    ghost then = { Drains
+        (meanings E.number E.tag E.name B.number B.tag B.ready B.of B.facts_item) };
 }
 
 pub(crate) struct ReadNumber;
 
 impl<E: Numbered<Tag = B::Facts>, B: Kept> Play<PaddedSlot<E, B>, LockView<E, B>> for ReadNumber {
-    ghost then = { ReadsNumber (meanings E.number E.tag E.name B.number B.tag B.ready B.of B.facts_item) };
+    ghost then = { ReadsNumber
+        (meanings E.number E.tag E.name B.number B.tag B.ready B.of B.facts_item) };
 }
 
 pub(crate) struct Publish;
 
 impl<E: Numbered<Tag = B::Facts>, B: Kept> Play<PaddedSlot<E, B>, LockView<E, B>> for Publish {
-    ghost then = { Publishes (meanings E.number E.tag E.name B.number B.tag B.ready B.of B.facts_item) };
+    ghost then = { Publishes
+        (meanings E.number E.tag E.name B.number B.tag B.ready B.of B.facts_item) };
 }
 
 pub(crate) struct TakeBook;
 
 impl<E: Numbered<Tag = B::Facts>, B: Kept> Play<PaddedSlot<E, B>, LockView<E, B>> for TakeBook {
-    ghost then = { TakesBook (meanings E.number E.tag E.name B.number B.tag B.ready B.of B.facts_item) };
+    ghost then = { TakesBook
+        (meanings E.number E.tag E.name B.number B.tag B.ready B.of B.facts_item) };
 }
 
 pub(crate) struct GiveBook;
 
 impl<E: Numbered<Tag = B::Facts>, B: Kept> Play<PaddedSlot<E, B>, LockView<E, B>> for GiveBook {
-    ghost then = { GivesBook (meanings E.number E.tag E.name B.number B.tag B.ready B.of B.facts_item) };
+    ghost then = { GivesBook
+        (meanings E.number E.tag E.name B.number B.tag B.ready B.of B.facts_item) };
 }

@@ -17,7 +17,12 @@ impl<E: Numbered<Tag = B::Facts>, B: Kept> RmTable<E, B> {
         requires processor { seat.old.me.0.role ≡ Role.Processor }
         requires out { seat.old.me.0.phase ≡ Phase.Out }
         ensures table { seat.new.table_id ≡ seat.old.table_id }
-        ensures step { seat.new.me ≡ (noted (raised seat.old.me.0) (tracker_index seat.old.me.0.place) (tracker_word (seat.old.me.0.part.sections + 1) Phase.Raised), seat.old.me.1) }
+        ensures step { seat.new.me
+            ≡ (
+              noted (raised seat.old.me.0) (tracker_index seat.old.me.0.place)
+                  (tracker_word (seat.old.me.0.part.sections + 1) Phase.Raised),
+              seat.old.me.1,
+            ) }
     {
         let raised = seat.tracker + 1;
         self.table
@@ -33,7 +38,9 @@ impl<E: Numbered<Tag = B::Facts>, B: Kept> RmTable<E, B> {
         requires processor { seat.old.me.0.role ≡ Role.Processor }
         requires raised { seat.old.me.0.phase ≡ Phase.Raised }
         ensures table { seat.new.table_id ≡ seat.old.table_id }
-        ensures step { Checked (meanings E.number E.tag E.name B.number B.tag B.ready B.of B.facts_item) seat.old.me result seat.new.me }
+        ensures step { Checked
+            (meanings E.number E.tag E.name B.number B.tag B.ready B.of B.facts_item) seat.old.me
+            result seat.new.me }
     {
         let word = token_at(seat.processors, seat.place);
         let found = self.table.shared.load::<Check>(&mut seat.seat, word);
@@ -51,9 +58,16 @@ impl<E: Numbered<Tag = B::Facts>, B: Kept> RmTable<E, B> {
         requires processor { seat.old.me.0.role ≡ Role.Processor }
         requires begun { (seat.old.me.0.phase ≡ Phase.Raised) ⊎ (seat.old.me.0.phase ≡ Phase.In) }
         requires bookless { seat.old.me.0.book ≡ None }
-        requires edition { seat.old.me.0.phase ≡ Phase.In → HasEdition (meanings E.number E.tag E.name B.number B.tag B.ready B.of B.facts_item) seat.old.me.0 seat.old.me.1 }
+        requires edition { seat.old.me.0.phase ≡ Phase.In
+            → HasEdition (meanings E.number E.tag E.name B.number B.tag B.ready B.of B.facts_item)
+            seat.old.me.0 seat.old.me.1 }
         ensures table { seat.new.table_id ≡ seat.old.table_id }
-        ensures step { seat.new.me ≡ (noted (lowered seat.old.me.0) (tracker_index seat.old.me.0.place) (tracker_word seat.old.me.0.part.sections Phase.Out), hand_left seat.old.me.0.phase seat.old.me.1) }
+        ensures step { seat.new.me
+            ≡ (
+              noted (lowered seat.old.me.0) (tracker_index seat.old.me.0.place)
+                  (tracker_word seat.old.me.0.part.sections Phase.Out),
+              hand_left seat.old.me.0.phase seat.old.me.1,
+            ) }
     {
         let lowered = seat.tracker.wrapping_add(1);
         self.table
@@ -71,7 +85,9 @@ impl<E: Numbered<Tag = B::Facts>, B: Kept> RmTable<E, B> {
         requires behind { seat.old.me.0.behind ≡ true }
         requires read { IsSome seat.old.me.0.part.read }
         ensures table { seat.new.table_id ≡ seat.old.table_id }
-        ensures step { Regained (meanings E.number E.tag E.name B.number B.tag B.ready B.of B.facts_item) seat.old.me seat.new.me }
+        ensures step { Regained
+            (meanings E.number E.tag E.name B.number B.tag B.ready B.of B.facts_item) seat.old.me
+            seat.new.me }
     {
         let word = token_at(seat.processors, seat.place);
         self.table.shared.store::<Regain>(&mut seat.seat, word, 0);

@@ -28,7 +28,10 @@ impl<E: Numbered<Tag = B::Facts>, B: Kept> TableRule<
     LockView<E, B>,
     Opening<E, B>,
 > for LockRule {
-    ghost holds = { λ key. Whole (meanings E.number E.tag E.name B.number B.tag B.ready B.of B.facts_item) };
+    ghost holds = { λ key.
+        Whole (meanings E.number E.tag E.name B.number B.tag B.ready B.of B.facts_item) };
 
-    ghost first = { λ key. first_view (meanings E.number E.tag E.name B.number B.tag B.ready B.of B.facts_item) key.processors key.edition.value key.book.value };
+    ghost first = { λ key.
+        first_view (meanings E.number E.tag E.name B.number B.tag B.ready B.of B.facts_item)
+        key.processors key.edition.value key.book.value };
 }

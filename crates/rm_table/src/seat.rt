@@ -22,5 +22,6 @@ impl<E: Numbered<Tag = B::Facts>, B: Kept> Model for RmSeat<E, B> {
 
     ghost view = { λ s. record { table_id = s.seat.table_id; me = s.seat.me } };
 
-    ghost invariant = { λ s. StoresBy s.processors s.place s.number s.tracker s.seat.table_id s.seat.me.0 };
+    ghost invariant = { λ s.
+        StoresBy s.processors s.place s.number s.tracker s.seat.table_id s.seat.me.0 };
 }

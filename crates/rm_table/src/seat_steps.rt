@@ -57,9 +57,11 @@ impl<E: Numbered<Tag = B::Facts>, B: Kept> RmTable<E, B> {
         requires above { 0 < place }
         requires within { place ≤ seat.old.me.0.count }
         requires kept { IsKept seat.old.me.0 place }
-        ensures table { (seat.new.table_id ≡ seat.old.table_id) × (result.table_id ≡ seat.old.table_id) }
+        ensures table { (seat.new.table_id ≡ seat.old.table_id)
+            × (result.table_id ≡ seat.old.table_id) }
         ensures left { seat.new.me ≡ (split_off seat.old.me.0 place, seat.old.me.1) }
-        ensures right { result.me ≡ (right_of seat.old.me.0 place (kept_at seat.old.me.0 place), []) }
+        ensures right { result.me
+            ≡ (right_of seat.old.me.0 place (kept_at seat.old.me.0 place), []) }
     {
         let right = self.table.shared.split_seat::<Cut<P>>(&mut seat.seat);
         RmSeat {
@@ -74,7 +76,8 @@ impl<E: Numbered<Tag = B::Facts>, B: Kept> RmTable<E, B> {
     fn cut_receipt(&self, seat: &mut RmSeat<E, B>) -> RmSeat<E, B>
         requires table { seat.old.table_id ≡ self.now }
         requires operator { seat.old.me.0.role ≡ Role.Operator }
-        ensures table { (seat.new.table_id ≡ seat.old.table_id) × (result.table_id ≡ seat.old.table_id) }
+        ensures table { (seat.new.table_id ≡ seat.old.table_id)
+            × (result.table_id ≡ seat.old.table_id) }
         ensures left { seat.new.me ≡ seat.old.me }
         ensures right { result.me ≡ (receipt_view seat.old.me.0, []) }
     {
@@ -96,9 +99,11 @@ impl<E: Numbered<Tag = B::Facts>, B: Kept> RmTable<E, B> {
         requires opening { 0 < place → seat.old.me.0.closing ≡ false }
         requires within { place ≤ seat.old.me.0.count }
         requires kept { 0 < place → IsKept seat.old.me.0 place }
-        ensures table { (seat.new.table_id ≡ seat.old.table_id) × (result.table_id ≡ seat.old.table_id) }
+        ensures table { (seat.new.table_id ≡ seat.old.table_id)
+            × (result.table_id ≡ seat.old.table_id) }
         ensures left { 0 < place → seat.new.me ≡ (split_off seat.old.me.0 place, seat.old.me.1) }
-        ensures right { 0 < place → result.me ≡ (right_of seat.old.me.0 place (kept_at seat.old.me.0 place), []) }
+        ensures right { 0 < place
+            → result.me ≡ (right_of seat.old.me.0 place (kept_at seat.old.me.0 place), []) }
         ensures operator { place ≡ 0 → seat.new.me ≡ seat.old.me }
         ensures receipt { place ≡ 0 → result.me ≡ (receipt_view seat.old.me.0, []) }
     {
@@ -115,11 +120,15 @@ impl<E: Numbered<Tag = B::Facts>, B: Kept> RmTable<E, B> {
     pub fn join_seat(&self, into: &mut RmSeat<E, B>, spent: RmSeat<E, B>)
         requires table { into.old.table_id ≡ self.now }
         requires same { spent.table_id ≡ self.now }
-        requires pair { ((into.old.me.0.role ≡ Role.Operator) × IsIdle spent.me.0 spent.me.1) ⊎ ((into.old.me.0.role ≡ Role.Processor) × IsReceipt spent.me.0 spent.me.1) }
-        requires split { into.old.me.0.role ≡ Role.Operator → (into.old.me.0.closing ≡ true) ⊎ AllSplit into.old.me.0 }
+        requires pair { ((into.old.me.0.role ≡ Role.Operator) × IsIdle spent.me.0 spent.me.1)
+            ⊎ ((into.old.me.0.role ≡ Role.Processor) × IsReceipt spent.me.0 spent.me.1) }
+        requires split { into.old.me.0.role ≡ Role.Operator
+            → (into.old.me.0.closing ≡ true) ⊎ AllSplit into.old.me.0 }
         ensures table { into.new.table_id ≡ into.old.table_id }
-        ensures both { into.old.me.0.role ≡ Role.Operator → into.new.me ≡ (joined into.old.me.0 spent.me.0, into.old.me.1) }
-        ensures heard { into.old.me.0.role ≡ Role.Processor → into.new.me ≡ (informed into.old.me.0 spent.me.0, into.old.me.1) }
+        ensures both { into.old.me.0.role ≡ Role.Operator
+            → into.new.me ≡ (joined into.old.me.0 spent.me.0, into.old.me.1) }
+        ensures heard { into.old.me.0.role ≡ Role.Processor
+            → into.new.me ≡ (informed into.old.me.0 spent.me.0, into.old.me.1) }
     {
         let RmSeat {
             seat,

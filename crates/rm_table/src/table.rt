@@ -29,7 +29,9 @@ impl<E: Numbered<Tag = B::Facts>, B: Kept> Model for RmTable<E, B> {
 
     ghost view = { λ t. t.table.shared.table_id };
 
-    ghost invariant = { λ t. IsSized t.processors t.table.shared.table_id × HasRoom t.processors t.trackers.items (vec_capacity t.trackers) t.editions.items (vec_capacity t.editions) };
+    ghost invariant = { λ t. IsSized t.processors t.table.shared.table_id
+        × HasRoom t.processors t.trackers.items (vec_capacity t.trackers) t.editions.items
+        (vec_capacity t.editions) };
 }
 
 // The index of the word that has this number: 64 bytes lie between two words.

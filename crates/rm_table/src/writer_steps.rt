@@ -22,7 +22,12 @@ impl<E: Numbered<Tag = B::Facts>, B: Kept> RmTable<E, B> {
         requires unrevoked { is_revoked seat.old.me.0 processor ≡ false }
         requires room { seat.old.me.0.number < 2 ^ 64 - 1 }
         ensures table { seat.new.table_id ≡ seat.old.table_id }
-        ensures step { seat.new.me ≡ (noted (revoked seat.old.me.0 processor) (token_index seat.old.me.0.count processor) (seat.old.me.0.number + 1), seat.old.me.1) }
+        ensures step { seat.new.me
+            ≡ (
+              noted (revoked seat.old.me.0 processor) (token_index seat.old.me.0.count processor)
+                  (seat.old.me.0.number + 1),
+              seat.old.me.1,
+            ) }
     {
         let word = token_at(seat.processors, processor);
         let next = seat.number + 1;
@@ -41,7 +46,9 @@ impl<E: Numbered<Tag = B::Facts>, B: Kept> RmTable<E, B> {
         requires revoked { is_revoked seat.old.me.0 processor ≡ true }
         requires undrained { is_drained seat.old.me.0 processor ≡ false }
         ensures table { seat.new.table_id ≡ seat.old.table_id }
-        ensures step { Looked (meanings E.number E.tag E.name B.number B.tag B.ready B.of B.facts_item) seat.old.me processor result seat.new.me }
+        ensures step { Looked
+            (meanings E.number E.tag E.name B.number B.tag B.ready B.of B.facts_item) seat.old.me
+            processor result seat.new.me }
     {
         // the seat tells that its table has at most 64 processors
         let _ = &seat.processors;
@@ -63,9 +70,17 @@ impl<E: Numbered<Tag = B::Facts>, B: Kept> RmTable<E, B> {
         requires behind { seat.old.me.0.behind ≡ true }
         requires book { IsSome seat.old.me.0.book }
         requires room { seat.old.me.0.number < 2 ^ 64 - 1 }
-        requires editions { HasNext (meanings E.number E.tag E.name B.number B.tag B.ready B.of B.facts_item) seat.old.me.0 seat.old.me.1 }
+        requires editions { HasNext
+            (meanings E.number E.tag E.name B.number B.tag B.ready B.of B.facts_item) seat.old.me.0
+            seat.old.me.1 }
         ensures table { seat.new.table_id ≡ seat.old.table_id }
-        ensures step { seat.new.me ≡ (noted (published (meanings E.number E.tag E.name B.number B.tag B.ready B.of B.facts_item) seat.old.me.0 seat.old.me.1) number_index (seat.old.me.0.number + 1), rest_from seat.old.me.0.count seat.old.me.1) }
+        ensures step { seat.new.me
+            ≡ (
+              noted (published
+                  (meanings E.number E.tag E.name B.number B.tag B.ready B.of B.facts_item) seat.old.me.0
+                  seat.old.me.1) number_index (seat.old.me.0.number + 1),
+              rest_from seat.old.me.0.count seat.old.me.1,
+            ) }
     {
         let next = seat.number + 1;
         self.table

@@ -61,7 +61,8 @@ fn chosen_number(rules: &[Arc<Rule>], number: Option<u16>) -> u16
 /// Puts the rule before the first of a greater number. The search takes logarithmic time.
 fn insert_rule(rules: &mut Vec<Arc<Rule>>, rule: Arc<Rule>) -> Result<(), OutOfMemory>
     requires { AscendsFrom 1 (map arc_value rules.old.items) }
-    ensures { OnOk result (map arc_value rules.new.items ≡ lists.insert_rule (arc_value rule) (map arc_value rules.old.items)) }
+    ensures { OnOk result (map arc_value rules.new.items
+        ≡ lists.insert_rule (arc_value rule) (map arc_value rules.old.items)) }
 {
     let number = rule.number;
     let place = place_behind(rules, number);

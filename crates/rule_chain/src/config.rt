@@ -55,9 +55,28 @@ impl Model for Config {
 
     ghost Value = { Configuration };
 
-    ghost view = { λ c. record { rules = c.rules; disabled = c.disabled; tables = arc_value c.tables; locals = (arc_value c.locals).items; values = values_of c.settings; names = (arc_value c.names).items; greatest_id = c.greatest_id; greatest_counter = c.greatest_counter } };
+    ghost view = { λ c. record {
+      rules = c.rules;
+      disabled = c.disabled;
+      tables = arc_value c.tables;
+      locals = (arc_value c.locals).items;
+      values = values_of c.settings;
+      names = (arc_value c.names).items;
+      greatest_id = c.greatest_id;
+      greatest_counter = c.greatest_counter;
+    } };
 
-    ghost invariant = { λ c. IsConfiguration (record { rules = c.rules; disabled = c.disabled; tables = arc_value c.tables; locals = (arc_value c.locals).items; values = values_of c.settings; names = (arc_value c.names).items; greatest_id = c.greatest_id; greatest_counter = c.greatest_counter }) };
+    ghost invariant = { λ c.
+        IsConfiguration (record {
+          rules = c.rules;
+          disabled = c.disabled;
+          tables = arc_value c.tables;
+          locals = (arc_value c.locals).items;
+          values = values_of c.settings;
+          names = (arc_value c.names).items;
+          greatest_id = c.greatest_id;
+          greatest_counter = c.greatest_counter;
+        }) };
 }
 
 impl Config {

@@ -33,14 +33,16 @@ fn deletion_fault(rules: &[Arc<Rule>], numbers: &[u16]) -> Option<ApplyFault>
 
 /// Takes out the rules of these numbers.
 fn take_numbers(rules: &mut Vec<Arc<Rule>>, numbers: &NumberSet)
-    ensures { map arc_value rules.new.items ≡ lists.without_numbers numbers.now (map arc_value rules.old.items) }
+    ensures { map arc_value rules.new.items
+        ≡ lists.without_numbers numbers.now (map arc_value rules.old.items) }
 {
     rules.retain(|rule| !numbers.has(rule.number));
 }
 
 /// Takes out the rules of the set, but for rule 65535.
 fn take_set(rules: &mut Vec<Arc<Rule>>, set: u8)
-    ensures { map arc_value rules.new.items ≡ lists.without_set set (map arc_value rules.old.items) }
+    ensures { map arc_value rules.new.items
+        ≡ lists.without_set set (map arc_value rules.old.items) }
 {
     rules.retain(|rule| rule.set != set || rule.number == LAST_NUMBER);
 }

@@ -61,7 +61,8 @@ pub(crate) fn with_addresses(
     locals: Arc<Vec<Addr>>,
     addresses: &[Addr],
 ) -> Result<Arc<Vec<Addr>>, OutOfMemory>
-    ensures { IfOk result (λ after. (arc_value after).items ≡ spec.with_addresses (arc_value locals).items addresses.now) }
+    ensures { IfOk result (λ after. (arc_value after).items
+        ≡ spec.with_addresses (arc_value locals).items addresses.now) }
 {
     let mut owned = own_addresses(alloc, locals)?;
     if addresses.len() <= FEW {

@@ -104,7 +104,8 @@ fn with_new_name(
     names: Arc<Vec<Name>>,
     name: &Name,
 ) -> Result<Arc<Vec<Name>>, OutOfMemory>
-    ensures { IfOk result (λ after. (arc_value after).items ≡ (arc_value names).items ++ name.now ∷ []) }
+    ensures { IfOk result (λ after. (arc_value after).items
+        ≡ (arc_value names).items ++ name.now ∷ []) }
 {
     let mut owned = own_names(alloc, names)?;
     owned.push(name.copy()?)?;
@@ -117,8 +118,10 @@ fn with_name(
     names: Arc<Vec<Name>>,
     name: &Name,
 ) -> Result<Arc<Vec<Name>>, ApplyFault>
-    ensures ok { IfOk result (λ after. spec.with_name (arc_value names).items name.now ≡ Ok (arc_value after).items) }
-    ensures err { IfErr result (λ fault. IsRefusal fault (spec.with_name (arc_value names).items name.now)) }
+    ensures ok { IfOk result (λ after. spec.with_name (arc_value names).items name.now
+        ≡ Ok (arc_value after).items) }
+    ensures err { IfErr result (λ fault.
+        IsRefusal fault (spec.with_name (arc_value names).items name.now)) }
 {
     if has_number(names.as_slice(), name) {
         return Ok(names);
@@ -137,8 +140,12 @@ pub(crate) fn with_name_of(
     action: &Action,
     body: &Option<Body>,
 ) -> Result<Arc<Vec<Name>>, ApplyFault>
-    ensures ok { IfOk result (λ after. spec.with_name_of (arc_value names).items (spec.name_of action.now body.now) ≡ Ok (arc_value after).items) }
-    ensures err { IfErr result (λ fault. IsRefusal fault (spec.with_name_of (arc_value names).items (spec.name_of action.now body.now))) }
+    ensures ok { IfOk result (λ after.
+        spec.with_name_of (arc_value names).items (spec.name_of action.now body.now)
+        ≡ Ok (arc_value after).items) }
+    ensures err { IfErr result (λ fault.
+        IsRefusal fault
+        (spec.with_name_of (arc_value names).items (spec.name_of action.now body.now))) }
 {
     match name_of(action, body) {
         Some(name) => with_name(alloc, names, name),

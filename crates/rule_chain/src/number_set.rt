@@ -36,7 +36,8 @@ impl Model for NumberSet {
 /// As many places without a mark.
 fn no_marks(alloc: Global, count: usize) -> Result<Vec<bool>, OutOfMemory>
     ensures count { IfOk result (λ marks. length marks.items ≡ count) }
-    ensures none { IfOk result (λ marks. (place : ℕ) → slice_index_or marks.items place false ≡ false) }
+    ensures none { IfOk result (λ marks. (place : ℕ)
+        → slice_index_or marks.items place false ≡ false) }
 {
     Ok(vec![in alloc; false; count]?)
 }

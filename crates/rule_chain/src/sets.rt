@@ -23,7 +23,8 @@ fn move_rules(
     rules: Vec<Arc<Rule>>,
     moves: Moves,
 ) -> Result<Vec<Arc<Rule>>, OutOfMemory>
-    ensures { IfOk result (λ moved. map arc_value moved.items ≡ lists.move_rules (set_after moves) (map arc_value rules.items)) }
+    ensures { IfOk result (λ moved. map arc_value moved.items
+        ≡ lists.move_rules (set_after moves) (map arc_value rules.items)) }
 {
     let mut moved = Vec::with_capacity(alloc, rules.len())?;
     for rule in rules {

@@ -155,7 +155,8 @@ fn put(alloc: Global, tables: &mut Tables, name: &Name, table: Table) -> Result<
 /// entry of a table that no other configuration has is copied.
 fn take(alloc: Global, tables: &mut Tables, name: &Name) -> Result<Option<SharedTable>, OutOfMemory>
     ensures table { IfOk result (λ table. table ≡ table_named tables.old name.now) }
-    ensures after { OnOk result (tables.new ≡ spec.put_table tables.old name.now (spec.empty_table Addresses)) }
+    ensures after { OnOk result (tables.new
+        ≡ spec.put_table tables.old name.now (spec.empty_table Addresses)) }
 {
     let empty = SharedTable::new(alloc, empty_table(alloc, TableType::Addresses))?;
     tables.insert(name.copy()?, empty)
@@ -257,7 +258,8 @@ pub(crate) fn change_tables(
     name: &Name,
     command: &TableCommand,
 ) -> Result<Tables, ApplyFault>
-    ensures { Gives result (spec.change_tables tables (map arc_value rules.now) name.now command.now) }
+    ensures { Gives result
+        (spec.change_tables tables (map arc_value rules.now) name.now command.now) }
 {
     match command {
         TableCommand::Create(kind) => create_table(alloc, tables, name, *kind),

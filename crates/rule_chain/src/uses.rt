@@ -16,7 +16,8 @@ use std::sync::Arc;
 
 /// The table that the element names, and the type that it has to have.
 fn item_use(item: &AddrItem) -> Option<(&Name, TableType)>
-    ensures { option_map (λ u. record { name = u.0.now; kind = u.1 }) result ≡ uses.item_use item.now }
+    ensures { option_map (λ u. record { name = u.0.now; kind = u.1 }) result
+        ≡ uses.item_use item.now }
 {
     match item {
         AddrItem::InTable(name) | AddrItem::TableValue(name, _) => {
@@ -37,7 +38,8 @@ fn field_kind(field: Field) -> TableType
 
 /// The table that the option names, and the type that it has to have.
 fn option_use(option: &Opt) -> Option<(&Name, TableType)>
-    ensures { option_map (λ u. record { name = u.0.now; kind = u.1 }) result ≡ uses.option_use option.now }
+    ensures { option_map (λ u. record { name = u.0.now; kind = u.1 }) result
+        ≡ uses.option_use option.now }
 {
     match &option.test {
         Test::Lookup(field, name) => Some((name, field_kind(*field))),
@@ -87,8 +89,10 @@ fn make_table(
     name: &Name,
     kind: TableType,
 ) -> Result<(), ApplyFault>
-    ensures ok { OnOk result (lookups.with_use tables.old (record { name = name.now; kind = kind }) ≡ Ok tables.new) }
-    ensures err { IfErr result (λ fault. IsRefusal fault (lookups.with_use tables.old (record { name = name.now; kind = kind }))) }
+    ensures ok { OnOk result (lookups.with_use tables.old (record { name = name.now; kind = kind })
+        ≡ Ok tables.new) }
+    ensures err { IfErr result (λ fault.
+        IsRefusal fault (lookups.with_use tables.old (record { name = name.now; kind = kind }))) }
 {
     match tables.get(name) {
         None => {
@@ -108,8 +112,10 @@ fn make_table(
 
 /// Makes the tables that a list of addresses names.
 fn make_for_items(alloc: Global, tables: &mut Tables, items: &[AddrItem]) -> Result<(), ApplyFault>
-    ensures ok { OnOk result (lookups.with_uses tables.old (filter_map uses.item_use items.now) ≡ Ok tables.new) }
-    ensures err { IfErr result (λ fault. IsRefusal fault (lookups.with_uses tables.old (filter_map uses.item_use items.now))) }
+    ensures ok { OnOk result (lookups.with_uses tables.old (filter_map uses.item_use items.now)
+        ≡ Ok tables.new) }
+    ensures err { IfErr result (λ fault.
+        IsRefusal fault (lookups.with_uses tables.old (filter_map uses.item_use items.now))) }
 {
     for item in items {
         if let Some((name, kind)) = item_use(item) {
@@ -121,8 +127,10 @@ fn make_for_items(alloc: Global, tables: &mut Tables, items: &[AddrItem]) -> Res
 
 /// Makes the tables that options name.
 fn make_for_options(alloc: Global, tables: &mut Tables, options: &[Opt]) -> Result<(), ApplyFault>
-    ensures ok { OnOk result (lookups.with_uses tables.old (filter_map uses.option_use options.now) ≡ Ok tables.new) }
-    ensures err { IfErr result (λ fault. IsRefusal fault (lookups.with_uses tables.old (filter_map uses.option_use options.now))) }
+    ensures ok { OnOk result (lookups.with_uses tables.old (filter_map uses.option_use options.now)
+        ≡ Ok tables.new) }
+    ensures err { IfErr result (λ fault.
+        IsRefusal fault (lookups.with_uses tables.old (filter_map uses.option_use options.now))) }
 {
     for option in options {
         if let Some((name, kind)) = option_use(option) {
@@ -135,8 +143,10 @@ fn make_for_options(alloc: Global, tables: &mut Tables, options: &[Opt]) -> Resu
 /// Makes the tables that a body names, in the order of its text.
 #[tactic(auto, using(crate::proofs::UsesInTurn::uses_append))]
 fn make_for_body(alloc: Global, tables: &mut Tables, body: &Body) -> Result<(), ApplyFault>
-    ensures ok { OnOk result (lookups.with_uses tables.old (uses.body_uses body.now) ≡ Ok tables.new) }
-    ensures err { IfErr result (λ fault. IsRefusal fault (lookups.with_uses tables.old (uses.body_uses body.now))) }
+    ensures ok { OnOk result (lookups.with_uses tables.old (uses.body_uses body.now)
+        ≡ Ok tables.new) }
+    ensures err { IfErr result (λ fault.
+        IsRefusal fault (lookups.with_uses tables.old (uses.body_uses body.now))) }
 {
     make_for_items(alloc, tables, body.source.items.as_slice())?;
     make_for_items(alloc, tables, body.destination.items.as_slice())?;
@@ -149,8 +159,10 @@ fn with_body_tables(
     tables: Arc<Tables>,
     body: &Body,
 ) -> Result<Arc<Tables>, ApplyFault>
-    ensures ok { IfOk result (λ after. lookups.with_uses (arc_value tables) (uses.body_uses body.now) ≡ Ok (arc_value after)) }
-    ensures err { IfErr result (λ fault. IsRefusal fault (lookups.with_uses (arc_value tables) (uses.body_uses body.now))) }
+    ensures ok { IfOk result (λ after.
+        lookups.with_uses (arc_value tables) (uses.body_uses body.now) ≡ Ok (arc_value after)) }
+    ensures err { IfErr result (λ fault.
+        IsRefusal fault (lookups.with_uses (arc_value tables) (uses.body_uses body.now))) }
 {
     let mut owned = own_tables(alloc, tables)?;
     make_for_body(alloc, &mut owned, body)?;
@@ -163,8 +175,10 @@ pub(crate) fn with_tables_of(
     tables: Arc<Tables>,
     body: &Option<Body>,
 ) -> Result<Arc<Tables>, ApplyFault>
-    ensures ok { IfOk result (λ after. lookups.with_uses (arc_value tables) (uses.uses_of body.now) ≡ Ok (arc_value after)) }
-    ensures err { IfErr result (λ fault. IsRefusal fault (lookups.with_uses (arc_value tables) (uses.uses_of body.now))) }
+    ensures ok { IfOk result (λ after. lookups.with_uses (arc_value tables) (uses.uses_of body.now)
+        ≡ Ok (arc_value after)) }
+    ensures err { IfErr result (λ fault.
+        IsRefusal fault (lookups.with_uses (arc_value tables) (uses.uses_of body.now))) }
 {
     match body {
         Some(asked) => with_body_tables(alloc, tables, asked),

@@ -57,8 +57,10 @@ fn renumber(
     numbers: &NumberSet,
     first: u32,
 ) -> Result<Vec<Arc<Rule>>, OutOfMemory>
-    requires { first + lists.count_of (lists.is_zeroed numbers.now) (map arc_value rules.items) < 2 ^ 32 }
-    ensures { IfOk result (λ renumbered. map arc_value renumbered.items ≡ lists.renumber (lists.is_zeroed numbers.now) first (map arc_value rules.items)) }
+    requires { first + lists.count_of (lists.is_zeroed numbers.now) (map arc_value rules.items)
+        < 2 ^ 32 }
+    ensures { IfOk result (λ renumbered. map arc_value renumbered.items
+        ≡ lists.renumber (lists.is_zeroed numbers.now) first (map arc_value rules.items)) }
 {
     let mut renumbered = Vec::with_capacity(alloc, rules.len())?;
     let mut next = first;
@@ -83,7 +85,8 @@ fn renumbered(
     first: u32,
 ) -> Result<RuleList, OutOfMemory>
     requires { first + lists.count_of (lists.is_zeroed numbers.now) rules < 2 ^ 32 }
-    ensures { IfOk result (λ after. after ≡ lists.renumber (lists.is_zeroed numbers.now) first rules) }
+    ensures { IfOk result (λ after. after
+        ≡ lists.renumber (lists.is_zeroed numbers.now) first rules) }
 {
     let owned = rules.own(alloc)?;
     RuleList::new(alloc, renumber(alloc, owned, numbers, first)?)

@@ -20,8 +20,10 @@ fn every() -> ChosenWord
 /// chosen.
 fn network(address: u128, host_bits: u8) -> ChosenWord
     requires { host_bits ≤ 128 }
-    ensures covers { (number : ℕ) → number / 2 ^ host_bits ≡ address / 2 ^ host_bits → HasAddress result number }
-    ensures tells { (number : ℕ) → host_bits ≤ 32 → address < 2 ^ 32 → number < 2 ^ 32 → HasAddress result number
+    ensures covers { (number : ℕ) → number / 2 ^ host_bits ≡ address / 2 ^ host_bits
+        → HasAddress result number }
+    ensures tells { (number : ℕ) → host_bits ≤ 32 → address < 2 ^ 32 → number < 2 ^ 32
+        → HasAddress result number
         → number / 2 ^ host_bits ≡ address / 2 ^ host_bits }
 {
     if host_bits == 128 {

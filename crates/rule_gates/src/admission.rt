@@ -40,7 +40,8 @@ pub fn admits(gate: &Gate, key: &Key) -> bool
 
 /// The first place from this one on whose gate admits the key; the number of gates where none does.
 pub fn next_admitted(gates: &[Gate], from: usize, key: &Key) -> usize
-    ensures { result ≡ from + position_or_len (λ gate. spec.admits gate key.now) (drop from gates.now) }
+    ensures { result ≡ from + position_or_len (λ gate. spec.admits gate key.now)
+        (drop from gates.now) }
 {
     let mut place = from;
     while place < gates.len() && !admits(&gates[place], key) {

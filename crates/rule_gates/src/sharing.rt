@@ -6,7 +6,8 @@ use crate::Gate;
 
 /// Whether the two lists have the same gates, place by place: then both are gates of the same rules.
 pub fn are_same(gates: &[Gate], others: &[Gate]) -> bool
-    ensures { result ≡ true → (rules : List Rule) → AreGates rules others.now → AreGates rules gates.now }
+    ensures { result ≡ true → (rules : List Rule) → AreGates rules others.now
+        → AreGates rules gates.now }
 {
     gates == others
 }

@@ -51,7 +51,8 @@ fn is_in_table(tables: &Tables, name: &Name, address: Addr) -> bool
 /// Whether its answer is this value.
 #[inline(never)]
 fn has_value(tables: &Tables, name: &Name, address: Addr, value: u32) -> bool
-    ensures { result ≡ spec.is_value value (answers.address_value (table_named tables.now name.now) address.0) }
+    ensures { result ≡ spec.is_value value
+        (answers.address_value (table_named tables.now name.now) address.0) }
 {
     match address_value(tables.get(name), address) {
         Some(answer) => answer == value,
@@ -109,7 +110,8 @@ fn holds_some6(address: Addr6, items: &[AddrItem]) -> bool
 /// Whether the IPv6 address is one that the rule asks for.
 #[inline(never)]
 fn holds_addresses6(address: Addr6, asked: &AddrSpec) -> bool
-    ensures { result ≡ spec.as_signed asked.now.negated (list_any (spec.holds_item6 address.0) asked.now.items) }
+    ensures { result ≡ spec.as_signed asked.now.negated
+        (list_any (spec.holds_item6 address.0) asked.now.items) }
 {
     as_signed(asked.negated, holds_some6(address, asked.items.as_slice()))
 }
@@ -131,7 +133,8 @@ pub fn holds_destination(
     packet: &AnyIp<'_>,
     asked: &AddrSpec,
 ) -> bool
-    ensures { result ≡ spec.holds_addresses tables.now locals.now (destination_of packet.now) asked.now }
+    ensures { result ≡ spec.holds_addresses tables.now locals.now (destination_of packet.now)
+        asked.now }
 {
     match packet {
         AnyIp::Four(packet) => holds_addresses4(tables, locals, packet.destination(), asked),

@@ -44,7 +44,8 @@ fn is_in_ranges(port: Option<u16>, ranges: &[PortRange]) -> bool
 }
 
 fn holds_list(port: Option<u16>, list: &PortList) -> bool
-    ensures { result ≡ spec.as_signed list.now.negated (definition.is_in_ranges port list.now.ranges) }
+    ensures { result ≡ spec.as_signed list.now.negated
+        (definition.is_in_ranges port list.now.ranges) }
 {
     as_signed(list.negated, is_in_ranges(port, list.ranges.as_slice()))
 }

@@ -65,7 +65,8 @@ impl LiveWorld {
         requires formed { IsLine line.now }
         requires changing { IsChanging line.now.command }
         requires desk { self.old.desk ≡ self.old.world.editions }
-        ensures { OnOk result (Accepts self.old self.new line.now.command ⊎ Refuses self.old self.new line.now) }
+        ensures { OnOk result (Accepts self.old self.new line.now.command
+            ⊎ Refuses self.old self.new line.now) }
     {
         match self.world.edit(alloc, &mut self.desk, &line.command) {
             Ok(_number) => Ok(()),
@@ -100,7 +101,9 @@ impl LiveWorld {
         requires within { capture < length self.old.lanes.items }
         requires small { length taken.bytes.now ≤ 262144 }
         requires sound { IsSound self.old }
-        ensures { OnOk result (ReplaysARecord capture (input_of link port.now (captured taken.entry)) self.old self.new) }
+        ensures { OnOk result
+            (ReplaysARecord capture (input_of link port.now (captured taken.entry)) self.old
+            self.new) }
     {
         let lane = &mut self.lanes[capture];
         match read_any(link, taken.bytes) {

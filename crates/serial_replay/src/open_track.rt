@@ -23,7 +23,8 @@ pub(crate) struct OpenTrack<S> {
 
 /// Goes on to the next record; answers whether there is one.
 fn next_record<S: Source>(capture: &mut Capture<S>) -> Result<bool, CaptureFault>
-    ensures advances { Advances S.left S.faults capture.old capture.new (answered result (current_of capture.new)) }
+    ensures advances { Advances S.left S.faults capture.old capture.new
+        (answered result (current_of capture.new)) }
     ensures found { IfOk result (λ found. found ≡ is_some (current_of capture.new)) }
 {
     match capture.next() {

@@ -37,7 +37,8 @@ impl<S: Source> Running<'_, S> {
     /// Replays the record of the capture that comes first.
     fn take_record(&mut self, capture: usize) -> Result<(), OutOfMemory>
         requires ready { IsReady S.left S.faults self.old }
-        requires due { NoneIsDue self.old.taken (steps_of self.old.agenda) (steps_of self.old.agenda) }
+        requires due { NoneIsDue self.old.taken (steps_of self.old.agenda)
+            (steps_of self.old.agenda) }
         requires first { first_of self.old.tracks ≡ Some capture }
         ensures { OnOk result (TakesRecord S.left S.faults self.old self.new) }
     {

@@ -32,7 +32,8 @@ impl<S> Model for Tracks<S> {
 
     ghost view = { λ t. t.tracks.items };
 
-    ghost invariant = { λ t. t.moments.items ≡ map (option_map moment_of) (map held_of t.tracks.items) };
+    ghost invariant = { λ t. t.moments.items
+        ≡ map (option_map moment_of) (map held_of t.tracks.items) };
 }
 
 impl<S: Source> Tracks<S> {

@@ -30,9 +30,22 @@ impl Model for Book {
 
     ghost Value = { Journal };
 
-    ghost view = { λ b. record { lanes = b.lanes; facts = b.facts.items; entries = b.entries.items; object = b.states.object; ready = b.is_ready } };
+    ghost view = { λ b. record {
+      lanes = b.lanes;
+      facts = b.facts.items;
+      entries = b.entries.items;
+      object = b.states.object;
+      ready = b.is_ready;
+    } };
 
-    ghost invariant = { λ b. IsJournal (record { lanes = b.lanes; facts = b.facts.items; entries = b.entries.items; object = b.states.object; ready = b.is_ready })
+    ghost invariant = { λ b.
+        IsJournal (record {
+          lanes = b.lanes;
+          facts = b.facts.items;
+          entries = b.entries.items;
+          object = b.states.object;
+          ready = b.is_ready;
+        })
         × (65536 ≤ b.states.room)
         × (b.is_ready ≡ true → (vec_len b.facts < vec_capacity b.facts) × (vec_len b.entries < vec_capacity b.entries)) };
 }
@@ -139,7 +152,8 @@ fn is_among(rules: &[u32], wanted: u32) -> bool
 
 /// The states as the first publication leaves them.
 fn open_states(alloc: Global, facts: &Facts) -> Result<States, OutOfMemory>
-    ensures object { IfOk result (λ states. states.object ≡ journal.published journal.no_states facts.now) }
+    ensures object { IfOk result (λ states. states.object
+        ≡ journal.published journal.no_states facts.now) }
     ensures room { IfOk result (λ states. 65536 ≤ states.room) }
 {
     States::open(alloc, MOST_STATES, facts.settings)

@@ -22,7 +22,8 @@ pub(crate) struct Single {
 }
 
 pub(crate) fn open_single(alloc: Global) -> Result<Single, Fail>
-    ensures tables { IfOk result (λ s. (s.operator.table_id ≡ s.table) × (s.processor.table_id ≡ s.table)) }
+    ensures tables { IfOk result (λ s. (s.operator.table_id ≡ s.table)
+        × (s.processor.table_id ≡ s.table)) }
     ensures operator { IfOk result (λ s. IsAtRest s.operator.me.0 s.operator.me.1) }
     ensures count { IfOk result (λ s. (s.operator.me.0.count ≡ 1) × (s.operator.me.0.number ≡ 1)) }
     ensures processor { IfOk result (λ s. IsIdle s.processor.me.0 s.processor.me.1) }
@@ -48,12 +49,14 @@ pub(crate) fn take_token(rt: &impl Abort, table: &LockTable, operator: &mut Seat
     requires room { operator.old.me.0.number < 2 ^ 64 - 1 }
     ensures table { operator.new.table_id ≡ operator.old.table_id }
     ensures operator { IsOperator operator.new.me.0 }
-    ensures same { (operator.new.me.0.count ≡ 1) × (operator.new.me.0.number ≡ operator.old.me.0.number) × (operator.new.me.1 ≡ []) }
+    ensures same { (operator.new.me.0.count ≡ 1)
+        × (operator.new.me.0.number ≡ operator.old.me.0.number) × (operator.new.me.1 ≡ []) }
     ensures locks { (operator.new.me.0.behind ≡ true) × (operator.new.me.0.book ≡ None) }
     ensures revoked { is_revoked operator.new.me.0 1 ≡ true }
     ensures undrained { is_drained operator.new.me.0 1 ≡ false }
     ensures sizes { (length operator.new.me.0.drained ≡ 2) × (length operator.new.me.0.kept ≡ 2) }
-    ensures counts { operator.new.me.0.opened + length operator.new.me.0.history ≡ operator.new.me.0.number + 1 }
+    ensures counts { operator.new.me.0.opened + length operator.new.me.0.history
+        ≡ operator.new.me.0.number + 1 }
 {
     assert_eq!(rt; table.take_back(operator), Tried::Taken);
     table.revoke(operator, 1);
@@ -68,15 +71,18 @@ pub(crate) fn renew(rt: &impl Abort, table: &LockTable, operator: &mut Seat, nex
     requires revoked { is_revoked operator.old.me.0 1 ≡ true }
     requires undrained { is_drained operator.old.me.0 1 ≡ false }
     requires sizes { (length operator.old.me.0.drained ≡ 2) × (length operator.old.me.0.kept ≡ 2) }
-    requires counts { operator.old.me.0.opened + length operator.old.me.0.history ≡ operator.old.me.0.number + 1 }
+    requires counts { operator.old.me.0.opened + length operator.old.me.0.history
+        ≡ operator.old.me.0.number + 1 }
     ensures table { operator.new.table_id ≡ operator.old.table_id }
     ensures operator { IsOperator operator.new.me.0 }
-    ensures same { (operator.new.me.0.count ≡ 1) × (operator.new.me.0.number ≡ operator.old.me.0.number) }
+    ensures same { (operator.new.me.0.count ≡ 1)
+        × (operator.new.me.0.number ≡ operator.old.me.0.number) }
     ensures hand { operator.new.me.1 ≡ (1, Home (Some (record { number = next }))) ∷ [] }
     ensures locks { (operator.new.me.0.behind ≡ true) × (operator.new.me.0.book ≡ None) }
     ensures drained { is_drained operator.new.me.0 1 ≡ true }
     ensures size { length operator.new.me.0.kept ≡ 2 }
-    ensures counts { operator.new.me.0.opened + length operator.new.me.0.history ≡ operator.new.me.0.number + 1 }
+    ensures counts { operator.new.me.0.opened + length operator.new.me.0.history
+        ≡ operator.new.me.0.number + 1 }
 {
     assert_eq!(rt; table.drain(operator, 1), Heard::Drained);
     let old = table.exchange_edition(operator, 1, Some(Edition { number: next }));
@@ -88,7 +94,11 @@ pub(crate) fn take_ledger(rt: &impl Abort, table: &LockTable, operator: &mut Sea
     requires table { operator.old.table_id ≡ table.now }
     requires operator { IsOperator operator.old.me.0 }
     ensures table { operator.new.table_id ≡ operator.old.table_id }
-    ensures seat { operator.new.me ≡ (noted (book_taken operator.old.me.0 result) book_index 0, (0, Held None) ∷ operator.old.me.1) }
+    ensures seat { operator.new.me
+        ≡ (
+          noted (book_taken operator.old.me.0 result) book_index 0,
+          (0, Held None) ∷ operator.old.me.1,
+        ) }
     ensures number { result.number ≡ operator.old.me.0.number }
     ensures publications { replicate result.publications 0 ≡ operator.old.me.0.own }
 {
@@ -108,7 +118,8 @@ pub(crate) fn publish_next(rt: &impl Abort, table: &LockTable, operator: &mut Se
     requires locks { (operator.old.me.0.behind ≡ true) × (operator.old.me.0.book ≡ None) }
     requires drained { is_drained operator.old.me.0 1 ≡ true }
     requires size { length operator.old.me.0.kept ≡ 2 }
-    requires counts { operator.old.me.0.opened + length operator.old.me.0.history ≡ operator.old.me.0.number + 1 }
+    requires counts { operator.old.me.0.opened + length operator.old.me.0.history
+        ≡ operator.old.me.0.number + 1 }
     ensures table { operator.new.table_id ≡ operator.old.table_id }
     ensures at_rest { IsAtRest operator.new.me.0 operator.new.me.1 }
     ensures same { (operator.new.me.0.count ≡ 1) × (operator.new.me.0.number ≡ next) }

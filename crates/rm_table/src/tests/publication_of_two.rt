@@ -21,12 +21,17 @@ fn renew_edition(rt: &impl Abort, table: &LockTable, operator: &mut Seat, place:
     requires undrained { is_drained operator.old.me.0 place ≡ false }
     ensures table { operator.new.table_id ≡ operator.old.table_id }
     ensures operator { IsOperator operator.new.me.0 }
-    ensures same { (operator.new.me.0.count ≡ operator.old.me.0.count) × (operator.new.me.0.number ≡ operator.old.me.0.number) × (operator.new.me.0.kept ≡ operator.old.me.0.kept) }
-    ensures locks { (operator.new.me.0.behind ≡ operator.old.me.0.behind) × (operator.new.me.0.book ≡ operator.old.me.0.book) }
-    ensures past { (operator.new.me.0.opened ≡ operator.old.me.0.opened) × (operator.new.me.0.history ≡ operator.old.me.0.history) }
+    ensures same { (operator.new.me.0.count ≡ operator.old.me.0.count)
+        × (operator.new.me.0.number ≡ operator.old.me.0.number)
+        × (operator.new.me.0.kept ≡ operator.old.me.0.kept) }
+    ensures locks { (operator.new.me.0.behind ≡ operator.old.me.0.behind)
+        × (operator.new.me.0.book ≡ operator.old.me.0.book) }
+    ensures past { (operator.new.me.0.opened ≡ operator.old.me.0.opened)
+        × (operator.new.me.0.history ≡ operator.old.me.0.history) }
     ensures revoked { operator.new.me.0.revoked ≡ operator.old.me.0.revoked }
     ensures drained { operator.new.me.0.drained ≡ slice_set operator.old.me.0.drained place true }
-    ensures hand { operator.new.me.1 ≡ (place, Home (Some (record { number = next }))) ∷ operator.old.me.1 }
+    ensures hand { operator.new.me.1 ≡ (place, Home (Some (record { number = next })))
+        ∷ operator.old.me.1 }
 {
     assert_eq!(rt; table.drain(operator, place), Heard::Drained);
     let old = table.exchange_edition(operator, place, Some(Edition { number: next }));
@@ -37,20 +42,28 @@ fn renew_edition(rt: &impl Abort, table: &LockTable, operator: &mut Seat, place:
 fn renew_both(rt: &impl Abort, table: &LockTable, operator: &mut Seat, next: u64)
     requires table { operator.old.table_id ≡ table.now }
     requires operator { IsOperator operator.old.me.0 }
-    requires same { (operator.old.me.0.count ≡ 2) × (operator.old.me.0.book ≡ None) × (operator.old.me.1 ≡ []) }
+    requires same { (operator.old.me.0.count ≡ 2) × (operator.old.me.0.book ≡ None)
+        × (operator.old.me.1 ≡ []) }
     requires behind { operator.old.me.0.behind ≡ true }
-    requires revoked { (is_revoked operator.old.me.0 1 ≡ true) × (is_revoked operator.old.me.0 2 ≡ true) }
-    requires undrained { (is_drained operator.old.me.0 1 ≡ false) × (is_drained operator.old.me.0 2 ≡ false) }
+    requires revoked { (is_revoked operator.old.me.0 1 ≡ true)
+        × (is_revoked operator.old.me.0 2 ≡ true) }
+    requires undrained { (is_drained operator.old.me.0 1 ≡ false)
+        × (is_drained operator.old.me.0 2 ≡ false) }
     requires sizes { (length operator.old.me.0.drained ≡ 3) × (length operator.old.me.0.kept ≡ 3) }
-    requires counts { operator.old.me.0.opened + length operator.old.me.0.history ≡ operator.old.me.0.number + 1 }
+    requires counts { operator.old.me.0.opened + length operator.old.me.0.history
+        ≡ operator.old.me.0.number + 1 }
     ensures table { operator.new.table_id ≡ operator.old.table_id }
     ensures operator { IsOperator operator.new.me.0 }
-    ensures same { (operator.new.me.0.count ≡ 2) × (operator.new.me.0.number ≡ operator.old.me.0.number) }
-    ensures hand { operator.new.me.1 ≡ (1, Home (Some (record { number = next }))) ∷ (2, Home (Some (record { number = next }))) ∷ [] }
+    ensures same { (operator.new.me.0.count ≡ 2)
+        × (operator.new.me.0.number ≡ operator.old.me.0.number) }
+    ensures hand { operator.new.me.1 ≡ (1, Home (Some (record { number = next })))
+        ∷ (2, Home (Some (record { number = next }))) ∷ [] }
     ensures locks { (operator.new.me.0.behind ≡ true) × (operator.new.me.0.book ≡ None) }
-    ensures drained { (is_drained operator.new.me.0 1 ≡ true) × (is_drained operator.new.me.0 2 ≡ true) }
+    ensures drained { (is_drained operator.new.me.0 1 ≡ true)
+        × (is_drained operator.new.me.0 2 ≡ true) }
     ensures size { length operator.new.me.0.kept ≡ 3 }
-    ensures counts { operator.new.me.0.opened + length operator.new.me.0.history ≡ operator.new.me.0.number + 1 }
+    ensures counts { operator.new.me.0.opened + length operator.new.me.0.history
+        ≡ operator.new.me.0.number + 1 }
 {
     renew_edition(rt, table, operator, 2, next);
     renew_edition(rt, table, operator, 1, next);
@@ -61,11 +74,14 @@ fn publish_both(rt: &impl Abort, table: &LockTable, operator: &mut Seat, next: u
     requires table { operator.old.table_id ≡ table.now }
     requires operator { IsOperator operator.old.me.0 }
     requires same { (operator.old.me.0.count ≡ 2) × (operator.old.me.0.number + 1 ≡ next) }
-    requires hand { operator.old.me.1 ≡ (1, Home (Some (record { number = next }))) ∷ (2, Home (Some (record { number = next }))) ∷ [] }
+    requires hand { operator.old.me.1 ≡ (1, Home (Some (record { number = next })))
+        ∷ (2, Home (Some (record { number = next }))) ∷ [] }
     requires locks { (operator.old.me.0.behind ≡ true) × (operator.old.me.0.book ≡ None) }
-    requires drained { (is_drained operator.old.me.0 1 ≡ true) × (is_drained operator.old.me.0 2 ≡ true) }
+    requires drained { (is_drained operator.old.me.0 1 ≡ true)
+        × (is_drained operator.old.me.0 2 ≡ true) }
     requires size { length operator.old.me.0.kept ≡ 3 }
-    requires counts { operator.old.me.0.opened + length operator.old.me.0.history ≡ operator.old.me.0.number + 1 }
+    requires counts { operator.old.me.0.opened + length operator.old.me.0.history
+        ≡ operator.old.me.0.number + 1 }
     ensures table { operator.new.table_id ≡ operator.old.table_id }
     ensures at_rest { IsAtRest operator.new.me.0 operator.new.me.1 }
     ensures same { (operator.new.me.0.count ≡ 2) × (operator.new.me.0.number ≡ next) }

@@ -85,12 +85,18 @@ fn sections_in_threads<R: Threads + Sync>(
     let (seat, mut operator) = join(
         rt,
         move || -> Seat
-            requires { (seat.table_id ≡ table.now) × (seat.me.0.place ≡ place) × IsIdle seat.me.0 seat.me.1 }
-            ensures { (result.table_id ≡ table.entry.now) × (result.me.0.place ≡ place) × IsIdle result.me.0 result.me.1 }
+            requires { (seat.table_id ≡ table.now) × (seat.me.0.place ≡ place)
+                × IsIdle seat.me.0 seat.me.1 }
+            ensures { (result.table_id ≡ table.entry.now) × (result.me.0.place ≡ place)
+                × IsIdle result.me.0 result.me.1 }
         { sections_with_book(table, seat, place) },
         move || -> Seat
-            requires { IsSync R.row × (operator.table_id ≡ table.now) × OpensFrom (place + 1) operator.me.0 operator.me.1 × (operator.me.0.count ≡ processors) × (0 < place) × (place ≤ processors) × (processors ≤ 64) }
-            ensures { (result.table_id ≡ table.entry.now) × (result.me.0.count ≡ processors) × IsRejoinedFrom (place + 1) result.me.0 result.me.1 }
+            requires { IsSync R.row × (operator.table_id ≡ table.now)
+                × OpensFrom (place + 1) operator.me.0 operator.me.1
+                × (operator.me.0.count ≡ processors) × (0 < place) × (place ≤ processors)
+                × (processors ≤ 64) }
+            ensures { (result.table_id ≡ table.entry.now) × (result.me.0.count ≡ processors)
+                × IsRejoinedFrom (place + 1) result.me.0 result.me.1 }
         { sections_in_threads(rt, table, operator, place + 1, processors) },
     );
     table.join_seat(&mut operator, seat);

@@ -18,7 +18,8 @@ fn tell(table: &LockTable, operator: &mut Seat, processor: &mut Seat)
     ensures operator { operator.new.me ≡ operator.old.me }
     ensures at_rest { IsAtRest operator.new.me.0 operator.new.me.1 }
     ensures place { processor.new.me.0.place ≡ processor.old.me.0.place }
-    ensures told { processor.new.me.0 ≡ informed processor.old.me.0 (receipt_view operator.old.me.0) }
+    ensures told { processor.new.me.0
+        ≡ informed processor.old.me.0 (receipt_view operator.old.me.0) }
     ensures idle { IsIdle processor.new.me.0 processor.new.me.1 }
 {
     let receipt = table.split_seat(operator, 0);

@@ -41,7 +41,8 @@ pub(crate) struct Pair {
 
 // Opens a table of two processors at number 1, and splits their seats off.
 pub(crate) fn open_pair(alloc: Global) -> Result<Pair, Fail>
-    ensures tables { IfOk result (λ p. (p.operator.table_id ≡ p.table) × (p.first.table_id ≡ p.table) × (p.second.table_id ≡ p.table)) }
+    ensures tables { IfOk result (λ p. (p.operator.table_id ≡ p.table)
+        × (p.first.table_id ≡ p.table) × (p.second.table_id ≡ p.table)) }
     ensures operator { IfOk result (λ p. IsAtRest p.operator.me.0 p.operator.me.1) }
     ensures count { IfOk result (λ p. (p.operator.me.0.count ≡ 2) × (p.operator.me.0.number ≡ 1)) }
     ensures first { IfOk result (λ p. IsIdle p.first.me.0 p.first.me.1) }
@@ -84,12 +85,17 @@ pub(crate) fn take_tokens(rt: &impl Abort, table: &LockTable, operator: &mut Sea
     requires room { operator.old.me.0.number < 2 ^ 64 - 1 }
     ensures table { operator.new.table_id ≡ operator.old.table_id }
     ensures operator { IsOperator operator.new.me.0 }
-    ensures same { (operator.new.me.0.count ≡ 2) × (operator.new.me.0.number ≡ operator.old.me.0.number) × (operator.new.me.0.book ≡ None) × (operator.new.me.1 ≡ []) }
+    ensures same { (operator.new.me.0.count ≡ 2)
+        × (operator.new.me.0.number ≡ operator.old.me.0.number) × (operator.new.me.0.book ≡ None)
+        × (operator.new.me.1 ≡ []) }
     ensures behind { operator.new.me.0.behind ≡ true }
-    ensures revoked { (is_revoked operator.new.me.0 1 ≡ true) × (is_revoked operator.new.me.0 2 ≡ true) }
-    ensures undrained { (is_drained operator.new.me.0 1 ≡ false) × (is_drained operator.new.me.0 2 ≡ false) }
+    ensures revoked { (is_revoked operator.new.me.0 1 ≡ true)
+        × (is_revoked operator.new.me.0 2 ≡ true) }
+    ensures undrained { (is_drained operator.new.me.0 1 ≡ false)
+        × (is_drained operator.new.me.0 2 ≡ false) }
     ensures sizes { (length operator.new.me.0.drained ≡ 3) × (length operator.new.me.0.kept ≡ 3) }
-    ensures counts { operator.new.me.0.opened + length operator.new.me.0.history ≡ operator.new.me.0.number + 1 }
+    ensures counts { operator.new.me.0.opened + length operator.new.me.0.history
+        ≡ operator.new.me.0.number + 1 }
 {
     assert_eq!(rt; table.take_back(operator), Tried::Taken);
     table.revoke(operator, 1);
