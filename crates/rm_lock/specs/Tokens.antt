@@ -51,7 +51,7 @@ module _ {E B T L I : Type 0} where
     pub reading : v.part.reading ≡ Some edition
     pub place_is : v.place ≡ place
     pub number_is : number edition ≡ v.part.held
-    pub told_is : told_number v ≡ number edition
+    pub told_is : told_number v ≡ v.part.held
 
   -- a processor in a section, that has the book too, which it has taken out of its slot
   pub record HoldsBy (number : E → ℕ) (place : ℕ) (edition : E) (v : View E B T L I) (hand : Hand E B) : Type 0 where
@@ -63,7 +63,7 @@ module _ {E B T L I : Type 0} where
     pub reading : v.part.reading ≡ Some edition
     pub place_is : v.place ≡ place
     pub number_is : number edition ≡ v.part.held
-    pub told_is : told_number v ≡ number edition
+    pub told_is : told_number v ≡ v.part.held
 
   -- a receipt, made when this number was published: it has the history from the opening to that number
   pub record IsReceiptBy (number : ℕ) (v : View E B T L I) (hand : Hand E B) : Type 0 where
