@@ -31,7 +31,6 @@ mod slots;
 #[cfg(test)]
 mod tests;
 mod told_calls;
-mod try_calls;
 mod waits;
 mod write_calls;
 mod writing;

@@ -3,7 +3,8 @@ ghost use Rattle.std.specs.Prelude.{◌≡◌, IfOk};
 use super::edition::Edition;
 use super::ledger::Ledger;
 use super::walks::{
-    Lock, Reader, Writer, made_ready, publish_next, refused, regained, regained_at_once, section, section_with_entry,
+    Lock, Reader, Writer, made_ready, publish_next, refused, regained, regained_at_once, section,
+    section_with_entry,
 };
 use crate::{Opened, RmLock};
 use std::alloc::Global;

@@ -134,7 +134,8 @@ fn open_stressed(alloc: Global) -> Result<Opened<Edition, Ledger>, Fail>
         publications: 1,
         entries: 0,
     };
-    Ok(RmLock::open(alloc, editions, book)?)
+    let opened = RmLock::open(alloc, editions, book)?;
+    Ok(opened)
 }
 
 #[test]

@@ -9,11 +9,7 @@ use std::process::Abort;
 use std::test::Fail;
 
 // One try takes the book.
-fn book_taken(
-    rt: &impl Abort,
-    lock: &Lock,
-    r: Reading<Edition, Ledger>,
-) -> Holding<Edition, Ledger>
+fn book_taken(rt: &impl Abort, lock: &Lock, r: Reading<Edition, Ledger>) -> Holding<Edition, Ledger>
     requires lock { r.table_id ≡ lock.now }
     ensures lock { result.table_id ≡ lock.now }
     ensures place { result.view.place ≡ r.view.place }
