@@ -1,5 +1,5 @@
 -- The operator's seat through the beginning of a write.
-use Rattle.std.proofs.Common.{◌≡◌, ℕ, ◌+◌, ◌-◌, ◌^◌, ◌<◌, Bool, true, false, List, [], length, refl, sym, ◌∙◌, ap, subst, arith}
+use Rattle.std.proofs.Common.{◌≡◌, ℕ, ◌+◌, ◌-◌, ◌^◌, ◌<◌, Bool, true, false, List, [], ◌++◌, length, refl, sym, ◌∙◌, ap, subst, arith}
 use Rattle.std.specs.Prelude.{slice_index_or}
 use Rattle.atomic_table.specs.Table.{Me}
 use Rattle.atomic_table.specs.Seated.{TableId}
@@ -8,7 +8,7 @@ use Rattle.rm_table.specs.declared.view.View.{View}
 use Rattle.rm_table.specs.Meanings.{Meanings}
 use Rattle.rm_table.specs.Moves.{editions_from, IsOperator, NoneRevoked, NoneDrained, AllRevoked}
 use Rattle.rm_lock.specs.Tokens.{TokenState, IsAtRestBy, WritesBy, AreOld}
-use Rattle.rm_lock.specs.Calls.{TakenBehind, took_behind, steady, Begins, AreNext, Publishes}
+use Rattle.rm_lock.specs.Calls.{watched, revocations, TakenBehind, took_behind, steady, Begins, AreNext, Publishes}
 use Rattle.rm_lock.specs.Writes.{unmarked, HasFoundAll, IsWriting}
 use Rattle.rm_lock.proofs.Hands.{same_editions}
 
@@ -88,6 +88,7 @@ module _ {E B T L I : Type 0} where
           revoked = revoked_still s3.0 s2.0 f.revoked (ap (λ (v : View E B T L I). v.count) f.same) revoked;
           drained = f.drained;
           kept_size = ap (λ (v : View E B T L I). length v.kept) like ∙ r.at_rest.kept_size ∙ ap (λ (n : ℕ). n + 1) (sym count);
+          begun = let first : s3.0.opened ≡ s0.0.opened = ap (λ (v : View E B T L I). v.opened) like in let b = r.begun in omega arith;
           counts = ap (λ (v : View E B T L I). v.opened + length v.history) like ∙ r.at_rest.counts ∙ ap (λ (n : ℕ). n + 1) (sym at);
           editions = f.editions;
           hand_is = f.hand_is;
@@ -97,12 +98,16 @@ module _ {E B T L I : Type 0} where
           number_is = at ∙ r.number_is;
         }
 
-    pub begins : (token : TokenState E B T L I) (table : TableId) (s0 s1 s2 s3 : Me (Slot E B) (View E B T L I)) → record { table_id = table; view = s0.0 } ≡ token → TakenBehind s0 s1 → unmarked s2.0 ≡ unmarked s1.0 → AllRevoked s2.0 → HasFoundAll m s2 s3 → Begins token.view s3.0
-    begins token table s0 s1 s2 s3 is t same revoked f = record {
+    pub begins : (token : TokenState E B T L I) (table : TableId) (s0 s1 s2 s3 : Me (Slot E B) (View E B T L I)) → record { table_id = table; view = s0.0 } ≡ token → TakenBehind s0 s1 → unmarked s2.0 ≡ unmarked s1.0 → AllRevoked s2.0 → s2.0.steps ≡ s1.0.steps ++ revocations s1.0 → HasFoundAll m s2 s3 → Begins token.view s3.0
+    begins token table s0 s1 s2 s3 is t same revoked stores f = subst (λ (u : TokenState E B T L I). Begins u.view s3.0) is (record {
       revoked = revoked_still s3.0 s2.0 f.revoked (ap (λ (v : View E B T L I). v.count) f.same) revoked;
       drained = f.drained;
-      same = ap (λ (v : View E B T L I). steady v) (like_all s0 s1 s2 s3.0 t same f.same) ∙ ap (λ (u : TokenState E B T L I). steady u.view) is;
-    }
+      same = ap (λ (v : View E B T L I). steady v) (like_all s0 s1 s2 s3.0 t same f.same);
+      others = t.0;
+      looks = f.looks;
+      looks_count = f.looks_count ∙ ap (λ (v : View E B T L I). v.count) same ∙ ap (λ (s : Me (Slot E B) (View E B T L I)). s.0.count) t.1;
+      steps = f.steps ∙ ap (λ (ts : List (ℕ × ℕ)). watched ts 1 f.looks) (stores ∙ ap (λ (s : Me (Slot E B) (View E B T L I)). s.0.steps ++ revocations s.0) t.1);
+    })
 
     -- the editions were exchanged, and nothing else is changed
     pub is_writing : (processors number : ℕ) (s0 s1 : Me (Slot E B) (View E B T L I)) → WritesBy m processors number s0.0 s0.1 → s1.0 ≡ s0.0 → IsWriting s1.0
@@ -116,6 +121,7 @@ module _ {E B T L I : Type 0} where
       room = w.room;
       drained = w.drained;
       kept_size = w.kept_size;
+      begun = w.begun;
       counts = w.counts;
     })
 

@@ -1,7 +1,9 @@
 -- What a caller of a lock of one or two processors knows of their tokens.
 use Rattle.std.proofs.Common.{◌≡◌, ℕ, zero, suc, ◌+◌, ◌<◌, ◌≤◌, Some, List, [], ◌∷◌, ◌++◌, length, refl, sym, ◌∙◌, ap, subst, arith}
-use Rattle.std.specs.Prelude.{slice_get}
+use Rattle.std.specs.Prelude.{All, slice_get}
+use Rattle.atomic_table.specs.Seated.{TableId}
 use Rattle.rm_table.specs.Meanings.{values_from}
+use Rattle.rm_table.proofs.Base.{all_values}
 use Rattle.rm_lock.specs.Tokens.{TokenState}
 use Rattle.rm_lock.specs.Ends.{EachOnce}
 
@@ -27,6 +29,10 @@ module _ {A : Type 0} where
       last_of_two (f 1) (f 2) others y x (sym (is ∙ ap (λ (k : ℕ). values_from f 1 k) two) ∙ popped ∙ ap (λ (ts : List A). ts ++ x ∷ []) again)
 
 module _ {E B T L I : Type 0} where
+  -- the tokens of a new lock are all this lock's
+  pub all_of_lock : (table : TableId) (f : ℕ → TokenState E B T L I) (n : ℕ) (tokens : List (TokenState E B T L I)) → ((k : ℕ) → (f k).table_id ≡ table) → tokens ≡ values_from f 1 n → All (λ p. p.table_id ≡ table) tokens
+  all_of_lock table f n tokens each are = subst (λ (ts : List (TokenState E B T L I)). All (λ p. p.table_id ≡ table) ts) (sym are) (all_values (λ (p : TokenState E B T L I). p.table_id ≡ table) f 1 n (λ k low high. each k))
+
   pub one_each : (count : ℕ) (p : TokenState E B T L I) (tokens : List (TokenState E B T L I)) → tokens ≡ p ∷ [] → p.view.place ≡ 1 → count ≡ 1 → EachOnce count tokens
   one_each count p tokens are at one = subst (λ (ts : List (TokenState E B T L I)). EachOnce count ts) (sym are) (record {
     all = λ k low high. (0, p, refl, let e : p.view.place ≡ k = omega arith in e);

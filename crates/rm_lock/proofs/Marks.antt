@@ -1,17 +1,18 @@
 -- A write's beginning: the tokens are revoked one by one, and the processors found out one by one.
-use Rattle.std.proofs.Common.{◌≡◌, inl, inr, ℕ, zero, suc, ◌+◌, ◌<◌, ◌≤◌, true, false, Some, List, [], ◌∷◌, length, length-set, refl, sym, ◌∙◌, ap, subst, arith}
+use Rattle.std.proofs.Common.{◌≡◌, inl, inr, ℕ, zero, suc, ◌+◌, ◌-◌, ◌<◌, ◌≤◌, true, false, Some, List, [], ◌∷◌, ◌++◌, append_assoc, length, length-set, refl, sym, ◌∙◌, ap, subst, arith}
 use Rattle.std.specs.Prelude.{slice_get}
 use Rattle.std.proofs.lemmas.Bool.Decides.{eqb_tells}
 use Rattle.atomic_table.specs.Table.{Me}
 use Rattle.rm_table.specs.declared.slot.Slot.{Slot}
 use Rattle.rm_table.specs.declared.slot.Slot.TheVariants.{Edition}
 use Rattle.rm_table.specs.declared.view.View.{View}
-use Rattle.rm_table.specs.Layout.{tracker_index}
-use Rattle.rm_table.specs.Meanings.{Meanings}
+use Rattle.rm_table.specs.Layout.{tracker_index, token_index}
+use Rattle.rm_table.specs.Meanings.{Meanings, values_from}
 use Rattle.rm_table.specs.Moves.{noted, revoked, drained, is_revoked, is_drained, editions_from, IsOperator, IsLast, NoneRevoked, NoneDrained, AllRevoked}
-use Rattle.rm_table.proofs.Base.{index_here, index_else}
-use Rattle.rm_lock.specs.Calls.{waited, FoundOut}
+use Rattle.rm_table.proofs.Base.{index_here, index_else, pushed_values}
+use Rattle.rm_lock.specs.Calls.{looked, watched, waited, revocations, FoundOut}
 use Rattle.rm_lock.specs.Writes.{unmarked, HasFoundAll}
+use Rattle.rm_lock.proofs.Hands.{append_nil}
 
 module _ {E B T L I : Type 0} where
   -- since `old`, the tokens of the places below `next` were revoked
@@ -23,6 +24,9 @@ module _ {E B T L I : Type 0} where
     pub size : length s.0.revoked ≡ length old.0.revoked
     pub below : (k : ℕ) → 0 < k → k < next → is_revoked s.0 k ≡ true
     pub beyond : (k : ℕ) → next ≤ k → k ≤ old.0.count → is_revoked s.0 k ≡ false
+    pub stores : List (ℕ × ℕ)
+    pub stores_are : stores ≡ values_from (λ place. (token_index old.0.count place, old.0.number + 1)) 1 (next - 1)
+    pub steps : s.0.steps ≡ old.0.steps ++ stores
 
   pub revoking_none : (old : Me (Slot E B) (View E B T L I)) → IsOperator old.0 → NoneRevoked old.0 → Revoking 1 old old
   revoking_none old o none = record {
@@ -33,11 +37,14 @@ module _ {E B T L I : Type 0} where
     size = refl;
     below = λ k low high. absurd (omega arith);
     beyond = λ k low high. none k low high;
+    stores = [];
+    stores_are = refl;
+    steps = sym (append_nil old.0.steps);
   }
 
   -- one more
-  pub revoking_one : (next i x : ℕ) (old s new : Me (Slot E B) (View E B T L I)) → new ≡ (noted (revoked s.0 next) i x, s.1) → next < length old.0.revoked → Revoking next old s → Revoking (next + 1) old new
-  revoking_one next i x old s new e within r = subst (λ (z : Me (Slot E B) (View E B T L I)). Revoking (next + 1) old z) (sym e) (record {
+  pub revoking_one : (next : ℕ) (old s new : Me (Slot E B) (View E B T L I)) → new ≡ (noted (revoked s.0 next) (token_index s.0.count next) (s.0.number + 1), s.1) → 0 < next → next < length old.0.revoked → Revoking next old s → Revoking (next + 1) old new
+  revoking_one next old s new e above within r = subst (λ (z : Me (Slot E B) (View E B T L I)). Revoking (next + 1) old z) (sym e) (record {
     operator = record { role = r.operator.role; split = r.operator.split };
     same = r.same;
     hand = r.hand;
@@ -48,10 +55,18 @@ module _ {E B T L I : Type 0} where
       | inr other ↦ index_else s.0.revoked next k true false other.1 ∙ r.below k low (let d = other.1 in omega arith)
     ];
     beyond = λ k low high. index_else s.0.revoked next k true false (λ is. absurd (omega arith)) ∙ r.beyond k (omega arith) high;
+    stores = r.stores ++ (token_index s.0.count next, s.0.number + 1) ∷ [];
+    stores_are = pushed_values (λ place. (token_index old.0.count place, old.0.number + 1)) r.stores next (token_index s.0.count next, s.0.number + 1) above r.stores_are (ap (λ (v : View E B T L I). (token_index v.count next, v.number + 1)) r.same);
+    steps = ap (λ (ts : List (ℕ × ℕ)). ts ++ (token_index s.0.count next, s.0.number + 1) ∷ []) r.steps ∙ append_assoc old.0.steps r.stores ((token_index s.0.count next, s.0.number + 1) ∷ []);
   })
 
   pub revoking_all : (next : ℕ) (old s : Me (Slot E B) (View E B T L I)) → old.0.count < next → Revoking next old s → AllRevoked s.0
   revoking_all next old s past r = λ k low high. r.below k low (let count = ap (λ (v : View E B T L I). v.count) r.same in omega arith)
+
+  pub revoking_steps : (next : ℕ) (old s : Me (Slot E B) (View E B T L I)) → next ≡ old.0.count + 1 → Revoking next old s → s.0.steps ≡ old.0.steps ++ revocations old.0
+  revoking_steps next old s past r =
+      let all : next - 1 ≡ old.0.count = omega arith in
+      r.steps ∙ ap (λ (ts : List (ℕ × ℕ)). old.0.steps ++ ts) (r.stores_are ∙ ap (λ (n : ℕ). values_from (λ place. (token_index old.0.count place, old.0.number + 1)) 1 n) all)
 
   module _ (m : Meanings E B T L I) where
     -- since `old`, the processors of the places above `place` were found out
@@ -65,6 +80,9 @@ module _ {E B T L I : Type 0} where
       pub editions : List E
       pub hand_is : s.1 ≡ editions_from (place + 1) editions []
       pub number : length editions + place ≡ old.0.count
+      pub looks : List (List ℕ × ℕ)
+      pub looks_count : length looks + place ≡ old.0.count
+      pub steps : s.0.steps ≡ watched old.0.steps (place + 1) looks
       pub olds : (j : ℕ) (e : E) → slice_get editions j ≡ Some e → (m.number e ≡ old.0.number) × IsLast old.0 (m.name e) (m.tag e)
 
     pub draining_none : (place : ℕ) (old : Me (Slot E B) (View E B T L I)) → IsOperator old.0 → NoneDrained old.0 → place ≡ old.0.count → old.1 ≡ [] → Draining place old old
@@ -78,6 +96,9 @@ module _ {E B T L I : Type 0} where
       editions = [];
       hand_is = empty;
       number = omega (arith, all);
+      looks = [];
+      looks_count = omega (arith, all);
+      steps = refl;
       olds = λ j e at. absurd cc;
     }
 
@@ -96,6 +117,9 @@ module _ {E B T L I : Type 0} where
       editions = e ∷ d.editions;
       hand_is = ap (λ (h : List (ℕ × Slot E B)). (place + 1, Edition (Some e)) ∷ h) d.hand_is;
       number = let n = d.number in omega arith;
+      looks = (others, found) ∷ d.looks;
+      looks_count = let n = d.looks_count in omega arith;
+      steps = ap (λ (ts : List (ℕ × ℕ)). looked ts (tracker_index (place + 1)) others ++ (tracker_index (place + 1), found) ∷ []) d.steps;
       olds = olds_with;
     }
       where
@@ -122,6 +146,9 @@ module _ {E B T L I : Type 0} where
           drained = λ k low high. d.above k low (omega arith);
           editions = d.editions;
           hand_is = d.hand_is;
+          looks = d.looks;
+          looks_count = let n = d.looks_count in omega arith;
+          steps = d.steps;
           old_ones = record {
             count = let n = d.number in omega arith;
             same = λ j e at. let o = d.olds j e at in (o.0 ∙ sym (ap (λ (v : View E B T L I). v.number) d.same), subst (λ (v : View E B T L I). IsLast v (m.name e) (m.tag e)) (sym d.same) o.1);

@@ -1,14 +1,15 @@
 -- What each call of the lock does to its token, after rmlock(9): which steps it makes on the words, and what the token knows then.
-use Rattle.std.specs.Prelude.{◌≡◌, ℕ, ◌+◌, ◌<◌, ◌≤◌, true, false, Some, None, List, [], ◌∷◌, ◌++◌, slice_get}
+use Rattle.std.specs.Prelude.{◌≡◌, ◌≢◌, ℕ, ◌+◌, ◌<◌, ◌≤◌, true, false, Some, None, List, [], ◌∷◌, ◌++◌, length, slice_get, Result, Ok, Err}
 use Rattle.atomic_table.specs.Table.{Me}
 use Rattle.rm_core.specs.declared.phase.Phase.TheVariants.{Out, Raised}
 use Rattle.rm_table.specs.declared.slot.Slot.{Slot}
 use Rattle.rm_table.specs.declared.slot.Slot.TheVariants.{Edition, Book}
 use Rattle.rm_table.specs.declared.view.View.{View}
 use Rattle.rm_table.specs.Layout.{number_index, behind_index, book_index, tracker_index, token_index, tracker_word}
-use Rattle.rm_table.specs.Meanings.{Meanings, BeginsWith}
+use Rattle.rm_table.specs.Meanings.{Meanings, values_from, BeginsWith}
 use Rattle.rm_table.specs.Moves.{noted, raised, entered, refused, lowered, behind_taken, behind_given, number_read, regained, book_taken, book_given, drained, published_as, SeenUpTo, IsLast, LeftBy, FoundBy, AllRevoked, AllDrained}
-use Rattle.rm_lock.specs.Tokens.{TokenState}
+use Rattle.rm_lock.specs.Tokens.{TokenState, BookTokenState}
+use Rattle.rm_lock.specs.declared.busy.Busy.{Busy}
 use Rattle.rm_lock.specs.declared.entry.Entry.{Entry}
 use Rattle.rm_lock.specs.declared.entry.Entry.TheVariants.{In, Revoked}
 
@@ -16,6 +17,12 @@ use Rattle.rm_lock.specs.declared.entry.Entry.TheVariants.{In, Revoked}
 abbrev pub looked : List (ℕ × ℕ) → ℕ → List ℕ → List (ℕ × ℕ)
 looked steps index [] = steps
 looked steps index (x ∷ xs) = looked steps index xs ++ (index, x) ∷ []
+
+-- Behind these steps, looks at the trackers of the processors from `place` on, the last processor first: for each the numbers that its looks
+-- found before the last of them, which found it out, and what that one found.
+abbrev pub watched : List (ℕ × ℕ) → ℕ → List (List ℕ × ℕ) → List (ℕ × ℕ)
+watched steps place [] = steps
+watched steps place (look ∷ looks) = looked (watched steps (place + 1) looks) (tracker_index place) look.0 ++ (tracker_index place, look.1) ∷ []
 
 module _ {E B T L I : Type 0} where
   -- tries or looks at that word, which found these numbers, the last one first, and changed nothing
@@ -53,6 +60,17 @@ module _ {E B T L I : Type 0} where
     pub held : before.part.held ≤ number
     pub seen : SeenUpTo before.part number
 
+  -- A try that found this holder in that word: the token is as it was, and one load is noted.
+  pub record FoundHeld (before after : TokenState E B T L I) (index holder : ℕ) : Type 0 where
+    pub lock : after.table_id ≡ before.table_id
+    pub step : after.view ≡ noted before.view index holder
+    pub somebody : holder ≢ 0
+
+  -- One try to regain. It took the lock behind, and the rest is as in a call to regain that found no other holder, or it found the holder.
+  abbrev pub TriesToRegain : TokenState E B T L I → Result (TokenState E B T L I) (Busy (TokenState E B T L I)) → Type 0
+  TriesToRegain before (Ok after) = (after.table_id ≡ before.table_id) × ((r : Regains before.view after.view) × (r.others ≡ []))
+  TriesToRegain before (Err busy) = FoundHeld before busy.back behind_index busy.holder
+
   -- the book was taken, after tries that found these holders
   abbrev pub took_book : View E B T L I → List ℕ → B → View E B T L I
   took_book v others book = noted (book_taken (waited v book_index others) book) book_index 0
@@ -61,11 +79,20 @@ module _ {E B T L I : Type 0} where
   abbrev pub steady : View E B T L I → View E B T L I
   steady v = record v { behind = false; part = record v.part { read = None; behind_taken = 0 }; revoked = []; drained = []; steps = [] }
 
-  -- Every token is revoked for the next number, and every processor was found out. Beside that the operator knows what it knew.
+  -- revoke, of each processor in order: one store of the next number into its token
+  abbrev pub revocations : View E B T L I → List (ℕ × ℕ)
+  revocations v = values_from (λ place. (token_index v.count place, v.number + 1)) 1 v.count
+
+  -- Every token is revoked for the next number, and every processor was found out. Beside that the operator knows what it knew. Its steps were
+  -- tries for the lock behind until one took it, a store into each token, and looks at each processor's tracker until one found it out.
   pub record Begins (before after : View E B T L I) : Type 0 where
     pub revoked : AllRevoked after
     pub drained : AllDrained after
     pub same : steady after ≡ steady before
+    pub others : List ℕ
+    pub looks : List (List ℕ × ℕ)
+    pub looks_count : length looks ≡ before.count
+    pub steps : after.steps ≡ watched ((took_behind before others).steps ++ revocations before) 1 looks
 
   -- one wait for the lock behind
   abbrev pub TakenBehind : Me (Slot E B) (View E B T L I) → Me (Slot E B) (View E B T L I) → Type 0
@@ -95,6 +122,11 @@ module _ {E B T L I : Type 0} where
       pub tag : m.book_tag book ≡ m.tag edition
       pub own : m.of book before.place ≡ before.part.own
       pub first : BeginsWith (m.of book 0) before.part.first
+
+    -- One try to take the book. It took it, as a call to take the book that found no other holder, or it found the holder.
+    abbrev pub TriesToTakeBook : TokenState E B T L I → Result (BookTokenState E B T L I) (Busy (TokenState E B T L I)) → Type 0
+    TriesToTakeBook before (Ok after) = (after.table_id ≡ before.table_id) × ((t : TakesBook before.view after.view after.book) × (t.others ≡ []))
+    TriesToTakeBook before (Err busy) = FoundHeld before busy.back book_index busy.holder
 
     -- the book's number, tag and lists but the processor's own are as taken, and it is ready if it was
     abbrev pub IsAsTaken : View E B T L I → B → Type 0

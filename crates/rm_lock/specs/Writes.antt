@@ -1,9 +1,10 @@
 -- The operator between the calls that make up a write.
-use Rattle.std.specs.Prelude.{◌≡◌, ◌+◌, ◌-◌, ◌^◌, ◌<◌, true, false, None, List, [], length}
+use Rattle.std.specs.Prelude.{◌≡◌, ◌+◌, ◌-◌, ◌^◌, ◌<◌, ◌≤◌, true, false, ℕ, None, List, [], length}
 use Rattle.rm_table.specs.declared.view.View.{View}
 use Rattle.rm_table.specs.Meanings.{Meanings}
 use Rattle.rm_table.specs.Moves.{IsOperator, AllDrained, editions_from}
 use Rattle.rm_lock.specs.Tokens.{AreOld}
+use Rattle.rm_lock.specs.Calls.{watched}
 use Rattle.atomic_table.specs.Table.{Me}
 use Rattle.rm_table.specs.declared.slot.Slot.{Slot}
 
@@ -23,6 +24,7 @@ module _ {E B T L I : Type 0} where
     pub room : v.number < 2 ^ 64 - 1
     pub drained : AllDrained v
     pub kept_size : length v.kept ≡ v.count + 1
+    pub begun : v.opened ≤ v.number
     pub counts : v.opened + length v.history ≡ v.number + 1
 
   module _ (m : Meanings E B T L I) where
@@ -34,3 +36,6 @@ module _ {E B T L I : Type 0} where
       pub editions : List E
       pub hand_is : new.1 ≡ editions_from 1 editions []
       pub old_ones : AreOld m new.0 editions
+      pub looks : List (List ℕ × ℕ)
+      pub looks_count : length looks ≡ old.0.count
+      pub steps : new.0.steps ≡ watched old.0.steps 1 looks

@@ -1,10 +1,11 @@
 ghost use Rattle.std.specs.Prelude.{◌≡◌, Some};
 ghost use Rattle.rm_table.specs.Meanings.{meanings};
-ghost use Rattle.rm_lock.specs.Calls.{TakesBook, OpensBook, IsAsTaken, IsAsFound, gave_book};
+ghost use Rattle.rm_lock.specs.Calls.{TakesBook, TriesToTakeBook, OpensBook, IsAsTaken, IsAsFound, gave_book};
 
 use crate::slots::{put_book, take_out_book};
-use crate::{Holding, Keeping, Operator, Reading, RmLock, waits};
+use crate::{Busy, Holding, Keeping, Operator, Reading, RmLock, waits};
 use fw_base::{Kept, Numbered};
+use rm_table::Tried;
 use std::sync::Wait;
 
 impl<E: Numbered<Tag = B::Facts>, B: Kept> RmLock<E, B> {
@@ -28,6 +29,37 @@ impl<E: Numbered<Tag = B::Facts>, B: Kept> RmLock<E, B> {
             edition,
             book,
             place,
+        }
+    }
+
+    /// `take_book` by one try, which waits for nobody. `Busy` tells whom that try saw to have the book.
+    pub fn try_take_book(&self, r: Reading<E, B>) -> Result<Holding<E, B>, Busy<Reading<E, B>>>
+        requires lock { r.table_id ≡ self.now }
+        ensures tried { TriesToTakeBook (meanings E.number E.tag E.name B.number B.tag B.ready B.of B.facts_item) r result }
+    {
+        let Reading {
+            mut seat,
+            edition,
+            place,
+        } = r;
+        match self.table.take_book(&mut seat) {
+            Tried::Taken => {
+                let book = take_out_book(&self.table, &mut seat);
+                Ok(Holding {
+                    seat,
+                    edition,
+                    book,
+                    place,
+                })
+            }
+            Tried::HeldBy(holder) => Err(Busy {
+                back: Reading {
+                    seat,
+                    edition,
+                    place,
+                },
+                holder: u64::from(holder),
+            }),
         }
     }
 

@@ -4,7 +4,7 @@ ghost use Rattle.rm_table.specs.Meanings.{meanings};
 ghost use Rattle.rm_table.specs.Moves.{noted, book_taken, FoundBy, IsOperator, NoneRevoked, NoneDrained, AllRevoked, AllDrained, editions_from};
 ghost use Rattle.rm_table.specs.declared.slot.Slot.TheVariants.{Edition, Book};
 ghost use Rattle.rm_table.specs.Layout.{book_index};
-ghost use Rattle.rm_lock.specs.Calls.{AreNext, Publishes};
+ghost use Rattle.rm_lock.specs.Calls.{AreNext, Publishes, revocations};
 ghost use Rattle.rm_lock.specs.Writes.{unmarked, HasFoundAll, IsWriting};
 
 use crate::slots::{put_book, put_edition, take_edition, take_out_book};
@@ -32,6 +32,7 @@ pub(crate) fn revoke_all<E: Numbered<Tag = B::Facts>, B: Kept>(
     ensures revoked { AllRevoked seat.new.me.0 }
     ensures same { unmarked seat.new.me.0 ≡ unmarked seat.old.me.0 }
     ensures drained { seat.new.me.0.drained ≡ seat.old.me.0.drained }
+    ensures steps { seat.new.me.0.steps ≡ seat.old.me.0.steps ++ revocations seat.old.me.0 }
     ensures hand { seat.new.me.1 ≡ seat.old.me.1 }
 {
     for processor in 1..processors + 1 {

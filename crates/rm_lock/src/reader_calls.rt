@@ -1,11 +1,12 @@
 ghost use Rattle.std.specs.Prelude.{◌≡◌, IsSome};
 ghost use Rattle.rm_table.specs.Meanings.{meanings};
-ghost use Rattle.rm_lock.specs.Calls.{Enters, ended, Regains};
+ghost use Rattle.rm_lock.specs.Calls.{Enters, ended, Regains, TriesToRegain};
 
 use crate::slots::{put_edition, take_edition};
-use crate::{Entry, Processor, Reading, RmLock, waits};
+use crate::{Busy, Entry, Processor, Reading, RmLock, waits};
 use fw_base::{Kept, Numbered};
 use rm_core::Heard;
+use rm_table::Tried;
 use std::sync::Wait;
 
 impl<E: Numbered<Tag = B::Facts>, B: Kept> RmLock<E, B> {
@@ -20,6 +21,7 @@ impl<E: Numbered<Tag = B::Facts>, B: Kept> RmLock<E, B> {
             mut seat,
             place,
             number,
+            told,
         } = p;
         self.table.raise(&mut seat);
         match self.table.check(&mut seat) {
@@ -38,6 +40,7 @@ impl<E: Numbered<Tag = B::Facts>, B: Kept> RmLock<E, B> {
                         seat,
                         place,
                         number,
+                        told,
                     },
                     refusal,
                 )
@@ -64,6 +67,7 @@ impl<E: Numbered<Tag = B::Facts>, B: Kept> RmLock<E, B> {
             seat,
             place,
             number,
+            told: number,
         }
     }
 
@@ -80,6 +84,7 @@ impl<E: Numbered<Tag = B::Facts>, B: Kept> RmLock<E, B> {
             mut seat,
             place,
             number: _,
+            told,
         } = p;
         waits::take_back(&self.table, rt, &mut seat);
         let number = self.table.read_number(&mut seat);
@@ -89,6 +94,43 @@ impl<E: Numbered<Tag = B::Facts>, B: Kept> RmLock<E, B> {
             seat,
             place,
             number,
+            told,
+        }
+    }
+
+    /// `regain` by one try, which waits for nobody. `Busy` tells whom that try saw to hold the lock behind.
+    pub fn try_regain(&self, p: Processor<E, B>) -> Result<Processor<E, B>, Busy<Processor<E, B>>>
+        requires lock { p.table_id ≡ self.now }
+        requires refused { IsSome p.view.part.refusal }
+        ensures tried { TriesToRegain p result }
+    {
+        let Processor {
+            mut seat,
+            place,
+            number,
+            told,
+        } = p;
+        match self.table.take_back(&mut seat) {
+            Tried::Taken => {
+                let published = self.table.read_number(&mut seat);
+                self.table.regain(&mut seat);
+                self.table.give_back(&mut seat);
+                Ok(Processor {
+                    seat,
+                    place,
+                    number: published,
+                    told,
+                })
+            }
+            Tried::HeldBy(holder) => Err(Busy {
+                back: Processor {
+                    seat,
+                    place,
+                    number,
+                    told,
+                },
+                holder: u64::from(holder),
+            }),
         }
     }
 }
