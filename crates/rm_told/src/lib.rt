@@ -1,0 +1,15 @@
+//! The read-mostly lock with sections that lie in one another, as RM_RECURSE of rmlock(9) allows, and with
+//! readers that were told of publications.
+#![tactic(auto)]
+
+pub use deep::{Deep, MOST_DEPTH};
+pub use deep_entry::DeepEntry;
+pub use left::Left;
+pub use told::Told;
+pub use too_deep::TooDeep;
+
+mod deep;
+mod deep_entry;
+mod left;
+mod told;
+mod too_deep;
