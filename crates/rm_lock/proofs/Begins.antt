@@ -88,6 +88,7 @@ module _ {E B T L I : Type 0} where
           revoked = revoked_still s3.0 s2.0 f.revoked (ap (λ (v : View E B T L I). v.count) f.same) revoked;
           drained = f.drained;
           kept_size = ap (λ (v : View E B T L I). length v.kept) like ∙ r.at_rest.kept_size ∙ ap (λ (n : ℕ). n + 1) (sym count);
+          begun = let first : s3.0.opened ≡ s0.0.opened = ap (λ (v : View E B T L I). v.opened) like in let b = r.begun in omega arith;
           counts = ap (λ (v : View E B T L I). v.opened + length v.history) like ∙ r.at_rest.counts ∙ ap (λ (n : ℕ). n + 1) (sym at);
           editions = f.editions;
           hand_is = f.hand_is;
@@ -116,6 +117,7 @@ module _ {E B T L I : Type 0} where
       room = w.room;
       drained = w.drained;
       kept_size = w.kept_size;
+      begun = w.begun;
       counts = w.counts;
     })
 

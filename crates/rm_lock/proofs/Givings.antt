@@ -50,6 +50,7 @@ module _ {E B T L I : Type 0} (m : Meanings E B T L I) where
     reading = h.reading;
     place_is = h.place_is;
     number_is = h.number_is;
+    told_is = h.told_is;
   })
 
   pub keeper_works : (s0 s1 : Me (Slot E B) (View E B T L I)) (book : B) (processors number : ℕ) → KeepsBy m processors number s0.0 s0.1 → s1 ≡ (s0.0, (0, Book (Some book)) ∷ rest s0.1) → IsWorking s1.0
@@ -94,6 +95,7 @@ module _ {E B T L I : Type 0} (m : Meanings E B T L I) where
       counts = k.at_rest.counts;
       empty_hand = ap (λ (x : Hand E B). rest x) k.hand_is;
     };
+    begun = k.begun;
     few = k.few;
     count_is = k.count_is;
     number_is = k.number_is;

@@ -6,4 +6,5 @@ pub mod Splits
 pub mod Joins
 pub mod Givings
 pub mod Begins
+pub mod Told
 pub mod Callers

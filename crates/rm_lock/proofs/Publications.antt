@@ -185,6 +185,7 @@ module _ {E B T L I : Type 0} (m : Meanings E B T L I) where
           counts = let c = w.counts in let l = one_more before.history (m.name p.edition, facts) in omega arith;
           empty_hand = empty;
         };
+        begun = let b = w.begun in omega arith;
         few = few;
         count_is = count;
         number_is = ap (λ (n : ℕ). n + 1) is;

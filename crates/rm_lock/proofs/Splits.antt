@@ -11,7 +11,7 @@ use Rattle.rm_table.specs.Ends.{first_part, first_view}
 use Rattle.rm_table.specs.Rests.{IsOpening, IsAtRest}
 use Rattle.rm_table.proofs.Base.{pushed_values}
 use Rattle.rm_table.proofs.Resting.{opening_after, opening_ends, opens_first}
-use Rattle.rm_lock.specs.Tokens.{TokenState, IsOutBy, IsAtRestBy}
+use Rattle.rm_lock.specs.Tokens.{TokenState, greatest_number, IsOutBy, IsAtRestBy}
 use Rattle.rm_lock.specs.Ends.{unkept, new_token, OpensAs}
 
 pub may_count : (place count now before : ℕ) → place < count + 1 → now ≡ before → before ≡ count → place ≤ now
@@ -34,9 +34,9 @@ module _ {E B T L I : Type 0} where
   split_seat_is : (next : ℕ) (parts : ℕ → Part E L I) (s seat : Me (Slot E B) (View E B T L I)) → seat ≡ (right_of s.0 next (kept_at s.0 next), []) → next ≤ s.0.count → IsOpening next parts s.0 s.1 → seat ≡ (processor_view s.0 next (parts next), [])
   split_seat_is next parts s seat is within o = is ∙ ap (λ (k : Option (Option (Part E L I))). (right_of s.0 next k, [])) (o.kept next (omega arith) within)
 
-  pub new_is_out : (next number : ℕ) (parts : ℕ → Part E L I) (s seat : Me (Slot E B) (View E B T L I)) → seat ≡ (right_of s.0 next (kept_at s.0 next), []) → next ≤ s.0.count → (parts next).held ≡ number → IsOpening next parts s.0 s.1 → IsOutBy next number seat.0 seat.1
-  new_is_out next number parts s seat is within held o = subst (λ (z : Me (Slot E B) (View E B T L I)). IsOutBy next number z.0 z.1) (sym (split_seat_is next parts s seat is within o))
-      (record { idle = record { processor = refl; out = refl; unheld = refl; bookless = refl; empty_hand = refl }; place_is = refl; number_is = held })
+  pub new_is_out : (next number : ℕ) (parts : ℕ → Part E L I) (s seat : Me (Slot E B) (View E B T L I)) → seat ≡ (right_of s.0 next (kept_at s.0 next), []) → next ≤ s.0.count → (parts next).held ≡ number → (parts next).pairs ≡ [] → IsOpening next parts s.0 s.1 → IsOutBy next number 0 seat.0 seat.1
+  new_is_out next number parts s seat is within held unseen o = subst (λ (z : Me (Slot E B) (View E B T L I)). IsOutBy next number 0 z.0 z.1) (sym (split_seat_is next parts s seat is within o))
+      (record { idle = record { processor = refl; out = refl; unheld = refl; bookless = refl; empty_hand = refl }; place_is = refl; number_is = held; told_is = ap (λ (pairs : List (ℕ × L)). greatest_number pairs) unseen })
 
   -- one more
   pub splitting_one : (next : ℕ) (table at : TableId) (parts : ℕ → Part E L I) (old s new seat : Me (Slot E B) (View E B T L I)) (tokens : List (TokenState E B T L I)) → 0 < next → next ≤ s.0.count → at ≡ table → new ≡ (split_off s.0 next, s.1) → seat ≡ (right_of s.0 next (kept_at s.0 next), [])
@@ -64,6 +64,7 @@ module _ {E B T L I : Type 0} where
     pub first_at_rest : (n processors : ℕ) (edition : E) (book : B) (v : View E B T L I) (hand : List (ℕ × Slot E B)) (number : ℕ) → n ≡ processors → processors ≤ 64 → m.book_number book ≡ number → IsAtRest v hand → unkept v ≡ unkept (first_view m n edition book) → IsAtRestBy processors number v hand
     first_at_rest n processors edition book v hand number all few is rests same = record {
       at_rest = rests;
+      begun = let first : v.opened ≡ m.book_number book = ap (λ (w : View E B T L I). w.opened) same in let now : v.number ≡ m.book_number book = ap (λ (w : View E B T L I). w.number) same in omega arith;
       few = few;
       count_is = ap (λ (w : View E B T L I). w.count) same ∙ all;
       number_is = ap (λ (w : View E B T L I). w.number) same ∙ is;

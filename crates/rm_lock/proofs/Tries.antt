@@ -1,15 +1,26 @@
 -- Waiting: tries and looks at one word, of which only the last changes anything.
-use Rattle.std.proofs.Common.{◌≡◌, inl, inr, ℕ, Some, List, [], ◌∷◌, refl, sym, ◌∙◌, ap, subst}
-use Rattle.atomic_table.specs.Table.{Me}
+use Rattle.std.proofs.Common.{◌≡◌, inl, inr, ℕ, ◌≤◌, Option, Some, None, List, [], ◌∷◌, refl, sym, ◌∙◌, ap, subst}
+use Rattle.atomic_table.specs.Table.{Me, rest}
+use Rattle.atomic_table.specs.Seated.{TableId}
 use Rattle.rm_core.specs.declared.heard.Heard.TheVariants.{Drained}
+use Rattle.rm_table.specs.declared.role.Role.TheVariants.{Processor}
 use Rattle.rm_table.specs.declared.slot.Slot.{Slot}
-use Rattle.rm_table.specs.declared.slot.Slot.TheVariants.{Edition}
+use Rattle.rm_table.specs.declared.slot.Slot.TheVariants.{Edition, Book}
+use Rattle.rm_table.specs.declared.tried.Tried.TheVariants.{Taken}
 use Rattle.rm_table.specs.declared.view.View.{View}
-use Rattle.rm_table.specs.Layout.{tracker_index}
+use Rattle.rm_table.specs.Layout.{number_index, behind_index, tracker_index, token_index}
 use Rattle.rm_table.specs.Meanings.{Meanings}
-use Rattle.rm_table.specs.Moves.{noted, drained, IsOperator, IsWorking, IsLast}
-use Rattle.rm_table.specs.Answers.{Looked}
-use Rattle.rm_lock.specs.Calls.{waited, FoundOut}
+use Rattle.rm_table.specs.Moves.{Hand, noted, drained, behind_taken, behind_given, number_read, regained, SeenUpTo, IsOperator, IsWorking, IsLast, FoundBy}
+use Rattle.rm_table.specs.Answers.{Looked, NumberRead, Regained, TriedBook}
+use Rattle.rm_lock.specs.Tokens.{TokenState, IsInBy}
+use Rattle.rm_lock.specs.Calls.{waited, took_behind, took_book, Regains, TakesBook, FoundOut}
+
+module _ {E B : Type 0} where
+  -- the book on top of the hand
+  abbrev book_on_top : B → Hand E B → B
+  book_on_top b [] = b
+  book_on_top b ((k, Book (Some c)) ∷ h) = c
+  book_on_top b (x ∷ h) = b
 
 module _ {E B T L I : Type 0} where
   -- since `old`, the seat has only looked at that word
@@ -47,3 +58,47 @@ module _ {E B T L I : Type 0} where
       l.4 ∙ ap (λ (z : Me (Slot E B) (View E B T L I)). z.0.number) w.1,
       subst (λ (z : Me (Slot E B) (View E B T L I)). IsLast z.0 (m.name l.1) (m.tag l.1)) w.1 l.5,
     )
+
+    -- One try that took the lock behind: the token is back.
+    pub regains_at_once : (token : TokenState E B T L I) (table : TableId) (s0 s1 s2 s3 s4 : Me (Slot E B) (View E B T L I)) (number : ℕ) → record { table_id = table; view = s0.0 } ≡ token → s0.0.role ≡ Processor → s1 ≡ (noted (behind_taken s0.0) behind_index 0, s0.1)
+        → NumberRead m s1 number s2 → Regained m s2 s3 → s4 ≡ (noted (behind_given s3.0) behind_index 0, s3.1) → (r : Regains token.view s4.0) × (r.others ≡ [])
+    regains_at_once token table s0 s1 s2 s3 s4 number is role taken n step given =
+        let read : s2 ≡ (noted (number_read (took_behind s0.0 []) number) number_index number, s0.1) = n.step ∙ ap (λ (s : Me (Slot E B) (View E B T L I)). (noted (number_read s.0 number) number_index number, s.1)) taken in
+        let got = step number (ap (λ (s : Me (Slot E B) (View E B T L I)). s.0.part.read) read) in
+        let back : s3 ≡ (noted (regained s2.0 number) (token_index s2.0.count s2.0.place) 0, s2.1) = got.0 in
+        let processor : s1.0.role ≡ Processor = ap (λ (s : Me (Slot E B) (View E B T L I)). s.0.role) taken ∙ role in
+        let regains : Regains s0.0 s4.0 = record {
+          others = [];
+          number = number;
+          after_is =
+              ap (λ (s : Me (Slot E B) (View E B T L I)). s.0) given
+              ∙ ap (λ (s : Me (Slot E B) (View E B T L I)). noted (behind_given s.0) behind_index 0) back
+              ∙ ap (λ (s : Me (Slot E B) (View E B T L I)). noted (behind_given (noted (regained s.0 number) (token_index s.0.count s.0.place) 0)) behind_index 0) read;
+          refusals = λ t standing. got.1 t (ap (λ (s : Me (Slot E B) (View E B T L I)). s.0.part.refusal) read ∙ standing);
+          held = subst (λ (s : Me (Slot E B) (View E B T L I)). s.0.part.held ≤ number) taken (n.processor processor);
+          seen = subst (λ (s : Me (Slot E B) (View E B T L I)). SeenUpTo s.0.part number) taken (n.seen processor);
+        } in
+        subst (λ (u : TokenState E B T L I). (r : Regains u.view s4.0) × (r.others ≡ [])) is (regains, refl)
+
+    -- One try that took the book.
+    pub takes_book_at_once : (token : TokenState E B T L I) (table : TableId) (s0 s1 s2 : Me (Slot E B) (View E B T L I)) (book : B) (place : ℕ) (edition : E) → record { table_id = table; view = s0.0 } ≡ token → IsInBy m.number place edition s0.0 s0.1
+        → TriedBook m s0 Taken s1 → s1.1 ≡ (0, Book (Some book)) ∷ rest s1.1 → s2 ≡ (s1.0, (0, Book None) ∷ rest s1.1) → (t : TakesBook m token.view s2.0 book) × (t.others ≡ [])
+    takes_book_at_once token table s0 s1 s2 book place edition is i step was now =
+        let same : step.0 ≡ book = ap (λ (h : Hand E B). book_on_top book h) (sym (ap (λ (s : Me (Slot E B) (View E B T L I)). s.1) step.1) ∙ was) in
+        let found : FoundBy m s0.0 book = subst (λ (b : B). FoundBy m s0.0 b) same step.2 in
+        let read = found.edition i.processor in
+        let takes : TakesBook m s0.0 s2.0 book = record {
+          others = [];
+          after_is = ap (λ (s : Me (Slot E B) (View E B T L I)). s.0) now ∙ ap (λ (s : Me (Slot E B) (View E B T L I)). s.0) step.1 ∙ ap (λ (b : B). took_book s0.0 [] b) same;
+          number = read.2 ∙ ap (λ (o : Option E). number_of o) (sym read.1 ∙ i.reading) ∙ i.number_is;
+          edition = read.0;
+          reading = read.1;
+          tag = read.3;
+          own = found.own i.processor;
+          first = found.first i.processor;
+        } in
+        subst (λ (u : TokenState E B T L I). (t : TakesBook m u.view s2.0 book) × (t.others ≡ [])) is (takes, refl)
+      where
+        number_of : Option E → ℕ
+        number_of None = 0
+        number_of (Some e) = m.number e

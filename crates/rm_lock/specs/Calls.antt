@@ -1,5 +1,5 @@
 -- What each call of the lock does to its token, after rmlock(9): which steps it makes on the words, and what the token knows then.
-use Rattle.std.specs.Prelude.{◌≡◌, ℕ, ◌+◌, ◌<◌, ◌≤◌, true, false, Some, None, List, [], ◌∷◌, ◌++◌, slice_get}
+use Rattle.std.specs.Prelude.{◌≡◌, ◌≢◌, ℕ, ◌+◌, ◌<◌, ◌≤◌, true, false, Some, None, List, [], ◌∷◌, ◌++◌, slice_get, Result, Ok, Err}
 use Rattle.atomic_table.specs.Table.{Me}
 use Rattle.rm_core.specs.declared.phase.Phase.TheVariants.{Out, Raised}
 use Rattle.rm_table.specs.declared.slot.Slot.{Slot}
@@ -8,7 +8,8 @@ use Rattle.rm_table.specs.declared.view.View.{View}
 use Rattle.rm_table.specs.Layout.{number_index, behind_index, book_index, tracker_index, token_index, tracker_word}
 use Rattle.rm_table.specs.Meanings.{Meanings, BeginsWith}
 use Rattle.rm_table.specs.Moves.{noted, raised, entered, refused, lowered, behind_taken, behind_given, number_read, regained, book_taken, book_given, drained, published_as, SeenUpTo, IsLast, LeftBy, FoundBy, AllRevoked, AllDrained}
-use Rattle.rm_lock.specs.Tokens.{TokenState}
+use Rattle.rm_lock.specs.Tokens.{TokenState, BookTokenState}
+use Rattle.rm_lock.specs.declared.busy.Busy.{Busy}
 use Rattle.rm_lock.specs.declared.entry.Entry.{Entry}
 use Rattle.rm_lock.specs.declared.entry.Entry.TheVariants.{In, Revoked}
 
@@ -53,6 +54,17 @@ module _ {E B T L I : Type 0} where
     pub held : before.part.held ≤ number
     pub seen : SeenUpTo before.part number
 
+  -- A try that found this holder in that word: the token is as it was, and one load is noted.
+  pub record FoundHeld (before after : TokenState E B T L I) (index holder : ℕ) : Type 0 where
+    pub lock : after.table_id ≡ before.table_id
+    pub step : after.view ≡ noted before.view index holder
+    pub somebody : holder ≢ 0
+
+  -- One try to regain. It took the lock behind, and the rest is as in a call to regain that found no other holder, or it found the holder.
+  abbrev pub TriesToRegain : TokenState E B T L I → Result (TokenState E B T L I) (Busy (TokenState E B T L I)) → Type 0
+  TriesToRegain before (Ok after) = (after.table_id ≡ before.table_id) × ((r : Regains before.view after.view) × (r.others ≡ []))
+  TriesToRegain before (Err busy) = FoundHeld before busy.back behind_index busy.holder
+
   -- the book was taken, after tries that found these holders
   abbrev pub took_book : View E B T L I → List ℕ → B → View E B T L I
   took_book v others book = noted (book_taken (waited v book_index others) book) book_index 0
@@ -95,6 +107,11 @@ module _ {E B T L I : Type 0} where
       pub tag : m.book_tag book ≡ m.tag edition
       pub own : m.of book before.place ≡ before.part.own
       pub first : BeginsWith (m.of book 0) before.part.first
+
+    -- One try to take the book. It took it, as a call to take the book that found no other holder, or it found the holder.
+    abbrev pub TriesToTakeBook : TokenState E B T L I → Result (BookTokenState E B T L I) (Busy (TokenState E B T L I)) → Type 0
+    TriesToTakeBook before (Ok after) = (after.table_id ≡ before.table_id) × ((t : TakesBook before.view after.view after.book) × (t.others ≡ []))
+    TriesToTakeBook before (Err busy) = FoundHeld before busy.back book_index busy.holder
 
     -- the book's number, tag and lists but the processor's own are as taken, and it is ready if it was
     abbrev pub IsAsTaken : View E B T L I → B → Type 0

@@ -1,5 +1,5 @@
 -- What contracts see of a lock's tokens, and where the seat of each stands.
-use Rattle.std.specs.Prelude.{◌≡◌, ℕ, ◌+◌, ◌-◌, ◌^◌, ◌<◌, ◌≤◌, true, false, IsSome, Some, None, List, [], ◌∷◌, length, slice_get}
+use Rattle.std.specs.Prelude.{◌≡◌, ℕ, ◌+◌, ◌-◌, ◌^◌, ◌<◌, ◌≤◌, max, true, false, IsSome, Some, None, List, [], ◌∷◌, length, slice_get}
 use Rattle.atomic_table.specs.Seated.{TableId}
 use Rattle.rm_core.specs.declared.phase.Phase.TheVariants.{In}
 use Rattle.rm_table.specs.declared.role.Role.TheVariants.{Processor}
@@ -7,7 +7,12 @@ use Rattle.rm_table.specs.declared.slot.Slot.TheVariants.{Edition, Book}
 use Rattle.rm_table.specs.declared.view.View.{View}
 use Rattle.rm_table.specs.Meanings.{Meanings}
 use Rattle.rm_table.specs.Moves.{Hand, IsOperator, IsLast, AllRevoked, AllDrained, editions_from}
-use Rattle.rm_table.specs.Rests.{IsIdle, IsAtRest}
+use Rattle.rm_table.specs.Rests.{IsIdle, IsReceipt, IsAtRest}
+
+-- the greatest number among these pairs of number and name, 0 where there is none
+abbrev pub greatest_number : {L : Type 0} → List (ℕ × L) → ℕ
+greatest_number [] = 0
+greatest_number (pair ∷ pairs) = max pair.0 (greatest_number pairs)
 
 -- A token: its lock's table, and what it knows.
 pub record TokenState (E B T L I : Type 0) : Type 0 where
@@ -25,11 +30,16 @@ module _ {E B T L I : Type 0} where
   abbrev pub with_book : BookTokenState E B T L I → B → BookTokenState E B T L I
   with_book token book = record token { book = book }
 
-  -- a processor between two sections, that last held or regained this number
-  pub record IsOutBy (place number : ℕ) (v : View E B T L I) (hand : Hand E B) : Type 0 where
+  -- the greatest number among the pairs that the processor has seen, which its checks found or a receipt told it of
+  abbrev pub told_number : View E B T L I → ℕ
+  told_number v = greatest_number v.part.pairs
+
+  -- a processor between two sections, that last held or regained this number, and was told of that one
+  pub record IsOutBy (place number told : ℕ) (v : View E B T L I) (hand : Hand E B) : Type 0 where
     pub idle : IsIdle v hand
     pub place_is : v.place ≡ place
     pub number_is : v.part.held ≡ number
+    pub told_is : told_number v ≡ told
 
   -- a processor in a section, that reads this edition, which it has taken out of its slot
   pub record IsInBy (number : E → ℕ) (place : ℕ) (edition : E) (v : View E B T L I) (hand : Hand E B) : Type 0 where
@@ -41,6 +51,7 @@ module _ {E B T L I : Type 0} where
     pub reading : v.part.reading ≡ Some edition
     pub place_is : v.place ≡ place
     pub number_is : number edition ≡ v.part.held
+    pub told_is : told_number v ≡ v.part.held
 
   -- a processor in a section, that has the book too, which it has taken out of its slot
   pub record HoldsBy (number : E → ℕ) (place : ℕ) (edition : E) (v : View E B T L I) (hand : Hand E B) : Type 0 where
@@ -52,10 +63,19 @@ module _ {E B T L I : Type 0} where
     pub reading : v.part.reading ≡ Some edition
     pub place_is : v.place ≡ place
     pub number_is : number edition ≡ v.part.held
+    pub told_is : told_number v ≡ v.part.held
+
+  -- a receipt, made when this number was published: it has the history from the opening to that number
+  pub record IsReceiptBy (number : ℕ) (v : View E B T L I) (hand : Hand E B) : Type 0 where
+    pub receipt : IsReceipt v hand
+    pub begun : v.opened ≤ v.number
+    pub counts : v.opened + length v.history ≡ v.number + 1
+    pub number_is : v.number ≡ number
 
   -- the operator between two writes
   pub record IsAtRestBy (processors number : ℕ) (v : View E B T L I) (hand : Hand E B) : Type 0 where
     pub at_rest : IsAtRest v hand
+    pub begun : v.opened ≤ v.number
     pub few : processors ≤ 64
     pub count_is : v.count ≡ processors
     pub number_is : v.number ≡ number
@@ -69,6 +89,7 @@ module _ {E B T L I : Type 0} where
       pub taken_list : m.of taken 0 ≡ v.own
       pub hand_is : hand ≡ (0, Book None) ∷ []
       pub at_rest : IsAtRest (record v { book = None }) []
+      pub begun : v.opened ≤ v.number
       pub few : processors ≤ 64
       pub count_is : v.count ≡ processors
       pub number_is : v.number ≡ number
@@ -90,6 +111,7 @@ module _ {E B T L I : Type 0} where
       pub revoked : AllRevoked v
       pub drained : AllDrained v
       pub kept_size : length v.kept ≡ v.count + 1
+      pub begun : v.opened ≤ v.number
       pub counts : v.opened + length v.history ≡ v.number + 1
       pub editions : List E
       pub hand_is : hand ≡ editions_from 1 editions []

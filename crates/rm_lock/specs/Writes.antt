@@ -1,5 +1,5 @@
 -- The operator between the calls that make up a write.
-use Rattle.std.specs.Prelude.{◌≡◌, ◌+◌, ◌-◌, ◌^◌, ◌<◌, true, false, None, List, [], length}
+use Rattle.std.specs.Prelude.{◌≡◌, ◌+◌, ◌-◌, ◌^◌, ◌<◌, ◌≤◌, true, false, None, List, [], length}
 use Rattle.rm_table.specs.declared.view.View.{View}
 use Rattle.rm_table.specs.Meanings.{Meanings}
 use Rattle.rm_table.specs.Moves.{IsOperator, AllDrained, editions_from}
@@ -23,6 +23,7 @@ module _ {E B T L I : Type 0} where
     pub room : v.number < 2 ^ 64 - 1
     pub drained : AllDrained v
     pub kept_size : length v.kept ≡ v.count + 1
+    pub begun : v.opened ≤ v.number
     pub counts : v.opened + length v.history ≡ v.number + 1
 
   module _ (m : Meanings E B T L I) where

@@ -25,6 +25,7 @@ impl<E: Numbered<Tag = B::Facts>, B: Kept> RmLock<E, B> {
                 seat: spent,
                 place: _,
                 number: _,
+                told: _,
             } = processor;
             table.join_seat(&mut seat, spent);
         }

@@ -1,6 +1,7 @@
 //! A read-mostly lock, rmlock(9), over numbered editions and a book.
 #![tactic(auto)]
 
+pub use busy::Busy;
 pub use entry::Entry;
 pub use holding::Holding;
 pub use keeping::Keeping;
@@ -8,10 +9,12 @@ pub use lock::{Opened, RmLock};
 pub use operator::Operator;
 pub use processor::Processor;
 pub use reading::Reading;
+pub use receipt::Receipt;
 pub use rm_table::Closed;
 pub use writing::Writing;
 
 mod book_calls;
+mod busy;
 mod closing;
 mod entry;
 mod holding;
@@ -23,9 +26,12 @@ mod processor;
 mod publishing;
 mod reader_calls;
 mod reading;
+mod receipt;
 mod slots;
 #[cfg(test)]
 mod tests;
+mod told_calls;
+mod try_calls;
 mod waits;
 mod write_calls;
 mod writing;

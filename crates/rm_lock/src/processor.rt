@@ -1,4 +1,5 @@
 ghost use Rattle.std.specs.Prelude.{◌≡◌};
+ghost use Rattle.rm_lock.specs.Tokens.{told_number};
 
 use fw_base::{Kept, Numbered};
 use rm_table::RmSeat;
@@ -10,6 +11,7 @@ pub struct Processor<E: Numbered<Tag = B::Facts>, B: Kept> {
     pub(crate) seat: RmSeat<E, B>,
     pub(crate) place: u32,
     pub(crate) number: u64,
+    pub(crate) told: u64,
 }
 
 impl<E: Numbered<Tag = B::Facts>, B: Kept> Model for Processor<E, B> {
@@ -19,7 +21,7 @@ impl<E: Numbered<Tag = B::Facts>, B: Kept> Model for Processor<E, B> {
 
     ghost view = { λ p. record { table_id = p.seat.table_id; view = p.seat.me.0 } };
 
-    ghost invariant = { λ p. IsOutBy p.place p.number p.seat.me.0 p.seat.me.1 };
+    ghost invariant = { λ p. IsOutBy p.place p.number p.told p.seat.me.0 p.seat.me.1 };
 }
 
 impl<E: Numbered<Tag = B::Facts>, B: Kept> Processor<E, B> {
@@ -28,5 +30,13 @@ impl<E: Numbered<Tag = B::Facts>, B: Kept> Processor<E, B> {
         ensures { result ≡ self.now.view.part.held }
     {
         self.number
+    }
+
+    /// The greatest number among the editions that its checks found and those that it was told of by
+    /// receipts, 0 where there is none.
+    pub fn told(&self) -> u64
+        ensures { result ≡ told_number self.now.view }
+    {
+        self.told
     }
 }

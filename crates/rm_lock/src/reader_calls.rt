@@ -20,6 +20,7 @@ impl<E: Numbered<Tag = B::Facts>, B: Kept> RmLock<E, B> {
             mut seat,
             place,
             number,
+            told,
         } = p;
         self.table.raise(&mut seat);
         match self.table.check(&mut seat) {
@@ -38,6 +39,7 @@ impl<E: Numbered<Tag = B::Facts>, B: Kept> RmLock<E, B> {
                         seat,
                         place,
                         number,
+                        told,
                     },
                     refusal,
                 )
@@ -64,6 +66,7 @@ impl<E: Numbered<Tag = B::Facts>, B: Kept> RmLock<E, B> {
             seat,
             place,
             number,
+            told: number,
         }
     }
 
@@ -80,6 +83,7 @@ impl<E: Numbered<Tag = B::Facts>, B: Kept> RmLock<E, B> {
             mut seat,
             place,
             number: _,
+            told,
         } = p;
         waits::take_back(&self.table, rt, &mut seat);
         let number = self.table.read_number(&mut seat);
@@ -89,6 +93,7 @@ impl<E: Numbered<Tag = B::Facts>, B: Kept> RmLock<E, B> {
             seat,
             place,
             number,
+            told,
         }
     }
 }

@@ -1,4 +1,5 @@
 ghost use Rattle.std.specs.Prelude.{◌≡◌, Some};
+ghost use Rattle.rm_lock.specs.Tokens.{told_number};
 
 use fw_base::{Kept, Numbered};
 use rm_table::RmSeat;
@@ -26,6 +27,14 @@ impl<E: Numbered<Tag = B::Facts>, B: Kept> Reading<E, B> {
     /// The number of the edition.
     pub fn number(&self) -> u64
         ensures { result ≡ self.now.view.part.held }
+    {
+        self.edition.number()
+    }
+
+    /// The greatest number among the editions that its checks found and those that it was told of by
+    /// receipts: no receipt that it heard is past its edition.
+    pub fn told(&self) -> u64
+        ensures { result ≡ told_number self.now.view }
     {
         self.edition.number()
     }

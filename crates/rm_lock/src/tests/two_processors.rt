@@ -12,14 +12,14 @@ use std::test::Fail;
 use std::thread::{Threads, join};
 
 // A lock of two processors at number 1, and its tokens.
-struct Pair {
-    lock: Lock,
-    first: Reader,
-    second: Reader,
-    operator: Writer,
+pub(super) struct Pair {
+    pub(super) lock: Lock,
+    pub(super) first: Reader,
+    pub(super) second: Reader,
+    pub(super) operator: Writer,
 }
 
-fn open_pair(rt: &impl Abort, alloc: Global) -> Result<Pair, Fail>
+pub(super) fn open_pair(rt: &impl Abort, alloc: Global) -> Result<Pair, Fail>
     ensures first { IfOk result (λ p. (p.first.table_id ≡ p.lock) × (p.first.view.place ≡ 1)) }
     ensures second { IfOk result (λ p. (p.second.table_id ≡ p.lock) × (p.second.view.place ≡ 2)) }
     ensures operator { IfOk result (λ p. (p.operator.table_id ≡ p.lock) × (p.operator.view.count ≡ 2) × (p.operator.view.number ≡ 1)) }
@@ -98,7 +98,7 @@ fn readers_count_their_sections(rt: HostRuntime) -> Result<(), Fail> {
     Ok(())
 }
 
-fn entered(rt: &impl Abort, lock: &Lock, p: Reader) -> Reading<Edition, Ledger>
+pub(super) fn entered(rt: &impl Abort, lock: &Lock, p: Reader) -> Reading<Edition, Ledger>
     requires lock { p.table_id ≡ lock.now }
     ensures lock { result.table_id ≡ lock.now }
     ensures place { result.view.place ≡ p.view.place }

@@ -57,6 +57,22 @@ pub(crate) fn regained<R: Abort + Wait>(rt: &R, lock: &Lock, p: Reader, number: 
     p
 }
 
+// The processor takes its token again by one try, and knows that number.
+pub(crate) fn regained_at_once(rt: &impl Abort, lock: &Lock, p: Reader, number: u64) -> Reader
+    requires lock { p.table_id ≡ lock.now }
+    requires refused { IsSome p.view.part.refusal }
+    ensures lock { result.table_id ≡ lock.now }
+    ensures place { result.view.place ≡ p.view.place }
+{
+    match lock.try_regain(p) {
+        Ok(p) => {
+            assert_eq!(rt; p.number(), number);
+            p
+        }
+        Err(_) => panic!(rt; "another holds the lock behind"),
+    }
+}
+
 // The operator looks into the book, and knows that it is ready.
 pub(crate) fn made_ready<R: Abort + Wait>(rt: &R, lock: &Lock, o: Writer) -> Writer
     requires lock { o.table_id ≡ lock.now }

@@ -1,0 +1,15 @@
+use Rattle.std.proofs.Common.{rules}
+use Rattle.rm_table.specs.Meanings.{meanings}
+use Rattle.rm_lock.proofs.Tries.{takes_book_at_once}
+use Rattle.rm_lock.proofs.lock.RmLock.try_take_book.Goals as goal
+
+pub returns-in-Taken : goal.returns-in-Taken
+returns-in-Taken g c = record {
+  tried = (
+    search rules,
+    takes_book_at_once (meanings g.E.Numbered.number g.E.Numbered.tag g.E.Numbered.name g.B.Kept.number g.B.Kept.tag g.B.Kept.ready g.B.Kept.of g.B.Kept.facts_item) c.args.r c.r.inside.seat.table_id c.r.inside.seat.me c.take_book.new.seat.me c.take_out_book-book.new.seat.me c.take_out_book-book.result c.r.inside.place c.r.inside.edition c.r.view_is c.r.invariant c.in-Taken.ensures.step c.take_out_book-book.ensures.was c.take_out_book-book.ensures.now,
+  );
+}
+
+pub returns-in-HeldBy : goal.returns-in-HeldBy
+returns-in-HeldBy g c = record { tried = record { lock = search rules; step = search rules; somebody = search rules } }
