@@ -1,7 +1,7 @@
 -- What each call does to a section that may lie in another of its processor, after rmlock(9), RM_RECURSE.
-use Rattle.std.specs.Prelude.{◌≡◌, ◌+◌, ◌-◌, ◌<◌}
+use Rattle.std.specs.Prelude.{◌≡◌, ◌+◌, ◌-◌, ◌<◌, ◌≤◌, Some}
 use Rattle.rm_table.specs.Meanings.{Meanings}
-use Rattle.rm_lock.specs.Tokens.{TokenState}
+use Rattle.rm_lock.specs.Tokens.{TokenState, told_number}
 use Rattle.rm_lock.specs.Calls.{Enters, ended}
 use Rattle.rm_lock.specs.declared.entry.Entry.TheVariants as entry
 use Rattle.rm_told.specs.DeepState.{DeepState}
@@ -15,6 +15,11 @@ module _ {E B T L I : Type 0} where
   abbrev pub EntersAtOne : Meanings E B T L I → TokenState E B T L I → DeepEntry E B L T I → Type 0
   EntersAtOne m before (In d) = Enters m before (entry.In d.reading) × (d.depth ≡ 1)
   EntersAtOne m before (Revoked p number) = Enters m before (entry.Revoked p number)
+
+  -- In: the edition is no earlier than any that the processor saw before or was told of.
+  abbrev pub MeetsTold : Meanings E B T L I → TokenState E B T L I → DeepEntry E B L T I → Type 0
+  MeetsTold m before (In d) = (e : E) → d.reading.view.part.reading ≡ Some e → told_number before.view ≤ m.number e
+  MeetsTold m before (Revoked p number) = Unit {0}
 
   -- the reading as it was, one section deeper
   abbrev pub deeper : DeepState E B T L I → DeepState E B T L I

@@ -2,3 +2,5 @@
 pub mod DeepState
 -- what each call on it does
 pub mod Depths
+-- what holds over many calls
+pub mod Laws

@@ -1,6 +1,6 @@
 ghost use Rattle.std.specs.Prelude.{◌≡◌, ◌↔◌, IfOk, IfErr, IsErr};
 ghost use Rattle.rm_table.specs.Meanings.{meanings};
-ghost use Rattle.rm_told.specs.Depths.{EntersAtOne, Leaves, deeper};
+ghost use Rattle.rm_told.specs.Depths.{EntersAtOne, MeetsTold, Leaves, deeper};
 
 use crate::{Deep, DeepEntry, Left, MOST_DEPTH, TooDeep};
 use fw_base::{Kept, Numbered};
@@ -45,11 +45,12 @@ impl<E: Numbered<Tag = B::Facts>, B: Kept> Told<E, B> {
         self.lock
     }
 
-    /// The processor begins a section, as by the lock's own `enter`: In, the depth is 1, and the edition is no
-    /// earlier than any that the processor has seen. It waits for nobody.
+    /// The processor begins a section, as by the lock's own `enter`: In, the depth is 1, and the edition's
+    /// number is at least `told` of the processor. It waits for nobody.
     pub fn enter(&self, p: Processor<E, B>) -> DeepEntry<E, B>
         requires lock { p.table_id ≡ self.now }
         ensures entry { EntersAtOne (meanings E.number E.tag E.name B.number B.tag B.ready B.of B.facts_item) p result }
+        ensures told { MeetsTold (meanings E.number E.tag E.name B.number B.tag B.ready B.of B.facts_item) p result }
     {
         match self.lock.enter(p) {
             Entry::In(reading) => DeepEntry::In(Deep { reading, depth: 1 }),
