@@ -1,0 +1,3 @@
+mod edition;
+mod ledger;
+mod told_reader;

@@ -1,0 +1,96 @@
+ghost use Rattle.std.specs.Prelude.{◌≡◌, ◌↔◌, IfOk, IfErr, IsErr};
+ghost use Rattle.rm_table.specs.Meanings.{meanings};
+ghost use Rattle.rm_told.specs.Depths.{EntersAtOne, MeetsTold, Leaves, deeper};
+
+use crate::{Deep, DeepEntry, Left, MOST_DEPTH, TooDeep};
+use fw_base::{Kept, Numbered};
+use rm_lock::{Entry, Processor, RmLock};
+use std::marker::Model;
+
+/// A lock whose readers may begin a section in a section. Contracts see its lock's table.
+#[derive(Drop)]
+pub struct Told<E: Numbered<Tag = B::Facts>, B: Kept> {
+    lock: RmLock<E, B>,
+}
+
+impl<E: Numbered<Tag = B::Facts>, B: Kept> Model for Told<E, B> {
+    ghost use Rattle.atomic_table.specs.Seated.{TableId, table_id_coded};
+
+    ghost Value = { TableId };
+
+    ghost coded = { table_id_coded };
+
+    ghost view = { λ t. t.lock };
+}
+
+impl<E: Numbered<Tag = B::Facts>, B: Kept> Told<E, B> {
+    /// Takes the lock.
+    pub fn of(lock: RmLock<E, B>) -> Told<E, B>
+        ensures { result ≡ lock }
+    {
+        Told { lock }
+    }
+
+    /// Lends the lock, for its other calls.
+    pub fn lock(&self) -> &RmLock<E, B>
+        ensures { result.now ≡ self.now }
+    {
+        &self.lock
+    }
+
+    /// Gives the lock back.
+    pub fn into_lock(self) -> RmLock<E, B>
+        ensures { result ≡ self }
+    {
+        self.lock
+    }
+
+    /// The processor begins a section, as by the lock's own `enter`: In, the depth is 1, and the edition's
+    /// number is at least `told` of the processor. It waits for nobody.
+    pub fn enter(&self, p: Processor<E, B>) -> DeepEntry<E, B>
+        requires lock { p.table_id ≡ self.now }
+        ensures entry { EntersAtOne (meanings E.number E.tag E.name B.number B.tag B.ready B.of B.facts_item) p result }
+        ensures told { MeetsTold (meanings E.number E.tag E.name B.number B.tag B.ready B.of B.facts_item) p result }
+    {
+        match self.lock.enter(p) {
+            Entry::In(reading) => DeepEntry::In(Deep { reading, depth: 1 }),
+            Entry::Revoked(p, refusal) => DeepEntry::Revoked(p, refusal),
+        }
+    }
+
+    /// A section in the section: one deeper, with the same edition and no atomic step. Refused exactly at
+    /// `MOST_DEPTH`.
+    pub fn again(&self, d: Deep<E, B>) -> Result<Deep<E, B>, TooDeep<E, B>>
+        ensures deeper { IfOk result (λ e. e ≡ deeper d) }
+        ensures back { IfErr result (λ t. t.back ≡ d) }
+        ensures refused { IsErr result ↔ d.depth ≡ MOST_DEPTH }
+    {
+        let Deep { reading, depth } = d;
+        if depth == MOST_DEPTH {
+            return Err(TooDeep {
+                back: Deep { reading, depth },
+            });
+        }
+        Ok(Deep {
+            reading,
+            depth: depth + 1,
+        })
+    }
+
+    /// Ends the section. `Still` exactly where it lies in another; else the edition goes back and the tracker
+    /// is lowered. It waits for nobody.
+    pub fn leave(&self, d: Deep<E, B>) -> Left<E, B>
+        requires lock { d.reading.table_id ≡ self.now }
+        ensures left { Leaves d result }
+    {
+        let Deep { reading, depth } = d;
+        if depth > 1 {
+            Left::Still(Deep {
+                reading,
+                depth: depth - 1,
+            })
+        } else {
+            Left::Out(self.lock.leave(reading))
+        }
+    }
+}
