@@ -1,0 +1,7 @@
+-- what a trace comes to, and the runs of the manual's sentences
+pub mod Results
+pub mod Sound
+pub mod Total
+-- laws
+pub mod Answered
+pub mod Acting

@@ -1,0 +1,5 @@
+-- an evaluation sentence by sentence: what a run comes to, and what it does
+pub mod Story
+pub mod Runs
+-- laws of evaluations
+pub mod Laws
