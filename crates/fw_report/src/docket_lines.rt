@@ -1,14 +1,18 @@
-ghost use Rattle.std.specs.Prelude.{◌≡◌};
+ghost use Rattle.std.specs.Prelude.{◌≡◌, ◌++◌, codes};
+ghost use Rattle.std.specs.Bool.{OnTrue};
+ghost use Rattle.std.specs.Fmt.{decimal};
 ghost use Rattle.fw_base.specs.Texts.{WritesText};
+ghost use Rattle.fw_rule.specs.Canonical.{five_digits};
 ghost use Rattle.fw_report.specs.DocketText as text;
 ghost use Rattle.fw_report.specs.Parts.{part_text};
 ghost use Rattle.pcap_read.specs.Words.{word_of};
 
 use crate::CaptureEnd;
-use crate::line::write_line;
+use crate::line::{LINE_BYTES, add_five_digits, add_number, add_part, add_text, write_line};
 use crate::part::{Part, code_part};
+use arrayvec::ArrayVec;
 use eval_engine::{Cause, Docket, DocketEntry, Judgement, Verdict};
-use fw_base::{Failed, Sink};
+use fw_base::{Failed, Sink, write_text};
 use pcap_read::CaptureFault;
 
 fn verdict_part(verdict: Verdict) -> Part<'static>
@@ -50,9 +54,101 @@ fn count_part(cause: Cause) -> Part<'static>
     }
 }
 
-/// Writes the line of a packet that was judged.
-#[tactic(auto, unfolding(crate::specs::DocketText::record_line, crate::specs::DocketText::entry_text, crate::specs::DocketText::judged_text))]
+/// Appends the verdict where there is room for it, and says whether there was.
+#[inline(always)]
+fn add_verdict(line: &mut ArrayVec<u8, LINE_BYTES>, verdict: Verdict) -> bool
+    ensures { OnTrue result (line.new.items ≡ line.old.items ++ (text.verdict_word verdict ++ text.verdict_code verdict)) }
+{
+    match verdict {
+        Verdict::Allow => add_text(line, b"allow"),
+        Verdict::Deny => add_text(line, b"deny"),
+        Verdict::Reset => add_text(line, b"reset"),
+        Verdict::Unreach(code) => add_text(line, b"unreach ") && add_part(line, code_part(code)),
+    }
+}
+
+/// Appends the cause where there is room for it, and says whether there was.
+#[inline(always)]
+fn add_cause(line: &mut ArrayVec<u8, LINE_BYTES>, cause: Cause) -> bool
+    ensures { OnTrue result (line.new.items ≡ line.old.items ++ (text.cause_word cause ++ text.cause_count cause)) }
+{
+    match cause {
+        Cause::Rule => true,
+        Cause::Limit(count) => add_text(line, b" limit ") && add_number(line, u64::from(count)),
+        Cause::Full(count) => add_text(line, b" full ") && add_number(line, u64::from(count)),
+    }
+}
+
+/// Appends the verdict and the deciding rule where there is room for them, and says whether there was.
+#[inline(always)]
+fn add_decision(line: &mut ArrayVec<u8, LINE_BYTES>, verdict: Verdict, number: u16) -> bool
+    ensures { OnTrue result (line.new.items ≡ line.old.items ++ (codes " " ++ (text.verdict_word verdict ++ (text.verdict_code verdict ++ (codes " " ++ five_digits number))))) }
+{
+    add_text(line, b" ")
+        && add_verdict(line, verdict)
+        && add_text(line, b" ")
+        && add_five_digits(line, number)
+}
+
+/// Appends the edition and the cause where there is room for them, and says whether there was.
+#[inline(always)]
+fn add_edition(line: &mut ArrayVec<u8, LINE_BYTES>, edition: u64, cause: Cause) -> bool
+    ensures { OnTrue result (line.new.items ≡ line.old.items ++ (codes " at " ++ (decimal edition ++ (text.cause_word cause ++ (text.cause_count cause ++ codes "\n"))))) }
+{
+    add_text(line, b" at ")
+        && add_number(line, edition)
+        && add_cause(line, cause)
+        && add_text(line, b"\n")
+}
+
+/// Appends what is told of a packet that was judged, where there is room for it, and says whether there was.
+#[tactic(auto, unfolding(crate::specs::DocketText::judged_text))]
+#[inline(always)]
+fn add_judged(line: &mut ArrayVec<u8, LINE_BYTES>, judgement: Judgement) -> bool
+    ensures { OnTrue result (line.new.items ≡ line.old.items ++ text.judged_text judgement) }
+{
+    add_decision(line, judgement.verdict, judgement.rule.number)
+        && add_edition(line, judgement.edition, judgement.cause)
+}
+
+/// Appends the line of a packet that was judged, where there is room for it, and says whether there was.
+#[tactic(auto, unfolding(crate::specs::DocketText::record_line, crate::specs::DocketText::entry_text))]
+#[inline(always)]
+fn add_judged_line(
+    line: &mut ArrayVec<u8, LINE_BYTES>,
+    capture: u64,
+    at: u64,
+    judgement: Judgement,
+) -> bool
+    ensures { OnTrue result (line.new.items ≡ line.old.items ++ text.record_line capture at (DocketEntry.Judged judgement)) }
+{
+    add_number(line, capture)
+        && add_text(line, b".")
+        && add_number(line, at)
+        && add_judged(line, judgement)
+}
+
+/// Writes the line of a packet that was judged: at once, unless it is long.
 fn write_judged<K: Sink>(
+    out: &mut K,
+    capture: u64,
+    at: u64,
+    judgement: Judgement,
+) -> Result<(), Failed>
+    ensures { WritesText (K.written out.old) (K.written out.new) (K.faults out.old) (K.faults out.new) (text.record_line capture at (DocketEntry.Judged judgement)) result }
+{
+    let mut line = ArrayVec::new();
+    if add_judged_line(&mut line, capture, at, judgement) {
+        write_text(out, line.as_slice())
+    } else {
+        write_long_judged(out, capture, at, judgement)
+    }
+}
+
+/// Writes the line of a packet that was judged, part by part.
+#[tactic(auto, unfolding(crate::specs::DocketText::record_line, crate::specs::DocketText::entry_text, crate::specs::DocketText::judged_text))]
+#[inline(never)]
+fn write_long_judged<K: Sink>(
     out: &mut K,
     capture: u64,
     at: u64,

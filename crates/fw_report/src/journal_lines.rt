@@ -1,19 +1,17 @@
 ghost use Rattle.std.specs.Prelude.{◌≡◌, ◌<◌, ◌≤◌, ◌++◌, ◌∷◌, [], All, length, map};
-ghost use Rattle.std.specs.Fmt.{decimal};
 ghost use Rattle.std.specs.List.{flat_map};
-ghost use Rattle.fw_base.specs.Addr.{address_text};
 ghost use Rattle.fw_base.specs.Texts.{WritesText};
-ghost use Rattle.fw_rule.specs.Canonical.{mask_word, spaced};
+ghost use Rattle.fw_rule.specs.Canonical.{mask_word, protocol_word, spaced};
 ghost use Rattle.dyn_states.specs.StateTexts.{flow_text};
 ghost use Rattle.fw_report.specs.JournalText as text;
 ghost use Rattle.fw_report.specs.Parts.{part_text, parts_text};
 
-use crate::line::write_line;
+use crate::line::{write_four, write_line};
 use crate::part::Part;
 use dyn_states::{FlowName, Op, Reply, Way};
 use eval_engine::Docket;
-use fw_base::{Addr, Failed, Name, Sink, write_text};
-use fw_rule::{LimitMask, has_bit, write_address, write_protocol};
+use fw_base::{Failed, Name, Sink};
+use fw_rule::{LimitMask, has_bit};
 use packet_headers::Flow;
 use state_journal::Entry;
 
@@ -58,14 +56,6 @@ fn name_part(names: &[Name], name: FlowName) -> Part<'_>
     }
 }
 
-/// Writes that a state of this name is looked up.
-#[tactic(auto, unfolding(crate::specs::JournalText::lookup_text))]
-fn write_lookup<K: Sink>(out: &mut K, names: &[Name], name: FlowName) -> Result<(), Failed>
-    ensures { WritesText (K.written out.old) (K.written out.new) (K.faults out.old) (K.faults out.new) (text.lookup_text names.now name) result }
-{
-    write_line(out, &[Part::Text(b" lookup :"), name_part(names, name)])
-}
-
 fn mask_part(mask: LimitMask) -> Part<'static>
     ensures { part_text result ≡ mask_word mask }
 {
@@ -77,65 +67,97 @@ fn mask_part(mask: LimitMask) -> Part<'static>
     }
 }
 
-/// Writes that the rule of this identity makes a state.
+/// What is asked: whether there is a state of this name.
+#[tactic(auto, unfolding(crate::specs::JournalText::lookup_text))]
+fn lookup_parts(names: &[Name], name: FlowName) -> [Part<'_>; 8]
+    ensures { parts_text result ≡ text.lookup_text names.now name }
+{
+    let none = Part::Text(b"");
+    let word = Part::Text(b" lookup :");
+    let name = name_part(names, name);
+    [word, name, none, none, none, none, none, none]
+}
+
+/// What is asked: that the rule of this identity makes a state.
 #[tactic(auto, unfolding(crate::specs::JournalText::install_text))]
-fn write_install<K: Sink>(
-    out: &mut K,
+fn install_parts(
     names: &[Name],
     id: u32,
     limit: Option<(LimitMask, u16)>,
     name: u8,
-) -> Result<(), Failed>
-    ensures { WritesText (K.written out.old) (K.written out.new) (K.faults out.old) (K.faults out.new) (text.install_text names.now id limit name) result }
+) -> [Part<'_>; 8]
+    ensures { parts_text result ≡ text.install_text names.now id limit name }
 {
     let start = Part::Text(b" install ");
     let id = Part::Number(u64::from(id));
     let name = name_at(names, name);
     match limit {
-        None => write_line(out, &[start, id, Part::Text(b" keep :"), name]),
+        None => {
+            let none = Part::Text(b"");
+            let keep = Part::Text(b" keep :");
+            [start, id, keep, name, none, none, none, none]
+        }
         Some((mask, most)) => {
             let mask = mask_part(mask);
             let most = Part::Number(u64::from(most));
             let (word, space, colon) = (b" limit ", b" ", b" :");
             let (word, space) = (Part::Text(word), Part::Text(space));
-            write_line(
-                out,
-                &[start, id, word, mask, space, most, Part::Text(colon), name],
-            )
+            [start, id, word, mask, space, most, Part::Text(colon), name]
         }
     }
 }
 
-fn write_op<K: Sink>(out: &mut K, names: &[Name], op: &Op) -> Result<(), Failed>
-    ensures { WritesText (K.written out.old) (K.written out.new) (K.faults out.old) (K.faults out.new) (text.op_text names.now op.now) result }
+fn op_parts<'a>(names: &'a [Name], op: &Op) -> [Part<'a>; 8]
+    ensures { parts_text result ≡ text.op_text names.now op.now }
 {
     match op {
-        Op::Lookup { name, .. } => write_lookup(out, names, *name),
+        Op::Lookup { name, .. } => lookup_parts(names, *name),
         Op::Install {
             rule,
             limit,
             name,
             ..
-        } => write_install(out, names, rule.id, *limit, *name),
+        } => install_parts(names, rule.id, *limit, *name),
     }
 }
 
-/// Writes an address and a port, each behind a space.
-fn write_end<K: Sink>(out: &mut K, address: Addr, port: u16) -> Result<(), Failed>
-    ensures { WritesText (K.written out.old) (K.written out.new) (K.faults out.old) (K.faults out.new) (spaced (address_text address.0 ∷ decimal port ∷ [])) result }
+/// The protocol behind a space.
+#[tactic(auto, unfolding(fw_rule::specs::Canonical::protocol_word))]
+fn protocol_parts(protocol: u8) -> [Part<'static>; 2]
+    ensures { parts_text result ≡ spaced (protocol_word protocol ∷ []) }
 {
-    write_text(out, b" ")?;
-    write_address(out, address)?;
-    write_line(out, &[Part::Text(b" "), Part::Number(u64::from(port))])
+    let none = Part::Text(b"");
+    match protocol {
+        0 => [Part::Text(b" ip"), none],
+        1 => [Part::Text(b" icmp"), none],
+        6 => [Part::Text(b" tcp"), none],
+        17 => [Part::Text(b" udp"), none],
+        _ => [Part::Text(b" "), Part::Number(u64::from(protocol))],
+    }
 }
 
-/// Writes a flow, each part behind a space.
-fn write_flow<K: Sink>(out: &mut K, flow: &Flow) -> Result<(), Failed>
-    ensures { WritesText (K.written out.old) (K.written out.new) (K.faults out.old) (K.faults out.new) (flow_text flow.now) result }
+/// A flow, each part behind a space.
+fn flow_parts(flow: &Flow) -> [Part<'static>; 10]
+    ensures { parts_text result ≡ flow_text flow.now }
 {
-    write_protocol(out, flow.protocol)?;
-    write_end(out, flow.source, flow.source_port)?;
-    write_end(out, flow.destination, flow.destination_port)
+    let space = Part::Text(b" ");
+    let [protocol, number] = protocol_parts(flow.protocol);
+    let source = Part::Address(flow.source);
+    let source_port = Part::Number(u64::from(flow.source_port));
+    let destination = Part::Address(flow.destination);
+    let destination_port = Part::Number(u64::from(flow.destination_port));
+    [
+        protocol,
+        number,
+        space,
+        source,
+        space,
+        source_port,
+        space,
+        destination,
+        space,
+        destination_port,
+    ]
 }
 
 /// The letters of the TCP flags FIN, SYN and RST that are set.
@@ -196,29 +218,26 @@ fn reply_parts(reply: Reply) -> [Part<'static>; 5]
     }
 }
 
-/// Writes for which record of a lane was asked, and its second.
+/// For which record of a lane was asked, and its second.
 #[tactic(auto, unfolding(crate::specs::JournalText::ask_start))]
-fn write_ask_start<K: Sink>(out: &mut K, lane: u32, at: u64, second: u32) -> Result<(), Failed>
-    ensures { WritesText (K.written out.old) (K.written out.new) (K.faults out.old) (K.faults out.new) (text.ask_start lane at second) result }
+fn ask_start_parts(lane: u32, at: u64, second: u32) -> [Part<'static>; 6]
+    ensures { parts_text result ≡ text.ask_start lane at second }
 {
     let lane = Part::Number(u64::from(lane));
     let second = Part::Number(u64::from(second));
     let (dot, at, space) = (Part::Text(b"."), Part::Number(at), Part::Text(b" "));
-    write_line(out, &[Part::Text(b"ask "), lane, dot, at, space, second])
+    [Part::Text(b"ask "), lane, dot, at, space, second]
 }
 
-/// Writes the flags, the reply and the line's end.
+/// The flags, the reply and the line's end.
 #[tactic(auto, unfolding(crate::specs::JournalText::ask_end))]
-fn write_ask_end<K: Sink>(out: &mut K, flags: u8, reply: Reply) -> Result<(), Failed>
-    ensures { WritesText (K.written out.old) (K.written out.new) (K.faults out.old) (K.faults out.new) (text.ask_end flags reply) result }
+fn ask_end_parts(flags: u8, reply: Reply) -> [Part<'static>; 8]
+    ensures { parts_text result ≡ text.ask_end flags reply }
 {
     let space = Part::Text(b" ");
     let flags = flags_part(flags);
     let [word, first, second, third, fourth] = reply_parts(reply);
-    write_line(
-        out,
-        &[space, flags, space, word, first, second, third, fourth],
-    )
+    [space, flags, space, word, first, second, third, fourth]
 }
 
 fn second_of(op: &Op) -> u32
@@ -246,6 +265,7 @@ fn flow_of(op: &Op) -> &Flow
 }
 
 /// Writes the line of an ask.
+#[tactic(auto, unfolding(crate::specs::JournalText::ask_line))]
 fn write_ask<K: Sink>(
     out: &mut K,
     names: &[Name],
@@ -256,10 +276,11 @@ fn write_ask<K: Sink>(
 ) -> Result<(), Failed>
     ensures { WritesText (K.written out.old) (K.written out.new) (K.faults out.old) (K.faults out.new) (text.ask_line names.now lane at op.now reply) result }
 {
-    write_ask_start(out, lane, at, second_of(op))?;
-    write_op(out, names, op)?;
-    write_flow(out, flow_of(op))?;
-    write_ask_end(out, flags_of(op), reply)
+    let start = ask_start_parts(lane, at, second_of(op));
+    let asked = op_parts(names, op);
+    let flow = flow_parts(flow_of(op));
+    let end = ask_end_parts(flags_of(op), reply);
+    write_four(out, &start, &asked, &flow, &end)
 }
 
 /// Writes the line of a publication.

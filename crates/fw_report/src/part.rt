@@ -2,6 +2,7 @@ ghost use Rattle.std.specs.Prelude.{◌≡◌, ◌<◌, length, slice_get, map, 
 ghost use Rattle.fw_rule.specs.Canonical.{code_word};
 ghost use Rattle.fw_report.specs.Parts.{part_text};
 
+use fw_base::Addr;
 use fw_rule::UNREACH_NAMES;
 
 /// A part of a line.
@@ -12,6 +13,8 @@ pub(crate) enum Part<'a> {
     Number(u64),
     /// A rule's number, in five digits.
     RuleNumber(u16),
+    /// As four numbers with dots between them.
+    Address(Addr),
 }
 
 fn name_at<'x>(names: &'x [&'x [u8]], place: usize) -> &'x [u8]

@@ -1,7 +1,7 @@
 use Rattle.std.proofs.Common.{◌≡◌}
 use Rattle.fw_report.specs.DocketText.{record_line, entry_text, judged_text, verdict_word, verdict_code, cause_word, cause_count}
 use Rattle.fw_report.specs.Parts.{part_text}
-use Rattle.fw_report.proofs.docket_lines.write_judged.Goals as goal
+use Rattle.fw_report.proofs.docket_lines.write_long_judged.Goals as goal
 
 pub returns : goal.returns
 unfolding record_line entry_text judged_text
