@@ -1,6 +1,7 @@
-//! Times a section of the lock's table, on words alone, with its edition, and with an entry in the book, in
-//! one thread and in as many as there are cores, beside two stores and a load on words of one's own, and
-//! beside a mutex. Without a number of sections it says how it is used.
+//! Times a section of the lock through its calls, alone and beside an operator that publishes, and a section of
+//! the lock's table, on words alone, with its edition, and with an entry in the book; in one thread, in two and
+//! in as many as there are cores; beside two stores and a load on words of one's own, and beside std's locks
+//! and counted pointer. Without a number of sections it says how it is used.
 #![tactic(auto)]
 
 use crate::timing::print_times;
@@ -8,8 +9,12 @@ use anyhow::Result;
 use std::{env, thread};
 
 mod book;
+mod call_times;
 mod edition;
 mod own_words;
+mod publisher;
+mod reader;
+mod shared;
 mod timing;
 mod worker;
 
@@ -23,8 +28,12 @@ fn main(rt: HostRuntime) -> Result<()> {
         return Ok(());
     };
     let cores = thread::available_parallelism(&rt)?.get().min(64) as u32;
-    for threads in [1, cores] {
-        print_times(&rt, rt.alloc(), threads, sections)?;
+    print_times(&rt, rt.alloc(), 1, sections)?;
+    if cores > 2 {
+        print_times(&rt, rt.alloc(), 2, sections)?;
+    }
+    if cores > 1 {
+        print_times(&rt, rt.alloc(), cores, sections)?;
     }
     Ok(())
 }

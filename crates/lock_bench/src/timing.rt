@@ -1,14 +1,14 @@
 ghost use Rattle.std.specs.Prelude.{◌<◌, ◌≤◌};
 
-use crate::book::Book;
+use crate::call_times::{print_calls, print_calls_beside_publications};
 use crate::own_words::OwnWords;
-use crate::worker::{Worker, open_lock};
+use crate::shared::{Means, Shared};
+use crate::worker::{Kind, Worker, open_table};
 use anyhow::{Result, bail};
-use fw_base::Kept;
 use rm_table::OpenTable;
 use std::alloc::Global;
 use std::io::Print;
-use std::sync::{Mutex, Wait};
+use std::sync::Wait;
 use std::thread::Threads;
 use std::time::{Clock, Instant};
 use std::{io, thread};
@@ -18,19 +18,8 @@ pub fn nanoseconds(clock: &impl Clock, start: Instant) -> io::Result<u64> {
     Ok(u64::try_from(start.elapsed(clock)?.as_nanos()).unwrap_or(u64::MAX))
 }
 
-// Locks the book and reads its number, so many times.
-fn locked<R: Clock + Wait>(rt: &R, lock: &Mutex<Book>, rounds: u32) -> io::Result<u64> {
-    let mut latest = 0;
-    let start = Instant::now(rt)?;
-    for _ in 0..rounds {
-        latest = latest.max(lock.lock(rt).current());
-    }
-    let time = nanoseconds(rt, start)?;
-    Ok(time.max(latest))
-}
-
-// A line with the mean of the threads' times for a round, in nanoseconds.
-fn print_mean<R: Print>(rt: &R, name: &str, times: &[Option<u64>], rounds: u32) -> Result<()> {
+/// Prints a line with the mean of the threads' times for a round, in nanoseconds.
+pub fn print_mean<R: Print>(rt: &R, name: &str, times: &[Option<u64>], rounds: u32) -> Result<()> {
     let mut all = 0u128;
     for time in times {
         let Some(time) = *time else {
@@ -64,81 +53,45 @@ fn print_own_words<R: Threads + Clock + Print + Sync>(
     print_mean(rt, "two stores and a load", times.as_slice(), rounds)
 }
 
-// Sections that step on words alone.
+// Sections on a table, of that kind.
 fn print_sections<R: Threads + Clock + Print + Sync>(
     rt: &R,
     alloc: Global,
     threads: u32,
     rounds: u32,
+    name: &str,
+    kind: Kind,
 ) -> Result<()>
     requires some { 0 < threads }
     requires few { threads ≤ 64 }
 {
-    let OpenTable { table, mut seat } = open_lock(alloc, threads)?;
+    let OpenTable { table, mut seat } = open_table(alloc, threads)?;
     let workers = Worker::all(alloc, &table, &mut seat, threads)?;
     let times = thread::map_vec(
         rt,
         workers,
-        &|worker: Worker<'_>| worker.sections(rt, rounds).ok(),
+        &|worker: Worker<'_>| worker.sections(rt, kind, rounds).ok(),
     )?;
-    print_mean(rt, "raise, check, lower", times.as_slice(), rounds)
+    print_mean(rt, name, times.as_slice(), rounds)
 }
 
-// Sections in which the edition is taken out of its slot, read and put back.
-fn print_sections_with_edition<R: Threads + Clock + Print + Sync>(
+// Reads an edition that all threads share by these means.
+fn print_shared<R: Threads + Wait + Clock + Print + Sync>(
     rt: &R,
     alloc: Global,
     threads: u32,
     rounds: u32,
-) -> Result<()>
-    requires some { 0 < threads }
-    requires few { threads ≤ 64 }
-{
-    let OpenTable { table, mut seat } = open_lock(alloc, threads)?;
-    let workers = Worker::all(alloc, &table, &mut seat, threads)?;
-    let times = thread::map_vec(
-        rt,
-        workers,
-        &|worker: Worker<'_>| worker.sections_with_edition(rt, rounds).ok(),
-    )?;
-    print_mean(rt, "raise, check, edition, lower", times.as_slice(), rounds)
-}
-
-// Sections with an entry in the book.
-fn print_sections_with_book<R: Threads + Clock + Print + Sync>(
-    rt: &R,
-    alloc: Global,
-    threads: u32,
-    rounds: u32,
-) -> Result<()>
-    requires some { 0 < threads }
-    requires few { threads ≤ 64 }
-{
-    let OpenTable { table, mut seat } = open_lock(alloc, threads)?;
-    let workers = Worker::all(alloc, &table, &mut seat, threads)?;
-    let times = thread::map_vec(
-        rt,
-        workers,
-        &|worker: Worker<'_>| worker.sections_with_book(rt, rounds).ok(),
-    )?;
-    print_mean(rt, "raise, check, book, lower", times.as_slice(), rounds)
-}
-
-// A mutex round the book.
-fn print_mutex<R: Threads + Wait + Clock + Print + Sync>(
-    rt: &R,
-    alloc: Global,
-    threads: u32,
-    rounds: u32,
+    name: &str,
+    means: Means,
 ) -> Result<()> {
-    let lock = Mutex::new(Book::new());
+    let shared = Shared::new(alloc)?;
     let times = thread::map_indices(
         rt,
         alloc,
         threads as usize,
-        &|_| locked(rt, &lock, rounds).ok(),
+        &|_| shared.rounds(rt, means, rounds).ok(),
     )?;
-    print_mean(rt, "mutex round the book", times.as_slice(), rounds)
+    print_mean(rt, name, times.as_slice(), rounds)
 }
 
 /// Prints the time of a section in each of so many threads, and of what it is compared with.
@@ -153,8 +106,33 @@ pub fn print_times<R: Threads + Wait + Clock + Print + Sync>(
 {
     println!(rt; "{threads} threads, {rounds} sections in each")?;
     print_own_words(rt, alloc, threads, rounds)?;
-    print_sections(rt, alloc, threads, rounds)?;
-    print_sections_with_edition(rt, alloc, threads, rounds)?;
-    print_sections_with_book(rt, alloc, threads, rounds)?;
-    print_mutex(rt, alloc, threads, rounds)
+    print_sections(
+        rt,
+        alloc,
+        threads,
+        rounds,
+        "raise, check, lower",
+        Kind::Words,
+    )?;
+    print_sections(
+        rt,
+        alloc,
+        threads,
+        rounds,
+        "the same, edition taken",
+        Kind::Edition,
+    )?;
+    print_sections(
+        rt,
+        alloc,
+        threads,
+        rounds,
+        "the same, book entered",
+        Kind::Book,
+    )?;
+    print_calls(rt, alloc, threads, rounds)?;
+    print_calls_beside_publications(rt, alloc, threads, rounds)?;
+    print_shared(rt, alloc, threads, rounds, "RwLock: read", Means::RwLock)?;
+    print_shared(rt, alloc, threads, rounds, "Mutex: lock", Means::Mutex)?;
+    print_shared(rt, alloc, threads, rounds, "Arc: clone, drop", Means::Arc)
 }

@@ -19,6 +19,17 @@ pub type Table = RmTable<Edition, Book>;
 
 pub type Seat = RmSeat<Edition, Book>;
 
+/// What a section on the table does between raise and check, and lower.
+#[derive(Clone, Copy, Debug)]
+pub enum Kind {
+    /// Nothing.
+    Words,
+    /// The edition is taken out of its slot, read and put back.
+    Edition,
+    /// One try for the book, and an entry in it where it is free.
+    Book,
+}
+
 /// A processor of a table, between two sections.
 #[derive(Drop)]
 pub struct Worker<'a> {
@@ -53,23 +64,8 @@ impl<'a> Worker<'a> {
         Ok(workers)
     }
 
-    /// So many sections: raise, check, lower. Answers their nanoseconds.
-    pub fn sections(self, clock: &impl Clock, count: u32) -> io::Result<u64> {
-        let Worker {
-            table,
-            mut seat,
-            place: _,
-        } = self;
-        let start = Instant::now(clock)?;
-        for _ in 0..count {
-            section(table, &mut seat);
-        }
-        nanoseconds(clock, start)
-    }
-
-    /// So many sections, in each of which the edition is taken out of its slot, read and put back. Answers
-    /// their nanoseconds.
-    pub fn sections_with_edition(self, clock: &impl Clock, count: u32) -> io::Result<u64> {
+    /// So many sections of that kind. Answers their nanoseconds.
+    pub fn sections(self, clock: &impl Clock, kind: Kind, count: u32) -> io::Result<u64> {
         let Worker {
             table,
             mut seat,
@@ -78,30 +74,15 @@ impl<'a> Worker<'a> {
         let mut latest = 0;
         let start = Instant::now(clock)?;
         for _ in 0..count {
-            latest = section_with_edition(table, &mut seat, place).max(latest);
+            latest = section_of(table, &mut seat, place, kind).max(latest);
         }
         let time = nanoseconds(clock, start)?;
         Ok(time.max(latest))
     }
-
-    /// So many sections, each with one try for the book, and an entry in it where it is free. Answers their
-    /// nanoseconds.
-    pub fn sections_with_book(self, clock: &impl Clock, count: u32) -> io::Result<u64> {
-        let Worker {
-            table,
-            mut seat,
-            place,
-        } = self;
-        let start = Instant::now(clock)?;
-        for _ in 0..count {
-            section_with_book(table, &mut seat, place);
-        }
-        nanoseconds(clock, start)
-    }
 }
 
 /// Opens a table at number 1, of so many processors.
-pub fn open_lock(alloc: Global, processors: u32) -> Result<OpenTable<Edition, Book>, OutOfMemory>
+pub fn open_table(alloc: Global, processors: u32) -> Result<OpenTable<Edition, Book>, OutOfMemory>
     requires some { 0 < processors }
     requires few { processors ≤ 64 }
     ensures table { IfOk result (λ o. o.seat.table_id ≡ o.table) }
@@ -112,11 +93,34 @@ pub fn open_lock(alloc: Global, processors: u32) -> Result<OpenTable<Edition, Bo
     Ok(RmTable::open(alloc, editions, Book::new())?)
 }
 
+// One section of that kind. Answers what it read.
+fn section_of(table: &Table, seat: &mut Seat, place: u32, kind: Kind) -> u64
+    requires table { seat.old.table_id ≡ table.now }
+    requires idle { IsIdle seat.old.me.0 seat.old.me.1 }
+    requires place { seat.old.me.0.place ≡ place }
+    requires above { 0 < place }
+    requires within { place ≤ 64 }
+    ensures table { seat.new.table_id ≡ seat.old.table_id }
+    ensures place { seat.new.me.0.place ≡ place }
+    ensures idle { IsIdle seat.new.me.0 seat.new.me.1 }
+    ensures begun { seat.new.me.0.part.sections ≡ seat.old.me.0.part.sections + 1 }
+{
+    match kind {
+        Kind::Words => {
+            section(table, seat);
+            0
+        }
+        Kind::Edition => section_with_edition(table, seat, place),
+        Kind::Book => u64::from(section_with_book(table, seat, place)),
+    }
+}
+
 // One section.
 fn section(table: &Table, seat: &mut Seat) -> Heard
     requires table { seat.old.table_id ≡ table.now }
     requires idle { IsIdle seat.old.me.0 seat.old.me.1 }
     ensures table { seat.new.table_id ≡ seat.old.table_id }
+    ensures place { seat.new.me.0.place ≡ seat.old.me.0.place }
     ensures idle { IsIdle seat.new.me.0 seat.new.me.1 }
     ensures begun { seat.new.me.0.part.sections ≡ seat.old.me.0.part.sections + 1 }
 {
