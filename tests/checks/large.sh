@@ -21,7 +21,7 @@ for _ in {1..16}; do many+=(in:em0:many.pcap); done
 } >report
 printf '%s\n' 'equal 0' 'status 0' 'more than 100 MB' >"$work/wanted"
 {
-    timeout 100 "$program" serial allow_tcp "${many[@]}" | cmp - report
+    timeout 300 "$program" serial allow_tcp "${many[@]}" | cmp - report
     statuses=("${PIPESTATUS[@]}")
     printf '%s\n' "equal ${statuses[1]}" "status ${statuses[0]}"
     [[ $(wc -c <report) -gt 100000000 ]] && echo 'more than 100 MB'
