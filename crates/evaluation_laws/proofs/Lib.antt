@@ -5,3 +5,6 @@ pub mod Total
 -- laws
 pub mod Answered
 pub mod Acting
+-- where a run goes on
+pub mod Stepping
+pub mod Lifts

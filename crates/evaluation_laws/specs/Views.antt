@@ -1,0 +1,40 @@
+-- What the plain evaluator's values stand for.
+use Rattle.std.specs.Prelude.{Bool, false, if◌then◌else◌, slice_index_or}
+use Rattle.dyn_states.specs.declared.flow_name.FlowName.{FlowName}
+use Rattle.dyn_states.specs.declared.flow_name.FlowName.TheVariants.{Any, Named}
+use Rattle.eval_engine.specs.Evaluated as evaluated
+use Rattle.eval_engine.specs.Question as spec
+use Rattle.eval_engine.specs.Trace.{Seen, Done, Names}
+use Rattle.evaluation_laws.specs.Story as told
+use Rattle.evaluation_laws.specs.declared.evaluation.Outcome.{Outcome}
+use Rattle.evaluation_laws.specs.declared.evaluation.Outcome.TheVariants as outcome
+use Rattle.evaluation_laws.specs.declared.looked.Looked.{Looked}
+use Rattle.evaluation_laws.specs.declared.question.Question.{Question}
+use Rattle.evaluation_laws.specs.declared.story.Ending.{Ending}
+use Rattle.evaluation_laws.specs.declared.story.Ending.TheVariants as ending
+use Rattle.evaluation_laws.specs.declared.story.Story.{Story}
+
+abbrev pub question_of : Question → spec.Question
+question_of q = record { edition = q.edition.now; packet = q.packet.now; port = q.port.now; second = q.second }
+
+-- the flow names that were looked up, by their numbers
+abbrev pub is_looked : Looked → FlowName → Bool
+is_looked looked Any = looked.any
+is_looked looked (Named number) = slice_index_or looked.names number false
+
+abbrev pub seen_by : Looked → Seen
+seen_by looked = if looked.found then Done else Names (is_looked looked)
+
+abbrev pub ending_of : Ending → told.Ending
+ending_of (ending.Ends judgement left) = told.Ends judgement left.now
+ending_of (ending.OpensAt op) = told.OpensAt op
+ending_of ending.Mistakes = told.Mistakes
+ending_of (ending.Returns looked left) = told.Returns (seen_by looked) left.now
+
+abbrev pub story_of : Story → told.Story
+story_of story = record { asks = story.asks; hits = story.hits; ending = ending_of story.ending }
+
+abbrev pub outcome_of : Outcome → evaluated.Outcome
+outcome_of (outcome.Whole judgement) = evaluated.Whole judgement
+outcome_of (outcome.OpenAt op) = evaluated.OpenAt op
+outcome_of outcome.Neither = evaluated.Neither

@@ -1,0 +1,91 @@
+ghost use Rattle.std.specs.Prelude.{◌≡◌, IfOk};
+ghost use Rattle.eval_engine.specs.Evaluation as spec;
+ghost use Rattle.rule_chain.specs.Chain.{IsConfiguration};
+ghost use Rattle.evaluation_laws.specs.Story as told;
+ghost use Rattle.evaluation_laws.specs.Views.{ending_of, outcome_of};
+
+use crate::looked::Looked;
+use crate::question::Question;
+use crate::running::meet;
+use crate::story::Ending;
+use dyn_states::{Op, Reply};
+use eval_engine::Judgement;
+use fw_base::{OutOfMemory, Port};
+use generation_store::Edition;
+use ip6_headers::AnyIp;
+use std::alloc::Global;
+use std::collections::LinkedList;
+
+/// How an evaluation with the replies to its asks ends.
+#[derive(Clone, Copy, Debug, PartialEq, Eq)]
+pub enum Outcome {
+    /// It ended and used every reply.
+    Whole(Judgement),
+    /// It waits at an ask with no reply left.
+    OpenAt(Op),
+    /// A reply wasn't one to its ask, or was one too many.
+    Neither,
+}
+
+/// What an evaluation comes to.
+#[derive(Debug, Drop)]
+pub struct Evaluation {
+    /// Its asks, in order.
+    pub asks: LinkedList<Op>,
+    /// The counter numbers of its hits, in order.
+    pub hits: LinkedList<u32>,
+    pub outcome: Outcome,
+}
+
+/// Evaluates a packet that was captured there at that second, with these replies to its asks, rule after rule and
+/// calls within calls. It is slow, and stands beside `begin` and `resume` to be compared with them.
+pub fn evaluate(
+    alloc: Global,
+    edition: &Edition,
+    packet: &AnyIp<'_>,
+    port: &Port,
+    second: u32,
+    replies: &[Reply],
+) -> Result<Evaluation, OutOfMemory>
+    ensures asks { IfOk result (λ e. e.asks ≡ (spec.evaluate (record { edition = edition.now; packet = packet.now; port = port.now; second = second }) replies.now).asks) }
+    ensures hits { IfOk result (λ e. e.hits ≡ (spec.evaluate (record { edition = edition.now; packet = packet.now; port = port.now; second = second }) replies.now).hits) }
+    ensures outcome { IfOk result (λ e. outcome_of e.outcome ≡ (spec.evaluate (record { edition = edition.now; packet = packet.now; port = port.now; second = second }) replies.now).outcome) }
+{
+    let question = Question {
+        edition,
+        packet,
+        port,
+        second,
+        alloc,
+    };
+    lawful(edition);
+    let story = meet(&question, 0, &Looked::none(), 0, replies)?;
+    let outcome = outcome_by(&story.ending);
+    Ok(Evaluation {
+        asks: story.asks,
+        hits: story.hits,
+        outcome,
+    })
+}
+
+/// The rules of an edition are those of a configuration.
+fn lawful(edition: &Edition)
+    ensures { IsConfiguration edition.now.config }
+{
+    let _rules = edition.config().rules();
+}
+
+/// Whole where the run ended and used every reply; a run outside of calls never returns.
+fn outcome_by(ending: &Ending<'_>) -> Outcome
+    ensures { outcome_of result ≡ told.outcome_by (ending_of ending.now) }
+{
+    match ending {
+        Ending::Ends(judgement, left) => match left.split_first() {
+            None => Outcome::Whole(*judgement),
+            Some(_) => Outcome::Neither,
+        },
+        Ending::OpensAt(op) => Outcome::OpenAt(*op),
+        Ending::Mistakes => Outcome::Neither,
+        Ending::Returns(..) => Outcome::Neither,
+    }
+}

@@ -1,0 +1,68 @@
+ghost use Rattle.std.specs.Prelude.{◌≡◌};
+ghost use Rattle.evaluation_laws.specs.Views.{is_looked, seen_by};
+ghost use Rattle.eval_engine.specs.Trace as trace;
+
+use dyn_states::FlowName;
+
+/// The flow names that were looked up.
+#[derive(Clone, Copy, Debug)]
+pub(crate) struct Looked {
+    /// By their numbers.
+    pub(crate) names: [bool; 256],
+    /// `:any` was looked up.
+    pub(crate) any: bool,
+    /// A state was found: no more is looked up.
+    pub(crate) found: bool,
+}
+
+impl Looked {
+    /// No name was looked up.
+    pub(crate) fn none() -> Looked
+        ensures { seen_by result ≡ trace.no_names }
+    {
+        Looked {
+            names: [false; 256],
+            any: false,
+            found: false,
+        }
+    }
+
+    /// A state was found.
+    pub(crate) fn done() -> Looked
+        ensures { seen_by result ≡ trace.Done }
+    {
+        Looked {
+            names: [false; 256],
+            any: false,
+            found: true,
+        }
+    }
+
+    fn has(&self, name: FlowName) -> bool
+        ensures { result ≡ is_looked self.now name }
+    {
+        match name {
+            FlowName::Any => self.any,
+            FlowName::Named(number) => self.names[usize::from(number)],
+        }
+    }
+
+    /// Whether the name is looked up: neither it nor `:any` was.
+    pub(crate) fn is_due(&self, name: FlowName) -> bool
+        ensures { result ≡ trace.is_due (seen_by self.now) name }
+    {
+        !self.found && (!self.any && !self.has(name))
+    }
+
+    /// With this name.
+    pub(crate) fn with(&self, name: FlowName) -> Looked
+        ensures { seen_by result ≡ trace.with_seen (seen_by self.now) name }
+    {
+        let mut looked = *self;
+        match name {
+            FlowName::Any => looked.any = true,
+            FlowName::Named(number) => looked.names[usize::from(number)] = true,
+        }
+        looked
+    }
+}
