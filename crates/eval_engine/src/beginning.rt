@@ -11,6 +11,7 @@ use counter_book::Tally;
 use fw_base::Port;
 use generation_store::Edition;
 use ip6_headers::AnyIp;
+use rule_gates::key_of;
 
 /// Begins the evaluation of a packet that was captured there at that second, and goes on to its first ask
 /// or to its end. Each rule whose action runs is counted in the tally. It takes no memory.
@@ -29,5 +30,6 @@ pub fn begin(
         place: 0,
         callers: Callers::none(),
     };
-    walk(&search, &Searched::none(), start, tally)
+    let key = key_of(search.packet);
+    walk(&search, &key, &Searched::none(), start, tally)
 }

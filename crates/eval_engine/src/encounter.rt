@@ -15,7 +15,7 @@ use fw_rule::{LimitMask, Rule, StateOpt, has_bit};
 use generation_store::Edition;
 use ip6_headers::AnyIp;
 use packet_headers::Flow;
-use rule_gates::{key_of, looks_up};
+use rule_gates::looks_up;
 use rule_match::matches;
 
 /// The packet, there and at that second, under those rules.
@@ -32,8 +32,6 @@ pub(crate) fn search_for<'a, 'p>(
         packet,
         port,
         second,
-        flow: flow_of(packet),
-        key: key_of(packet),
     }
 }
 
@@ -97,7 +95,7 @@ pub(crate) fn lookup_flow(
     ensures { result ≡ walk.lookup_flow (question_of search.now) (seen_by searched.now) rule.now }
 {
     if looks_up(rule) && searched.is_due(name_at(search, place, rule)) {
-        search.flow
+        flow_of(search.packet)
     } else {
         None
     }

@@ -20,6 +20,7 @@ use dyn_states::Reply;
 use fw_base::Port;
 use generation_store::Edition;
 use ip6_headers::AnyIp;
+use rule_gates::key_of;
 
 /// Goes on with an evaluation that waits for this reply, to its next ask or to its end. Edition, packet,
 /// port and second are those that it began with. It takes no memory.
@@ -41,7 +42,10 @@ pub fn resume(
     let search = search_for(edition, packet, port, second);
     let searched = searched_after(&search, &paused, &reply);
     match answered(&search, &searched, &paused, reply, tally) {
-        Step::On(next) => walk(&search, &searched, next, tally),
+        Step::On(next) => {
+            let key = key_of(search.packet);
+            walk(&search, &key, &searched, next, tally)
+        }
         Step::Stop(stage) => stage,
     }
 }

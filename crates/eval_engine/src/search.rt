@@ -1,12 +1,10 @@
 ghost use Rattle.std.specs.Prelude.{◌≡◌};
 ghost use Rattle.eval_engine.specs.Encounter.{any_flow_of};
-ghost use Rattle.rule_gates.specs.Keys.{IsKeyOf};
 
 use fw_base::Port;
 use generation_store::Edition;
 use ip6_headers::AnyIp;
 use packet_headers::{Flow, flow};
-use rule_gates::Key;
 
 /// What is evaluated, handed round as one: a packet that was captured there at that second, under the rules of an
 /// edition.
@@ -16,12 +14,6 @@ pub(crate) struct Search<'a, 'p> {
     pub(crate) packet: &'a AnyIp<'p>,
     pub(crate) port: &'a Port,
     pub(crate) second: u32,
-    /// The packet's flow.
-    pub(crate) flow: Option<Flow>,
-    /// What gates ask of the packet.
-    pub(crate) key: Key,
-    ghost flow_is: { flow ≡ any_flow_of packet.now },
-    ghost key_is: { IsKeyOf packet.now key },
 }
 
 /// The packet's flow; an IPv6 packet has none.

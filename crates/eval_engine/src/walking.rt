@@ -1,4 +1,5 @@
 ghost use Rattle.std.specs.Prelude.{◌≡◌, ◌+◌, ◌<◌, false, [], ◌∷◌, length, drop};
+ghost use Rattle.rule_gates.specs.Keys.{IsKeyOf};
 ghost use Rattle.eval_engine.specs.Encounter as spec;
 ghost use Rattle.eval_engine.specs.Place.{IsRuleAt};
 ghost use Rattle.eval_engine.specs.Standing.{callers_of, seen_by};
@@ -15,14 +16,14 @@ use crate::encounter::{
     target,
 };
 use crate::position::Position;
-use crate::search::Search;
+use crate::search::{Search, flow_of};
 use crate::searched::Searched;
 use crate::step::Step;
 use crate::{Cause, Judgement, Paused, Stage, Verdict};
 use counter_book::Tally;
 use dyn_states::{Op, RuleRef};
 use fw_rule::{Action, Rule};
-use rule_gates::{is_check_state, next_admitted, state_of};
+use rule_gates::{Key, is_check_state, next_admitted, state_of};
 
 /// The evaluation ends with this verdict.
 pub(crate) fn judged(
@@ -193,7 +194,7 @@ fn install(
     let Some(state) = state_of(rule) else {
         return act(search, at, rule, tally);
     };
-    match search.flow {
+    match flow_of(search.packet) {
         Some(flow) => {
             let op = install_by(search, at.place, rule, state, flow);
             ask(at, searched, op, AskKind::Install)
@@ -227,40 +228,50 @@ fn meet(
 }
 
 /// Behind the rules whose gates don't admit the packet's key: each of them is passed over.
-fn behind_shut_gates(search: &Search<'_, '_>, at: &Position) -> Position
+fn behind_shut_gates(search: &Search<'_, '_>, key: &Key, at: &Position) -> Position
+    requires { IsKeyOf search.now.packet.now key.now }
     ensures { (seen : Seen) → PassesTo (walk_at (question_of search.now) seen at.now) (walk_at (question_of search.now) seen result) }
 {
     Position {
-        place: next_admitted(search.edition.gates(), at.place, &search.key),
+        place: next_admitted(search.edition.gates(), at.place, key),
         callers: at.callers,
     }
 }
 
 /// The next rule whose gate admits the packet's key, or the end of the rules.
-fn step(search: &Search<'_, '_>, searched: &Searched, at: &Position, tally: &mut Tally) -> Step
-    requires { search.now.edition.now.config.greatest_counter < length tally.old }
+fn step(
+    search: &Search<'_, '_>,
+    key: &Key,
+    searched: &Searched,
+    at: &Position,
+    tally: &mut Tally,
+) -> Step
+    requires key { IsKeyOf search.now.packet.now key.now }
+    requires fitted { search.now.edition.now.config.greatest_counter < length tally.old }
     ensures { Leads (question_of search.now) (seen_by searched.now) (walk_at (question_of search.now) (seen_by searched.now) at.now) result tally.old tally.new }
 {
-    let next = behind_shut_gates(search, at);
+    let next = behind_shut_gates(search, key, at);
     match rule_at(search, next.place) {
         Some(rule) => meet(search, searched, &next, rule, tally),
         None => Step::Stop(denied_at_end(search)),
     }
 }
 
-/// From there to the next ask or to the end.
+/// From there to the next ask or to the end. Of the packet gates ask its key.
 pub(crate) fn walk(
     search: &Search<'_, '_>,
+    key: &Key,
     searched: &Searched,
     start: Position,
     tally: &mut Tally,
 ) -> Stage
-    requires { search.now.edition.now.config.greatest_counter < length tally.old }
+    requires key { IsKeyOf search.now.packet.now key.now }
+    requires fitted { search.now.edition.now.config.greatest_counter < length tally.old }
     ensures { Comes (question_of search.now) (walk_at (question_of search.now) (seen_by searched.now) start) result tally.old tally.new }
 {
     let mut at = start;
     loop {
-        match step(search, searched, &at, tally) {
+        match step(search, key, searched, &at, tally) {
             Step::On(next) => at = next,
             Step::Stop(stage) => return stage,
         }

@@ -5,5 +5,5 @@ use Rattle.eval_engine.proofs.walking.behind_shut_gates.Goals as goal
 
 pub returns : goal.returns
 returns c seen =
-    shut_gates_passed_from (question_of c.args.search.now) seen (callers_of c.args.at.now.callers) c.args.search.now.key c.args.search.now.key_is c.gates.result.now c.args.at.now.place _ c.gates.ensures
+    shut_gates_passed_from (question_of c.args.search.now) seen (callers_of c.args.at.now.callers) c.args.key.now c.requires c.gates.result.now c.args.at.now.place _ c.gates.ensures
     c.next_admitted.ensures
