@@ -17,3 +17,5 @@ mod places;
 mod question;
 mod running;
 mod story;
+#[cfg(test)]
+mod tests;
