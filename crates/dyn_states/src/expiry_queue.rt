@@ -36,7 +36,8 @@ impl ExpiryQueue {
     /// The state in that place may die at the expiry. It takes no memory.
     pub fn push(&mut self, expiry: u64, place: u32)
         requires { entry_count self.old < entry_room self.old }
-        ensures entries { IsPermutation ((record { 0 = (expiry, place) }) ∷ entries self.old) (entries self.new) }
+        ensures entries { IsPermutation ((record { 0 = (expiry, place) }) ∷ entries self.old)
+            (entries self.new) }
         ensures count { entry_count self.new ≡ entry_count self.old + 1 }
         ensures room { entry_room self.old ≤ entry_room self.new }
         ensures order { IsQueue self.old → IsQueue self.new }
@@ -50,7 +51,11 @@ impl ExpiryQueue {
     /// Takes out the earliest entry, where it comes by that second, and answers its place.
     pub fn pop_due(&mut self, clock: u32) -> Option<u32>
         requires { IsQueue self.old }
-        ensures entries { MatchOption result (All (λ e. queue.is_due clock e ≡ false) (entries self.new) × (entries self.new ≡ entries self.old)) (λ place. (expiry : ℕ) × (expiry ≤ clock) × IsPermutation (entries self.old) ((record { 0 = (expiry, place) }) ∷ entries self.new)) }
+        ensures entries { MatchOption result
+            (All (λ e. queue.is_due clock e ≡ false) (entries self.new)
+            × (entries self.new ≡ entries self.old)) (λ place. (expiry : ℕ) × (expiry ≤ clock)
+            × IsPermutation (entries self.old)
+            ((record { 0 = (expiry, place) }) ∷ entries self.new)) }
         ensures count { OnSome result (entry_count self.new + 1 ≡ entry_count self.old) }
         ensures kept { IfNone result (entry_count self.new ≡ entry_count self.old) }
         ensures room { entry_room self.new ≡ entry_room self.old }

@@ -30,9 +30,13 @@ impl Model for HashedStates {
 
     ghost Value = { HeldStates };
 
-    ghost view = { λ s. record { object = object_of s.table s.clock (values_of s.settings); room = s.room } };
+    ghost view = { λ s. record {
+      object = object_of s.table s.clock (values_of s.settings);
+      room = s.room;
+    } };
 
-    ghost invariant = { λ s. IsRoomy s.table (values_of s.settings) × (2 * min s.room 65536 < s.table.most) };
+    ghost invariant = { λ s. IsRoomy s.table (values_of s.settings)
+        × (2 * min s.room 65536 < s.table.most) };
 }
 
 impl HashedStates {
@@ -130,7 +134,8 @@ impl HashedStates {
     #[tactic(auto, unfolding(crate::specs::StateObject::after_publication))]
     pub fn publish(&mut self, facts: &Facts)
         requires { facts.now.settings.max ≤ self.old.room }
-        ensures after { self.new.object ≡ after_publication self.old.object facts.now.rules (values_of facts.now.settings) }
+        ensures after { self.new.object
+            ≡ after_publication self.old.object facts.now.rules (values_of facts.now.settings) }
         ensures room { self.new.room ≡ self.old.room }
     {
         self.table.take_over(facts);

@@ -37,7 +37,9 @@ impl LimitCounts {
     pub fn add(&mut self, pair: (u32, u32))
         requires room { pair_count self.old < pair_room self.old }
         requires fits { amount_of self.old pair + 1 < 2 ^ 32 }
-        ensures amounts { (q : ℕ × ℕ) → amount_of self.new q ≡ (if same_pair pair q then amount_of self.old pair + 1 else amount_of self.old q) }
+        ensures amounts { (q : ℕ × ℕ)
+            → amount_of self.new q ≡ (if same_pair pair q then amount_of self.old pair + 1
+            else amount_of self.old q) }
         ensures count { pair_count self.new ≤ pair_count self.old + 1 }
         ensures room { pair_room self.old ≤ pair_room self.new }
     {
@@ -53,7 +55,9 @@ impl LimitCounts {
 
     /// One less for the pair. A pair stays known at 0.
     pub fn take(&mut self, pair: (u32, u32))
-        ensures amounts { (q : ℕ × ℕ) → amount_of self.new q ≡ (if same_pair pair q then amount_of self.old pair - 1 else amount_of self.old q) }
+        ensures amounts { (q : ℕ × ℕ)
+            → amount_of self.new q ≡ (if same_pair pair q then amount_of self.old pair - 1
+            else amount_of self.old q) }
         ensures count { pair_count self.new ≡ pair_count self.old }
         ensures room { pair_room self.new ≡ pair_room self.old }
     {

@@ -69,8 +69,11 @@ impl Lines {
     /// Lets the line lead to the place. It takes no memory.
     pub fn put(&mut self, line: Line, place: u32)
         requires { lines.line_count self.old < lines.line_room self.old }
-        ensures places { (q : Line) → lines.place_of self.new q ≡ (if lines.same_line line q then Some place else lines.place_of self.old q) }
-        ensures names { (line.name < self.new.names_end) × (self.old.names_end ≤ self.new.names_end) }
+        ensures places { (q : Line)
+            → lines.place_of self.new q ≡ (if lines.same_line line q then Some place
+            else lines.place_of self.old q) }
+        ensures names { (line.name < self.new.names_end)
+            × (self.old.names_end ≤ self.new.names_end) }
         ensures ends { self.old.names_end ≤ 256 → self.new.names_end ≤ 256 }
         ensures count { lines.line_count self.new ≤ lines.line_count self.old + 1 }
         ensures room { lines.line_room self.old ≤ lines.line_room self.new }

@@ -37,7 +37,8 @@ impl Model for ScannedStates {
       room = vec_capacity s.states;
     } };
 
-    ghost invariant = { λ s. (s.settings.max ≤ vec_capacity s.states) × (vec_len s.states < 2 ^ 32) };
+    ghost invariant = { λ s. (s.settings.max ≤ vec_capacity s.states)
+        × (vec_len s.states < 2 ^ 32) };
 }
 
 /// Whether the flow name asked for is the state's.
@@ -170,7 +171,8 @@ impl ScannedStates {
     #[tactic(auto, unfolding(crate::specs::StateObject::after_publication))]
     pub fn publish(&mut self, facts: &Facts)
         requires { facts.now.settings.max ≤ self.old.room }
-        ensures after { self.new.object ≡ after_publication self.old.object facts.now.rules (values_of facts.now.settings) }
+        ensures after { self.new.object
+            ≡ after_publication self.old.object facts.now.rules (values_of facts.now.settings) }
         ensures room { self.new.room ≡ self.old.room }
     {
         take_over(&mut self.states, facts);
@@ -201,8 +203,16 @@ impl ScannedStates {
     /// Finds the state in that place.
     fn find_at(&mut self, place: usize, flow: &Flow, flags: u8) -> Reply
         requires { place < length self.old.object.states }
-        ensures reply { (d : State) → result ≡ object.found_reply flow.now (Some (slice_index_or self.old.object.states place d)) }
-        ensures after { (d : State) → self.new.object ≡ record self.old.object { states = slice_set self.old.object.states place (object.touched self.old.object flow.now flags (slice_index_or self.old.object.states place d)) } }
+        ensures reply { (d : State)
+            → result ≡ object.found_reply flow.now
+            (Some (slice_index_or self.old.object.states place d)) }
+        ensures after { (d : State)
+            → self.new.object
+            ≡ record self.old.object {
+              states = slice_set self.old.object.states place
+                  (object.touched self.old.object flow.now flags
+                  (slice_index_or self.old.object.states place d));
+            } }
         ensures room { self.new.room ≡ self.old.room }
     {
         let state = self.states[place];
@@ -222,7 +232,8 @@ impl ScannedStates {
         name: u8,
     ) -> Reply
         ensures value { result ≡ install_reply self.now.object flow.now rule limit name }
-        ensures created { result ≡ Created → length self.now.object.states < self.now.object.settings.max }
+        ensures created { result ≡ Created
+            → length self.now.object.states < self.now.object.settings.max }
     {
         if is_any_considered(&self.states, flow, name) {
             return Reply::Exists;
@@ -262,7 +273,8 @@ impl ScannedStates {
     fn or_room(&self, answer: Option<Reply>) -> Reply
         requires { answer ≢ Some Created }
         ensures value { result ≡ object.or_full self.now.object answer }
-        ensures created { result ≡ Created → length self.now.object.states < self.now.object.settings.max }
+        ensures created { result ≡ Created
+            → length self.now.object.states < self.now.object.settings.max }
     {
         match answer {
             Some(reply) => reply,
@@ -273,7 +285,8 @@ impl ScannedStates {
     /// `TableFull`, where it is, else `Created`.
     fn room_answer(&self) -> Reply
         ensures value { result ≡ object.full_reply self.now.object }
-        ensures created { result ≡ Created → length self.now.object.states < self.now.object.settings.max }
+        ensures created { result ≡ Created
+            → length self.now.object.states < self.now.object.settings.max }
     {
         let count = self.states.len();
         if self.settings.max as usize <= count {
@@ -293,7 +306,8 @@ impl ScannedStates {
         name: u8,
     ) -> Reply
         ensures reply { result ≡ install_reply self.old.object flow.now rule limit name }
-        ensures after { self.new.object ≡ after_install self.old.object flow.now flags rule limit name }
+        ensures after { self.new.object
+            ≡ after_install self.old.object flow.now flags rule limit name }
         ensures room { self.new.room ≡ self.old.room }
     {
         let reply = self.install_answer(flow, rule, limit, name);
@@ -313,7 +327,11 @@ impl ScannedStates {
         name: u8,
     )
         requires { length self.old.object.states < self.old.object.settings.max }
-        ensures after { self.new.object ≡ record self.old.object { states = self.old.object.states ++ object.new_state self.old.object flow.now flags rule limit name ∷ [] } }
+        ensures after { self.new.object
+            ≡ record self.old.object {
+              states = self.old.object.states
+                  ++ object.new_state self.old.object flow.now flags rule limit name ∷ [];
+            } }
         ensures room { self.new.room ≡ self.old.room }
     {
         let state = State {
@@ -389,7 +407,8 @@ fn hand_over(states: &mut [State], rules: &[u32])
 
 /// Drops the states whose rule isn't in the publication or, where they are kept, gives them rule 65535.
 pub(crate) fn take_over(states: &mut Vec<State>, facts: &Facts)
-    ensures items { states.new.items ≡ object.states_after facts.now.settings.keep facts.now.rules states.old.items }
+    ensures items { states.new.items
+        ≡ object.states_after facts.now.settings.keep facts.now.rules states.old.items }
     ensures bound { vec_len states.new ≤ vec_len states.old }
     ensures capacity { vec_capacity states.new ≡ vec_capacity states.old }
 {

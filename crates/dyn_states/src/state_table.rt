@@ -51,7 +51,8 @@ impl StateTable {
         requires table { IsTable self.old }
         requires room { HasRoomForOne self.old }
         requires held { is_held state ≡ true }
-        requires first { list_any (object.considers state.flow (Named state.name)) (states_of self.old) ≡ false }
+        requires first { list_any (object.considers state.flow (Named state.name))
+            (states_of self.old) ≡ false }
         ensures slots { slots_of self.new ≡ slots_of self.old ++ state ∷ [] }
         ensures table { IsTable self.new }
         ensures most { self.new.most ≡ self.old.most }
@@ -68,7 +69,8 @@ impl StateTable {
         requires table { IsTableBut self.old place }
         requires place { place < length (slots_of self.old) }
         requires held { is_held (slot (slots_of self.old) place) ≡ true }
-        ensures slots { slots_of self.new ≡ slice_set (slots_of self.old) place (given_up (slot (slots_of self.old) place)) }
+        ensures slots { slots_of self.new
+            ≡ slice_set (slots_of self.old) place (given_up (slot (slots_of self.old) place)) }
         ensures table { IsTable self.new }
         ensures most { self.new.most ≡ self.old.most }
         ensures queue { self.new.queue ≡ self.old.queue }
@@ -105,8 +107,11 @@ impl StateTable {
         requires { IsTable self.old }
         ensures slots { slots_of self.new ≡ slots_of self.old }
         ensures most { self.new.most ≡ self.old.most }
-        ensures none { IfNone result (IsTable self.new × (filter (object.is_live clock) (slots_of self.new) ≡ states_of self.new)) }
-        ensures some { IfSome result (λ place. IsTableBut self.new place × (entry_count self.new.queue < entry_room self.new.queue) × (due_count clock self.new.queue + 1 ≤ due_count clock self.old.queue)) }
+        ensures none { IfNone result (IsTable self.new
+            × (filter (object.is_live clock) (slots_of self.new) ≡ states_of self.new)) }
+        ensures some { IfSome result (λ place. IsTableBut self.new place
+            × (entry_count self.new.queue < entry_room self.new.queue)
+            × (due_count clock self.new.queue + 1 ≤ due_count clock self.old.queue)) }
     {
         self.queue.pop_due(clock)
     }
@@ -116,7 +121,8 @@ impl StateTable {
     fn visit(&mut self, place: u32, clock: u32)
         requires table { IsTableBut self.old place }
         requires room { entry_count self.old.queue < entry_room self.old.queue }
-        ensures live { filter (object.is_live clock) (slots_of self.new) ≡ filter (object.is_live clock) (slots_of self.old) }
+        ensures live { filter (object.is_live clock) (slots_of self.new)
+            ≡ filter (object.is_live clock) (slots_of self.old) }
         ensures table { IsTable self.new }
         ensures most { self.new.most ≡ self.old.most }
         ensures due { due_count clock self.new.queue ≡ due_count clock self.old.queue }
@@ -155,7 +161,10 @@ impl StateTable {
         requires queue { entry_count self.old.queue ≤ place }
         requires place { place < length (slots_of self.old) }
         requires held { is_held (slot (slots_of self.old) place) ≡ true }
-        requires first { list_any (object.considers (slot (slots_of self.old) place).flow (Named (slot (slots_of self.old) place).name)) (held_states (take place (slots_of self.old))) ≡ false }
+        requires first { list_any
+            (object.considers (slot (slots_of self.old) place).flow
+            (Named (slot (slots_of self.old) place).name))
+            (held_states (take place (slots_of self.old))) ≡ false }
         ensures parts { HasParts (take (place + 1) (slots_of self.old)) self.new }
         ensures room { HasRoom self.new }
         ensures queue { entry_count self.new.queue ≤ place + 1 }
@@ -187,7 +196,8 @@ impl StateTable {
     /// Drops the states whose rule isn't in the publication or, where they are kept, gives them rule 65535.
     pub fn take_over(&mut self, facts: &Facts)
         requires { IsTable self.old }
-        ensures states { states_of self.new ≡ object.states_after facts.now.settings.keep facts.now.rules (states_of self.old) }
+        ensures states { states_of self.new
+            ≡ object.states_after facts.now.settings.keep facts.now.rules (states_of self.old) }
         ensures count { length (states_of self.new) ≤ length (states_of self.old) }
         ensures table { IsTable self.new }
         ensures most { self.new.most ≡ self.old.most }
@@ -263,7 +273,8 @@ impl StateTable {
     /// The place of the state of that flow and name.
     fn place_named(&self, flow: &Flow, number: u8) -> Option<usize>
         requires { IsTable self.now }
-        ensures { IsFirstPlace (object.considers flow.now (Named number)) (slots_of self.now) result }
+        ensures { IsFirstPlace (object.considers flow.now (Named number)) (slots_of self.now)
+            result }
     {
         let place = match self.lines.place_of(&line_of(flow, number)) {
             Some(place) => place as usize,

@@ -21,7 +21,9 @@ use packet_headers::Flow;
 
 /// The state as a packet of the flow leaves it.
 fn touched(settings: &Settings, clock: u32, flow: &Flow, flags: u8, state: State) -> State
-    ensures value { result ≡ object.renewed (values_of settings.now) clock (object.with_flags (flows.way_of state.flow flow.now) flags state) }
+    ensures value { result
+        ≡ object.renewed (values_of settings.now) clock
+        (object.with_flags (flows.way_of state.flow flow.now) flags state) }
     ensures held { is_held result ≡ true }
     ensures flow { result.flow ≡ state.flow }
     ensures name { result.name ≡ state.name }
@@ -41,8 +43,10 @@ pub(crate) fn look_up(
     name: FlowName,
 ) -> Reply
     requires { IsRoomy table.old (values_of settings.now) }
-    ensures reply { result ≡ lookup_reply (object_of table.old clock (values_of settings.now)) flow.now name }
-    ensures after { object_of table.new clock (values_of settings.now) ≡ after_lookup (object_of table.old clock (values_of settings.now)) flow.now flags name }
+    ensures reply { result
+        ≡ lookup_reply (object_of table.old clock (values_of settings.now)) flow.now name }
+    ensures after { object_of table.new clock (values_of settings.now)
+        ≡ after_lookup (object_of table.old clock (values_of settings.now)) flow.now flags name }
     ensures table { IsTable table.new }
     ensures most { table.new.most ≡ table.old.most }
     ensures count { length (states_of table.new) ≡ length (states_of table.old) }
@@ -67,7 +71,8 @@ fn limit_answer(
     limit: Option<(LimitMask, u16)>,
 ) -> Option<Reply>
     requires { IsTable table.now }
-    ensures value { result ≡ limit_reply (object_of table.now 0 default_values) rule limit flow.now }
+    ensures value { result
+        ≡ limit_reply (object_of table.now 0 default_values) rule limit flow.now }
     ensures created { result ≢ Some Created }
 {
     let (mask, most) = limit?;
@@ -116,9 +121,11 @@ fn install_answer(
     name: u8,
 ) -> Reply
     requires { IsTable table.now }
-    ensures reply { result ≡ install_reply (object_of table.now 0 (values_of settings.now)) flow.now rule limit name }
+    ensures reply { result
+        ≡ install_reply (object_of table.now 0 (values_of settings.now)) flow.now rule limit name }
     ensures created { result ≡ Created → length (states_of table.now) < settings.now.max }
-    ensures first { result ≡ Created → list_any (object.considers flow.now (Named name)) (states_of table.now) ≡ false }
+    ensures first { result ≡ Created
+        → list_any (object.considers flow.now (Named name)) (states_of table.now) ≡ false }
 {
     match table.place_of(flow, FlowName::Named(name)) {
         Some(_) => Reply::Exists,
@@ -136,7 +143,12 @@ fn new_state(
     limit: Option<(LimitMask, u16)>,
     name: u8,
 ) -> State
-    ensures value { (states : List State) → result ≡ object.new_state (record { states = states; clock = clock; settings = values_of settings.now }) flow.now flags rule limit name }
+    ensures value { (states : List State)
+        → result ≡ object.new_state (record {
+          states = states;
+          clock = clock;
+          settings = values_of settings.now;
+        }) flow.now flags rule limit name }
     ensures held { is_held result ≡ true }
     ensures flow { result.flow ≡ flow.now }
     ensures name { result.name ≡ name }
@@ -165,8 +177,12 @@ pub(crate) fn install(
     name: u8,
 ) -> Reply
     requires { IsRoomy table.old (values_of settings.now) }
-    ensures reply { result ≡ install_reply (object_of table.old clock (values_of settings.now)) flow.now rule limit name }
-    ensures after { object_of table.new clock (values_of settings.now) ≡ after_install (object_of table.old clock (values_of settings.now)) flow.now flags rule limit name }
+    ensures reply { result
+        ≡ install_reply (object_of table.old clock (values_of settings.now)) flow.now rule limit
+        name }
+    ensures after { object_of table.new clock (values_of settings.now)
+        ≡ after_install (object_of table.old clock (values_of settings.now)) flow.now flags rule
+        limit name }
     ensures table { IsTable table.new }
     ensures most { table.new.most ≡ table.old.most }
     ensures count { 2 * length (states_of table.new) < table.new.most }

@@ -48,7 +48,8 @@ fn take(counts: &mut LimitCounts, mask: LimitMask, slots: &[State], place: usize
     requires counts { Counts mask slots.now counts.old }
     requires place { place < length slots.now }
     requires held { is_held (slot slots.now place) ≡ true }
-    ensures counts { Counts mask (slice_set slots.now place (given_up (slot slots.now place))) counts.new }
+    ensures counts { Counts mask (slice_set slots.now place (given_up (slot slots.now place)))
+        counts.new }
     ensures room { pair_room counts.old ≤ pair_room counts.new }
 {
     counts.take(pair_of(mask, &slots[place]));
@@ -78,7 +79,8 @@ impl Tallies {
 
     /// How many states of the rule have the flow's parameter.
     pub fn amount_of(&self, id: u32, mask: LimitMask, flow: &Flow) -> u32
-        ensures { (slots : List State) → IsTallied slots self.now → result ≡ count_by (is_counted_for mask (id, object.parameter mask flow.now)) slots }
+        ensures { (slots : List State) → IsTallied slots self.now
+            → result ≡ count_by (is_counted_for mask (id, object.parameter mask flow.now)) slots }
     {
         let pair = (id, parameter(mask, flow));
         match mask {
@@ -115,7 +117,8 @@ impl Tallies {
         requires tallied { IsTallied slots.now self.old }
         requires place { place < length slots.now }
         requires held { is_held (slot slots.now place) ≡ true }
-        ensures tallied { IsTallied (slice_set slots.now place (given_up (slot slots.now place))) self.new }
+        ensures tallied { IsTallied (slice_set slots.now place (given_up (slot slots.now place)))
+            self.new }
         ensures room { (most : ℕ) → HasTallyRoom most self.old → HasTallyRoom most self.new }
     {
         self.live -= 1;

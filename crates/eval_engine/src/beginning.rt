@@ -23,7 +23,12 @@ pub fn begin(
     tally: &mut Tally,
 ) -> Stage
     requires fitted { edition.now.config.greatest_counter < length tally.old }
-    ensures { StandsAt (record { edition = edition.now; packet = packet.now; port = port.now; second = second }) [] [] tally.old result tally.new }
+    ensures { StandsAt (record {
+      edition = edition.now;
+      packet = packet.now;
+      port = port.now;
+      second = second;
+    }) [] [] tally.old result tally.new }
 {
     let search = search_for(edition, packet, port, second);
     let start = Position {

@@ -36,7 +36,8 @@ impl Callers {
     #[tactic(auto, unfolding(crate::specs::Callers::innermost_first))]
     pub(crate) fn with(&self, number: u16) -> Callers
         requires { length (innermost_first self.now.numbers self.now.depth) < 16 }
-        ensures { innermost_first result.numbers result.depth ≡ number ∷ innermost_first self.now.numbers self.now.depth }
+        ensures { innermost_first result.numbers result.depth
+            ≡ number ∷ innermost_first self.now.numbers self.now.depth }
     {
         let mut numbers = self.numbers;
         numbers[self.depth] = number;
@@ -49,7 +50,9 @@ impl Callers {
     /// The number of the rule of the last call, and the others.
     #[tactic(auto, unfolding(crate::specs::Callers::innermost_first))]
     pub(crate) fn last(&self) -> Option<(u16, Callers)>
-        ensures { MatchOption result (innermost_first self.now.numbers self.now.depth ≡ []) (λ r. innermost_first self.now.numbers self.now.depth ≡ r.0 ∷ innermost_first r.1.numbers r.1.depth) }
+        ensures { MatchOption result (innermost_first self.now.numbers self.now.depth ≡ []) (λ r.
+            innermost_first self.now.numbers self.now.depth
+            ≡ r.0 ∷ innermost_first r.1.numbers r.1.depth) }
     {
         if self.depth == 0 {
             return None;

@@ -34,7 +34,8 @@ impl Docket {
 
     /// Adds the entry as the last one.
     pub fn push(&mut self, entry: DocketEntry) -> Result<(), OutOfMemory>
-        ensures entered { OnOk result (self.new ≡ record self.old { entries = self.old.entries ++ entry ∷ [] }) }
+        ensures entered { OnOk result (self.new
+            ≡ record self.old { entries = self.old.entries ++ entry ∷ [] }) }
         ensures unchanged { OnErr result (self.new ≡ self.old) }
     {
         self.entries.push(entry)?;

@@ -25,7 +25,12 @@ pub(crate) fn search_for<'a, 'p>(
     port: &'a Port,
     second: u32,
 ) -> Search<'a, 'p>
-    ensures { question_of result ≡ record { edition = edition.now; packet = packet.now; port = port.now; second = second } }
+    ensures { question_of result ≡ record {
+      edition = edition.now;
+      packet = packet.now;
+      port = port.now;
+      second = second;
+    } }
 {
     Search {
         edition,
@@ -37,7 +42,8 @@ pub(crate) fn search_for<'a, 'p>(
 
 /// The rule in that place; `None` behind the last.
 pub(crate) fn rule_at<'a>(search: &Search<'a, '_>, place: usize) -> Option<&'a Rule>
-    ensures { MatchOption result (drop place search.now.edition.now.config.rules ≡ []) (λ rule. IsRuleAt (question_of search.now) place rule.now) }
+    ensures { MatchOption result (drop place search.now.edition.now.config.rules ≡ []) (λ rule.
+        IsRuleAt (question_of search.now) place rule.now) }
 {
     let rules = search.edition.config().rules();
     if place < rules.len() {

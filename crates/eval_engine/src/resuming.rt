@@ -34,7 +34,12 @@ pub fn resume(
     tally: &mut Tally,
 ) -> Stage
     requires fitted { edition.now.config.greatest_counter < length tally.old }
-    requires answered { IsAnswered (record { edition = edition.now; packet = packet.now; port = port.now; second = second }) paused reply }
+    requires answered { IsAnswered (record {
+      edition = edition.now;
+      packet = packet.now;
+      port = port.now;
+      second = second;
+    }) paused reply }
     ensures { (op : Op) (asks : List Op) (replies : List Reply) (start : List Count)
         → StandsAt (record { edition = edition.now; packet = packet.now; port = port.now; second = second }) asks replies start (Asks op paused) tally.old
         → StandsAt (record { edition = edition.now; packet = packet.now; port = port.now; second = second }) (asks ++ op ∷ []) (replies ++ reply ∷ []) start result tally.new }
@@ -52,7 +57,9 @@ pub fn resume(
 
 /// The names that were looked up, behind the reply.
 fn searched_after(search: &Search<'_, '_>, paused: &Paused, reply: &Reply) -> Searched
-    ensures { seen_by result ≡ definition.seen_after (question_of search.now) (seen_by paused.now.searched) (drop paused.now.place search.now.edition.now.config.rules) reply.now }
+    ensures { seen_by result
+        ≡ definition.seen_after (question_of search.now) (seen_by paused.now.searched)
+        (drop paused.now.place search.now.edition.now.config.rules) reply.now }
 {
     match reply {
         Reply::Found(..) => Searched::done(),
@@ -65,7 +72,9 @@ fn searched_after(search: &Search<'_, '_>, paused: &Paused, reply: &Reply) -> Se
 
 /// The name of the rule that asked joins.
 fn with_name_at(search: &Search<'_, '_>, paused: &Paused) -> Searched
-    ensures { seen_by result ≡ definition.with_name_at (question_of search.now) (seen_by paused.now.searched) (drop paused.now.place search.now.edition.now.config.rules) }
+    ensures { seen_by result
+        ≡ definition.with_name_at (question_of search.now) (seen_by paused.now.searched)
+        (drop paused.now.place search.now.edition.now.config.rules) }
 {
     match rule_at(search, paused.place) {
         Some(rule) => paused.searched.with(name_at(search, paused.place, rule)),
@@ -75,7 +84,8 @@ fn with_name_at(search: &Search<'_, '_>, paused: &Paused) -> Searched
 
 /// The place of the rule that made the state.
 fn place_of(search: &Search<'_, '_>, id: u32) -> usize
-    ensures { drop result search.now.edition.now.config.rules ≡ definition.suffix_of id search.now.edition.now.config.rules }
+    ensures { drop result search.now.edition.now.config.rules
+        ≡ definition.suffix_of id search.now.edition.now.config.rules }
 {
     match search.edition.place_of(id) {
         Some(place) => place,
@@ -86,7 +96,10 @@ fn place_of(search: &Search<'_, '_>, id: u32) -> usize
 /// The first rule from that place on acts.
 fn act_at(search: &Search<'_, '_>, searched: &Searched, at: &Position, tally: &mut Tally) -> Step
     requires { search.now.edition.now.config.greatest_counter < length tally.old }
-    ensures { Leads (question_of search.now) (seen_by searched.now) (definition.acts_from (question_of search.now) (seen_by searched.now) (callers_of at.now.callers) (drop at.now.place search.now.edition.now.config.rules)) result tally.old tally.new }
+    ensures { Leads (question_of search.now) (seen_by searched.now)
+        (definition.acts_from (question_of search.now) (seen_by searched.now)
+        (callers_of at.now.callers) (drop at.now.place search.now.edition.now.config.rules)) result
+        tally.old tally.new }
 {
     match rule_at(search, at.place) {
         Some(rule) => act(search, at, rule, tally),
@@ -97,7 +110,10 @@ fn act_at(search: &Search<'_, '_>, searched: &Searched, at: &Position, tally: &m
 /// The first rule from that place on, behind its lookup.
 fn test_at(search: &Search<'_, '_>, searched: &Searched, at: &Position, tally: &mut Tally) -> Step
     requires { search.now.edition.now.config.greatest_counter < length tally.old }
-    ensures { Leads (question_of search.now) (seen_by searched.now) (definition.tests_from (question_of search.now) (seen_by searched.now) (callers_of at.now.callers) (drop at.now.place search.now.edition.now.config.rules)) result tally.old tally.new }
+    ensures { Leads (question_of search.now) (seen_by searched.now)
+        (definition.tests_from (question_of search.now) (seen_by searched.now)
+        (callers_of at.now.callers) (drop at.now.place search.now.edition.now.config.rules)) result
+        tally.old tally.new }
 {
     match rule_at(search, at.place) {
         Some(rule) => test(search, searched, at, rule, tally),
@@ -107,7 +123,9 @@ fn test_at(search: &Search<'_, '_>, searched: &Searched, at: &Position, tally: &
 
 /// The first rule from that place on denies without a hit.
 fn refuse_at(search: &Search<'_, '_>, place: usize, cause: Cause) -> Stage
-    ensures { IsStopped (question_of search.now) (definition.refuses_from (question_of search.now) cause (drop place search.now.edition.now.config.rules)) result }
+    ensures { IsStopped (question_of search.now)
+        (definition.refuses_from (question_of search.now) cause
+        (drop place search.now.edition.now.config.rules)) result }
 {
     match rule_at(search, place) {
         Some(rule) => judged(search, Verdict::Deny, rule_ref(rule), cause),
@@ -124,7 +142,10 @@ fn answered(
     tally: &mut Tally,
 ) -> Step
     requires { search.now.edition.now.config.greatest_counter < length tally.old }
-    ensures { Leads (question_of search.now) (seen_by searched.now) (definition.leads_to (question_of search.now) (seen_by searched.now) (callers_of paused.now.callers) (drop paused.now.place search.now.edition.now.config.rules) reply) result tally.old tally.new }
+    ensures { Leads (question_of search.now) (seen_by searched.now)
+        (definition.leads_to (question_of search.now) (seen_by searched.now)
+        (callers_of paused.now.callers) (drop paused.now.place search.now.edition.now.config.rules)
+        reply) result tally.old tally.new }
 {
     let here = Position {
         place: paused.place,

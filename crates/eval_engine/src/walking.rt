@@ -32,7 +32,8 @@ pub(crate) fn judged(
     rule: RuleRef,
     cause: Cause,
 ) -> Stage
-    ensures { IsStopped (question_of search.now) (definition.judged (question_of search.now) verdict rule cause) result }
+    ensures { IsStopped (question_of search.now)
+        (definition.judged (question_of search.now) verdict rule cause) result }
 {
     Stage::Judged(Judgement {
         edition: search.edition.number(),
@@ -44,7 +45,8 @@ pub(crate) fn judged(
 
 /// Rule 65535 denies what comes to the end of the rules.
 pub(crate) fn denied_at_end(search: &Search<'_, '_>) -> Stage
-    ensures { IsStopped (question_of search.now) (definition.denied_at_end (question_of search.now)) result }
+    ensures { IsStopped (question_of search.now) (definition.denied_at_end (question_of search.now))
+        result }
 {
     let last = RuleRef {
         id: 0,
@@ -56,7 +58,10 @@ pub(crate) fn denied_at_end(search: &Search<'_, '_>) -> Stage
 /// The rule in that place is passed over.
 fn behind(search: &Search<'_, '_>, at: &Position) -> Position
     requires { at.now.place < 65535 }
-    ensures { (seen : Seen) → walk_at (question_of search.now) seen result ≡ definition.walk_from (question_of search.now) seen (callers_of at.now.callers) (drop (at.now.place + 1) search.now.edition.now.config.rules) 0 }
+    ensures { (seen : Seen)
+        → walk_at (question_of search.now) seen result
+        ≡ definition.walk_from (question_of search.now) seen (callers_of at.now.callers)
+        (drop (at.now.place + 1) search.now.edition.now.config.rules) 0 }
 {
     Position {
         place: at.place + 1,
@@ -68,7 +73,10 @@ fn behind(search: &Search<'_, '_>, at: &Position) -> Position
 fn call(search: &Search<'_, '_>, at: &Position, rule: &Rule) -> Position
     requires there { IsRuleAt (question_of search.now) at.now.place rule.now }
     requires called { spec.IsCall rule.now.action }
-    ensures { (seen : Seen) → definition.follows_before (question_of search.now) seen (callers_of at.now.callers) rule.now (drop (at.now.place + 1) search.now.edition.now.config.rules) ≡ walk_at (question_of search.now) seen result }
+    ensures { (seen : Seen)
+        → definition.follows_before (question_of search.now) seen (callers_of at.now.callers)
+        rule.now (drop (at.now.place + 1) search.now.edition.now.config.rules)
+        ≡ walk_at (question_of search.now) seen result }
 {
     if at.callers.is_full() {
         behind(search, at)
@@ -83,7 +91,10 @@ fn call(search: &Search<'_, '_>, at: &Position, rule: &Rule) -> Position
 /// `return` goes on behind the last call; where there is none it is passed over.
 fn back(search: &Search<'_, '_>, at: &Position) -> Position
     requires { at.now.place < 65535 }
-    ensures { (seen : Seen) → definition.return_before (question_of search.now) seen (callers_of at.now.callers) (drop (at.now.place + 1) search.now.edition.now.config.rules) ≡ walk_at (question_of search.now) seen result }
+    ensures { (seen : Seen)
+        → definition.return_before (question_of search.now) seen (callers_of at.now.callers)
+        (drop (at.now.place + 1) search.now.edition.now.config.rules)
+        ≡ walk_at (question_of search.now) seen result }
 {
     match at.callers.last() {
         Some((number, callers)) => Position {
@@ -98,7 +109,10 @@ fn back(search: &Search<'_, '_>, at: &Position) -> Position
 fn onward(search: &Search<'_, '_>, at: &Position, rule: &Rule) -> Position
     requires there { IsRuleAt (question_of search.now) at.now.place rule.now }
     requires onward { spec.IsOnward rule.now.action }
-    ensures { (seen : Seen) → definition.follows_before (question_of search.now) seen (callers_of at.now.callers) rule.now (drop (at.now.place + 1) search.now.edition.now.config.rules) ≡ walk_at (question_of search.now) seen result }
+    ensures { (seen : Seen)
+        → definition.follows_before (question_of search.now) seen (callers_of at.now.callers)
+        rule.now (drop (at.now.place + 1) search.now.edition.now.config.rules)
+        ≡ walk_at (question_of search.now) seen result }
 {
     Position {
         place: target(search, at.place, rule),
@@ -108,7 +122,10 @@ fn onward(search: &Search<'_, '_>, at: &Position, rule: &Rule) -> Position
 
 /// The judgement by the rule, with a verdict that ends the search.
 fn decided(search: &Search<'_, '_>, rule: &Rule, verdict: Verdict) -> Step
-    ensures { (seen : Seen) → IsStep (question_of search.now) seen (definition.judged (question_of search.now) verdict (spec.rule_ref rule.now) cause.Rule) result }
+    ensures { (seen : Seen)
+        → IsStep (question_of search.now) seen
+        (definition.judged (question_of search.now) verdict (spec.rule_ref rule.now) cause.Rule)
+        result }
 {
     Step::Stop(judged(search, verdict, rule_ref(rule), Cause::Rule))
 }
@@ -116,7 +133,10 @@ fn decided(search: &Search<'_, '_>, rule: &Rule, verdict: Verdict) -> Step
 /// What follows the rule's action.
 fn follow(search: &Search<'_, '_>, at: &Position, rule: &Rule) -> Step
     requires { IsRuleAt (question_of search.now) at.now.place rule.now }
-    ensures { (seen : Seen) → IsStep (question_of search.now) seen (definition.follows_before (question_of search.now) seen (callers_of at.now.callers) rule.now (drop (at.now.place + 1) search.now.edition.now.config.rules)) result }
+    ensures { (seen : Seen)
+        → IsStep (question_of search.now) seen
+        (definition.follows_before (question_of search.now) seen (callers_of at.now.callers)
+        rule.now (drop (at.now.place + 1) search.now.edition.now.config.rules)) result }
 {
     match &rule.action {
         Action::Allow => decided(search, rule, Verdict::Allow),
@@ -135,7 +155,10 @@ fn follow(search: &Search<'_, '_>, at: &Position, rule: &Rule) -> Step
 pub(crate) fn act(search: &Search<'_, '_>, at: &Position, rule: &Rule, tally: &mut Tally) -> Step
     requires there { IsRuleAt (question_of search.now) at.now.place rule.now }
     requires fitted { search.now.edition.now.config.greatest_counter < length tally.old }
-    ensures { (seen : Seen) → Leads (question_of search.now) seen (definition.acts_before (question_of search.now) seen (callers_of at.now.callers) rule.now (drop (at.now.place + 1) search.now.edition.now.config.rules)) result tally.old tally.new }
+    ensures { (seen : Seen)
+        → Leads (question_of search.now) seen
+        (definition.acts_before (question_of search.now) seen (callers_of at.now.callers) rule.now
+        (drop (at.now.place + 1) search.now.edition.now.config.rules)) result tally.old tally.new }
 {
     tally.hit(rule.counter, search.packet.total());
     follow(search, at, rule)
@@ -143,7 +166,13 @@ pub(crate) fn act(search: &Search<'_, '_>, at: &Position, rule: &Rule, tally: &m
 
 /// The evaluation asks, and waits there.
 fn ask(at: &Position, searched: &Searched, op: Op, kind: AskKind) -> Step
-    ensures { result ≡ Stop (Asks op (record { place = at.now.place; callers = at.now.callers; searched = searched.now; kind = kind })) }
+    ensures { result ≡ Stop
+        (Asks op (record {
+          place = at.now.place;
+          callers = at.now.callers;
+          searched = searched.now;
+          kind = kind;
+        })) }
 {
     Step::Stop(Stage::Asks(
         op,
@@ -166,7 +195,10 @@ pub(crate) fn test(
 ) -> Step
     requires there { IsRuleAt (question_of search.now) at.now.place rule.now }
     requires fitted { search.now.edition.now.config.greatest_counter < length tally.old }
-    ensures { Leads (question_of search.now) (seen_by searched.now) (definition.tests_before (question_of search.now) (seen_by searched.now) (callers_of at.now.callers) rule.now (drop (at.now.place + 1) search.now.edition.now.config.rules)) result tally.old tally.new }
+    ensures { Leads (question_of search.now) (seen_by searched.now)
+        (definition.tests_before (question_of search.now) (seen_by searched.now)
+        (callers_of at.now.callers) rule.now
+        (drop (at.now.place + 1) search.now.edition.now.config.rules)) result tally.old tally.new }
 {
     if is_check_state(&rule.action) {
         return Step::On(behind(search, at));
@@ -189,7 +221,10 @@ fn install(
     requires there { IsRuleAt (question_of search.now) at.now.place rule.now }
     requires plain { spec.is_check_state rule.now.action ≡ false }
     requires fitted { search.now.edition.now.config.greatest_counter < length tally.old }
-    ensures { Leads (question_of search.now) (seen_by searched.now) (definition.installs_before (question_of search.now) (seen_by searched.now) (callers_of at.now.callers) rule.now (drop (at.now.place + 1) search.now.edition.now.config.rules)) result tally.old tally.new }
+    ensures { Leads (question_of search.now) (seen_by searched.now)
+        (definition.installs_before (question_of search.now) (seen_by searched.now)
+        (callers_of at.now.callers) rule.now
+        (drop (at.now.place + 1) search.now.edition.now.config.rules)) result tally.old tally.new }
 {
     let Some(state) = state_of(rule) else {
         return act(search, at, rule, tally);
@@ -213,7 +248,9 @@ fn meet(
 ) -> Step
     requires there { IsRuleAt (question_of search.now) at.now.place rule.now }
     requires fitted { search.now.edition.now.config.greatest_counter < length tally.old }
-    ensures { Leads (question_of search.now) (seen_by searched.now) (walk_at (question_of search.now) (seen_by searched.now) at.now) result tally.old tally.new }
+    ensures { Leads (question_of search.now) (seen_by searched.now)
+        (walk_at (question_of search.now) (seen_by searched.now) at.now) result tally.old
+        tally.new }
 {
     if is_disabled(search, rule) {
         return Step::On(behind(search, at));
@@ -230,7 +267,9 @@ fn meet(
 /// Behind the rules whose gates don't admit the packet's key: each of them is passed over.
 fn behind_shut_gates(search: &Search<'_, '_>, key: &Key, at: &Position) -> Position
     requires { IsKeyOf search.now.packet.now key.now }
-    ensures { (seen : Seen) → PassesTo (walk_at (question_of search.now) seen at.now) (walk_at (question_of search.now) seen result) }
+    ensures { (seen : Seen)
+        → PassesTo (walk_at (question_of search.now) seen at.now)
+        (walk_at (question_of search.now) seen result) }
 {
     Position {
         place: next_admitted(search.edition.gates(), at.place, key),
@@ -248,7 +287,9 @@ fn step(
 ) -> Step
     requires key { IsKeyOf search.now.packet.now key.now }
     requires fitted { search.now.edition.now.config.greatest_counter < length tally.old }
-    ensures { Leads (question_of search.now) (seen_by searched.now) (walk_at (question_of search.now) (seen_by searched.now) at.now) result tally.old tally.new }
+    ensures { Leads (question_of search.now) (seen_by searched.now)
+        (walk_at (question_of search.now) (seen_by searched.now) at.now) result tally.old
+        tally.new }
 {
     let next = behind_shut_gates(search, key, at);
     match rule_at(search, next.place) {
@@ -267,7 +308,8 @@ pub(crate) fn walk(
 ) -> Stage
     requires key { IsKeyOf search.now.packet.now key.now }
     requires fitted { search.now.edition.now.config.greatest_counter < length tally.old }
-    ensures { Comes (question_of search.now) (walk_at (question_of search.now) (seen_by searched.now) start) result tally.old tally.new }
+    ensures { Comes (question_of search.now)
+        (walk_at (question_of search.now) (seen_by searched.now) start) result tally.old tally.new }
 {
     let mut at = start;
     loop {

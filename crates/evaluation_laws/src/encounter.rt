@@ -17,7 +17,8 @@ use rule_match::matches;
 
 /// The rule in that place; `None` behind the last.
 pub(crate) fn rule_at<'a>(question: &Question<'a, '_>, place: usize) -> Option<&'a Rule>
-    ensures { MatchOption result (drop place question.now.edition.now.config.rules ≡ []) (λ rule. IsRuleAt (question_of question.now) place rule.now) }
+    ensures { MatchOption result (drop place question.now.edition.now.config.rules ≡ []) (λ rule.
+        IsRuleAt (question_of question.now) place rule.now) }
 {
     let rules = question.edition.config().rules();
     if place < rules.len() {

@@ -43,7 +43,8 @@ pub(crate) fn last_judgement(question: &Question<'_, '_>) -> Judgement
 
 /// An ask with no reply left.
 pub(crate) fn open_at<'r>(question: &Question<'_, '_>, op: Op) -> Result<Story<'r>, OutOfMemory>
-    ensures { IfOk result (λ story. story_of story ≡ told.asked op (told.plainly (told.OpensAt op))) }
+    ensures { IfOk result (λ story. story_of story
+        ≡ told.asked op (told.plainly (told.OpensAt op))) }
 {
     asked(op, plainly(question.alloc, Ending::OpensAt(op)))
 }
@@ -62,7 +63,12 @@ pub(crate) fn decided<'r>(
     verdict: Verdict,
     replies: &'r [Reply],
 ) -> Result<Story<'r>, OutOfMemory>
-    ensures { IfOk result (λ story. story_of story ≡ told.hit rule.now.counter (told.plainly (told.Ends (runs.judgement_of (question_of question.now) verdict (spec.rule_ref rule.now) causes.Rule) replies.now))) }
+    ensures { IfOk result (λ story. story_of story
+        ≡ told.hit rule.now.counter
+        (told.plainly
+        (told.Ends
+        (runs.judgement_of (question_of question.now) verdict (spec.rule_ref rule.now) causes.Rule)
+        replies.now))) }
 {
     let judgement = judgement_of(question, verdict, rule_ref(rule), Cause::Rule);
     hit(
@@ -79,7 +85,12 @@ pub(crate) fn refused<'r>(
     cause: Cause,
     replies: &'r [Reply],
 ) -> Result<Story<'r>, OutOfMemory>
-    ensures { IfOk result (λ story. story_of story ≡ told.asked op (told.plainly (told.Ends (runs.judgement_of (question_of question.now) verdicts.Deny (spec.rule_ref rule.now) cause) replies.now))) }
+    ensures { IfOk result (λ story. story_of story
+        ≡ told.asked op
+        (told.plainly
+        (told.Ends
+        (runs.judgement_of (question_of question.now) verdicts.Deny (spec.rule_ref rule.now) cause)
+        replies.now))) }
 {
     let judgement = judgement_of(question, Verdict::Deny, rule_ref(rule), cause);
     asked(

@@ -47,9 +47,27 @@ pub fn evaluate(
     second: u32,
     replies: &[Reply],
 ) -> Result<Evaluation, OutOfMemory>
-    ensures asks { IfOk result (λ e. e.asks ≡ (spec.evaluate (record { edition = edition.now; packet = packet.now; port = port.now; second = second }) replies.now).asks) }
-    ensures hits { IfOk result (λ e. e.hits ≡ (spec.evaluate (record { edition = edition.now; packet = packet.now; port = port.now; second = second }) replies.now).hits) }
-    ensures outcome { IfOk result (λ e. outcome_of e.outcome ≡ (spec.evaluate (record { edition = edition.now; packet = packet.now; port = port.now; second = second }) replies.now).outcome) }
+    ensures asks { IfOk result (λ e. e.asks
+        ≡ (spec.evaluate (record {
+          edition = edition.now;
+          packet = packet.now;
+          port = port.now;
+          second = second;
+        }) replies.now).asks) }
+    ensures hits { IfOk result (λ e. e.hits
+        ≡ (spec.evaluate (record {
+          edition = edition.now;
+          packet = packet.now;
+          port = port.now;
+          second = second;
+        }) replies.now).hits) }
+    ensures outcome { IfOk result (λ e. outcome_of e.outcome
+        ≡ (spec.evaluate (record {
+          edition = edition.now;
+          packet = packet.now;
+          port = port.now;
+          second = second;
+        }) replies.now).outcome) }
 {
     let question = Question {
         edition,

@@ -13,7 +13,8 @@ use fw_rule::Rule;
 /// The place of the first rule numbered so or higher.
 pub(crate) fn first_from(question: &Question<'_, '_>, number: u16) -> usize
     ensures within { result ≤ length question.now.edition.now.config.rules }
-    ensures there { drop result question.now.edition.now.config.rules ≡ from number question.now.edition.now.config.rules }
+    ensures there { drop result question.now.edition.now.config.rules
+        ≡ from number question.now.edition.now.config.rules }
 {
     question.edition.first_from(number)
 }
@@ -25,7 +26,8 @@ pub(crate) fn place_skipped(question: &Question<'_, '_>, place: usize, number: u
     requires ordered { AscendsFrom 1 question.now.edition.now.config.rules }
     ensures within { result ≤ length question.now.edition.now.config.rules }
     ensures later { place < result }
-    ensures there { drop result question.now.edition.now.config.rules ≡ from number (drop (place + 1) question.now.edition.now.config.rules) }
+    ensures there { drop result question.now.edition.now.config.rules
+        ≡ from number (drop (place + 1) question.now.edition.now.config.rules) }
 {
     let next = place + 1;
     next.max(question.edition.first_from(number))
@@ -36,7 +38,8 @@ pub(crate) fn first_behind(question: &Question<'_, '_>, place: usize, rule: &Rul
     requires { IsRuleAt (question_of question.now) place rule.now }
     ensures within { result ≤ length question.now.edition.now.config.rules }
     ensures later { place < result }
-    ensures there { drop result question.now.edition.now.config.rules ≡ from (rule.now.number + 1) question.now.edition.now.config.rules }
+    ensures there { drop result question.now.edition.now.config.rules
+        ≡ from (rule.now.number + 1) question.now.edition.now.config.rules }
 {
     match rule.number.checked_add(1) {
         Some(next) => question.edition.first_from(next),
@@ -46,7 +49,8 @@ pub(crate) fn first_behind(question: &Question<'_, '_>, place: usize, rule: &Rul
 
 /// The rule of this identity and its place.
 pub(crate) fn place_of<'a>(question: &Question<'a, '_>, id: u32) -> Option<(usize, &'a Rule)>
-    ensures { MatchOption result (has_identity question.now.edition.now.config.rules id ≡ false) (λ r. IsMaker (question_of question.now) id r.0 r.1.now) }
+    ensures { MatchOption result (has_identity question.now.edition.now.config.rules id ≡ false)
+        (λ r. IsMaker (question_of question.now) id r.0 r.1.now) }
 {
     let place = question.edition.place_of(id)?;
     let rule = rule_at(question, place)?;

@@ -33,7 +33,9 @@ pub(crate) fn meet<'r>(
 ) -> Result<Story<'r>, OutOfMemory>
     requires shallow { depth ≤ 16 }
     requires within { place ≤ length question.now.edition.now.config.rules }
-    ensures { IfOk result (λ story. IsRun (question_of question.now) depth (seen_by looked.now) (Meets (drop place question.now.edition.now.config.rules)) replies.now (story_of story)) }
+    ensures { IfOk result (λ story.
+        IsRun (question_of question.now) depth (seen_by looked.now)
+        (Meets (drop place question.now.edition.now.config.rules)) replies.now (story_of story)) }
 {
     let Some(rule) = rule_at(question, place) else {
         let last = Ending::Ends(last_judgement(question), replies);
@@ -62,8 +64,11 @@ fn look<'r>(
     requires shallow { depth ≤ 16 }
     requires there { IsRuleAt (question_of question.now) place rule.now }
     requires enabled { spec.is_disabled (question_of question.now) rule.now ≡ false }
-    requires due { walk.lookup_flow (question_of question.now) (seen_by looked.now) rule.now ≡ Some flow }
-    ensures { IfOk result (λ story. IsRun (question_of question.now) depth (seen_by looked.now) (Meets (drop place question.now.edition.now.config.rules)) replies.now (story_of story)) }
+    requires due { walk.lookup_flow (question_of question.now) (seen_by looked.now) rule.now
+        ≡ Some flow }
+    ensures { IfOk result (λ story.
+        IsRun (question_of question.now) depth (seen_by looked.now)
+        (Meets (drop place question.now.edition.now.config.rules)) replies.now (story_of story)) }
 {
     let op = lookup_by(question, place, rule, flow);
     let Some((reply, left)) = replies.split_first() else {
@@ -99,7 +104,10 @@ fn test<'r>(
 ) -> Result<Story<'r>, OutOfMemory>
     requires shallow { depth ≤ 16 }
     requires there { IsRuleAt (question_of question.now) place rule.now }
-    ensures { IfOk result (λ story. IsRun (question_of question.now) depth (seen_by looked.now) (Tests rule.now (drop (place + 1) question.now.edition.now.config.rules)) replies.now (story_of story)) }
+    ensures { IfOk result (λ story.
+        IsRun (question_of question.now) depth (seen_by looked.now)
+        (Tests rule.now (drop (place + 1) question.now.edition.now.config.rules)) replies.now
+        (story_of story)) }
 {
     if is_check_state(&rule.action) {
         return meet(question, depth, looked, place + 1, replies);
@@ -134,7 +142,10 @@ fn install<'r>(
     requires held { spec.is_held (question_of question.now) rule.now ≡ true }
     requires made { spec.state_of rule.now ≡ Some state.now }
     requires flowing { spec.any_flow_of question.now.packet.now ≡ Some flow }
-    ensures { IfOk result (λ story. IsRun (question_of question.now) depth (seen_by looked.now) (Tests rule.now (drop (place + 1) question.now.edition.now.config.rules)) replies.now (story_of story)) }
+    ensures { IfOk result (λ story.
+        IsRun (question_of question.now) depth (seen_by looked.now)
+        (Tests rule.now (drop (place + 1) question.now.edition.now.config.rules)) replies.now
+        (story_of story)) }
 {
     let op = install_by(question, place, rule, state, flow);
     let Some((reply, left)) = replies.split_first() else {
@@ -162,7 +173,10 @@ fn act<'r>(
 ) -> Result<Story<'r>, OutOfMemory>
     requires shallow { depth ≤ 16 }
     requires there { IsRuleAt (question_of question.now) place rule.now }
-    ensures { IfOk result (λ story. IsRun (question_of question.now) depth (seen_by looked.now) (Acts rule.now (drop (place + 1) question.now.edition.now.config.rules)) replies.now (story_of story)) }
+    ensures { IfOk result (λ story.
+        IsRun (question_of question.now) depth (seen_by looked.now)
+        (Acts rule.now (drop (place + 1) question.now.edition.now.config.rules)) replies.now
+        (story_of story)) }
 {
     match &rule.action {
         Action::Allow => decided(question, rule, Verdict::Allow, replies),
@@ -208,7 +222,10 @@ fn call<'r>(
     requires shallow { depth ≤ 16 }
     requires there { IsRuleAt (question_of question.now) place rule.now }
     requires calling { rule.now.action ≡ action.Call number }
-    ensures { IfOk result (λ story. IsRun (question_of question.now) depth (seen_by looked.now) (Acts rule.now (drop (place + 1) question.now.edition.now.config.rules)) replies.now (story_of story)) }
+    ensures { IfOk result (λ story.
+        IsRun (question_of question.now) depth (seen_by looked.now)
+        (Acts rule.now (drop (place + 1) question.now.edition.now.config.rules)) replies.now
+        (story_of story)) }
 {
     if depth == MOST_CALLS {
         return hit(

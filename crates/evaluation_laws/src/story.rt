@@ -63,7 +63,8 @@ pub(crate) fn hit<'r>(counter: u32, story: Story<'r>) -> Result<Story<'r>, OutOf
 
 /// One run behind the other.
 pub(crate) fn behind<'r>(first: Story<'r>, story: Story<'r>) -> Result<Story<'r>, OutOfMemory>
-    ensures { IfOk result (λ both. story_of both ≡ spec.behind (story_of first.entry) (story_of story.entry)) }
+    ensures { IfOk result (λ both. story_of both
+        ≡ spec.behind (story_of first.entry) (story_of story.entry)) }
 {
     let mut first = first;
     let mut story = story;

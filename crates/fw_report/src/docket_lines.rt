@@ -57,7 +57,8 @@ fn count_part(cause: Cause) -> Part<'static>
 /// Appends the verdict where there is room for it, and says whether there was.
 #[inline(always)]
 fn add_verdict(line: &mut ArrayVec<u8, LINE_BYTES>, verdict: Verdict) -> bool
-    ensures { OnTrue result (line.new.items ≡ line.old.items ++ (text.verdict_word verdict ++ text.verdict_code verdict)) }
+    ensures { OnTrue result (line.new.items
+        ≡ line.old.items ++ (text.verdict_word verdict ++ text.verdict_code verdict)) }
 {
     match verdict {
         Verdict::Allow => add_text(line, b"allow"),
@@ -70,7 +71,8 @@ fn add_verdict(line: &mut ArrayVec<u8, LINE_BYTES>, verdict: Verdict) -> bool
 /// Appends the cause where there is room for it, and says whether there was.
 #[inline(always)]
 fn add_cause(line: &mut ArrayVec<u8, LINE_BYTES>, cause: Cause) -> bool
-    ensures { OnTrue result (line.new.items ≡ line.old.items ++ (text.cause_word cause ++ text.cause_count cause)) }
+    ensures { OnTrue result (line.new.items
+        ≡ line.old.items ++ (text.cause_word cause ++ text.cause_count cause)) }
 {
     match cause {
         Cause::Rule => true,
@@ -82,7 +84,11 @@ fn add_cause(line: &mut ArrayVec<u8, LINE_BYTES>, cause: Cause) -> bool
 /// Appends the verdict and the deciding rule where there is room for them, and says whether there was.
 #[inline(always)]
 fn add_decision(line: &mut ArrayVec<u8, LINE_BYTES>, verdict: Verdict, number: u16) -> bool
-    ensures { OnTrue result (line.new.items ≡ line.old.items ++ (codes " " ++ (text.verdict_word verdict ++ (text.verdict_code verdict ++ (codes " " ++ five_digits number))))) }
+    ensures { OnTrue result (line.new.items
+        ≡ line.old.items
+        ++ (codes " "
+        ++ (text.verdict_word verdict
+        ++ (text.verdict_code verdict ++ (codes " " ++ five_digits number))))) }
 {
     add_text(line, b" ")
         && add_verdict(line, verdict)
@@ -93,7 +99,11 @@ fn add_decision(line: &mut ArrayVec<u8, LINE_BYTES>, verdict: Verdict, number: u
 /// Appends the edition and the cause where there is room for them, and says whether there was.
 #[inline(always)]
 fn add_edition(line: &mut ArrayVec<u8, LINE_BYTES>, edition: u64, cause: Cause) -> bool
-    ensures { OnTrue result (line.new.items ≡ line.old.items ++ (codes " at " ++ (decimal edition ++ (text.cause_word cause ++ (text.cause_count cause ++ codes "\n"))))) }
+    ensures { OnTrue result (line.new.items
+        ≡ line.old.items
+        ++ (codes " at "
+        ++ (decimal edition
+        ++ (text.cause_word cause ++ (text.cause_count cause ++ codes "\n"))))) }
 {
     add_text(line, b" at ")
         && add_number(line, edition)
@@ -120,7 +130,8 @@ fn add_judged_line(
     at: u64,
     judgement: Judgement,
 ) -> bool
-    ensures { OnTrue result (line.new.items ≡ line.old.items ++ text.record_line capture at (DocketEntry.Judged judgement)) }
+    ensures { OnTrue result (line.new.items
+        ≡ line.old.items ++ text.record_line capture at (DocketEntry.Judged judgement)) }
 {
     add_number(line, capture)
         && add_text(line, b".")
@@ -135,7 +146,8 @@ fn write_judged<K: Sink>(
     at: u64,
     judgement: Judgement,
 ) -> Result<(), Failed>
-    ensures { WritesText (K.written out.old) (K.written out.new) (K.faults out.old) (K.faults out.new) (text.record_line capture at (DocketEntry.Judged judgement)) result }
+    ensures { WritesText (K.written out.old) (K.written out.new) (K.faults out.old)
+        (K.faults out.new) (text.record_line capture at (DocketEntry.Judged judgement)) result }
 {
     let mut line = ArrayVec::new();
     if add_judged_line(&mut line, capture, at, judgement) {
@@ -154,7 +166,8 @@ fn write_long_judged<K: Sink>(
     at: u64,
     judgement: Judgement,
 ) -> Result<(), Failed>
-    ensures { WritesText (K.written out.old) (K.written out.new) (K.faults out.old) (K.faults out.new) (text.record_line capture at (DocketEntry.Judged judgement)) result }
+    ensures { WritesText (K.written out.old) (K.written out.new) (K.faults out.old)
+        (K.faults out.new) (text.record_line capture at (DocketEntry.Judged judgement)) result }
 {
     let verdict = verdict_part(judgement.verdict);
     let code = verdict_code_part(judgement.verdict);
@@ -186,7 +199,8 @@ fn write_record<K: Sink>(
     at: u64,
     entry: DocketEntry,
 ) -> Result<(), Failed>
-    ensures { WritesText (K.written out.old) (K.written out.new) (K.faults out.old) (K.faults out.new) (text.record_line capture at entry) result }
+    ensures { WritesText (K.written out.old) (K.written out.new) (K.faults out.old)
+        (K.faults out.new) (text.record_line capture at entry) result }
 {
     let capture_number = Part::Number(capture);
     let number = Part::Number(at);
@@ -224,7 +238,8 @@ fn fault_part(fault: CaptureFault) -> Part<'static>
 /// Writes the line of a capture's end.
 #[tactic(auto, unfolding(crate::specs::DocketText::end_line))]
 fn write_end<K: Sink>(out: &mut K, capture: u64, end: CaptureEnd) -> Result<(), Failed>
-    ensures { WritesText (K.written out.old) (K.written out.new) (K.faults out.old) (K.faults out.new) (text.end_line capture end) result }
+    ensures { WritesText (K.written out.old) (K.written out.new) (K.faults out.old)
+        (K.faults out.new) (text.end_line capture end) result }
 {
     let capture = Part::Number(capture);
     match end {
@@ -260,7 +275,8 @@ fn write_capture<K: Sink>(
     entries: &[DocketEntry],
     end: CaptureEnd,
 ) -> Result<(), Failed>
-    ensures { WritesText (K.written out.old) (K.written out.new) (K.faults out.old) (K.faults out.new) (text.capture_text capture entries.now end) result }
+    ensures { WritesText (K.written out.old) (K.written out.new) (K.faults out.old)
+        (K.faults out.new) (text.capture_text capture entries.now end) result }
 {
     let mut at = 1u64;
     for entry in entries {
@@ -276,7 +292,8 @@ pub(crate) fn write_captures<K: Sink>(
     dockets: &[Docket],
     ends: &[CaptureEnd],
 ) -> Result<(), Failed>
-    ensures { WritesText (K.written out.old) (K.written out.new) (K.faults out.old) (K.faults out.new) (text.captures_text 1 dockets.now ends.now) result }
+    ensures { WritesText (K.written out.old) (K.written out.new) (K.faults out.old)
+        (K.faults out.new) (text.captures_text 1 dockets.now ends.now) result }
 {
     let mut capture = 1u64;
     let mut rest = ends;

@@ -18,7 +18,8 @@ use state_journal::Entry;
 /// Writes the hits of a lane's cache.
 #[tactic(auto, unfolding(crate::specs::JournalText::hits_line))]
 fn write_lane_hits<K: Sink>(out: &mut K, lane: u64, hits: u64) -> Result<(), Failed>
-    ensures { WritesText (K.written out.old) (K.written out.new) (K.faults out.old) (K.faults out.new) (text.hits_line lane hits) result }
+    ensures { WritesText (K.written out.old) (K.written out.new) (K.faults out.old)
+        (K.faults out.new) (text.hits_line lane hits) result }
 {
     let (lane, hits) = (Part::Number(lane), Part::Number(hits));
     let (word, end) = (Part::Text(b" hits "), Part::Text(b"\n"));
@@ -27,7 +28,8 @@ fn write_lane_hits<K: Sink>(out: &mut K, lane: u64, hits: u64) -> Result<(), Fai
 
 /// Writes the hits of the lanes' caches, in the order of the lanes.
 pub(crate) fn write_hits<K: Sink>(out: &mut K, hits: &[u64]) -> Result<(), Failed>
-    ensures { WritesText (K.written out.old) (K.written out.new) (K.faults out.old) (K.faults out.new) (text.hits_text 1 hits.now) result }
+    ensures { WritesText (K.written out.old) (K.written out.new) (K.faults out.old)
+        (K.faults out.new) (text.hits_text 1 hits.now) result }
 {
     let mut lane = 1u64;
     for count in hits {
@@ -274,7 +276,8 @@ fn write_ask<K: Sink>(
     op: &Op,
     reply: Reply,
 ) -> Result<(), Failed>
-    ensures { WritesText (K.written out.old) (K.written out.new) (K.faults out.old) (K.faults out.new) (text.ask_line names.now lane at op.now reply) result }
+    ensures { WritesText (K.written out.old) (K.written out.new) (K.faults out.old)
+        (K.faults out.new) (text.ask_line names.now lane at op.now reply) result }
 {
     let start = ask_start_parts(lane, at, second_of(op));
     let asked = op_parts(names, op);
@@ -286,14 +289,16 @@ fn write_ask<K: Sink>(
 /// Writes the line of a publication.
 #[tactic(auto, unfolding(crate::specs::JournalText::publish_line))]
 fn write_publication<K: Sink>(out: &mut K, number: u64) -> Result<(), Failed>
-    ensures { WritesText (K.written out.old) (K.written out.new) (K.faults out.old) (K.faults out.new) (text.publish_line number) result }
+    ensures { WritesText (K.written out.old) (K.written out.new) (K.faults out.old)
+        (K.faults out.new) (text.publish_line number) result }
 {
     let number = Part::Number(number);
     write_line(out, &[Part::Text(b"publish "), number, Part::Text(b"\n")])
 }
 
 fn write_entry<K: Sink>(out: &mut K, names: &[Name], entry: &Entry) -> Result<(), Failed>
-    ensures { WritesText (K.written out.old) (K.written out.new) (K.faults out.old) (K.faults out.new) (text.entry_line names.now entry.now) result }
+    ensures { WritesText (K.written out.old) (K.written out.new) (K.faults out.old)
+        (K.faults out.new) (text.entry_line names.now entry.now) result }
 {
     match entry {
         Entry::Publish(number) => write_publication(out, *number),
@@ -307,7 +312,8 @@ fn write_entry<K: Sink>(out: &mut K, names: &[Name], entry: &Entry) -> Result<()
 }
 
 fn write_entries<K: Sink>(out: &mut K, names: &[Name], entries: &[Entry]) -> Result<(), Failed>
-    ensures { WritesText (K.written out.old) (K.written out.new) (K.faults out.old) (K.faults out.new) (flat_map (text.entry_line names.now) entries.now) result }
+    ensures { WritesText (K.written out.old) (K.written out.new) (K.faults out.old)
+        (K.faults out.new) (flat_map (text.entry_line names.now) entries.now) result }
 {
     for entry in entries {
         write_entry(out, names, entry)?;
@@ -318,7 +324,8 @@ fn write_entries<K: Sink>(out: &mut K, names: &[Name], entries: &[Entry]) -> Res
 /// Writes a lane's refused entries, and its tracker's word.
 #[tactic(auto, unfolding(crate::specs::JournalText::lane_line))]
 fn write_lane<K: Sink>(out: &mut K, lane: u64, refused: u64, tracker: u64) -> Result<(), Failed>
-    ensures { WritesText (K.written out.old) (K.written out.new) (K.faults out.old) (K.faults out.new) (text.lane_line lane refused tracker) result }
+    ensures { WritesText (K.written out.old) (K.written out.new) (K.faults out.old)
+        (K.faults out.new) (text.lane_line lane refused tracker) result }
 {
     let line = [
         Part::Text(b"lane "),
@@ -333,7 +340,8 @@ fn write_lane<K: Sink>(out: &mut K, lane: u64, refused: u64, tracker: u64) -> Re
 }
 
 fn write_lanes<K: Sink>(out: &mut K, dockets: &[Docket], trackers: &[u64]) -> Result<(), Failed>
-    ensures { WritesText (K.written out.old) (K.written out.new) (K.faults out.old) (K.faults out.new) (text.lanes_text 1 dockets.now trackers.now) result }
+    ensures { WritesText (K.written out.old) (K.written out.new) (K.faults out.old)
+        (K.faults out.new) (text.lanes_text 1 dockets.now trackers.now) result }
 {
     let mut lane = 1u64;
     let mut rest = trackers;
@@ -350,7 +358,8 @@ fn write_lanes<K: Sink>(out: &mut K, dockets: &[Docket], trackers: &[u64]) -> Re
 
 #[tactic(auto, unfolding(crate::specs::JournalText::journal_heading))]
 fn write_heading<K: Sink>(out: &mut K, entries: usize) -> Result<(), Failed>
-    ensures { WritesText (K.written out.old) (K.written out.new) (K.faults out.old) (K.faults out.new) (text.journal_heading entries) result }
+    ensures { WritesText (K.written out.old) (K.written out.new) (K.faults out.old)
+        (K.faults out.new) (text.journal_heading entries) result }
 {
     let entries = Part::Number(entries as u64);
     write_line(
@@ -367,7 +376,9 @@ pub(crate) fn write_journal<K: Sink>(
     dockets: &[Docket],
     trackers: &[u64],
 ) -> Result<(), Failed>
-    ensures { WritesText (K.written out.old) (K.written out.new) (K.faults out.old) (K.faults out.new) (text.journal_text names.now entries.now dockets.now trackers.now) result }
+    ensures { WritesText (K.written out.old) (K.written out.new) (K.faults out.old)
+        (K.faults out.new) (text.journal_text names.now entries.now dockets.now trackers.now)
+        result }
 {
     write_heading(out, entries.len())?;
     write_entries(out, names, entries)?;

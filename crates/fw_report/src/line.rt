@@ -46,7 +46,8 @@ pub(crate) fn add_five_digits(line: &mut ArrayVec<u8, LINE_BYTES>, n: u16) -> bo
 
 /// Appends two numbers with a dot between them.
 fn add_dotted(line: &mut ArrayVec<u8, LINE_BYTES>, first: u8, second: u8) -> bool
-    ensures { OnTrue result (line.new.items ≡ line.old.items ++ (decimal first ++ (codes "." ++ decimal second))) }
+    ensures { OnTrue result (line.new.items
+        ≡ line.old.items ++ (decimal first ++ (codes "." ++ decimal second))) }
 {
     add_number(line, u64::from(first))
         && add_text(line, b".")
@@ -86,7 +87,8 @@ pub(crate) fn add_parts(line: &mut ArrayVec<u8, LINE_BYTES>, parts: &[Part<'_>])
 }
 
 fn write_part<K: Sink>(out: &mut K, part: Part<'_>) -> Result<(), Failed>
-    ensures { WritesText (K.written out.old) (K.written out.new) (K.faults out.old) (K.faults out.new) (part_text part.entry) result }
+    ensures { WritesText (K.written out.old) (K.written out.new) (K.faults out.old)
+        (K.faults out.new) (part_text part.entry) result }
 {
     match part {
         Part::Text(text) => write_text(out, text),
@@ -102,7 +104,8 @@ fn write_part<K: Sink>(out: &mut K, part: Part<'_>) -> Result<(), Failed>
 /// Writes the parts one after another.
 #[inline(never)]
 fn write_parts<K: Sink>(out: &mut K, parts: &[Part<'_>]) -> Result<(), Failed>
-    ensures { WritesText (K.written out.old) (K.written out.new) (K.faults out.old) (K.faults out.new) (parts_text parts.now) result }
+    ensures { WritesText (K.written out.old) (K.written out.new) (K.faults out.old)
+        (K.faults out.new) (parts_text parts.now) result }
 {
     for part in parts {
         write_part(out, *part)?;
@@ -112,7 +115,8 @@ fn write_parts<K: Sink>(out: &mut K, parts: &[Part<'_>]) -> Result<(), Failed>
 
 /// Writes a line, or a piece of one, that is made of these parts: at once, unless it is long.
 pub(crate) fn write_line<K: Sink>(out: &mut K, parts: &[Part<'_>]) -> Result<(), Failed>
-    ensures { WritesText (K.written out.old) (K.written out.new) (K.faults out.old) (K.faults out.new) (parts_text parts.now) result }
+    ensures { WritesText (K.written out.old) (K.written out.new) (K.faults out.old)
+        (K.faults out.new) (parts_text parts.now) result }
 {
     let mut line = ArrayVec::new();
     if add_parts(&mut line, parts) {
@@ -131,7 +135,10 @@ fn write_four_lists<K: Sink>(
     third: &[Part<'_>],
     fourth: &[Part<'_>],
 ) -> Result<(), Failed>
-    ensures { WritesText (K.written out.old) (K.written out.new) (K.faults out.old) (K.faults out.new) (parts_text first.now ++ (parts_text second.now ++ (parts_text third.now ++ parts_text fourth.now))) result }
+    ensures { WritesText (K.written out.old) (K.written out.new) (K.faults out.old)
+        (K.faults out.new)
+        (parts_text first.now
+        ++ (parts_text second.now ++ (parts_text third.now ++ parts_text fourth.now))) result }
 {
     write_parts(out, first)?;
     write_parts(out, second)?;
@@ -147,7 +154,10 @@ pub(crate) fn write_four<K: Sink>(
     third: &[Part<'_>],
     fourth: &[Part<'_>],
 ) -> Result<(), Failed>
-    ensures { WritesText (K.written out.old) (K.written out.new) (K.faults out.old) (K.faults out.new) (parts_text first.now ++ (parts_text second.now ++ (parts_text third.now ++ parts_text fourth.now))) result }
+    ensures { WritesText (K.written out.old) (K.written out.new) (K.faults out.old)
+        (K.faults out.new)
+        (parts_text first.now
+        ++ (parts_text second.now ++ (parts_text third.now ++ parts_text fourth.now))) result }
 {
     let mut line = ArrayVec::new();
     let is_whole = add_parts(&mut line, first)

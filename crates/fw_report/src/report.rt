@@ -29,7 +29,8 @@ pub(crate) fn last_of(editions: &[Arc<Edition>]) -> &Edition
 }
 
 fn write_live<K: Sink>(out: &mut K, names: &[Name], states: &States) -> Result<(), Failed>
-    ensures { WritesText (K.written out.old) (K.written out.new) (K.faults out.old) (K.faults out.new) (states_text names.now states.now.object) result }
+    ensures { WritesText (K.written out.old) (K.written out.new) (K.faults out.old)
+        (K.faults out.new) (states_text names.now states.now.object) result }
 {
     write_states(states, names, out).map_err(|_| Failed)
 }
@@ -41,7 +42,8 @@ fn write_last<K: Sink>(
     tallies: &[Tally],
     states: &States,
 ) -> Result<(), Failed>
-    ensures { WritesText (K.written out.old) (K.written out.new) (K.faults out.old) (K.faults out.new) (text.last_text config.now tallies.now states.now.object) result }
+    ensures { WritesText (K.written out.old) (K.written out.new) (K.faults out.old)
+        (K.faults out.new) (text.last_text config.now tallies.now states.now.object) result }
 {
     write_disabled(out, config.disabled())?;
     write_counted_rules(out, tallies, config.rules())?;
@@ -57,7 +59,9 @@ fn write_optional_journal<K: Sink>(
     dockets: &[Docket],
     trackers: &[u64],
 ) -> Result<(), Failed>
-    ensures { WritesText (K.written out.old) (K.written out.new) (K.faults out.old) (K.faults out.new) (optional_journal journal names.now entries.now dockets.now trackers.now) result }
+    ensures { WritesText (K.written out.old) (K.written out.new) (K.faults out.old)
+        (K.faults out.new) (optional_journal journal names.now entries.now dockets.now trackers.now)
+        result }
 {
     if journal {
         write_journal(out, names, entries, dockets, trackers)
@@ -73,7 +77,10 @@ fn write_start<K: Sink>(
     dockets: &[Docket],
     ends: &Ends,
 ) -> Result<(), Failed>
-    ensures { WritesText (K.written out.old) (K.written out.new) (K.faults out.old) (K.faults out.new) (text.start_text (map arc_value editions.now) dockets.now ends.now.captures ends.now.answers) result }
+    ensures { WritesText (K.written out.old) (K.written out.new) (K.faults out.old)
+        (K.faults out.new)
+        (text.start_text (map arc_value editions.now) dockets.now ends.now.captures
+        ends.now.answers) result }
 {
     write_captures(out, dockets, ends.captures.as_slice())?;
     write_answers(out, editions, ends.answers.as_slice())?;
@@ -90,7 +97,17 @@ fn write_closing<K: Sink>(
     hits: &[u64],
     journal: bool,
 ) -> Result<(), Failed>
-    ensures { WritesText (K.written out.old) (K.written out.new) (K.faults out.old) (K.faults out.new) (text.closing_text (record { editions = []; journal = book.now; dockets = dockets.now; tallies = tallies.now; trackers = trackers.now; hits = hits.now }) journal config.now) result }
+    ensures { WritesText (K.written out.old) (K.written out.new) (K.faults out.old)
+        (K.faults out.new)
+        (text.closing_text (record {
+          editions = [];
+          journal = book.now;
+          dockets = dockets.now;
+          tallies = tallies.now;
+          trackers = trackers.now;
+          hits = hits.now;
+        }) journal config.now)
+        result }
 {
     write_last(out, config, tallies, book.states())?;
     write_hits(out, hits)?;
@@ -117,7 +134,17 @@ fn write_sections<K: Sink>(
     journal: bool,
 ) -> Result<(), Failed>
     requires { 0 < length editions.now }
-    ensures { WritesText (K.written out.old) (K.written out.new) (K.faults out.old) (K.faults out.new) (text.report_text (record { editions = map arc_value editions.now; journal = book.now; dockets = dockets.now; tallies = tallies.now; trackers = trackers.now; hits = hits.now }) ends.now.captures ends.now.answers journal) result }
+    ensures { WritesText (K.written out.old) (K.written out.new) (K.faults out.old)
+        (K.faults out.new)
+        (text.report_text (record {
+          editions = map arc_value editions.now;
+          journal = book.now;
+          dockets = dockets.now;
+          tallies = tallies.now;
+          trackers = trackers.now;
+          hits = hits.now;
+        })
+        ends.now.captures ends.now.answers journal) result }
 {
     let config = last_of(editions).config();
     write_start(out, editions, dockets, ends)?;
@@ -139,7 +166,17 @@ pub fn write_report<K: Sink>(
     out: &mut K,
 ) -> Result<(), WriteFault>
     requires { 0 < length editions.now }
-    ensures { WritesText (K.written out.old) (K.written out.new) (K.faults out.old) (K.faults out.new) (text.report_text (record { editions = map arc_value editions.now; journal = book.now; dockets = dockets.now; tallies = tallies.now; trackers = trackers.now; hits = hits.now }) ends.now.captures ends.now.answers journal) result }
+    ensures { WritesText (K.written out.old) (K.written out.new) (K.faults out.old)
+        (K.faults out.new)
+        (text.report_text (record {
+          editions = map arc_value editions.now;
+          journal = book.now;
+          dockets = dockets.now;
+          tallies = tallies.now;
+          trackers = trackers.now;
+          hits = hits.now;
+        })
+        ends.now.captures ends.now.answers journal) result }
 {
     write_sections(
         out, editions, book, dockets, tallies, trackers, hits, ends, journal,

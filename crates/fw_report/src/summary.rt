@@ -88,7 +88,8 @@ fn write_totals<K: Sink>(
     entries: usize,
     states: usize,
 ) -> Result<(), Failed>
-    ensures { WritesText (K.written out.old) (K.written out.new) (K.faults out.old) (K.faults out.new) (text.summary_text dockets.now editions entries states) result }
+    ensures { WritesText (K.written out.old) (K.written out.new) (K.faults out.old)
+        (K.faults out.new) (text.summary_text dockets.now editions entries states) result }
 {
     let counted = add_up(dockets);
     let mut records = Buffer::new();
@@ -122,7 +123,10 @@ pub fn write_summary<K: Sink>(
     _tallies: &[Tally],
     out: &mut K,
 ) -> Result<(), WriteFault>
-    ensures { WritesText (K.written out.old) (K.written out.new) (K.faults out.old) (K.faults out.new) (text.summary_text dockets.now (length editions.now) (length book.now.entries) (length book.now.object.states)) result }
+    ensures { WritesText (K.written out.old) (K.written out.new) (K.faults out.old)
+        (K.faults out.new)
+        (text.summary_text dockets.now (length editions.now) (length book.now.entries)
+        (length book.now.object.states)) result }
 {
     let states = book.states().count();
     write_totals(out, dockets, editions.len(), book.entries().len(), states).map_err(|_| WriteFault)

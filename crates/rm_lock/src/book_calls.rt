@@ -15,7 +15,9 @@ impl<E: Numbered<Tag = B::Facts>, B: Kept> RmLock<E, B> {
     pub fn take_book<R: Wait>(&self, rt: &R, r: Reading<E, B>) -> Holding<E, B>
         requires lock { r.table_id ≡ self.now }
         ensures lock { result.table_id ≡ self.now }
-        ensures taken { TakesBook (meanings E.number E.tag E.name B.number B.tag B.ready B.of B.facts_item) r.view result.view result.book }
+        ensures taken { TakesBook
+            (meanings E.number E.tag E.name B.number B.tag B.ready B.of B.facts_item) r.view
+            result.view result.book }
     {
         let Reading {
             mut seat,
@@ -35,7 +37,8 @@ impl<E: Numbered<Tag = B::Facts>, B: Kept> RmLock<E, B> {
     /// `take_book` by one try, which waits for nobody. `Busy` tells whom that try saw to have the book.
     pub fn try_take_book(&self, r: Reading<E, B>) -> Result<Holding<E, B>, Busy<Reading<E, B>>>
         requires lock { r.table_id ≡ self.now }
-        ensures tried { TriesToTakeBook (meanings E.number E.tag E.name B.number B.tag B.ready B.of B.facts_item) r result }
+        ensures tried { TriesToTakeBook
+            (meanings E.number E.tag E.name B.number B.tag B.ready B.of B.facts_item) r result }
     {
         let Reading {
             mut seat,
@@ -67,9 +70,13 @@ impl<E: Numbered<Tag = B::Facts>, B: Kept> RmLock<E, B> {
     /// ready if it was. It waits for nobody.
     pub fn give_book(&self, h: Holding<E, B>) -> Reading<E, B>
         requires lock { h.table_id ≡ self.now }
-        requires left { IsAsTaken (meanings E.number E.tag E.name B.number B.tag B.ready B.of B.facts_item) h.view h.book }
+        requires left { IsAsTaken
+            (meanings E.number E.tag E.name B.number B.tag B.ready B.of B.facts_item) h.view
+            h.book }
         ensures lock { result.table_id ≡ self.now }
-        ensures given { result.view ≡ gave_book (meanings E.number E.tag E.name B.number B.tag B.ready B.of B.facts_item) h.view h.book }
+        ensures given { result.view
+            ≡ gave_book (meanings E.number E.tag E.name B.number B.tag B.ready B.of B.facts_item)
+            h.view h.book }
     {
         let Holding {
             mut seat,
@@ -91,7 +98,9 @@ impl<E: Numbered<Tag = B::Facts>, B: Kept> RmLock<E, B> {
     pub fn open_book<R: Wait>(&self, rt: &R, o: Operator<E, B>) -> Keeping<E, B>
         requires lock { o.table_id ≡ self.now }
         ensures lock { result.table_id ≡ self.now }
-        ensures opened { OpensBook (meanings E.number E.tag E.name B.number B.tag B.ready B.of B.facts_item) o.view result.view result.book }
+        ensures opened { OpensBook
+            (meanings E.number E.tag E.name B.number B.tag B.ready B.of B.facts_item) o.view
+            result.view result.book }
     {
         let Operator {
             mut seat,
@@ -112,9 +121,13 @@ impl<E: Numbered<Tag = B::Facts>, B: Kept> RmLock<E, B> {
     /// Where it is ready the operator knows it, until the publication. It waits for nobody.
     pub fn shut_book(&self, k: Keeping<E, B>) -> Operator<E, B>
         requires lock { k.table_id ≡ self.now }
-        requires left { IsAsFound (meanings E.number E.tag E.name B.number B.tag B.ready B.of B.facts_item) k.view k.book }
+        requires left { IsAsFound
+            (meanings E.number E.tag E.name B.number B.tag B.ready B.of B.facts_item) k.view
+            k.book }
         ensures lock { result.table_id ≡ self.now }
-        ensures given { result.view ≡ gave_book (meanings E.number E.tag E.name B.number B.tag B.ready B.of B.facts_item) k.view k.book }
+        ensures given { result.view
+            ≡ gave_book (meanings E.number E.tag E.name B.number B.tag B.ready B.of B.facts_item)
+            k.view k.book }
     {
         let Keeping {
             mut seat,

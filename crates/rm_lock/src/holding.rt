@@ -43,7 +43,9 @@ impl<E: Numbered<Tag = B::Facts>, B: Kept> Holding<E, B> {
 
     /// The book, for writing.
     pub fn book(&mut self) -> &mut B
-        ensures* writes_back { sem 𝓛 (Lends (the_row E.row B.row E.Label.row B.Facts.row B.Item.row E.Numbered B.Kept) B.row self.entry result (with_book self.old)) }
+        ensures* writes_back { sem 𝓛
+            (Lends (the_row E.row B.row E.Label.row B.Facts.row B.Item.row E.Numbered B.Kept) B.row
+            self.entry result (with_book self.old)) }
         ensures value { result.now ≡ self.old.book }
     {
         &mut self.book

@@ -24,13 +24,17 @@ impl<E: Numbered<Tag = B::Facts>, B: Kept> Model for Keeping<E, B> {
 
     ghost view = { λ k. record { table_id = k.seat.table_id; view = k.seat.me.0; book = k.book } };
 
-    ghost invariant = { λ k. KeepsBy (meanings E.number E.tag E.name B.number B.tag B.ready B.of B.facts_item) k.processors k.number k.seat.me.0 k.seat.me.1 };
+    ghost invariant = { λ k.
+        KeepsBy (meanings E.number E.tag E.name B.number B.tag B.ready B.of B.facts_item)
+        k.processors k.number k.seat.me.0 k.seat.me.1 };
 }
 
 impl<E: Numbered<Tag = B::Facts>, B: Kept> Keeping<E, B> {
     /// The book, for writing.
     pub fn book(&mut self) -> &mut B
-        ensures* writes_back { sem 𝓛 (Lends (the_row E.row B.row E.Label.row B.Facts.row B.Item.row E.Numbered B.Kept) B.row self.entry result (with_book self.old)) }
+        ensures* writes_back { sem 𝓛
+            (Lends (the_row E.row B.row E.Label.row B.Facts.row B.Item.row E.Numbered B.Kept) B.row
+            self.entry result (with_book self.old)) }
         ensures value { result.now ≡ self.old.book }
     {
         &mut self.book

@@ -21,11 +21,15 @@ fn split_all<E: Numbered<Tag = B::Facts>, B: Kept>(
     requires table { seat.old.table_id ≡ table.now }
     requires count { seat.old.me.0.count ≡ processors }
     requires few { processors ≤ 64 }
-    requires opening { (parts : ℕ → Part E E.Label B.Item) × IsOpening 1 parts seat.old.me.0 seat.old.me.1 × ((k : ℕ) → ((parts k).held ≡ number) × ((parts k).pairs ≡ [])) }
+    requires opening { (parts : ℕ → Part E E.Label B.Item)
+        × IsOpening 1 parts seat.old.me.0 seat.old.me.1
+        × ((k : ℕ) → ((parts k).held ≡ number) × ((parts k).pairs ≡ [])) }
     ensures table { seat.new.table_id ≡ seat.old.table_id }
     ensures at_rest { IfOk result (λ _. IsAtRest seat.new.me.0 seat.new.me.1) }
     ensures same { IfOk result (λ _. unkept seat.new.me.0 ≡ unkept seat.old.me.0) }
-    ensures tokens { IfOk result (λ ps. (parts : ℕ → Part E E.Label B.Item) → IsOpening 1 parts seat.old.me.0 seat.old.me.1 → ps.items ≡ values_from (new_token table.now seat.old.me.0 parts) 1 processors) }
+    ensures tokens { IfOk result (λ ps. (parts : ℕ → Part E E.Label B.Item)
+        → IsOpening 1 parts seat.old.me.0 seat.old.me.1
+        → ps.items ≡ values_from (new_token table.now seat.old.me.0 parts) 1 processors) }
 {
     let mut tokens = Vec::with_capacity(alloc, processors as usize)?;
     for place in 1..processors + 1 {
@@ -45,8 +49,12 @@ impl<E: Numbered<Tag = B::Facts>, B: Kept> RmLock<E, B> {
     /// number and tag, and one name. It also takes the memory that `close` needs.
     pub fn open(alloc: Global, editions: Vec<E>, book: B) -> Result<Opened<E, B>, OutOfMemory>
         requires most { vec_len editions ≤ 64 }
-        requires opens { (edition : E) × (slice_get editions.items 0 ≡ Some edition) × Opens (meanings E.number E.tag E.name B.number B.tag B.ready B.of B.facts_item) editions.items edition book }
-        ensures opened { IfOk result (λ o. (edition : E) → slice_get editions.items 0 ≡ Some edition → OpensAs (meanings E.number E.tag E.name B.number B.tag B.ready B.of B.facts_item) (vec_len editions) edition book o.lock o.processors.items o.operator) }
+        requires opens { (edition : E) × (slice_get editions.items 0 ≡ Some edition)
+            × Opens (meanings E.number E.tag E.name B.number B.tag B.ready B.of B.facts_item)
+            editions.items edition book }
+        ensures opened { IfOk result (λ o. (edition : E) → slice_get editions.items 0 ≡ Some edition
+            → OpensAs (meanings E.number E.tag E.name B.number B.tag B.ready B.of B.facts_item)
+            (vec_len editions) edition book o.lock o.processors.items o.operator) }
     {
         let processors = editions.len() as u32;
         let number = book.current();

@@ -56,7 +56,9 @@ pub(crate) fn drain_all<E: Numbered<Tag = B::Facts>, B: Kept, R: Wait>(
     requires size { length seat.old.me.0.drained ≡ processors + 1 }
     requires hand { seat.old.me.1 ≡ [] }
     ensures table { seat.new.table_id ≡ seat.old.table_id }
-    ensures found { HasFoundAll (meanings E.number E.tag E.name B.number B.tag B.ready B.of B.facts_item) seat.old.me seat.new.me }
+    ensures found { HasFoundAll
+        (meanings E.number E.tag E.name B.number B.tag B.ready B.of B.facts_item) seat.old.me
+        seat.new.me }
 {
     for done in 0..processors {
         waits::drain(table, rt, seat, processors - done);
@@ -75,7 +77,8 @@ fn exchange_one<E: Numbered<Tag = B::Facts>, B: Kept>(
     requires on_top { (e : E) × (seat.old.me.1 ≡ (place, Edition (Some e)) ∷ rest seat.old.me.1) }
     ensures table { seat.new.table_id ≡ seat.old.table_id }
     ensures was { seat.old.me.1 ≡ (place, Edition (Some edition.new)) ∷ rest seat.old.me.1 }
-    ensures now { seat.new.me ≡ (seat.old.me.0, rest seat.old.me.1 ++ (place, Edition (Some edition.old)) ∷ []) }
+    ensures now { seat.new.me
+        ≡ (seat.old.me.0, rest seat.old.me.1 ++ (place, Edition (Some edition.old)) ∷ []) }
 {
     let old = take_edition(table, seat, place);
     let new = mem::replace(edition, old);
@@ -91,7 +94,8 @@ pub(crate) fn exchange_all<E: Numbered<Tag = B::Facts>, B: Kept>(
 )
     requires table { seat.old.table_id ≡ table.now }
     requires few { vec_len editions.old ≤ 64 }
-    requires hand { (olds : List E) × (length olds ≡ vec_len editions.old) × (seat.old.me.1 ≡ editions_from 1 olds []) }
+    requires hand { (olds : List E) × (length olds ≡ vec_len editions.old)
+        × (seat.old.me.1 ≡ editions_from 1 olds []) }
     ensures table { seat.new.table_id ≡ seat.old.table_id }
     ensures was { seat.old.me.1 ≡ editions_from 1 editions.new.items [] }
     ensures count { vec_len editions.new ≡ vec_len editions.old }
@@ -112,7 +116,10 @@ fn take_free_book<E: Numbered<Tag = B::Facts>, B: Kept>(
     requires drained { AllDrained seat.old.me.0 }
     requires bookless { seat.old.me.0.book ≡ None }
     ensures table { seat.new.table_id ≡ seat.old.table_id }
-    ensures taken { (seat.new.me ≡ (noted (book_taken seat.old.me.0 result) book_index 0, (0, Book None) ∷ seat.old.me.1)) × FoundBy (meanings E.number E.tag E.name B.number B.tag B.ready B.of B.facts_item) seat.old.me.0 result }
+    ensures taken { (seat.new.me
+        ≡ (noted (book_taken seat.old.me.0 result) book_index 0, (0, Book None) ∷ seat.old.me.1))
+        × FoundBy (meanings E.number E.tag E.name B.number B.tag B.ready B.of B.facts_item)
+        seat.old.me.0 result }
 {
     let _ = table.take_book(seat);
     take_out_book(table, seat)
@@ -126,11 +133,19 @@ pub(crate) fn publish_book<E: Numbered<Tag = B::Facts>, B: Kept>(
 )
     requires table { seat.old.table_id ≡ table.now }
     requires writing { IsWriting seat.old.me.0 }
-    requires editions { (editions : List E) × (length editions ≡ seat.old.me.0.count) × (seat.old.me.1 ≡ editions_from 1 editions []) × AreNext (meanings E.number E.tag E.name B.number B.tag B.ready B.of B.facts_item) seat.old.me.0.number editions facts }
+    requires editions { (editions : List E) × (length editions ≡ seat.old.me.0.count)
+        × (seat.old.me.1 ≡ editions_from 1 editions [])
+        × AreNext (meanings E.number E.tag E.name B.number B.tag B.ready B.of B.facts_item)
+        seat.old.me.0.number editions facts }
     requires facts { B.facts_number facts ≡ seat.old.me.0.number + 1 }
     ensures table { seat.new.table_id ≡ seat.old.table_id }
     ensures hand { seat.new.me.1 ≡ [] }
-    ensures published { (editions : List E) → length editions ≡ seat.old.me.0.count → seat.old.me.1 ≡ editions_from 1 editions [] → AreNext (meanings E.number E.tag E.name B.number B.tag B.ready B.of B.facts_item) seat.old.me.0.number editions facts → Publishes (meanings E.number E.tag E.name B.number B.tag B.ready B.of B.facts_item) seat.old.me.0 editions facts seat.new.me.0 }
+    ensures published { (editions : List E) → length editions ≡ seat.old.me.0.count
+        → seat.old.me.1 ≡ editions_from 1 editions []
+        → AreNext (meanings E.number E.tag E.name B.number B.tag B.ready B.of B.facts_item)
+        seat.old.me.0.number editions facts
+        → Publishes (meanings E.number E.tag E.name B.number B.tag B.ready B.of B.facts_item)
+        seat.old.me.0 editions facts seat.new.me.0 }
 {
     let mut book = take_free_book(table, seat);
     book.publish(facts);

@@ -33,7 +33,8 @@ pub(crate) fn put_edition<E: Numbered<Tag = B::Facts>, B: Kept>(
     requires table { seat.old.table_id ≡ table.now }
     requires on_top { seat.old.me.1 ≡ (place, Edition None) ∷ rest seat.old.me.1 }
     ensures table { seat.new.table_id ≡ seat.old.table_id }
-    ensures now { seat.new.me ≡ (seat.old.me.0, (place, Edition (Some edition)) ∷ rest seat.old.me.1) }
+    ensures now { seat.new.me
+        ≡ (seat.old.me.0, (place, Edition (Some edition)) ∷ rest seat.old.me.1) }
 {
     let _ = table.exchange_edition(seat, place, Some(edition));
 }

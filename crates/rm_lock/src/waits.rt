@@ -38,7 +38,9 @@ pub(crate) fn take_book<E: Numbered<Tag = B::Facts>, B: Kept, R: Wait>(
     requires working { IsWorking seat.old.me.0 }
     requires inside { seat.old.me.0.role ≡ Role.Processor → seat.old.me.0.phase ≡ Phase.In }
     ensures table { seat.new.table_id ≡ seat.old.table_id }
-    ensures taken { TakenBook (meanings E.number E.tag E.name B.number B.tag B.ready B.of B.facts_item) seat.old.me seat.new.me }
+    ensures taken { TakenBook
+        (meanings E.number E.tag E.name B.number B.tag B.ready B.of B.facts_item) seat.old.me
+        seat.new.me }
 {
     for _ in rt.forever() {
         match table.take_book(seat) {
@@ -63,7 +65,8 @@ pub(crate) fn drain<E: Numbered<Tag = B::Facts>, B: Kept, R: Wait>(
     requires revoked { is_revoked seat.old.me.0 processor ≡ true }
     requires undrained { is_drained seat.old.me.0 processor ≡ false }
     ensures table { seat.new.table_id ≡ seat.old.table_id }
-    ensures out { FoundOut (meanings E.number E.tag E.name B.number B.tag B.ready B.of B.facts_item) seat.old.me processor seat.new.me }
+    ensures out { FoundOut (meanings E.number E.tag E.name B.number B.tag B.ready B.of B.facts_item)
+        seat.old.me processor seat.new.me }
 {
     for _ in rt.forever() {
         match table.drain(seat, processor) {

@@ -19,8 +19,10 @@ struct Single {
 }
 
 fn open_single(rt: &impl Abort, alloc: Global) -> Result<Single, Fail>
-    ensures processor { IfOk result (λ s. (s.processor.table_id ≡ s.lock) × (s.processor.view.place ≡ 1)) }
-    ensures operator { IfOk result (λ s. (s.operator.table_id ≡ s.lock) × (s.operator.view.count ≡ 1) × (s.operator.view.number ≡ 1)) }
+    ensures processor { IfOk result (λ s. (s.processor.table_id ≡ s.lock)
+        × (s.processor.view.place ≡ 1)) }
+    ensures operator { IfOk result (λ s. (s.operator.table_id ≡ s.lock)
+        × (s.operator.view.count ≡ 1) × (s.operator.view.number ≡ 1)) }
 {
     let editions = vec![in alloc; Edition { number: 1 }; 1]?;
     let book = Ledger {

@@ -126,7 +126,8 @@ fn publications_beside_readers<R: Threads + Wait + Abort + Sync>(
 
 fn open_stressed(alloc: Global) -> Result<Opened<Edition, Ledger>, Fail>
     ensures processors { IfOk result (λ o. All (λ p. p.table_id ≡ o.lock) o.processors.items) }
-    ensures operator { IfOk result (λ o. (o.operator.table_id ≡ o.lock) × (o.operator.view.number ≡ 1) × (o.operator.view.count ≡ READERS)) }
+    ensures operator { IfOk result (λ o. (o.operator.table_id ≡ o.lock)
+        × (o.operator.view.number ≡ 1) × (o.operator.view.count ≡ READERS)) }
 {
     let editions = vec![in alloc; Edition { number: 1 }; READERS]?;
     let book = Ledger {

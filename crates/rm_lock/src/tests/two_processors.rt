@@ -22,7 +22,8 @@ pub(super) struct Pair {
 pub(super) fn open_pair(rt: &impl Abort, alloc: Global) -> Result<Pair, Fail>
     ensures first { IfOk result (λ p. (p.first.table_id ≡ p.lock) × (p.first.view.place ≡ 1)) }
     ensures second { IfOk result (λ p. (p.second.table_id ≡ p.lock) × (p.second.view.place ≡ 2)) }
-    ensures operator { IfOk result (λ p. (p.operator.table_id ≡ p.lock) × (p.operator.view.count ≡ 2) × (p.operator.view.number ≡ 1)) }
+    ensures operator { IfOk result (λ p. (p.operator.table_id ≡ p.lock)
+        × (p.operator.view.count ≡ 2) × (p.operator.view.number ≡ 1)) }
 {
     let editions = vec![in alloc; Edition { number: 1 }; 2]?;
     let book = Ledger {
@@ -143,7 +144,8 @@ fn publish_beside_the_reader<R: Threads + Wait + Abort + Sync>(
             ensures { (result.table_id ≡ lock.entry.now) × (result.view.place ≡ r.view.place) }
         { read_on(rt, lock, r) },
         move || -> Writer
-            requires { (o.table_id ≡ lock.now) × (o.view.ready ≡ true) × (o.view.number ≡ 1) × (vec_len editions ≡ o.view.count) × All (λ e. e.number ≡ 2) editions.items }
+            requires { (o.table_id ≡ lock.now) × (o.view.ready ≡ true) × (o.view.number ≡ 1)
+                × (vec_len editions ≡ o.view.count) × All (λ e. e.number ≡ 2) editions.items }
             ensures { (result.table_id ≡ lock.entry.now) × (result.view.count ≡ o.view.count) }
         { publish_next(rt, lock, o, editions, 2) },
     )
