@@ -1,4 +1,4 @@
-use Rattle.std.proofs.Common.{rules, arith, ◌+◌}
+use Rattle.std.proofs.Common.{rules, arith}
 use Rattle.rm_lock.proofs.Marks.{revoking_one}
 use Rattle.rm_lock.proofs.publishing.revoke_all.Goals as goal
 
