@@ -15,7 +15,7 @@ use std::thread::{Threads, join};
 const READERS: usize = 8;
 
 // A reader's turns end by themselves, since in none of them it waits.
-const TURNS: u32 = 20_000;
+const TURNS: u32 = 200_000;
 
 const LOOKS: u32 = 4;
 
