@@ -63,7 +63,5 @@ mod state_opt;
 mod table_command;
 mod table_type;
 mod test;
-#[cfg(test)]
-mod tests;
 mod type_set;
 mod writing;

@@ -109,7 +109,7 @@ fn canonical_texts_of_ipv6_addresses(rt: HostRuntime) -> Result<(), Fail> {
         }
         rows = rows.saturating_add(1);
     }
-    assert!(rt; rows >= 50);
+    assert!(rt; rows >= 100);
     Ok(())
 }
 
