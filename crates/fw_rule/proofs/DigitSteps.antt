@@ -15,6 +15,7 @@ pub record IsWriting (n rest at : ℕ) (buffer : List ℕ) : Type 0 where
   pub long : length buffer ≡ 10
   pub fits : rest < 2 ^ 32
 
+-- before any digit is written, all of the number's are still to be
 pub starts : (n : ℕ) (buffer : List ℕ) → n < 2 ^ 32 → length buffer ≡ 10 → IsWriting n n 10 buffer
 starts n buffer fits long = record {
   digits = sym (ap (λ l. decimal n ++ l) (drop_all 10 buffer (omega arith)) ∙ append-nil (decimal n));
@@ -30,6 +31,7 @@ put_before at buffer digit some inside =
     let back : at - 1 + 1 ≡ at = omega arith in
     drop-set buffer (at - 1) digit (omega arith) ∙ ap (λ k. digit ∷ drop k buffer) back
 
+-- the last digit of what is left stands before those in the buffer
 pub digit_goes : (n rest at : ℕ) (buffer : List ℕ) → 10 ≤ rest → IsWriting n rest at buffer → IsWriting n (rest / 10) (at - 1) (set buffer (at - 1) (48 + rest % 10))
 digit_goes n rest at buffer more w =
     let step : decimal rest ≡ decimal (rest / 10) ++ ((48 + rest % 10) ∷ []) = decimal_step rest more (omega (arith, w.fits)) in
@@ -44,11 +46,13 @@ digit_goes n rest at buffer more w =
       fits = omega (arith, w.fits);
     }
 
+-- once the first digit is written, the buffer ends with the number's digits
 pub last_goes : (n rest at : ℕ) (buffer : List ℕ) → rest < 10 → IsWriting n rest at buffer → drop (at - 1) (set buffer (at - 1) (48 + rest)) ≡ decimal n
 last_goes n rest at buffer less w =
     let some : 0 < length (decimal rest) = decimal_nonempty rest (omega (arith, w.fits)) in
     put_before at buffer (48 + rest) (omega (arith, w.room)) (omega (arith, w.within, w.long)) ∙ sym (w.digits ∙ ap (λ l. l ++ drop at buffer) (decimal_digit rest less))
 
+-- while a digit is still to be written there is room for it
 pub has_room : (n rest at : ℕ) (buffer : List ℕ) → IsWriting n rest at buffer → 1 ≤ at
 has_room n rest at buffer w = omega (arith, w.room, decimal_nonempty rest (omega (arith, w.fits)))
 

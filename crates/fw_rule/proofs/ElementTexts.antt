@@ -9,10 +9,12 @@ use Rattle.fw_base.specs.Prefix6.{Network6}
 use Rattle.fw_rule.specs.Canonical.{network_text}
 use Rattle.fw_rule.specs.Addr6Text.{network6_text, address6_text}
 
+-- a prefix's text is its address, and its length where that isn't 32
 pub network_text-split : (n : Network) (address : ℕ) → address ≡ n.address → network_text n ≡ address_text address ++ (if n.bits == 32 then [] else 47 ∷ decimal n.bits)
 unfolding network_text
 network_text-split n address e = ap (λ a. address_text a ++ (if n.bits == 32 then [] else 47 ∷ decimal n.bits)) (sym e)
 
+-- an IPv6 prefix's text is its address, and its length where that isn't 128
 pub network6_text-split : (n : Network6) (address : ℕ) → address ≡ n.address → network6_text n ≡ address6_text address ++ (if n.bits == 128 then [] else 47 ∷ decimal n.bits)
 unfolding network6_text
 network6_text-split n address e = ap (λ a. address6_text a ++ (if n.bits == 128 then [] else 47 ∷ decimal n.bits)) (sym e)

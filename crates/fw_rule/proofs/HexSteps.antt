@@ -16,6 +16,7 @@ pub record IsHexWriting (n rest at : ℕ) (buffer : List ℕ) : Type 0 where
   pub within : at ≤ 4
   pub long : length buffer ≡ 4
 
+-- before any hexadecimal digit is written, all of the number's are still to be
 pub hex_starts : (n : ℕ) (buffer : List ℕ) → n < 2 ^ 16 → length buffer ≡ 4 → IsHexWriting n n 4 buffer
 unfolding digits
 hex_starts n buffer fits long = record {
@@ -30,6 +31,7 @@ hex_starts n buffer fits long = record {
 pub one_more : (k n : ℕ) (text : List ℕ) → 16 ≤ n → digits_onto (suc k) 16 false n text ≡ digits_onto k 16 false (n / 16) (digit_glyph false (n % 16) ∷ text)
 one_more k n text more = elim (eqb_tells (n / 16) 0) [ inl h ↦ absurd (omega (arith, h.1)) | inr h ↦ rw h.0 refl ]
 
+-- a number below 16 is written as its one hexadecimal digit
 pub the_last : (k n : ℕ) (text : List ℕ) → n < 16 → digits_onto (suc k) 16 false n text ≡ digit_glyph false n ∷ text
 the_last k n text less =
     let whole : n % 16 ≡ n = omega arith in
@@ -45,6 +47,7 @@ lower at rest some small =
     let back : at ≡ suc (at - 1) = omega arith in
     omega (arith, ap (λ k. 16 ^ k) back ∙ pow-suc 16 (at - 1))
 
+-- the last hexadecimal digit of what is left stands before those in the buffer
 pub hex_goes : (n rest at : ℕ) (buffer : List ℕ) (digit : ℕ) → 16 ≤ rest → digit ≡ digit_glyph false (rest % 16) → IsHexWriting n rest at buffer
     → IsHexWriting n (rest / 16) (at - 1) (set buffer (at - 1) digit)
 hex_goes n rest at buffer digit more glyph w =
@@ -59,6 +62,7 @@ hex_goes n rest at buffer digit more glyph w =
       long = length-set buffer (at - 1) digit ∙ w.long;
     }
 
+-- once the first hexadecimal digit is written, the buffer ends with the number's digits
 pub hex_ends : (n rest at : ℕ) (buffer : List ℕ) (digit : ℕ) → rest < 16 → digit ≡ digit_glyph false rest → IsHexWriting n rest at buffer → drop (at - 1) (set buffer (at - 1) digit) ≡ hexadecimal n
 hex_ends n rest at buffer digit less glyph w =
     let next : suc (60 + (at - 1)) ≡ 60 + at = omega (arith, w.some) in

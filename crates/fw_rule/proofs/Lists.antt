@@ -18,22 +18,27 @@ behind_bytes byte texts = flat_map (λ text. byte ∷ text) texts
 abbrev pub behind_commas : List (List ℕ) → List ℕ
 behind_commas texts = behind_bytes 44 texts
 
+-- a joined text is the first text, and each other behind the byte
 pub join-cons : (byte : ℕ) (text : List ℕ) (texts : List (List ℕ)) → join_with_byte byte (text ∷ texts) ≡ text ++ behind_bytes byte texts
 join-cons byte text [] = sym (append-nil text)
 join-cons byte text (next ∷ texts) = ap (λ rest. text ++ (byte ∷ rest)) (join-cons byte next texts)
 
+-- a joined text of elements is the first one's text, and each other's behind the byte
 pub join-first : {T : Type 0} (byte : ℕ) (f : T → List ℕ) (items : List T) (first : T) (others : List T) → items ≡ first ∷ others
     → join_with_byte byte (map f items) ≡ f first ++ behind_bytes byte (map f others)
 join-first byte f items first others e = ap (λ all. join_with_byte byte (map f all)) e ∙ join-cons byte (f first) (map f others)
 
+-- the elements from a place on are written as the byte and the one there, and then the later ones
 pub behind_bytes-drop : {T : Type 0} (byte : ℕ) (f : T → List ℕ) (items : List T) (i : ℕ) (d : T) → i < length items
     → behind_bytes byte (map f (drop i items)) ≡ (byte ∷ []) ++ (f (get_or items i d) ++ behind_bytes byte (map f (drop (i + 1) items)))
 behind_bytes-drop byte f items i d inside = rw (add-one, drop-cons items i d) refl
 
+-- a list is written as ` not ` or a space, and its elements with commas between them
 pub spaced-list_words : (negated : Bool) (elements : List (List ℕ)) → spaced (list_words negated elements) ≡ (if negated then codes " not " else codes " ") ++ join_with_byte 44 elements
 spaced-list_words true elements = ap (λ rest. codes " not " ++ rest) (append-nil (join_with_byte 44 elements))
 spaced-list_words false elements = ap (λ rest. 32 ∷ rest) (append-nil (join_with_byte 44 elements))
 
+-- the words of two lists are written one list after the other
 pub spaced-append : (front rest : List (List ℕ)) → spaced (front ++ rest) ≡ spaced front ++ spaced rest
 spaced-append front rest = flat_map-append (λ word. 32 ∷ word) front rest
 
@@ -42,20 +47,24 @@ pub parted : List ℕ → List (List ℕ) → List ℕ
 parted before [] = []
 parted before (text ∷ texts) = before ++ (text ++ behind_commas texts)
 
+-- behind a comma each of the texts stands behind a comma
 pub parted-comma : (texts : List (List ℕ)) → parted (codes ",") texts ≡ behind_commas texts
 unfolding parted
 parted-comma [] = refl
 parted-comma (text ∷ texts) = refl
 
+-- the first text stands behind the text before it, and each other behind a comma
 pub parted-cons : (before text : List ℕ) (texts : List (List ℕ)) → parted before (text ∷ texts) ≡ (before ++ text) ++ parted (codes ",") texts
 unfolding parted
 parted-cons before text texts = sym (append_assoc before text (behind_commas texts)) ∙ ap (λ rest. (before ++ text) ++ rest) (sym (parted-comma texts))
 
+-- behind nothing the texts are joined by commas
 pub parted-nil : (texts : List (List ℕ)) → join_with_byte 44 texts ≡ parted [] texts
 unfolding parted
 parted-nil [] = refl
 parted-nil (text ∷ texts) = join-cons 44 text texts
 
+-- the options from a place on are written as the one there, and then those behind it
 pub spaced-options : (options : List Opt) (i : ℕ) (item : Opt) → item ≡ get_or options i item → i < length options
     → spaced (flat_map option_words (drop i options)) ≡ spaced (option_words item) ++ spaced (flat_map option_words (drop (i + 1) options))
 spaced-options options i item here inside =
@@ -68,6 +77,7 @@ pub signed_names-drop : (names : List (Bor (List ℕ))) (i : ℕ) (d : Bor (List
 unfolding signed_names
 signed_names-drop names i d set_bits clear_bits inside = rw (drop-cons names i d) (rw add-one refl)
 
+-- a name with its sign stands behind the text before it, and those after it behind commas
 pub parted-signed : (before sign name : List ℕ) (rest : List (List ℕ)) → parted before (signed (Some sign) name ++ rest) ≡ (before ++ (sign ++ (name ++ []))) ++ parted (codes ",") rest
 parted-signed before sign name rest = parted-cons before (sign ++ name) rest ∙ ap (λ end. (before ++ (sign ++ end)) ++ parted (codes ",") rest) (sym (append-nil name))
 
@@ -80,14 +90,17 @@ placed-split options front back at state f b =
     (spaced-append (flat_map option_words (take at options)) (state ++ flat_map option_words (drop at options))
     ∙ ap (λ rest. spaced (flat_map option_words (take at options)) ++ rest) (spaced-append state (flat_map option_words (drop at options))))
 
+-- a body is written as its protocol, source and destination with their ports, and options
 pub body-split : (protocol from_word to_word a b c d e : List (List ℕ))
     → spaced (protocol ++ (from_word ++ (a ++ (b ++ (to_word ++ (c ++ (d ++ e)))))))
     ≡ spaced protocol ++ ((spaced from_word ++ spaced (a ++ b)) ++ ((spaced to_word ++ spaced (c ++ d)) ++ spaced e))
 body-split protocol from_word to_word a b c d e = simp (spaced-append, append_assoc)
 
+-- four lists of words are written one list after the other
 pub words-split : (a b c d : List (List ℕ)) → spaced (a ++ (b ++ (c ++ d))) ≡ spaced a ++ (spaced b ++ (spaced c ++ spaced d))
 words-split a b c d = simp spaced-append
 
+-- words joined by spaces are the first word, and each other behind a space
 pub join_spaces : (word : List ℕ) (words : List (List ℕ)) → join_with_byte 32 (word ∷ words) ≡ word ++ spaced words
 join_spaces word [] = sym (append-nil word)
 join_spaces word (next ∷ words) = ap (λ rest. word ++ (32 ∷ rest)) (join_spaces next words)
@@ -98,10 +111,12 @@ name_at [] place d inside = absurd (omega (arith, inside))
 name_at (name ∷ names) zero d inside = refl
 name_at (name ∷ names) (suc place) d inside = name_at names place d (omega (arith, inside))
 
+-- a code of `unreach` that has a name is written as this name
 pub code_named : (code place : ℕ) (name : List ℕ) → place ≡ code → slice_get unreach_names place ≡ Some name → name ≡ code_word code
 unfolding code_word
 code_named code place name same here = ap (λ found. unwrap_or found (decimal code)) (sym here ∙ ap (λ k. slice_get unreach_names k) same)
 
+-- a code of `unreach` from 16 on is written as its number
 pub code_unnamed : (code : ℕ) → 16 ≤ code → code_word code ≡ decimal code
 unfolding code_word unreach_names
 code_unnamed code many = rw (slice_get_past unreach_names code many) refl
@@ -112,11 +127,13 @@ unfolding numbers_where
 numbers_where-step test most k inside =
     let e : most - k ≡ suc (most - (k + 1)) = omega arith in rw e refl
 
+-- from the end on no number is left
 pub numbers_where-end : (test : ℕ → Bool) (most k : ℕ) → k ≡ most → numbers_where test (most - k) k ≡ []
 unfolding numbers_where
 numbers_where-end test most k done =
     let e : most - k ≡ 0 = omega arith in rw e refl
 
+-- a number stands behind the text before it, and those after it behind commas
 pub parted-number : (before text : List ℕ) (rest : List (List ℕ)) → parted before (text ∷ rest) ≡ (before ++ (text ++ [])) ++ parted (codes ",") rest
 parted-number before text rest = parted-cons before text rest ∙ ap (λ end. (before ++ end) ++ parted (codes ",") rest) (sym (append-nil text))
 
@@ -161,10 +178,12 @@ pub name_skipped : (before : List ℕ) (names : List (Bor (List ℕ))) (i : ℕ)
 name_skipped before names i d set_bits clear_bits inside s =
     ap (parted before) (signed_names-drop names i d set_bits clear_bits inside) ∙ rw (sign_is set_bits clear_bits i None s) refl
 
+-- once no name is left nothing is written
 pub parted-end : (before : List ℕ) (names : List (Bor (List ℕ))) (i set_bits clear_bits : ℕ) → length names ≤ i → parted before (signed_names (map (λ name. name.now) (drop i names)) i set_bits clear_bits) ≡ []
 unfolding parted signed_names
 parted-end before names i set_bits clear_bits done = rw (drop_all i names done) refl
 
+-- once no number is left nothing is written
 pub parted_numbers-end : (test : ℕ → Bool) (most : ℕ) (before : List ℕ) (k : ℕ) → k ≡ most → parted before (numbers_where test (most - k) k) ≡ []
 unfolding parted
 parted_numbers-end test most before k done = rw (numbers_where-end test most k done) refl
@@ -173,6 +192,7 @@ parted_numbers-end test most before k done = rw (numbers_where-end test most k d
 pub same_rest : {a b : Option (List ℕ)} {l m : ℕ} {text was rest : List ℕ} → was ≡ rest → IsUnderWay a b l m text was → IsUnderWay a b l m text rest
 same_rest e way = record { done = way.done; split = way.split ∙ ap (λ more. way.done ++ more) e; appended = way.appended; later = way.later }
 
+-- an option is written as ` not ` or nothing, and its test
 pub spaced-option : (option : Opt) → spaced (option_words option) ≡ (if option.negated then codes " not" else []) ++ spaced (test_words option.test)
 spaced-option option = elim option.negated as (λ negated. spaced (negation negated ++ test_words option.test) ≡ (if negated then codes " not" else []) ++ spaced (test_words option.test)) [ true ↦ refl | false ↦ refl ]
 

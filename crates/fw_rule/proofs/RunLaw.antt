@@ -73,6 +73,7 @@ none_before (g ∷ groups) count (suc place) there =
       | inr h ↦ rw h.0 (omega (arith, less))
     ]
 
+-- the run that is shortened is the longest, the first of equal ones
 pub first_longest : FirstLongestRunsAreFound
 first_longest groups = record {
   run = record {

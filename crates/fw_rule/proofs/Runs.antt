@@ -15,6 +15,7 @@ pub record IsRunFrom (groups : List ℕ) (place behind : ℕ) (longest : Run) : 
   pub count : longest.count ≡ longest_run (drop place groups)
   pub start : longest.place ≡ place + place_of_run longest.count (drop place groups)
 
+-- behind the last group there is no run
 pub run_starts : (groups : List ℕ) (place : ℕ) → place ≡ length groups → IsRunFrom groups place 0 (record { place = place; count = 0 })
 unfolding leading_zeros longest_run place_of_run
 run_starts groups place end =
@@ -84,6 +85,7 @@ pub record IsFound (groups : List ℕ) (longest : Run) : Type 0 where
   pub place : longest.place ≡ place_of_run longest.count groups
   pub within : longest.place + longest.count ≤ length groups
 
+-- once every group was looked at, the run that was found is the whole list's
 pub run_ends : (groups : List ℕ) (place behind : ℕ) (longest : Run) → place ≤ 0 → IsRunFrom groups place behind longest → IsFound groups longest
 run_ends groups place behind longest end r =
     let none : place ≡ 0 = omega arith in
@@ -100,6 +102,7 @@ pub text-joined : (groups : List ℕ) (count : ℕ) → count ≡ longest_run gr
 unfolding groups_text
 text-joined groups count same few = rw (← same, lt-ltb count 2 few) refl
 
+-- the longest run is shortened in the text where it has two groups or more
 pub text-shortened : (groups : List ℕ) (run : Run) → IsFound groups run → 2 ≤ run.count → groups_text groups ≡ shortened groups run.place run.count
 unfolding groups_text
 text-shortened groups run found many = rw (← found.count, le-ltb run.count 2 many, ← found.place) refl

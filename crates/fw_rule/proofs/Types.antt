@@ -21,6 +21,7 @@ one_shifted k inside =
 no_bits : (k : ℕ) → has_bit 0 k ≡ false
 no_bits k = ap (λ n. n == 1) (bit_at-zero k)
 
+-- the empty set has no type
 pub no_types-has : (k : ℕ) → has_type no_types k ≡ false
 unfolding has_type no_types
 no_types-has k = elim (nat_lt k 128) as (λ b. (if b then has_bit 0 k else has_bit 0 (k - 128)) ≡ false) [ true ↦ no_bits k | false ↦ no_bits (k - 128) ]
@@ -48,6 +49,7 @@ same_above k n up high = elim (eqb_tells k n) [
 differ : (k n : ℕ) → k ≢ n → (k == n) ≡ false
 differ k n other = elim (eqb_tells k n) [ inl h ↦ absurd (other h.1) | inr h ↦ h.0 ]
 
+-- a set with one type more has that type and those that it had
 pub with_type-has : (set : TypeSet) (n k : ℕ) → has_type (with_type set n) k ≡ (k == n || has_type set k)
 unfolding has_type with_type
 with_type-has set n k = elim (leb_tells 128 n) [
@@ -68,6 +70,7 @@ pub low_more : (set : TypeSet) (n : ℕ) → n < 128 → record { low = bit_or s
 unfolding with_type
 low_more set n low = rw (lt-ltb n 128 low, one_shifted n low) refl
 
+-- the set with one type more, which is 128 or greater, as the code makes it
 pub high_more : (set : TypeSet) (n : ℕ) → 128 ≤ n → n < 256 → record { low = set.low; high = bit_or set.high (1 * 2 ^ (n - 128) % 2 ^ 128) } ≡ with_type set n
 unfolding with_type
 high_more set n high small =
@@ -79,6 +82,7 @@ pub low_has : (set : TypeSet) (n : ℕ) → n < 128 → has_type set n ≡ has_b
 unfolding has_type
 low_has set n low = rw (lt-ltb n 128 low) refl
 
+-- whether a type from 128 on is in the set, as the code finds it
 pub high_has : (set : TypeSet) (n : ℕ) → 128 ≤ n → has_type set n ≡ has_bit set.high (n - 128)
 unfolding has_type
 high_has set n high = rw (le-ltb n 128 high) refl

@@ -9,6 +9,7 @@ pub record IsFrontRun (group : ℕ) (groups : List ℕ) (here : ℕ) : Type 0 wh
   pub longest : here ≡ longest_run (group ∷ groups)
   pub front : place_of_run here (group ∷ groups) ≡ 0
 
+-- a run at the front that is as long as each behind it is the longest
 pub front_run : (group : ℕ) (groups : List ℕ) (here : ℕ) → here ≡ leading_zeros (group ∷ groups) → longest_run groups ≤ here → IsFrontRun group groups here
 unfolding longest_run place_of_run
 front_run group groups here zeros least = record {
@@ -21,6 +22,7 @@ pub record IsBackRun (group : ℕ) (groups : List ℕ) (count : ℕ) : Type 0 wh
   pub longest : count ≡ longest_run (group ∷ groups)
   pub behind : place_of_run count (group ∷ groups) ≡ suc (place_of_run count groups)
 
+-- where a run behind the first group is longer than the one at the front, it is the longest
 pub back_run : (group : ℕ) (groups : List ℕ) (here count : ℕ) → here ≡ leading_zeros (group ∷ groups) → count ≡ longest_run groups → here < count → IsBackRun group groups count
 unfolding longest_run place_of_run
 back_run group groups here count zeros longest less = record {

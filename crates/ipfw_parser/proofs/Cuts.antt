@@ -30,6 +30,7 @@ outside_step true byte bytes deeper rest = ap (λ left. [] ∷ elements_outside_
 outside_step false byte bytes deeper rest =
     ap (onto_first byte) rest ∙ ap (λ left. (byte ∷ take (element_end deeper bytes) bytes) ∷ elements_outside_left left) (sym (left_at-suc (element_end deeper bytes) byte bytes))
 
+-- the text up to where its first element ends is that element, and what is left has the others
 pub outside_first : (inside : Bool) (text : List ℕ) → elements_outside inside text ≡ take (element_end inside text) text ∷ elements_outside_left (left_at (element_end inside text) text)
 unfolding elements_outside element_end
 outside_first inside [] = refl
@@ -80,6 +81,7 @@ groups_first text =
 pub record IsSeeking (text : List ℕ) (at : ℕ) (inside : Bool) : Type 0 where
   pub same : at + element_end inside (drop at text) ≡ element_end false text
 
+-- a byte that parts no elements is passed, and the search goes on behind it
 pub seek_on : (text : List ℕ) (at : ℕ) (inside parted : Bool) → at < length text → parted ≡ (get_or text at 0 == 44 && not inside) → parted ≡ false → IsSeeking text at inside
     → IsSeeking text (at + 1) (inside_after inside (get_or text at 0))
 unfolding element_end
@@ -89,6 +91,7 @@ seek_on text at inside parted within told more seeking =
     ap (element_end inside) split ∙ rw (← told, more) refl in
     record { same = omega (arith, step, seeking.same) }
 
+-- the first byte that parts elements is where the first element ends
 pub seek_found : (text : List ℕ) (at : ℕ) (inside parted : Bool) → at < length text → parted ≡ (get_or text at 0 == 44 && not inside) → parted ≡ true → IsSeeking text at inside → at ≡ element_end false text
 unfolding element_end
 seek_found text at inside parted within told here seeking =
@@ -96,6 +99,7 @@ seek_found text at inside parted within told here seeking =
     let step : element_end inside (drop at text) ≡ 0 = ap (element_end inside) split ∙ rw (← told, here) refl in
     omega (arith, step, seeking.same)
 
+-- a text in which no byte parts elements is one element, which ends where the text does
 pub seek_end : (text : List ℕ) (at : ℕ) (inside : Bool) → at ≡ length text → IsSeeking text at inside → length text ≡ element_end false text
 unfolding element_end
 seek_end text at inside done seeking =
@@ -109,6 +113,7 @@ position_or_len-le p (x ∷ xs) = elim (p x) as (λ b. (if not b then 1 + positi
 some_none : {A : Type 0} {P : Type 0} (x : A) → Some x ≡ None → P
 some_none x e = cc
 
+-- where no byte passes the test, the place of the first that does is the text's end
 pub none_len : (p : ℕ → Bool) (xs : List ℕ) → position p xs ≡ None → length xs ≡ position_or_len p xs
 none_len p xs e = elim (cases_lt (position_or_len p xs) (length xs)) [
   | inl h ↦ some_none (position_or_len p xs) (rw (lt-ltb (position_or_len p xs) (length xs) h) at e)

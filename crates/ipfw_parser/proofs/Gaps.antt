@@ -13,6 +13,7 @@ none_before : (found : Option ℕ) → option_map (λ k. 0 + k) found ≡ found
 none_before None = refl
 none_before (Some k) = let e : 0 + k ≡ k = omega arith in ap (λ n. Some n) e
 
+-- before any byte no `::` begins
 pub starts : (text : List ℕ) → IsBeforeGap text 0
 starts text = record { same = none_before (gap_in text) }
 
@@ -32,15 +33,18 @@ gap_at b text at within told =
     ap gap_in (split_at text at within)
     ∙ gap_step b (get_or text at 0) (drop (at + 1) text) (sym (ap (λ t. starts_with nat_eq t (codes "::")) (split_at text at within)) ∙ told)
 
+-- where no `::` begins at a byte, the search goes on behind it
 pub goes : (text : List ℕ) (at : ℕ) → at < length text → starts_with nat_eq (drop at text) (codes "::") ≡ false → IsBeforeGap text at → IsBeforeGap text (at + 1)
 goes text at within told before =
     record { same = sym (ap (option_map (λ k. at + k)) (gap_at false text at within told) ∙ one_further at (gap_in (drop (at + 1) text))) ∙ before.same }
 
+-- a `::` that the search meets is the first one of the text
 pub found : (text : List ℕ) (at : ℕ) → at < length text → starts_with nat_eq (drop at text) (codes "::") ≡ true → IsBeforeGap text at → Some at ≡ gap_in text
 found text at within told before =
     let e : at + 0 ≡ at = omega arith in
     sym (ap (option_map (λ k. at + k)) (gap_at true text at within told) ∙ ap (λ n. Some n) e) ∙ before.same
 
+-- a text that was searched to its end has no `::`
 pub ends : (text : List ℕ) (at : ℕ) → length text ≤ at → IsBeforeGap text at → None ≡ gap_in text
 unfolding gap_in
 ends text at done before = sym (ap (λ t. option_map (λ k. at + k) (gap_in t)) (drop_all at text done)) ∙ before.same

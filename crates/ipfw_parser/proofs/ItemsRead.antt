@@ -74,6 +74,7 @@ prefix_on word =
     on_bind (prefix_length word.column (behind 47 word.text)) (λ bits. Ok (network a bits)) (λ n. n ≤ 32) (λ n. IsNetwork n × (n.address < 2 ^ 32)) (length_on word.column (behind 47 word.text)) (λ bits within.
     (IsNetwork-network a bits within, omega (arith, small, div-mul-le_self a (size_of bits)))))
 
+-- a table's name that is read has 1 to 63 bytes, each one that names may have
 pub table_name_on : (word : Word) → IfOk (table_name word) (λ name. is_name 63 name ≡ true)
 unfolding table_name
 table_name_on word = on_if (is_name 63 word.text) (Ok word.text) (fault_at word.column BadName) (λ name. is_name 63 name ≡ true) (λ told. told) (λ _. tt)
@@ -129,6 +130,7 @@ items_on : (word : Word) → IfOk (items word) (λ xs. IsListForm IsItemForm xs)
 unfolding items
 items_on word = subst (λ texts. IfOk (each item word.column texts) (λ xs. IsListForm IsItemForm xs)) (sym (outside_first false word.text)) (some_items word.column _ _)
 
+-- a list of addresses that is read has some element, and each of them in its form
 pub addr_spec_on : (end : ℕ) (words : List Word) → IfOk (addr_spec end words) (λ r. IsListForm IsItemForm r.0.items)
 unfolding addr_spec
 addr_spec_on end words =
@@ -189,6 +191,7 @@ ranges_on : (word : Word) → IfOk (ranges word) (λ xs. IsListForm IsRange xs)
 unfolding ranges
 ranges_on word = subst (λ texts. IfOk (each range word.column texts) (λ xs. IsListForm IsRange xs)) (sym (elements_first word.text)) (some_ranges word.column _ _)
 
+-- a list of ports that is read has some range, and each of them in its form
 pub port_list_on : (end : ℕ) (words : List Word) → IfOk (port_list end words) (λ r. IsListForm IsRange r.0.ranges)
 unfolding port_list
 port_list_on end words =
@@ -196,6 +199,7 @@ port_list_on end words =
     on_bind (first end negated.1) _ (λ _. ⊤) (λ r. IsListForm IsRange r.0.ranges) (any_on (first end negated.1)) (λ list _.
     on_bind (ranges list.0) _ (λ xs. IsListForm IsRange xs) (λ r. IsListForm IsRange r.0.ranges) (ranges_on list.0) (λ xs form. form)))
 
+-- ports that may be left out: where they are there, they are some ranges in their form
 abbrev pub ArePorts : Option PortList → Type 0
 ArePorts found = IfSome found (λ ports. IsListForm IsRange ports.ranges)
 
@@ -203,17 +207,20 @@ some_on : (reading : Reading PortList) → IfOk reading (λ r. IsListForm IsRang
 some_on (Ok r) p = p
 some_on (Err e) p = tt
 
+-- behind source addresses no ports are read, or some ranges in their form
 pub source_ports_on : (end : ℕ) (words : List Word) → IfOk (source_ports end words) (λ r. ArePorts r.0)
 unfolding source_ports
 source_ports_on end words =
     on_bind (first end words) _ (λ _. ⊤) (λ r. ArePorts r.0) (any_on (first end words)) (λ next _.
     on_if (same next.0.text (codes "to")) (Ok (None, words)) (some_ports (port_list end words)) (λ r. ArePorts r.0) (λ _. tt) (λ _. some_on (port_list end words) (port_list_on end words)))
 
+-- behind destination addresses no ports are read, or some ranges in their form
 pub destination_ports_on : (end : ℕ) (words : List Word) → IfOk (destination_ports end words) (λ r. ArePorts r.0)
 unfolding destination_ports
 destination_ports_on end words =
     on_if (begin_with_ports words) (some_ports (port_list end words)) (Ok (None, words)) (λ r. ArePorts r.0) (λ _. some_on (port_list end words) (port_list_on end words)) (λ _. tt)
 
+-- an interface that is read is every one, or has a name, or a start of names, of 1 to 15 bytes
 pub iface_on : (word : Word) → IfOk (iface word) IsIfaceForm
 unfolding iface
 iface_on word =

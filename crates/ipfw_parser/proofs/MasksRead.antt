@@ -14,16 +14,19 @@ use Rattle.ipfw_parser.proofs.Cuts.{elements_first, left_at}
 use Rattle.ipfw_parser.specs.Forms.{AreSigns}
 use Rattle.ipfw_parser.proofs.Following.{on_bind, on_if, weaker}
 
+-- two masks, of what is named as it is and behind a !
 abbrev pub masks_of : ℕ → ℕ → Masks
 masks_of set clear = record { set = set; clear = clear }
 
 absurd_bool : {A : Type 0} (b : Bool) → b ≡ true → b ≡ false → A
 absurd_bool b told other = cc
 
+-- there are six names of TCP flags
 pub six : length flag_names ≡ 6
 unfolding flag_names
 six = refl
 
+-- there are four names of IP options
 pub four : length option_names ≡ 4
 unfolding option_names
 four = refl
@@ -38,6 +41,7 @@ record IsGrown (n : ℕ) (masks out : Masks) : Type 0 where
 none_some : {A : Type 0} {P : Type 0} (x : A) → None ≡ Some x → P
 none_some x e = cc
 
+-- a name that is found stands within its table
 pub place_below : (names : List (List ℕ)) (text : List ℕ) (k : ℕ) → place names text ≡ Some k → k < length names
 unfolding place
 place_below names text k e = elim (cases_lt (position_or_len (λ name. same text name) names) (length names)) [
@@ -116,8 +120,10 @@ signs_on names n word count =
     (λ none. record { set_below = subst (λ m. out.set < 2 ^ m) count read.set_below; clear_below = subst (λ m. out.clear < 2 ^ m) count read.clear_below; some = read.some; apart = eq_of (bit_and out.set out.clear) 0 none })
     (λ _. tt))
 
+-- TCP flags that are read are two masks of six bits, some bit in one and none in both
 pub flags_on : (word : Word) → IfOk (signs flag_names word) (λ masks. AreSigns 6 masks.set masks.clear)
 flags_on word = signs_on flag_names 6 word six
 
+-- IP options that are read are two masks of four bits, some bit in one and none in both
 pub ip_options_on : (word : Word) → IfOk (signs option_names word) (λ masks. AreSigns 4 masks.set masks.clear)
 ip_options_on word = signs_on option_names 4 word four

@@ -18,10 +18,12 @@ by_on least most column (Some n) =
     (λ both. let parts = both_true (nat_le least n) (nat_le n most) both in record { least_le = le_of least n parts.0; most_ge = le_of n most parts.1 })
     (λ _. tt)
 
+-- a number that is read lies in its range
 pub number_on : (least most : ℕ) (word : Word) → IfOk (number least most word) (λ n. IsFromTo least most n)
 unfolding number
 number_on least most word = by_on least most word.column (decimal_of 10 word.text)
 
+-- a number that is let through is at most as great as asked for
 pub up_to_on : (most : ℕ) (found : Option ℕ) → IfSome (up_to most found) (λ n. n ≤ most)
 up_to_on most None = tt
 up_to_on most (Some n) = elim (nat_le n most) as (λ b. nat_le n most ≡ b → IfSome (if b then Some n else None) (λ (k : ℕ). k ≤ most)) [ true ↦ λ e. le_of n most e | false ↦ λ _. tt ] refl
@@ -30,6 +32,7 @@ weak : (r : Result ℕ Fault) → IfOk r (λ n. IsFromTo 0 31 n) → IfOk r (λ 
 weak (Ok n) p = p.most_ge
 weak (Err e) p = tt
 
+-- a set's number that is read is at most 31
 pub set_on : (word : Word) → IfOk (set_number word) (λ n. n ≤ 31)
 unfolding set_number
 set_on word =

@@ -41,18 +41,22 @@ Any x = ⊤
 abbrev pub Rest : {X : Type 0} → ℕ → List Word → X × List Word → Type 0
 Rest end words read = Within end read.1 words
 
+-- two readings at one column, one after the other, have their fault at that column
 pub bind_at : {X Y : Type 0} (column : ℕ) (r : Result X Fault) (f : X → Result Y Fault) → At column r → ((x : X) → At column (f x)) → At column (r >>= f)
 bind_at column (Ok x) f p q = q x
 bind_at column (Err e) f p q = p
 
+-- a reading on either of two branches has its fault at the column of both
 pub if_at : {X : Type 0} (column : ℕ) (b : Bool) (r s : Result X Fault) → At column r → At column s → At column (if b then r else s)
 if_at column true r s p q = p
 if_at column false r s p q = q
 
+-- a reading in two steps has its fault at a word or at the end, where each step has
 pub bind_told : {X Y : Type 0} (end : ℕ) (words : List Word) (r : Result X Fault) (f : X → Result Y Fault) (P : X → Type 0) (Q : Y → Type 0) → Told end words P r → ((x : X) → P x → Told end words Q (f x)) → Told end words Q (r >>= f)
 bind_told end words (Ok x) f P Q p q = q x p
 bind_told end words (Err e) f P Q p q = p
 
+-- a reading on either of two branches has its fault at a word or at the end, where both have
 pub if_told : {X : Type 0} (end : ℕ) (words : List Word) (b : Bool) (r s : Result X Fault) (Q : X → Type 0) → Told end words Q r → Told end words Q s → Told end words Q (if b then r else s)
 if_told end words true r s Q p q = p
 if_told end words false r s Q p q = q
@@ -62,6 +66,7 @@ pub at_word : {X : Type 0} (end : ℕ) (words : List Word) (column : ℕ) (r : R
 at_word end words column (Ok x) here p = tt
 at_word end words column (Err fault) here p = let e : column ≡ fault.column = sym p in subst (IsColumn end words) e here
 
+-- a reading of one word, and then of others, has its fault at a word or at the end
 pub bind_word : {X Y : Type 0} (end : ℕ) (words : List Word) (column : ℕ) (r : Result X Fault) (f : X → Result Y Fault) (Q : Y → Type 0) → IsColumn end words column → At column r → ((x : X) → Told end words Q (f x)) → Told end words Q (r >>= f)
 bind_word end words column r f Q here p q = bind_told end words r f Any Q (at_word end words column r here p) (λ x u. q x)
 
@@ -70,13 +75,16 @@ pub told_more : {X : Type 0} (end : ℕ) (rest words : List Word) (r : Result X 
 told_more end rest words (Ok x) more p = tt
 told_more end rest words (Err fault) more p = more fault.column p
 
+-- what is read of fewer words leaves words of the whole list, or has its fault at one of them
 pub rest_more : {X : Type 0} (end : ℕ) (rest words : List Word) (r : Reading X) → Within end rest words → Told end rest (Rest end rest) r → Told end words (Rest end words) r
 rest_more end rest words (Ok read) more p = λ column here. more column (p column here)
 rest_more end rest words (Err fault) more p = more fault.column p
 
+-- the words of a list begin where words of this list do
 pub all_words : (end : ℕ) (words : List Word) → Within end words words
 all_words end words column here = here
 
+-- the words behind the first begin where words of the whole list do
 pub one_less : (end : ℕ) (word : Word) (words : List Word) → Within end words (word ∷ words)
 one_less end word words column here = inr here
 
@@ -110,14 +118,17 @@ number_at least most word = by (decimal 10 word.text)
     by None = refl
     by (Some n) = if_at word.column (nat_le least n && nat_le n most) _ _ tt refl
 
+-- the fault of a set's number stands where its word begins
 pub set_at : (word : Word) → At word.column (set_number word)
 unfolding set_number
 set_at word = if_at word.column (starts_with_digit word.text) _ _ (number_at 0 31 word) refl
 
+-- the fault of a table's name stands where its word begins
 pub name_at : (word : Word) → At word.column (table_name word)
 unfolding table_name
 name_at word = if_at word.column (is_name 63 word.text) _ _ tt refl
 
+-- the fault of a flow's name stands where its word begins
 pub flow_at : (word : Word) → At word.column (flow_name word)
 unfolding flow_name
 flow_at word = if_at word.column (is_name 63 (drop 1 word.text)) _ _ tt refl
@@ -130,6 +141,7 @@ iface_at word =
     (if_at word.column (is_name 15 (take (length word.text - 1) word.text)) _ _ tt refl)
     (if_at word.column (is_name 15 word.text) _ _ tt refl))
 
+-- the fault of a code of `unreach` stands where its word begins
 pub code_at : (word : Word) → At word.column (code word)
 unfolding code word_in
 code_at word = if_at word.column (starts_with_digit word.text) _ _ (number_at 0 255 word) (by (place unreach_names word.text))
@@ -178,6 +190,7 @@ signs_at names word =
     bind_at word.column (sign_masks names (record { set = 0; clear = 0 }) word.column (elements word.text)) _ (sign_masks_at names (record { set = 0; clear = 0 }) word.column (elements word.text)) (λ masks.
     if_at word.column (bit_and masks.set masks.clear == 0) _ _ tt refl)
 
+-- the fault of an address stands where its word begins
 pub address_at : (word : Word) → At word.column (address word)
 unfolding address
 address_at word = by (address_in word.text)
@@ -194,6 +207,7 @@ length_at column (Some text) = by (up_to 32 (decimal 10 text))
     by None = refl
     by (Some n) = tt
 
+-- the fault of a prefix stands where its word begins
 pub prefix_at : (word : Word) → At word.column (prefix word)
 unfolding prefix
 prefix_at word =
@@ -246,6 +260,7 @@ item_at word =
     (bind_at word.column (prefix6 word) _ (prefix6_at word) (λ n. tt))
     (bind_at word.column (prefix word) _ (prefix_at word) (λ n. tt)))))
 
+-- the fault of a list of addresses stands where its word begins
 pub items_at : (word : Word) → At word.column (items word)
 unfolding items
 items_at word = each_at item item_at word.column (elements_outside false word.text)
@@ -272,10 +287,12 @@ unfolding range
 range_at word =
     bind_at word.column (port (record { column = word.column; text = before 45 word.text })) _ (port_at (record { column = word.column; text = before 45 word.text })) (λ low. range_to_at word.column low (behind 45 word.text))
 
+-- the fault of a list of port ranges stands where its word begins
 pub ranges_at : (word : Word) → At word.column (ranges word)
 unfolding ranges
 ranges_at word = each_at range range_at word.column (elements word.text)
 
+-- the fault of a field that a table is asked for stands where its word begins
 pub field_at : (word : Word) → At word.column (field word)
 unfolding field
 field_at word =
@@ -284,6 +301,7 @@ field_at word =
     (if_at word.column (same word.text (codes "src-port")) _ _ tt
     (if_at word.column (same word.text (codes "dst-port")) _ _ tt refl)))
 
+-- the fault of what a limit counts by stands where its word begins
 pub limit_mask_at : (word : Word) → At word.column (limit_mask word)
 unfolding limit_mask
 limit_mask_at word =
@@ -292,6 +310,7 @@ limit_mask_at word =
     (if_at word.column (same word.text (codes "dst-addr")) _ _ tt
     (if_at word.column (same word.text (codes "dst-port")) _ _ tt refl)))
 
+-- the fault of a test's argument stands where the argument begins
 pub test_of_at : (name : List ℕ) (word : Word) → At word.column (test_of name word)
 unfolding test_of
 test_of_at name word =
@@ -303,6 +322,7 @@ test_of_at name word =
     (if_at word.column (same name (codes "icmp6types")) _ _ (bind_at word.column (types6 word) _ (types6_at word) (λ s. tt))
     (bind_at word.column (signs option_names word) _ (signs_at option_names word) (λ m. tt)))))))
 
+-- the fault of a protocol stands where its word begins
 pub protocol_at : (word : Word) → At word.column (protocol word)
 unfolding protocol
 protocol_at word =

@@ -7,6 +7,7 @@ use Rattle.ipfw_parser.specs.declared.kind.Kind.TheVariants.{SecondState}
 use Rattle.ipfw_parser.specs.Reading.{Word, Fault, fault_at, ◌>>=◌, some_words}
 use Rattle.ipfw_parser.specs.Options.{Placed, options, option, state, is_state, with_option, with_state}
 
+-- the state that was read first, or else another
 abbrev pub state_or : Option StateOpt → Option StateOpt → Option StateOpt
 state_or (Some s) other = Some s
 state_or None other = other
@@ -19,6 +20,7 @@ before front made at p = record {
   state_at = if is_some made then at else if is_some p.state then length front + p.state_at else p.state_at;
 }
 
+-- a reading's options and state behind those that were read before
 abbrev pub merged : List Opt → Option StateOpt → ℕ → Result Placed Fault → Result Placed Fault
 merged front made at reading = reading >>= λ p. Ok (before front made at p)
 
@@ -44,6 +46,7 @@ merged-nil : (reading : Result Placed Fault) → merged [] None 0 reading ≡ re
 merged-nil (Ok p) = ap (λ q. let r : Result Placed Fault = Ok q in r) (before-nil p)
 merged-nil (Err e) = refl
 
+-- before the first option none is read, no state either, and every word is left
 pub starts : (end left : ℕ) (all : List Word) → left ≡ length all → IsPlacing end all [] None 0 left all
 starts end left all here = record { same = merged-nil (options left end false all) ∙ ap (λ n. options n end false all) here; nowhere = λ _. refl }
 
@@ -92,6 +95,7 @@ state_twice : (end left : ℕ) (word : Word) (words : List Word) → is_state wo
 unfolding options
 state_twice end left word words told = rw told refl
 
+-- an option that is read stands behind those before it
 pub option_goes : (end : ℕ) (all : List Word) (front : List Opt) (made : Option StateOpt) (at more left : ℕ) (words : List Word) (word : Word) (behind : List Word) (o : Opt) (rest : List Word)
     → IsPlacing end all front made at more words → more ≡ suc left → words ≡ word ∷ behind → is_state word.text ≡ false → option end word behind ≡ Ok (o, rest) → IsPlacing end all (front ++ o ∷ []) made at left rest
 option_goes end all front made at more left words word behind o rest placing count split told ok = record {
@@ -105,6 +109,7 @@ option_goes end all front made at more left words word behind o rest placing cou
   nowhere = placing.nowhere;
 }
 
+-- an option that can't be read is the fault of all options
 pub option_breaks : (end : ℕ) (all : List Word) (front : List Opt) (made : Option StateOpt) (at more left : ℕ) (words : List Word) (word : Word) (behind : List Word) (e : Fault)
     → IsPlacing end all front made at more words → more ≡ suc left → words ≡ word ∷ behind → is_state word.text ≡ false → option end word behind ≡ Err e → options (length all) end false all ≡ Err e
 option_breaks end all front made at more left words word behind e placing count split told failed =
@@ -114,6 +119,7 @@ option_breaks end all front made at more left words word behind e placing count 
     ∙ ap (merged front made at) (option_first end left (is_some made) word behind told)
     ∙ ap (λ r. merged front made at (r >>= λ m. options left end (is_some made) m.1 >>= λ p. Ok (with_option m.0 p))) failed
 
+-- the first state that is read has its place behind the options before it
 pub state_goes : (end : ℕ) (all : List Word) (front : List Opt) (made : Option StateOpt) (at more left : ℕ) (words : List Word) (word : Word) (behind : List Word) (s : StateOpt) (rest : List Word)
     → IsPlacing end all front made at more words → more ≡ suc left → words ≡ word ∷ behind → is_state word.text ≡ true → made ≡ None → state end word behind ≡ Ok (s, rest)
     → IsPlacing end all front (Some s) (length front) left rest
@@ -129,6 +135,7 @@ state_goes end all front None at more left words word behind s rest placing coun
   nowhere = λ e. some_none s (length front) e;
 }
 
+-- a state that can't be read is the fault of all options
 pub state_breaks : (end : ℕ) (all : List Word) (front : List Opt) (made : Option StateOpt) (at more left : ℕ) (words : List Word) (word : Word) (behind : List Word) (e : Fault)
     → IsPlacing end all front made at more words → more ≡ suc left → words ≡ word ∷ behind → is_state word.text ≡ true → made ≡ None → state end word behind ≡ Err e → options (length all) end false all ≡ Err e
 state_breaks end all front (Some t) at more left words word behind e placing count split told none failed = cc
@@ -139,6 +146,7 @@ state_breaks end all front None at more left words word behind e placing count s
     ∙ ap (merged front None at) (state_first end left word behind told)
     ∙ ap (λ r. merged front None at (r >>= λ m. options left end true m.1 >>= λ p. Ok (with_state m.0 p))) failed
 
+-- a second state is a fault where its word begins
 pub second_state : (end : ℕ) (all : List Word) (front : List Opt) (made : Option StateOpt) (at more left : ℕ) (words : List Word) (word : Word) (behind : List Word)
     → IsPlacing end all front made at more words → more ≡ suc left → words ≡ word ∷ behind → is_state word.text ≡ true → is_some made ≡ true → options (length all) end false all ≡ fault_at word.column SecondState
 second_state end all front made at more left words word behind placing count split told some =
@@ -160,19 +168,23 @@ before-end : (front : List Opt) (made : Option StateOpt) (at : ℕ) → (made �
 before-end front (Some s) at nowhere = ap (λ found. placed_as (Some s) found at) (append-nil front)
 before-end front None at nowhere = ap (λ found. placed_as None found 0) (append-nil front) ∙ ap (placed_as None front) (sym (nowhere refl))
 
+-- at the end the options are those that were read, with the state in its place
 pub ends : (end : ℕ) (all : List Word) (front : List Opt) (made : Option StateOpt) (at left : ℕ) (words : List Word)
     → IsPlacing end all front made at left words → (left ≡ 0) ⊎ (words ≡ []) → options (length all) end false all ≡ Ok (record { options = front; state = made; state_at = at })
 ends end all front made at left words placing done =
     sym placing.same ∙ ap (merged front made at) (none_left end left (is_some made) words done) ∙ ap (λ q. let r : Result Placed Fault = Ok q in r) (before-end front made at placing.nowhere)
 
+-- words that are found are the words that there are
 pub some_words_is : (words found : List Word) → Some found ≡ some_words words → words ≡ found
 some_words_is [] found e = cc
 some_words_is (word ∷ words) found e = cc
 
+-- where no words are found there are none
 pub no_words_is : (words : List Word) → None ≡ some_words words → words ≡ []
 no_words_is [] e = refl
 no_words_is (word ∷ words) e = cc
 
+-- where no state was seen there is none
 pub is_some_false : (made : Option StateOpt) → is_some made ≡ false → made ≡ None
 is_some_false None e = refl
 is_some_false (Some s) e = cc

@@ -165,6 +165,7 @@ rule_number_in end words =
     (bind_word end words next.0.column (number 0 65535 next.0) _ (Rest end words) here (number_at 0 65535 next.0) (λ n. more))
     (all_words end words))
 
+-- the fault of what stands behind `set` stands at a word or at the end
 pub set_behind_in : (end : ℕ) (words : List Word) → Told end words (Rest end words) (set_behind end words)
 unfolding set_behind
 set_behind_in end words =

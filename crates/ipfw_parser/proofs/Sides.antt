@@ -24,6 +24,7 @@ same_found : (found : Option (List ℕ)) → option_map (λ others. [] ++ others
 same_found None = refl
 same_found (Some groups) = refl
 
+-- before the first group the number is 0, and every text is left
 pub starts : (all : List (List ℕ)) → IsGrouping all 0 0 all
 starts all = record { front = []; value_is = refl; count_is = refl; same = same_found (each_group all); few = omega arith; room = omega arith }
 
@@ -35,6 +36,7 @@ with_one : (front : List ℕ) (one : ℕ) (others : Option (List ℕ)) → optio
 with_one front one None = refl
 with_one front one (Some more) = ap (λ all. Some all) (sym (append_assoc front (one ∷ []) more))
 
+-- with one group more the number is 65536 times as great and the group
 pub goes : (all : List (List ℕ)) (value count one next more : ℕ) (text : List ℕ) (left : List (List ℕ)) → IsGrouping all value count (text ∷ left) → Some one ≡ group text
     → count < 8 → next ≡ 65536 * value + one → more ≡ count + 1 → next < 2 ^ (16 * more) → IsGrouping all next more left
 unfolding each_group
@@ -67,6 +69,7 @@ pub many : (all : List (List ℕ)) (value count : ℕ) (text : List ℕ) (left :
 unfolding each_group
 many all value count text left grouping eight = too_many grouping.front (group text) (each_group left) (grouping.count_is ∙ eight) ∙ ap side_of grouping.same
 
+-- once no text is left the side is the number and the count that were read
 pub ends : (all : List (List ℕ)) (found : Side) → IsGrouping all found.value found.count [] → Some found ≡ side_of (each_group all)
 unfolding each_group
 ends all found grouping =
@@ -76,10 +79,12 @@ ends all found grouping =
     ∙ sym (ap (λ b. if b then Some made else None) (le-leb (length grouping.front) 8 (omega (arith, grouping.count_is, grouping.few))))
     ∙ ap side_of (ap (λ groups. Some groups) (sym (append-nil grouping.front)) ∙ grouping.same)
 
+-- what is left of a side begins with its next group, up to the first colon
 pub opened : (all : List (List ℕ)) (value count : ℕ) (rest : Option (Bor (List ℕ))) (text : Bor (List ℕ)) (part : List ℕ) (left : List (List ℕ))
     → rest ≡ Some text → colon_parts text.now ≡ part ∷ left → IsGrouping all value count (colon_parts_left (option_copied rest)) → IsGrouping all value count (part ∷ left)
 opened all value count rest text part left here split grouping = rw (here, split) at grouping
 
+-- a side of which nothing is left is the number and the count that were read
 pub closed : (all : List (List ℕ)) (found : Side) (rest : Option (Bor (List ℕ))) → rest ≡ None → IsGrouping all found.value found.count (colon_parts_left (option_copied rest)) → Some found ≡ side_of (each_group all)
 closed all found rest none grouping = ends all found (rw none at grouping)
 
@@ -89,6 +94,7 @@ grown value count one less small =
     let e : 2 ^ (16 * (count + 1)) ≡ 65536 * 2 ^ (16 * count) = let f : 16 * (count + 1) ≡ 16 + 16 * count = omega arith in ap (λ k. 2 ^ k) f ∙ pow-add 2 16 (16 * count) in
     omega (arith, e)
 
+-- a number of at most eight groups fits in 128 bits
 pub grown_fits : (value count one : ℕ) → count < 8 → value < 2 ^ (16 * count) → one < 65536 → 65536 * value + one < 2 ^ 128
 grown_fits value count one few less small = omega (arith, grown value count one less small, pow_mono {i = 16 * (count + 1)} {j = 128} (omega (arith, few)))
 

@@ -16,12 +16,14 @@ shifted line token tokens within = λ k d inside. within (suc k) d (omega arith)
 none_within : (line : List ℕ) → AreWithin line []
 none_within line = λ k d inside. absurd (omega (arith, inside))
 
+-- the tokens behind the first lie in the line
 pub tail_within : (line : List ℕ) (tokens : List Token) → AreWithin line tokens → AreWithin line (take (length tokens - 1) (drop 1 tokens))
 tail_within line tokens = elim tokens as (λ ts. AreWithin line ts → AreWithin line (take (length ts - 1) (drop 1 ts))) [
   | [] ↦ λ _. none_within line
   | token ∷ rest ↦ λ within. subst (AreWithin line) (sym (rest_of token rest)) (shifted line token rest within)
 ]
 
+-- in a line of at most 1,048,576 bytes the first token's column fits in 32 bits
 pub column_fits : (line : List ℕ) (tokens : List Token) (d : Token) → length line ≤ 1048576 → AreWithin line tokens → 1 ≤ length tokens → (get_or tokens 0 d).start + 1 < 2 ^ 32
 column_fits line tokens d short within some = let w = within 0 d (omega arith) in omega (arith, w.some, w.inside)
 
@@ -42,12 +44,15 @@ words_within line tokens e =
     let run = by_index (IsLongestRun (before_comment line)) (words_in (before_comment line)) (words_are_longest (before_comment line)).each k d inside in
     record { some = run.some; inside = omega (arith, run.inside, part_short line) })
 
+-- the tokens behind the first n lie in the line
 pub skip_within : (n : ℕ) (line : List ℕ) (tokens : List Token) → AreWithin line tokens → AreWithin line (take (length tokens - n) (drop n tokens))
 skip_within n line tokens within =
     subst (AreWithin line) (sym (take_rest tokens n)) (λ k d inside. subst (IsWithin line) (sym (get_or-drop n tokens k d)) (within (n + k) d (omega (arith, inside, length-drop n tokens))))
 
+-- the words of the tokens behind the first n are the words behind the first n
 pub skip_list : (n : ℕ) (line : List ℕ) (tokens : List Token) → map (word_of line) (take (length tokens - n) (drop n tokens)) ≡ drop n (map (word_of line) tokens)
 skip_list n line tokens = ap (map (word_of line)) (take_rest tokens n) ∙ sym (drop-map (word_of line) n tokens)
 
+-- in a line of at most 1,048,576 bytes the column behind the last token fits in 32 bits
 pub end_fits : (line : List ℕ) (tokens : List Token) (d : Token) → length line ≤ 1048576 → AreWithin line tokens → 1 ≤ length tokens → (get_or tokens (length tokens - 1) d).end + 1 < 2 ^ 32
 end_fits line tokens d short within some = let w = within (length tokens - 1) d (omega arith) in omega (arith, w.inside)

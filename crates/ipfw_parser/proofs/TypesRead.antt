@@ -39,6 +39,7 @@ some_types column text texts =
     (type_grows (bit_or 0 (2 ^ n)) column texts (or_lt 32 0 (2 ^ n) (pow_pos 32) (pow_below n 32 (omega (arith, small.most_ge)))))
     (λ out g. (omega (arith, g.more, le_or_r 0 (2 ^ n), pow_pos n), g.below)))
 
+-- ICMP types that are read are a mask of 32 bits with some bit
 pub types_on : (word : Word) → IfOk (types word) (λ out. (0 < out) × (out < 2 ^ 32))
 unfolding types
 types_on word =

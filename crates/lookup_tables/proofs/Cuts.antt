@@ -34,6 +34,7 @@ never_lower pieces j k h le within =
     ]
 
 module _ (old new : List Piece) (place address : ℕ) (cut : IsCut old new place address) (h : IsDivision old) (here : IsIn old address place) (less : first_of old place < address) (fits : address < 2 ^ 32) where
+  -- with one piece cut in two the pieces have all addresses still
   pub cut_division : IsDivision new
   cut_division = record {
     low = below;
@@ -82,6 +83,7 @@ module _ (old new : List Piece) (place address : ℕ) (cut : IsCut old new place
             ]
           ]
 
+  -- with one piece cut in two each piece is decided as each of its addresses still
   pub cut_tells : (f : ℕ → Option (Network × ℕ)) → Tells f old → Tells f new
   cut_tells f t = record { each = told }
     where
@@ -130,6 +132,7 @@ module _ (old new : List Piece) (place address : ℕ) (cut : IsCut old new place
                 | inr (inr higher) ↦ absurd (omega arith)
               ]
 
+  -- with one piece cut where a piece may begin, each piece begins where one may
   pub cut_ends : (e : ℕ → Bool) → HaveEnds e old → e address ≡ true → HaveEnds e new
   cut_ends e t here_end = record { each = each }
     where
@@ -165,6 +168,7 @@ module _ (old new : List Piece) (place : ℕ) (joined : IsJoined old new place) 
   side : (k : ℕ) → (k < place) ⊎ (place ≤ k)
   side k = elim (cases_order k place) [ inl at ↦ inr (omega arith) | inr (inl below) ↦ inl below | inr (inr above) ↦ inr (omega arith) ]
 
+  -- with two pieces joined the pieces have all addresses still
   pub join_division : IsDivision new
   join_division = record {
     low = λ k within. let many = joined.many in elim (side k) [
@@ -184,6 +188,7 @@ module _ (old new : List Piece) (place : ℕ) (joined : IsJoined old new place) 
         ];
   }
 
+  -- with two pieces joined each piece is decided as each of its addresses still
   pub join_tells : (f : ℕ → Option (Network × ℕ)) → Tells f old → Tells f new
   join_tells f t = record { each = told }
     where
@@ -237,6 +242,7 @@ pub record IsRange (pieces : List Piece) (start end low high : ℕ) : Type 0 whe
   pub ends : end < length pieces → first_of pieces end ≡ high
   pub whole : end ≡ length pieces → 2 ^ 32 ≤ high
 
+-- pieces that are changed have all addresses still
 pub change_division : (change : Change) (old new : List Piece) (start end : ℕ) → AreChanged change old new start end → IsDivision old → IsDivision new
 change_division change old new start end c h = record {
   low = λ k within. let many = c.many in let is = c.firsts k in let bound = h.low k (omega arith) in omega arith;
@@ -245,6 +251,7 @@ change_division change old new start end c h = record {
   rising = λ j k before within. let many = c.many in let is_j = c.firsts j in let is_k = c.firsts k in let up = h.rising j k before (omega arith) in omega arith;
 }
 
+-- pieces that are changed begin where one may still
 pub change_ends : (change : Change) (old new : List Piece) (start end : ℕ) → AreChanged change old new start end → (e : ℕ → Bool) → HaveEnds e old → HaveEnds e new
 change_ends change old new start end c e t = record { each = λ k within. let many = c.many in ap e (c.firsts k) ∙ t.each k (omega arith) }
 
@@ -390,5 +397,6 @@ found_in pieces address point h bound before behind =
       },
     )
 
+-- a change up to one place is a change up to an equal one
 pub changed_to : (change : Change) (old new : List Piece) (start end other : ℕ) → end ≡ other → AreChanged change old new start end → AreChanged change old new start other
 changed_to change old new start end other same c = subst (λ (e : ℕ). AreChanged change old new start e) same c

@@ -33,6 +33,7 @@ most_either : (n : ℕ) (o p : Option (Network × ℕ)) → HasAtMost n o → Ha
 most_either n None p first second = second
 most_either n (Some b) p first second = first
 
+-- of the prefixes of at most n bits the one that decides has at most n
 pub bits_within : (entries : AddrEntries) (a n : ℕ) → HasAtMost n (decided_within entries a n)
 unfolding decided_within
 bits_within entries a zero = most_of_key a 0 (value_of network_cmp entries (network a 0))
@@ -60,9 +61,11 @@ alike_within entries a b (suc n) same =
 bits_of : (a b k : ℕ) (n : Network) → network a k ≡ n → n.bits ≡ k
 bits_of a b k n is = sym (ap (λ (m : Network). m.bits) is)
 
+-- a prefix is the same as itself
 pub is_itself : (n : Network) → is_prefix n n ≡ true
 is_itself n = grind (arith, nat_tests)
 
+-- prefixes of two lengths aren't the same
 pub is_other : (n m : Network) → n.bits ≢ m.bits → is_prefix n m ≡ false
 is_other n m other = grind (arith, nat_tests)
 
@@ -119,6 +122,7 @@ module _ (entries : AddrEntries) (n : Network) (v : ℕ) where
       shorter last (Some b) h = let e : b.0.bits < n.bits = omega arith in e
 
 module _ (entries : AddrEntries) (n : Network) where
+  -- taking out a prefix that doesn't cover the address, or has more bits, changes nothing
   pub take_elsewhere : (a bits : ℕ) → (n.bits ≤ bits → network a n.bits ≢ n) → decided_within (without_key network_cmp entries n) a bits ≡ decided_within entries a bits
   unfolding decided_within
   take_elsewhere a zero other =

@@ -23,6 +23,7 @@ pub record IsDecider (entries : AddrEntries) (a bits : ℕ) (entry : Network × 
   pub covers : Covers entry.0 a
   pub longest : (k : ℕ) (d : Network × ℕ) → k < length entries → (get_or entries k d).0.bits ≤ bits → Covers (get_or entries k d).0 a → (get_or entries k d).0.bits ≤ entry.0.bits
 
+-- no prefix of at most that many bits covers the address
 abbrev pub NoneDecides : AddrEntries → ℕ → ℕ → Type 0
 NoneDecides entries a bits = (k : ℕ) (d : Network × ℕ) → k < length entries → (get_or entries k d).0.bits ≤ bits → Covers (get_or entries k d).0 a → ⊥
 
@@ -37,6 +38,7 @@ module _ (entries : AddrEntries) (networks : AreNetworks entries) where
       value_of-missing network_cmp network_same entries (network a bits) none k d inside
       (sym (network-covers (get_or entries k d).0 a (networks k d inside) covers) ∙ ap (λ (n : ℕ). network a n) same)
 
+  -- an address is decided by the longest prefix that covers it, or by none where none covers it
   pub decider_is : (a bits : ℕ) → MatchOption (decided_within entries a bits) (NoneDecides entries a bits) (IsDecider entries a bits)
   unfolding decided_within
   decider_is a zero =

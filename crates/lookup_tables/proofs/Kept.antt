@@ -90,6 +90,7 @@ zero_or_end es x is =
       | false ↦ λ h. among_ends es x h
     ] is
 
+-- there is at most one piece more than the prefixes have ends
 pub few : (es : AddrEntries) (pieces : List Piece) → IsDivision pieces → HaveEnds (is_end es) pieces → length pieces ≤ 2 * length es + 1
 few es pieces h t =
     let at_most = pigeons (length pieces) (first_of pieces) (0 ∷ ends_of es) h.rising (λ i within. zero_or_end es (first_of pieces i) (t.each i within)) in
@@ -104,6 +105,7 @@ pub answer_in : (es : AddrEntries) (pieces : List Piece) → AreEntries es → T
 answer_in es pieces is t a place low here =
     sym (value_of_decider (piece_at pieces place)) ∙ ap (option_map (λ (b : Network × ℕ). b.1)) (t.each a place low here) ∙ answer_is es is.networks a 32
 
+-- the pieces that a table keeps are those of its entries, as callers see them
 pub pieces_of : (es : AddrEntries) (pieces : List Piece) → IsTable es pieces → ArePiecesOf es pieces
 pieces_of es pieces t =
     elim (cases_order 0 (length es)) [
@@ -131,6 +133,7 @@ pieces_of es pieces t =
       | inr (inr less) ↦ absurd (omega arith)
     ]
 
+-- without entries and without pieces a table keeps what it has to
 pub table_of_none : IsTable [] []
 unfolding IsStrictlySortedBy
 table_of_none = record {
@@ -143,6 +146,7 @@ table_of_none = record {
   };
 }
 
+-- the value of the piece that an address is in is the table's answer
 pub table_answer : (es : AddrEntries) (pieces : List Piece) → IsTable es pieces → (a place : ℕ) → a < 2 ^ 32 → IsIn pieces a place → (piece_at pieces place).value ≡ address_answer es a
 table_answer es pieces t a place low here =
     elim (cases_order 0 (length es)) [
@@ -157,6 +161,7 @@ unfolding answer_within
 none_within a zero = refl
 none_within a (suc bits) = none_within a bits
 
+-- a table without pieces answers nothing
 pub table_answer_none : (es : AddrEntries) (pieces : List Piece) → IsTable es pieces → length pieces ≡ 0 → (a : ℕ) → None ≡ address_answer es a
 table_answer_none [] pieces t nothing a = sym (none_within a 32)
 table_answer_none (e ∷ es) pieces t nothing a = let division = t.kept.division (omega arith) in let some = division.some in absurd (omega arith)

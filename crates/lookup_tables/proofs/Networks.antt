@@ -9,9 +9,11 @@ use Rattle.std.proofs.lemmas.Cmp.{nat_cmp_total, on_total, then_total, tied_itse
 use Rattle.fw_base.specs.Prefix.{Network}
 use Rattle.lookup_tables.specs.AddrTable.{network_cmp}
 
+-- the order of prefixes is a total one
 pub network_cmp_total : IsTotalOrder network_cmp
 network_cmp_total = then_total (on_total (λ (n : Network). n.address) nat_cmp_total) (on_total (λ (n : Network). n.bits) nat_cmp_total)
 
+-- two numbers are the same exactly where they compare as equal
 pub number_same : (x y : ℕ) → Decides (is_eq (nat_cmp x y)) (x ≡ y)
 number_same x y = (λ equal. grind (arith, nat_tests), λ equal. grind (arith, nat_tests))
 
@@ -23,6 +25,7 @@ network_parts x y equal =
       | Greater ↦ λ is h. cc
     ] refl equal
 
+-- two prefixes are the same exactly where they compare as equal
 pub network_same : (x y : Network) → Decides (is_eq (network_cmp x y)) (x ≡ y)
 network_same x y = (
   λ equal. let (address, bits) = network_parts x y equal in ap (λ (a : ℕ). with_parts a x.bits) address ∙ ap (with_parts y.address) bits,

@@ -18,6 +18,7 @@ AllByRecursion-weaker : {K : Type 0} (P Q : K → Type 0) → ((x : K) → P x �
 AllByRecursion-weaker P Q f [] a = tt
 AllByRecursion-weaker P Q f (k ∷ ks) a = (f k a.0, AllByRecursion-weaker P Q f ks a.1)
 
+-- an empty table is in order
 pub in_order-nil : {K : Type 0} (cmp : K → K → Ordering) → IsStrictlySortedBy cmp []
 unfolding IsStrictlySortedBy
 in_order-nil cmp = tt
@@ -74,6 +75,7 @@ module _ {K V : Type 0} (cmp : K → K → Ordering) (o : IsTotalOrder cmp) wher
       let rest = insert-at es key v i (λ k d h. lower (suc k) d (omega arith)) (omega arith) (λ d h. higher d (omega arith)) in
       rw first (ap (λ (l : List (K × V)). e ∷ l) rest)
 
+  -- inserting an entry where its missing key would stand puts it in the table
   pub insert-gap : (es : List (K × V)) (key : K) (v : V) (i : ℕ) → IsGap cmp es key i → insert es i (key, v) ≡ with_entry cmp es key v
   insert-gap es key v i gap = insert-at es key v i gap.lower gap.within gap.higher
 
@@ -88,6 +90,7 @@ module _ {K V : Type 0} (cmp : K → K → Ordering) (o : IsTotalOrder cmp) wher
       let rest = remove-at es key i (λ k d h. lower (suc k) d (omega arith)) (omega arith) (λ d. equal d) in
       rw first (ap (λ (l : List (K × V)). e ∷ l) rest)
 
+  -- removing the entry where its key stands takes it out of the table
   pub remove-place : (es : List (K × V)) (key : K) (i : ℕ) → IsPlace cmp es key i → remove es i ≡ without_key cmp es key
   remove-place es key i place = remove-at es key i place.lower place.within place.equal
 
@@ -101,6 +104,7 @@ module _ {K V : Type 0} (cmp : K → K → Ordering) (o : IsTotalOrder cmp) wher
       let first : cmp key e.0 ≡ Greater = above cmp o e.0 key (lower 0 e (omega arith)) in
       rw first (value-at es key i d (λ k d h. lower (suc k) d (omega arith)) (omega arith) equal)
 
+  -- the value of a key is that of the entry where it stands
   pub value_of-place : (es : List (K × V)) (key : K) (i : ℕ) (d : K × V) → IsPlace cmp es key i → value_of cmp es key ≡ Some (get_or es i d).1
   value_of-place es key i d place = value-at es key i d place.lower place.within (place.equal d)
 
@@ -119,6 +123,7 @@ module _ {K V : Type 0} (cmp : K → K → Ordering) (o : IsTotalOrder cmp) wher
       let first : cmp key e.0 ≡ Greater = above cmp o e.0 key (lower 0 e (omega arith)) in
       rw first (none-at es key i sorted.1 (λ k d h. lower (suc k) d (omega arith)) (λ d h. higher d (omega arith)))
 
+  -- a key that is missing has no value
   pub value_of-gap : (es : List (K × V)) (key : K) (i : ℕ) → IsInOrder cmp es → IsGap cmp es key i → value_of cmp es key ≡ None
   value_of-gap es key i sorted gap = none-at es key i sorted gap.lower gap.higher
 
@@ -131,6 +136,7 @@ module _ {K V : Type 0} (cmp : K → K → Ordering) (o : IsTotalOrder cmp) wher
         | Greater ↦ (all.0, all-insert P es key v all.1 one)
       ]
 
+  -- the keys are in order with an entry put in
   pub in_order-insert : (es : List (K × V)) (key : K) (v : V) → IsInOrder cmp es → IsInOrder cmp (with_entry cmp es key v)
   unfolding IsStrictlySortedBy
   in_order-insert [] key v sorted = (tt, tt)
@@ -146,6 +152,7 @@ module _ {K V : Type 0} (cmp : K → K → Ordering) (o : IsTotalOrder cmp) wher
   all-remove P test (e ∷ es) all =
       elim (test e.0) as (λ b. AllByRecursion P (keys_of (cond b es (e ∷ remove_entry test es)))) [ true ↦ all.1 | false ↦ (all.0, all-remove P test es all.1) ]
 
+  -- the keys are in order with an entry taken out
   pub in_order-remove : (es : List (K × V)) (key : K) → IsInOrder cmp es → IsInOrder cmp (without_key cmp es key)
   unfolding IsStrictlySortedBy
   in_order-remove [] key sorted = tt
@@ -175,6 +182,7 @@ module _ {K V : Type 0} (cmp : K → K → Ordering) (o : IsTotalOrder cmp) wher
     pub HasKey-value : (es : List (K × V)) (key : K) → IsSome (value_of cmp es key) → HasKey es key
     HasKey-value es key some = (is_member-Decides same (keys_of es) key).0 (sym (listed es key) ∙ some)
 
+    -- a key that is listed has a value
     pub value-HasKey : (es : List (K × V)) (key : K) → HasKey es key → IsSome (value_of cmp es key)
     value-HasKey es key has = listed es key ∙ (is_member-Decides same (keys_of es) key).1 has
 

@@ -23,6 +23,7 @@ use Rattle.lookup_tables.proofs.Networks.{network_same}
 use Rattle.lookup_tables.proofs.Ranges.{network-covers, covers-network, covers-range, range-covers, size_above}
 
 module _ {K V : Type 0} (cmp : K → K → Ordering) (P : K → Type 0) where
+  -- what holds of the key of each entry
   abbrev pub EachKey : List (K × V) → Type 0
   EachKey es = (k : ℕ) (d : K × V) → k < length es → P (get_or es k d).0
 
@@ -74,6 +75,7 @@ module _ {K V : Type 0} (cmp : K → K → Ordering) (same : (x y : K) → Decid
       or_right true c h = refl
       or_right false c h = h
 
+  -- some key passes a test that the key put in passes
   pub any_put_here : (es : List (K × V)) (key : K) (v : V) → q key ≡ true → list_any (λ e. q e.0) (with_entry cmp es key v) ≡ true
   any_put_here [] key v is = rw is refl
   any_put_here (e ∷ es) key v is =
@@ -107,6 +109,7 @@ module _ {K V : Type 0} (cmp : K → K → Ordering) (same : (x y : K) → Decid
 abbrev pub ends_at : ℕ → Network → Bool
 ends_at a n = nat_eq a n.address || nat_eq a (n.address + size_of n.bits)
 
+-- where a piece may begin one may still once a prefix is put in
 pub end_put : (es : AddrEntries) (n : Network) (v a : ℕ) → is_end es a ≡ true → is_end (with_entry network_cmp es n v) a ≡ true
 end_put es n v a is =
     elim (nat_eq a 0) as (λ b. (b || list_any (λ e. ends_at a e.0) es) ≡ true → (b || list_any (λ e. ends_at a e.0) (with_entry network_cmp es n v)) ≡ true) [
@@ -114,6 +117,7 @@ end_put es n v a is =
       | false ↦ λ any. any_put network_cmp network_same (ends_at a) es n v any
     ] is
 
+-- at both ends of the prefix that is put in a piece may begin
 pub end_put_here : (es : AddrEntries) (n : Network) (v a : ℕ) → ends_at a n ≡ true → is_end (with_entry network_cmp es n v) a ≡ true
 end_put_here es n v a is =
     elim (nat_eq a 0) as (λ b. (b || list_any (λ e. ends_at a e.0) (with_entry network_cmp es n v)) ≡ true) [
@@ -121,9 +125,11 @@ end_put_here es n v a is =
       | false ↦ any_put_here network_cmp network_same (ends_at a) es n v is
     ]
 
+-- with a prefix put in the entries are in order, and no host bit is set
 pub entries_put : (es : AddrEntries) (n : Network) (v : ℕ) → AreEntries es → IsNetwork n → IsInOrder network_cmp (with_entry network_cmp es n v) → AreEntries (with_entry network_cmp es n v)
 entries_put es n v h is ordered = record { ordered = ordered; networks = each_put network_cmp IsNetwork es n v h.networks is }
 
+-- with a prefix put in there is an entry
 pub length_put : (es : AddrEntries) (n : Network) (v : ℕ) → 0 < length (with_entry network_cmp es n v)
 length_put [] n v = omega arith
 length_put (e ∷ es) n v =
@@ -171,12 +177,14 @@ pub record AreReady (es : AddrEntries) (n : Network) (v : ℕ) (pieces : List Pi
   pub begins : first_of pieces start ≡ n.address
 
 module _ (es : AddrEntries) (n : Network) (v : ℕ) (h : AreEntries es) (is : IsNetwork n) (fresh : value_of network_cmp es n ≡ None) (pieces new : List Piece) (start : ℕ) (ready : AreReady es n v pieces start) where
+  -- a prefix up to the last address is put in by a change of all pieces from its start on
   pub put_to_last : 2 ^ 32 ≤ n.address + size_of n.bits → (start ≤ length pieces → AreChanged (Put n v) pieces new start (length pieces)) → AreKept (with_entry network_cmp es n v) new
   put_to_last high change =
       let within = ready.within in
       put_kept es n v pieces new start (length pieces) h is fresh ready.division ready.tells ready.ends
       (record { within = within; begins = ready.begins; reaches = omega arith; ends = λ short. absurd (omega arith); whole = λ same. high }) (change (omega arith))
 
+  -- a prefix that ends before the last address is put in by a change of the pieces up to its end
   pub put_to_end : (cut : List Piece) (end : ℕ) → IsDivision cut → Tells (decided es) cut → HaveEnds (is_end (with_entry network_cmp es n v)) cut → end < length cut → first_of cut end ≡ n.address + size_of n.bits
       → ((k : ℕ) → k < length pieces → first_of pieces k < n.address + size_of n.bits → first_of cut k ≡ first_of pieces k) → length pieces ≤ length cut
       → (start ≤ end → AreChanged (Put n v) cut new start end) → AreKept (with_entry network_cmp es n v) new
@@ -193,9 +201,11 @@ module _ (es : AddrEntries) (n : Network) (v : ℕ) (h : AreEntries es) (is : Is
       put_kept es n v cut new start end h is fresh division tells ends
       (record { within = omega arith; begins = stays ∙ first; reaches = omega arith; ends = λ short. at; whole = λ same. absurd (omega arith) }) (change up)
 
+-- a prefix's own address is one of its two ends
 pub begins_end : (n : Network) (a : ℕ) → a ≡ n.address → ends_at a n ≡ true
 begins_end n a is = let same : nat_eq a n.address ≡ true = grind (arith, nat_tests) in rw same refl
 
+-- the address behind a prefix's range is one of its two ends
 pub ends_end : (n : Network) (a : ℕ) → a ≡ n.address + size_of n.bits → ends_at a n ≡ true
 ends_end n a is =
     let same : nat_eq a (n.address + size_of n.bits) ≡ true = grind (arith, nat_tests) in
@@ -205,6 +215,7 @@ ends_end n a is =
 pub ends_more : (es : AddrEntries) (n : Network) (v : ℕ) (pieces : List Piece) → HaveEnds (is_end es) pieces → HaveEnds (is_end (with_entry network_cmp es n v)) pieces
 ends_more es n v pieces t = record { each = λ place within. end_put es n v (first_of pieces place) (t.each place within) }
 
+-- where there are pieces they have all addresses
 pub kept_division : (es : AddrEntries) (pieces : List Piece) → AreKept es pieces → 0 < length pieces → IsDivision pieces
 kept_division [] pieces kept some = let none = ap length (kept.none refl) in absurd (omega arith)
 kept_division (e ∷ es) pieces kept some = kept.division (omega arith)

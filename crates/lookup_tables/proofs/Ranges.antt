@@ -5,6 +5,7 @@ use Rattle.std.proofs.lemmas.Nat.{shl-shr, shr-shr, div-mul-add, pow_pos}
 use Rattle.std.proofs.lemmas.Bool.{cases_order}
 use Rattle.fw_base.specs.Prefix.{Network, Covers, IsNetwork, network, size_of}
 
+-- a prefix has some addresses
 pub size_above : (bits : ℕ) → 0 < size_of bits
 size_above bits = pow_pos (32 - bits)
 
@@ -21,6 +22,7 @@ network-covers n a is covers = ap (λ (q : ℕ). scaled q n.bits) covers ∙ is.
     scaled : ℕ → ℕ → Network
     scaled q bits = record { address = q * size_of bits; bits = bits }
 
+-- a prefix that is the network of an address covers it
 pub covers-network : (n : Network) (a : ℕ) → network a n.bits ≡ n → Covers n a
 covers-network n a is =
     sym (shl-shr (a / size_of n.bits) (32 - n.bits)) ∙ ap (λ (m : ℕ). m / size_of n.bits) (ap (λ (m : Network). m.address) is)
@@ -31,6 +33,7 @@ covers-range n a is covers =
     let first : a / size_of n.bits * size_of n.bits ≡ n.address = ap (λ (m : Network). m.address) (network-covers n a is covers) in
     (let low = div-mul-le_self a (size_of n.bits) in omega arith, let high = lt-div-mul-add {a = a} (size_above n.bits) in omega arith)
 
+-- a prefix covers each address of its range
 pub range-covers : (n : Network) (a : ℕ) → IsNetwork n → n.address ≤ a → a < n.address + size_of n.bits → Covers n a
 range-covers n a is low high =
     let first : n.address / size_of n.bits * size_of n.bits ≡ n.address = ap (λ (m : Network). m.address) is.cleared in

@@ -18,6 +18,7 @@ use Rattle.lookup_tables.proofs.Puts.{any_left, each_left, ends_at}
 use Rattle.lookup_tables.proofs.Ranges.{network-covers, covers-network, covers-range, range-covers, fewer, size_above}
 use Rattle.lookup_tables.proofs.Values.{value_of-listed}
 
+-- with a prefix taken out the entries are in order, and no host bit is set
 pub entries_left : (es : AddrEntries) (n : Network) → AreEntries es → IsInOrder network_cmp (without_key network_cmp es n) → AreEntries (without_key network_cmp es n)
 entries_left es n h ordered = record { ordered = ordered; networks = each_left network_cmp IsNetwork es n h.networks }
 
@@ -37,6 +38,7 @@ module _ (es : AddrEntries) (n : Network) (h : AreEntries es) (there : IsSome (v
   listed : (w : ℕ) × (value_of network_cmp es n ≡ Some w)
   listed = elim (value_of network_cmp es n) as (λ o. IsSome o → (w : ℕ) × (o ≡ Some w)) [ None ↦ λ is. cc | Some w ↦ λ is. (w, refl) ] there
 
+  -- a prefix that has an entry has no host bit set
   pub is_network : IsNetwork n
   is_network =
       let (w, is) = listed in

@@ -72,6 +72,7 @@ module _ {E B T L I : Type 0} (m : Meanings E B T L I) (c : Core E B T L I) (t :
       let clash : true ≡ false = sym other ∙ flag in
       absurd cc
 
+  -- with every seat joined, words and slots hold what the operator's view keeps of each processor
   pub ends : (words : List ℕ) (slots : List (Slot E B)) → t.words ≡ words → ((k : ℕ) (y : Slot E B) → get_elem? t.homes k ≡ at.some (at.some y) → get_elem? slots k ≡ at.some y) → EndsWith m v words slots
   ends words slots same homes =
       let history : slice_get v.history (v.number - v.opened) ≡ Some (c.name, c.tag) =

@@ -44,6 +44,7 @@ first_words_are n number =
       between = λ w k inside low high. zeros (index_of_word w + k) (λ clash. absurd (omega arith));
     }
 
+-- a table opens with as many words as its processors need
 pub count_of_first_words : (n number : ℕ) → length (first_words n number) ≡ words_of n
 count_of_first_words n number = (first_words_are n number).size
 
@@ -51,6 +52,7 @@ sizes_of-map : {A X : Type 0} (f : A → X) (xs : List A) → length (map f xs) 
 sizes_of-map f [] = refl
 sizes_of-map f (x ∷ xs) = let e = sizes_of-map f xs in omega arith
 
+-- a table opens with a slot for each edition, and one for the book
 pub count_of_first_slots : {E B : Type 0} (book : B) (editions : List E) → length (first_slots book editions) ≡ length editions + 1
 count_of_first_slots {E} {B} book editions = let slot : E → Slot E B = λ e. Edition (Some e) in let e : length (map (λ e. Edition (Some e)) editions) ≡ length editions = sizes_of-map slot editions in omega arith
 
@@ -86,6 +88,7 @@ module _ {E B T L I : Type 0} (m : Meanings E B T L I) where
     own = m.of book 0;
   }
 
+  -- the table at the opening shows its first state by the rule
   pub opening_shows : (editions : List E) (edition : E) (book : B) → Opens m editions edition book → m.book_number book < 2 ^ 64
       → Shows m (first_core (length editions) edition book) (opening (first_words (length editions) (m.book_number book)) (first_slots book editions) (first_view m (length editions) edition book))
   opening_shows editions edition book opens fits =

@@ -16,12 +16,15 @@ use Rattle.rm_table.specs.Rule.{Core, core_of, Words}
 pub match_true : (P Q : Type 0) (b : Bool) → b ≡ true → P → MatchBool b P Q
 match_true P Q b is p = subst (λ (x : Bool). MatchBool x P Q) (sym is) p
 
+-- a fact for a test that came out false
 pub match_false : (P Q : Type 0) (b : Bool) → b ≡ false → Q → MatchBool b P Q
 match_false P Q b is q = subst (λ (x : Bool). MatchBool x P Q) (sym is) q
 
+-- what was told of a test that came out true
 pub was_true : (P Q : Type 0) (b : Bool) → b ≡ true → MatchBool b P Q → P
 was_true P Q b is p = subst (λ (x : Bool). MatchBool x P Q) is p
 
+-- what was told of a test that came out false
 pub was_false : (P Q : Type 0) (b : Bool) → b ≡ false → MatchBool b P Q → Q
 was_false P Q b is q = subst (λ (x : Bool). MatchBool x P Q) is q
 
@@ -31,10 +34,12 @@ some_of (Some a) is = (a, refl)
 some_of None is = absurd cc
 
 module _ {A : Type 0} where
+  -- the value that was put stands at its place
   pub put_here : (f : ℕ → A) (p : ℕ) (a : A) → put f p a p ≡ a
   unfolding put
   put_here f p a = ap (λ (b : Bool). if b then a else f p) (eq-eqb p p refl)
 
+  -- a value at another place stays
   pub put_else : (f : ℕ → A) (p : ℕ) (a : A) (k : ℕ) → k ≢ p → put f p a k ≡ f k
   unfolding put
   put_else f p a k other = ap (λ (b : Bool). if b then a else f k) (ne_eqb k p other)
@@ -53,31 +58,37 @@ module _ {A : Type 0} where
   pub put_keeps : {X : Type 0} (g : A → X) (f : ℕ → A) (p : ℕ) (a : A) → g a ≡ g (f p) → (k : ℕ) → g (put f p a k) ≡ g (f k)
   put_keeps g f p a same = at_put (λ k x. g x ≡ g (f k)) f p a same (λ k other. refl)
 
+  -- at each place within a list stands an element
   pub get_there : (xs : List A) (j : ℕ) → j < length xs → (x : A) × (get_elem? xs j ≡ at.some x)
   get_there [] j h = absurd (omega arith)
   get_there (x ∷ xs) zero h = (x, refl)
   get_there (x ∷ xs) (suc j) h = get_there xs j (omega arith)
 
+  -- an element that is found stands within the list
   pub get_within : (xs : List A) (j : ℕ) (x : A) → get_elem? xs j ≡ at.some x → j < length xs
   get_within [] j x e = absurd (at.some-ne-none x (sym e))
   get_within (y ∷ ys) zero x e = omega arith
   get_within (y ∷ ys) (suc j) x e = let h = get_within ys j x e in omega arith
 
+  -- what `slice_get` finds, `get_elem?` finds too
   pub slice_at : (xs : List A) (j : ℕ) (x : A) → slice_get xs j ≡ Some x → get_elem? xs j ≡ at.some x
   slice_at [] j x e = absurd cc
   slice_at (y ∷ ys) zero x e = let same : y ≡ x = cc in ap (λ (z : A). at.some z) same
   slice_at (y ∷ ys) (suc j) x e = slice_at ys j x e
 
+  -- what `get_elem?` finds, `slice_get` finds too
   pub at_slice : (xs : List A) (j : ℕ) (x : A) → get_elem? xs j ≡ at.some x → slice_get xs j ≡ Some x
   at_slice [] j x e = absurd (at.some-ne-none x (sym e))
   at_slice (y ∷ ys) zero x e = ap (λ (z : A). Some z) (at.some-injective y x e)
   at_slice (y ∷ ys) (suc j) x e = at_slice ys j x e
 
+  -- the element that was set stands at its place
   pub index_here : (xs : List A) (i : ℕ) (x d : A) → i < length xs → slice_index_or (slice_set xs i x) i d ≡ x
   index_here [] i x d h = absurd (omega arith)
   index_here (y ∷ ys) zero x d h = refl
   index_here (y ∷ ys) (suc i) x d h = index_here ys i x d (omega arith)
 
+  -- an element at another place stays where one is set
   pub index_else : (xs : List A) (i j : ℕ) (x d : A) → j ≢ i → slice_index_or (slice_set xs i x) j d ≡ slice_index_or xs j d
   index_else [] i j x d other = refl
   index_else (y ∷ ys) zero zero x d other = absurd (other refl)
@@ -91,6 +102,7 @@ module _ {A : Type 0} where
   get_set_here (x ∷ xs) zero a h = refl
   get_set_here (x ∷ xs) (suc p) a h = get_set_here xs p a (omega arith)
 
+  -- what another place has, or lacks, stays where an element is set
   pub get_set_else : (xs : List A) (p k : ℕ) (a : A) → k ≢ p → slice_get (slice_set xs p a) k ≡ slice_get xs k
   get_set_else [] p k a other = refl
   get_set_else (x ∷ xs) zero zero a other = absurd (other refl)
@@ -98,15 +110,18 @@ module _ {A : Type 0} where
   get_set_else (x ∷ xs) (suc p) zero a other = refl
   get_set_else (x ∷ xs) (suc p) (suc k) a other = get_set_else xs p k a (λ e. other (ap suc e))
 
+  -- an element that is set to what it was changes nothing
   pub set_found : (xs : List A) (i : ℕ) (d : A) → slice_set xs i (slice_index_or xs i d) ≡ xs
   set_found [] i d = refl
   set_found (x ∷ xs) zero d = refl
   set_found (x ∷ xs) (suc i) d = ap (λ (ys : List A). x ∷ ys) (set_found xs i d)
 
+  -- the values at n numbers are n
   pub length-values : (f : ℕ → A) (from n : ℕ) → length (values_from f from n) ≡ n
   length-values f from zero = refl
   length-values f from (suc n) = let h = length-values f (suc from) n in omega arith
 
+  -- value j of those from a number on is the value at the number j further
   pub values_at : (f : ℕ → A) (from n j : ℕ) → j < n → slice_get (values_from f from n) j ≡ Some (f (from + j))
   values_at f from zero j h = absurd (omega arith)
   values_at f from (suc n) zero h = let e : from ≡ from + 0 = omega arith in ap (λ (k : ℕ). Some (f k)) e
@@ -120,6 +135,7 @@ module _ {A : Type 0} where
       let others : values_from (put f p a) (suc from) n ≡ values_from f (suc from) n = values-below f (suc from) n p a (omega arith) in
       cc
 
+  -- a value that is put at a place is set in the list of values
   pub values-put : (f : ℕ → A) (from n p j : ℕ) (a : A) → p ≡ from + j → values_from (put f p a) from n ≡ slice_set (values_from f from n) j a
   values-put f from zero p j a e = refl
   values-put f from (suc n) p zero a e =
@@ -132,10 +148,12 @@ module _ {A : Type 0} where
       let others : values_from (put f p a) (suc from) n ≡ slice_set (values_from f (suc from) n) j a = values-put f (suc from) n p j a (omega arith) in
       cc
 
+  -- a change of each value changes each in the list
   pub values-map : (g : A → A) (f : ℕ → A) (from n : ℕ) → values_from (λ k. g (f k)) from n ≡ map g (values_from f from n)
   values-map g f from zero = refl
   values-map g f from (suc n) = ap (λ (ys : List A). g (f from) ∷ ys) (values-map g f (suc from) n)
 
+  -- functions that agree have the same list of values
   pub values_like : (f g : ℕ → A) (from n : ℕ) → ((k : ℕ) → f k ≡ g k) → values_from f from n ≡ values_from g from n
   values_like f g from zero same = refl
   values_like f g from (suc n) same = let one = same from in let others : values_from f (suc from) n ≡ values_from g (suc from) n = values_like f g (suc from) n same in cc
@@ -149,9 +167,11 @@ module _ {A : Type 0} where
 
 -- the words, at one word changed
 module _ {n number behind holder : ℕ} {tracker token : ℕ → ℕ} {ws : List ℕ} where
+  -- a word that is stored as it was leaves all that the words say
   pub words_unchanged : (i : ℕ) → Words n number behind holder tracker token ws → Words n number behind holder tracker token (slice_set ws i (slice_index ws i))
   words_unchanged i w = subst (λ (xs : List ℕ). Words n number behind holder tracker token xs) (sym (set_found ws i 0)) w
 
+  -- words that show some trackers and tokens show any that agree with these
   pub words_like : (tracker' token' : ℕ → ℕ) → ((k : ℕ) → tracker' k ≡ tracker k) → ((k : ℕ) → token' k ≡ token k) → Words n number behind holder tracker token ws → Words n number behind holder tracker' token' ws
   words_like tracker' token' t u w = record {
     size = w.size;
@@ -163,6 +183,7 @@ module _ {n number behind holder : ℕ} {tracker token : ℕ → ℕ} {ws : List
     between = w.between;
   }
 
+  -- another published number in its word leaves what the others say
   pub words_number : (x : ℕ) → Words n number behind holder tracker token ws → Words n x behind holder tracker token (slice_set ws number_index x)
   words_number x w = record {
     size = length-set ws number_index x ∙ w.size;
@@ -174,6 +195,7 @@ module _ {n number behind holder : ℕ} {tracker token : ℕ → ℕ} {ws : List
     between = λ word k inside low high. index_else ws number_index (index_of_word word + k) x 0 (λ clash. absurd (omega arith)) ∙ w.between word k inside low high;
   }
 
+  -- another holder of the lock behind in its word leaves what the others say
   pub words_behind : (x : ℕ) → Words n number behind holder tracker token ws → Words n number x holder tracker token (slice_set ws behind_index x)
   words_behind x w = record {
     size = length-set ws behind_index x ∙ w.size;
@@ -185,6 +207,7 @@ module _ {n number behind holder : ℕ} {tracker token : ℕ → ℕ} {ws : List
     between = λ word k inside low high. index_else ws behind_index (index_of_word word + k) x 0 (λ clash. absurd (omega arith)) ∙ w.between word k inside low high;
   }
 
+  -- another holder of the book in its word leaves what the others say
   pub words_book : (x : ℕ) → Words n number behind holder tracker token ws → Words n number behind x tracker token (slice_set ws book_index x)
   words_book x w = record {
     size = length-set ws book_index x ∙ w.size;
@@ -196,6 +219,7 @@ module _ {n number behind holder : ℕ} {tracker token : ℕ → ℕ} {ws : List
     between = λ word k inside low high. index_else ws book_index (index_of_word word + k) x 0 (λ clash. absurd (omega arith)) ∙ w.between word k inside low high;
   }
 
+  -- another tracker of one processor in its word leaves what the others say
   pub words_tracker : (p x : ℕ) (tracker' : ℕ → ℕ) → 0 < p → p ≤ n → tracker' p ≡ x → ((k : ℕ) → k ≢ p → tracker' k ≡ tracker k) → Words n number behind holder tracker token ws → Words n number behind holder tracker' token (slice_set ws (tracker_index p) x)
   words_tracker p x tracker' above within here rest_of w = record {
     size = length-set ws (tracker_index p) x ∙ w.size;
@@ -214,6 +238,7 @@ module _ {n number behind holder : ℕ} {tracker token : ℕ → ℕ} {ws : List
     between = λ word k inside low high. index_else ws (tracker_index p) (index_of_word word + k) x 0 (λ clash. absurd (omega arith)) ∙ w.between word k inside low high;
   }
 
+  -- another token of one processor in its word leaves what the others say
   pub words_token : (p x : ℕ) (token' : ℕ → ℕ) → 0 < p → p ≤ n → token' p ≡ x → ((k : ℕ) → k ≢ p → token' k ≡ token k) → Words n number behind holder tracker token ws → Words n number behind holder tracker token' (slice_set ws (token_index n p) x)
   words_token p x token' above within here rest_of w = record {
     size = length-set ws (token_index n p) x ∙ w.size;
@@ -234,11 +259,13 @@ module _ {n number behind holder : ℕ} {tracker token : ℕ → ℕ} {ws : List
 
 -- the lock's core that a Core shows
 module _ {E B T L I : Type 0} (c : Core E B T L I) where
+  -- the lock's core has the processor of each place up to their count
   pub there : (k : ℕ) → 0 < k → k ≤ c.count → processor_of (core_of c) k ≡ Some (c.state k)
   there k low high =
       let e : 1 + (k - 1) ≡ k = omega arith in
       processor_of-at (core_of c) k low ∙ values_at c.state 1 c.count (k - 1) (omega arith) ∙ ap (λ (j : ℕ). Some (c.state j)) e
 
+  -- what holds of a processor's state holds of that processor in the lock's core
   pub is_there : (P : ProcessorState → Type 0) (k : ℕ) → 0 < k → k ≤ c.count → P (c.state k) → IsProcessor (core_of c) k P
   is_there P k low high holds = IsProcessor-from (core_of c) k P (c.state k) (there k low high) holds
 
@@ -257,11 +284,13 @@ module _ {E B T L I : Type 0} (c : Core E B T L I) where
       ap (λ (ps : List ProcessorState). record (core_of c) { processors = ps }) same ∙ sym (with_processor-some (core_of c) p change (c.state p) (there p low high))
 
 module _ {A : Type 0} where
+  -- an element that is found is what stands at its place
   pub index_from : (xs : List A) (i : ℕ) (x d : A) → get_elem? xs i ≡ at.some x → slice_index_or xs i d ≡ x
   index_from [] i x d e = absurd (at.some-ne-none x (sym e))
   index_from (y ∷ ys) zero x d e = at.some-injective y x e
   index_from (y ∷ ys) (suc i) x d e = index_from ys i x d e
 
+  -- the values at one number more end with the value at the last
   pub values-snoc : (f : ℕ → A) (from n : ℕ) → values_from f from (suc n) ≡ values_from f from n ++ f (from + n) ∷ []
   values-snoc f from zero = let e : from ≡ from + 0 = omega arith in ap (λ (k : ℕ). f k ∷ []) e
   values-snoc f from (suc n) = let e : suc from + n ≡ from + suc n = omega arith in
@@ -274,11 +303,13 @@ module _ {A : Type 0} where
       let at_end : 1 + (place - 1) ≡ place = omega arith in
       ap (λ (ys : List A). ys ++ x ∷ []) is ∙ ap (λ (y : A). values_from f 1 (place - 1) ++ y ∷ []) (here ∙ ap f (sym at_end)) ∙ sym (values-snoc f 1 (place - 1)) ∙ ap (λ (k : ℕ). values_from f 1 k) n
 
+  -- item j of the values from 1 on is the value at j + 1
   pub values_found : (f : ℕ → A) (items : List A) (n j : ℕ) → items ≡ values_from f 1 n → j < n → slice_get items j ≡ Some (f (j + 1))
   values_found f items n j is inside =
       let e : 1 + j ≡ j + 1 = omega arith in
       ap (λ (ys : List A). slice_get ys j) is ∙ values_at f 1 n j inside ∙ ap (λ (k : ℕ). Some (f k)) e
 
+  -- an element of a list with one more at its end stood there before, or is that one
   pub snoc_get : (xs : List A) (x y : A) (j : ℕ) → slice_get (xs ++ x ∷ []) j ≡ Some y → (slice_get xs j ≡ Some y) ⊎ ((j ≡ length xs) × (x ≡ y))
   snoc_get [] x y zero is = inr (refl, cc)
   snoc_get [] x y (suc j) is = absurd cc
@@ -298,9 +329,11 @@ module _ {A : Type 0} where
   pub taken_is : (xs ys : List A) (i : ℕ) (x y : A) → xs ≡ ys → get_elem? xs i ≡ at.some x → slice_get ys i ≡ Some y → x ≡ y
   taken_is xs ys i x y same found known = let both : Some x ≡ Some y = sym (at_slice xs i x found) ∙ ap (λ (zs : List A). slice_get zs i) same ∙ known in cc
 
+  -- an element of one list stands at the same place of an equal list
   pub taken_at : (xs ys : List A) (i : ℕ) (x : A) → xs ≡ ys → get_elem? xs i ≡ at.some x → slice_get ys i ≡ Some x
   taken_at xs ys i x same found = sym (ap (λ (zs : List A). slice_get zs i) same) ∙ at_slice xs i x found
 
+-- a flag that was cleared is clear
 pub cleared_here : (fs : List Bool) (i : ℕ) → slice_index_or (slice_set fs i false) i false ≡ false
 cleared_here [] i = refl
 cleared_here (f ∷ fs) zero = refl

@@ -190,6 +190,7 @@ module _ {E B T L I : Type 0} (m : Meanings E B T L I) where
     part_same : {X : Type 0} (f : Part E L I → X) (a : Part E L I) → f a ≡ f v.part → (k : ℕ) → f (put c.part v.place a k) ≡ f (c.part k)
     part_same f a same = put_keeps f c.part v.place a (same ∙ ap f w_live.part)
 
+    -- once a free book is taken the table shows a state by the rule
     pub take_book_shows : (hand : Hand E B) (found : ℕ) → c.holder ≡ 0 → (v.role ≡ Processor → v.phase ≡ In)
         → Shows m (desk_core c v.place v.place c.book c.stale c.ready (book_part v.part)) (stepped t book_index v.place id hand (noted (book_taken v c.book) book_index found) (takes 0 (Book (Some c.book))))
     take_book_shows hand found free inside =

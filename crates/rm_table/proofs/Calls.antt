@@ -30,6 +30,7 @@ pub raise_word : (sections t : ℕ) (phase : Phase) → phase ≡ Out → tracke
 raise_word sections t phase out is =
     let e : (2 * sections) % 2 ^ 64 ≡ t = ap (tracker_word sections) (sym out) ∙ is in omega arith
 
+-- one more than the word of a raised tracker is that of the lowered one
 pub lower_word : (sections t : ℕ) (phase : Phase) → (phase ≡ Raised) ⊎ (phase ≡ In) → tracker_word sections phase ≡ t → (t + 1) % 2 ^ 64 ≡ tracker_word sections Out
 lower_word sections t phase (inl up) is =
     let e : (2 * sections + (2 ^ 64 - 1)) % 2 ^ 64 ≡ t = ap (tracker_word sections) (sym up) ∙ is in omega arith
@@ -37,6 +38,7 @@ lower_word sections t phase (inr inside) is =
     let e : (2 * sections + (2 ^ 64 - 1)) % 2 ^ 64 ≡ t = ap (tracker_word sections) (sym inside) ∙ is in omega arith
 
 module _ {E B T L I : Type 0} (m : Meanings E B T L I) where
+  -- a raise is its event in the lock's core
   pub raise_makes : RaiseLaw m
   raise_makes slots id me i x i_is role out is t whole sized is_at fits =
       let v : View E B T L I = me.0 in
@@ -52,6 +54,7 @@ module _ {E B T L I : Type 0} (m : Meanings E B T L I) where
         refl,
       )
 
+  -- a check is its event in the lock's core
   pub check_makes : CheckLaw m
   check_makes slots id me i i_is role up t whole sized is_at fits = by_token (whole.0.state me.0.place).token refl
     where
@@ -106,6 +109,7 @@ module _ {E B T L I : Type 0} (m : Meanings E B T L I) where
             match_false _ _ (found == 0) (ne_eqb found 0 (λ clash. absurd (omega arith))) (refl, below),
           )
 
+  -- a lowering is its event in the lock's core
   pub lower_makes : LowerLaw m
   lower_makes slots id me i x i_is role (inl up) none has is t whole sized is_at fits =
       let v : View E B T L I = me.0 in
@@ -147,6 +151,7 @@ module _ {E B T L I : Type 0} (m : Meanings E B T L I) where
         ap (λ (p : Phase). (noted (lowered v) i x, hand_left p me.1)) (sym inside),
       )
 
+  -- a regain is its event in the lock's core
   pub regain_makes : RegainLaw m
   regain_makes slots id me i number i_is role out behind read t whole sized is_at fits =
       let v : View E B T L I = me.0 in
@@ -171,18 +176,22 @@ module _ {E B T L I : Type 0} (m : Meanings E B T L I) where
             )),
       )
 
+  -- a processor that is out may raise its tracker
   pub raise_allows : (slots id : ℕ) (me : Seated m) (i x : ℕ) → i ≡ tracker_index me.0.place → me.0.role ≡ Processor → me.0.phase ≡ Out → x ≡ tracker_word (me.0.part.sections + 1) Raised
       → Allows (Whole m) slots id me i (λ _. x) (λ _. Raises m (step slots i x 0 at.none) me x)
   raise_allows slots id me i x i_is role out is t whole sized is_at fits = let r = raise_makes slots id me i x i_is role out is t whole sized is_at fits in (r.0, r.1, r.2, (r.3.0, r.3.1), r.4)
 
+  -- a processor that has raised its tracker may read its token
   pub check_allows : (slots id : ℕ) (me : Seated m) (i : ℕ) → i ≡ token_index me.0.count me.0.place → me.0.role ≡ Processor → me.0.phase ≡ Raised
       → Allows (Whole m) slots id me i (λ n. n) (Checks m (step slots i 0 0 at.none) me)
   check_allows slots id me i i_is role up t whole sized is_at fits = let r = check_makes slots id me i i_is role up t whole sized is_at fits in (r.0, r.1, r.2, (r.3.0, r.3.1), r.4)
 
+  -- a processor without the book may lower its tracker if raised, or in with its edition in hand
   pub lower_allows : (slots id : ℕ) (me : Seated m) (i x : ℕ) → i ≡ tracker_index me.0.place → me.0.role ≡ Processor → (me.0.phase ≡ Raised) ⊎ (me.0.phase ≡ In) → me.0.book ≡ None → (me.0.phase ≡ In → HasEdition m me.0 me.1) → x ≡ tracker_word me.0.part.sections Out
       → Allows (Whole m) slots id me i (λ _. x) (λ _. Lowers m (step slots i x 0 at.none) me x)
   lower_allows slots id me i x i_is role inside none has is t whole sized is_at fits = let r = lower_makes slots id me i x i_is role inside none has is t whole sized is_at fits in (r.0, r.1, r.2, (r.3.0, r.3.1), r.4)
 
+  -- a processor that is out may take its token, with a number read under the lock behind
   pub regain_allows : (slots id : ℕ) (me : Seated m) (i number : ℕ) → i ≡ token_index me.0.count me.0.place → me.0.role ≡ Processor → me.0.phase ≡ Out → me.0.behind ≡ true → me.0.part.read ≡ Some number
       → Allows (Whole m) slots id me i (λ _. 0) (λ _. Regains m (step slots i 0 0 at.none) me 0)
   regain_allows slots id me i number i_is role out behind read t whole sized is_at fits = let r = regain_makes slots id me i number i_is role out behind read t whole sized is_at fits in (r.0, r.1, r.2, (r.3.0, r.3.1), r.4)

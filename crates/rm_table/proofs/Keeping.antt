@@ -47,6 +47,7 @@ pub record Beside {E B T L I : Type 0} (c d : Core E B T L I) (p : ℕ) : Type 0
   pub operator : p ≢ c.count + 1 → Quiet c d p
 
 module _ {E B T L I : Type 0} (m : Meanings E B T L I) where
+  -- what a seat with another place knows of itself stays so
   pub live_stays : (c d : Core E B T L I) (p j : ℕ) (u : View E B T L I) → Beside c d p → u.place ≢ p → Live m c j u → Live m d j u
   live_stays c d p j u b other l = record {
     count = l.count ∙ sym b.count;
@@ -59,6 +60,7 @@ module _ {E B T L I : Type 0} (m : Meanings E B T L I) where
     book = l.book ∙ sym (b.book u.place other l.low);
   }
 
+  -- what the operator keeps of a processor with another place stays so
   pub kept_stays : (c d : Core E B T L I) (p j k : ℕ) (closing : Bool) (part : Part E L I) → Beside c d p → Quiet c d p → k ≢ p → KeptAt m c j closing k part → KeptAt m d j closing k part
   kept_stays c d p j k closing part b q other l = record {
     low = l.low;
@@ -70,6 +72,7 @@ module _ {E B T L I : Type 0} (m : Meanings E B T L I) where
     fresh = λ opening. let was = l.fresh opening in (was.0, q.token k other ∙ was.1);
   }
 
+  -- what the operator keeps stays so where another seat makes the step
   pub keeps_stays : (c d : Core E B T L I) (p j : ℕ) (u : View E B T L I) → Beside c d p → Quiet c d p → c.seat p ≢ j → Keeps m c j u → Keeps m d j u
   keeps_stays c d p j u b q apart l = record {
     place = let e = l.place in let f = b.count in omega arith;
@@ -87,6 +90,7 @@ module _ {E B T L I : Type 0} (m : Meanings E B T L I) where
     kept = λ k part is. let was = l.kept k part is in kept_stays c d p j k u.closing part b q (λ same. apart (ap c.seat (sym same) ∙ was.seat)) was;
   }
 
+  -- what another seat's view says stays so
   pub agrees_stays : (c d : Core E B T L I) (p id j : ℕ) (u : View E B T L I) → Beside c d p → c.seat p ≡ id → j ≢ id → Agrees m c j u → Agrees m d j u
   agrees_stays c d p id j u b seat apart a = record {
     live = λ role. let l = a.live role in live_stays c d p j u b (λ same. apart (sym l.seat ∙ ap c.seat same ∙ seat)) l;

@@ -42,6 +42,7 @@ pub record SameSeat {E B T L I : Type 0} (v w : View E B T L I) : Type 0 where
   pub kept : w.kept ≡ v.kept
 
 module _ {E B T L I : Type 0} (m : Meanings E B T L I) where
+  -- whatever a drain found, the operator's role, place, numbers and kept parts stay
   pub drain_same : (me after : Seated m) (place index found : ℕ) (b : Bool) → MatchBool b
       ((e : E) × (after ≡ (noted (drained me.0 place) index found, (place, Edition (Some e)) ∷ me.1)) × (m.number e ≡ me.0.number) × IsLast me.0 (m.name e) (m.tag e))
       (after ≡ (noted me.0 index found, me.1)) → SameSeat me.0 after.0
@@ -64,6 +65,7 @@ module _ {E B T L I : Type 0} (m : Meanings E B T L I) where
     kept = ap (λ z. z.0.kept) is;
   }
 
+  -- a try for the lock behind is its event in the lock's core, or none where another holds it
   pub take_back_makes : TakeBackLaw m
   take_back_makes slots id me i x i_is working x_is t whole sized is_at fits = by_holder whole.0.behind refl
     where
@@ -116,6 +118,7 @@ module _ {E B T L I : Type 0} (m : Meanings E B T L I) where
             match_false _ _ (found == 0) test (refl, let high = bounds.1 in let e = live.count in omega arith),
           )
 
+  -- giving back the lock behind is its event in the lock's core
   pub give_back_makes : GiveBackLaw m
   give_back_makes slots id me i i_is working behind unrevoked t whole sized is_at fits =
       let v : View E B T L I = me.0 in
@@ -131,6 +134,7 @@ module _ {E B T L I : Type 0} (m : Meanings E B T L I) where
         refl,
       )
 
+  -- reading the number is its event in the lock's core
   pub read_number_makes : ReadNumberLaw m
   read_number_makes slots id me i i_is working t whole sized is_at fits =
       let v : View E B T L I = me.0 in
@@ -150,6 +154,7 @@ module _ {E B T L I : Type 0} (m : Meanings E B T L I) where
         },
       )
 
+  -- a revocation is its event in the lock's core
   pub revoke_makes : RevokeLaw m
   revoke_makes slots id me i k x i_is writer low high behind unrevoked room is t whole sized is_at fits =
       let v : View E B T L I = me.0 in
@@ -165,6 +170,7 @@ module _ {E B T L I : Type 0} (m : Meanings E B T L I) where
         (λ place same. let e : k ≡ place = omega arith in ap (λ (j : ℕ). (noted (revoked v j) i x, me.1)) e),
       )
 
+  -- a drain is its event in the lock's core
   pub drain_makes : DrainLaw m
   drain_makes slots id me i k i_is writer low high flagged undrained t whole sized is_at fits = by_phase (even_word (whole.0.part k).sections (whole.0.state k).phase)
     where
@@ -214,6 +220,7 @@ module _ {E B T L I : Type 0} (m : Meanings E B T L I) where
             (λ place same. match_false _ _ (found % 2 == 0) (ne_eqb (found % 2) 0 (λ clash. absurd (omega arith))) refl),
           )
 
+  -- a publication is its event in the lock's core
   pub publish_makes : PublishLaw m
   publish_makes slots id me i x book i_is writer h drained behind has some is t whole sized is_at fits =
       let v : View E B T L I = me.0 in
@@ -233,6 +240,7 @@ module _ {E B T L I : Type 0} (m : Meanings E B T L I) where
         (λ j. (noted (sym (published_is m v me.1 h some) j) i x, carried_gives v.count me.1 j)),
       )
 
+  -- a try for the book leaves the lock's core
   pub take_book_makes : TakeBookLaw m
   take_book_makes slots id me i x i_is working inside x_is t whole sized is_at fits = by_test (found == 0) refl
     where
@@ -308,6 +316,7 @@ module _ {E B T L I : Type 0} (m : Meanings E B T L I) where
   top_book other ((k, Book (Some y)) ∷ hand) = y
   top_book other _ = other
 
+  -- giving back the book leaves the lock's core
   pub give_book_makes : GiveBookLaw m
   give_book_makes slots id me i i_is working h t whole sized is_at fits = (
     noted (book_given m v y) i 0,
@@ -340,58 +349,72 @@ module _ {E B T L I : Type 0} (m : Meanings E B T L I) where
       given (inl processor) = at_top (desk_core c v.place 0 y c.stale c.ready (given_part m v.part v.place y)) refl (give_processor_shows m c t id v whole.1 is_at working (rest me.1) y h.taken processor h.book_taken (h.processor processor))
       given (inr writer) = at_top (desk_core c v.place 0 y false (m.book_ready y) (given_part m v.part v.place y)) refl (give_operator_shows m c t id v whole.1 is_at working (rest me.1) y h.taken writer.role h.book_taken (h.operator writer.role))
 
+  -- the operator may split off the seat of a processor that it keeps
   pub splits : (id : ℕ) (v : View E B T L I) (k : ℕ) (part : Part E L I) → v.role ≡ Operator → slice_get v.kept k ≡ Some (Some part) → Splits (Whole m) id v (split_off v k) (right_of v k (kept_at v k))
   splits id v k part role kept t whole is_at =
       subst (λ (o : Option (Option (Part E L I))). Whole m (record { words = t.words; homes = t.homes; views = slice_set t.views id (split_off v k) ++ right_of v k o ∷ [] })) (sym kept)
       (seat_core whole.0 k (length t.views), split_shows m whole.0 t id v whole.1 is_at role k part kept)
 
+  -- the operator may join the seat of a processor that is out and doesn't hold the lock behind
   pub joins : (id : ℕ) (v : View E B T L I) (other : ℕ) (w : View E B T L I) → v.role ≡ Operator → w.role ≡ Processor → w.phase ≡ Out → w.behind ≡ false → Joins (Whole m) id v other w (joined v w) spent_view
   joins id v other w role processor out unheld t whole is_at apart there =
       (seat_core whole.0 w.place id, join_shows m whole.0 t id v whole.1 is_at role other w apart (sym (set_else t.views id other (joined v w) apart) ∙ there) processor out unheld)
 
+  -- a processor, or the operator at work, may try for the lock behind
   pub take_back_allows : (slots id : ℕ) (me : Seated m) (i x : ℕ) → i ≡ behind_index → IsWorking me.0 → x ≡ me.0.place
       → Allows (Whole m) slots id me i (λ n. either (n == 0) x n) (TakesBehind m (step slots i 0 x at.none) me)
   take_back_allows slots id me i x i_is working x_is t whole sized is_at fits = let r = take_back_makes slots id me i x i_is working x_is t whole sized is_at fits in (r.0, r.1, r.2, (r.3.0, r.3.1), r.4)
 
+  -- who holds the lock behind may give it back, the operator only where no token is revoked
   pub give_back_allows : (slots id : ℕ) (me : Seated m) (i : ℕ) → i ≡ behind_index → IsWorking me.0 → me.0.behind ≡ true → (me.0.role ≡ Operator → NoneRevoked me.0)
       → Allows (Whole m) slots id me i (λ _. 0) (λ _. GivesBehind m (step slots i 0 0 at.none) me 0)
   give_back_allows slots id me i i_is working behind unrevoked t whole sized is_at fits = let r = give_back_makes slots id me i i_is working behind unrevoked t whole sized is_at fits in (r.0, r.1, r.2, (r.3.0, r.3.1), r.4)
 
+  -- a processor, or the operator at work, may read the published number
   pub read_number_allows : (slots id : ℕ) (me : Seated m) (i : ℕ) → i ≡ number_index → IsWorking me.0 → Allows (Whole m) slots id me i (λ n. n) (ReadsNumber m (step slots i 0 0 at.none) me)
   read_number_allows slots id me i i_is working t whole sized is_at fits = let r = read_number_makes slots id me i i_is working t whole sized is_at fits in (r.0, r.1, r.2, (r.3.0, r.3.1), r.4)
 
+  -- the operator may revoke a token for the next number while it holds the lock behind
   pub revoke_allows : (slots id : ℕ) (me : Seated m) (i k x : ℕ) → i ≡ token_index me.0.count k → IsOperator me.0 → 0 < k → k ≤ me.0.count → me.0.behind ≡ true → is_revoked me.0 k ≡ false → me.0.number < 2 ^ 64 - 1 → x ≡ me.0.number + 1
       → Allows (Whole m) slots id me i (λ _. x) (λ _. Revokes m (step slots i x 0 at.none) me x)
   revoke_allows slots id me i k x i_is writer low high behind unrevoked room is t whole sized is_at fits = let r = revoke_makes slots id me i k x i_is writer low high behind unrevoked room is t whole sized is_at fits in (r.0, r.1, r.2, (r.3.0, r.3.1), r.4)
 
+  -- the operator may look whether a processor that it has revoked is out
   pub drain_allows : (slots id : ℕ) (me : Seated m) (i k : ℕ) → i ≡ tracker_index k → IsOperator me.0 → 0 < k → k ≤ me.0.count → is_revoked me.0 k ≡ true → is_drained me.0 k ≡ false
       → Allows (Whole m) slots id me i (λ n. n) (Drains m (step slots i 0 0 at.none) me)
   drain_allows slots id me i k i_is writer low high flagged undrained t whole sized is_at fits = let r = drain_makes slots id me i k i_is writer low high flagged undrained t whole sized is_at fits in (r.0, r.1, r.2, (r.3.0, r.3.1), r.4)
 
+  -- the operator that holds both locks may publish the next editions once all are drained
   pub publish_allows : (slots id : ℕ) (me : Seated m) (i x : ℕ) (book : B) → i ≡ number_index → IsOperator me.0 → HasNext m me.0 me.1 → AllDrained me.0 → me.0.behind ≡ true → me.0.book ≡ Some book → 0 < me.0.count → x ≡ me.0.number + 1
       → Allows (Whole m) slots id me i (λ _. x) (λ _. Publishes m (step slots i x 0 at.none) me x)
   publish_allows slots id me i x book i_is writer h drained behind has some is t whole sized is_at fits = let r = publish_makes slots id me i x book i_is writer h drained behind has some is t whole sized is_at fits in (r.0, r.1, r.2, (r.3.0, r.3.1), r.4)
 
+  -- a processor that is in, or the operator at work, may try for the book
   pub take_book_allows : (slots id : ℕ) (me : Seated m) (i x : ℕ) → i ≡ book_index → IsWorking me.0 → (me.0.role ≡ Processor → me.0.phase ≡ In) → x ≡ me.0.place
       → Allows (Whole m) slots id me i (λ n. either (n == 0) x n) (TakesBook m (step slots i 0 x at.none) me)
   take_book_allows slots id me i x i_is working inside x_is t whole sized is_at fits = let r = take_book_makes slots id me i x i_is working inside x_is t whole sized is_at fits in (r.0, r.1, r.2, (r.3.0, r.3.1), r.4)
 
+  -- who has the book in hand may give it back
   pub give_book_allows : (slots id : ℕ) (me : Seated m) (i : ℕ) → i ≡ book_index → IsWorking me.0 → HasBook m me.0 me.1
       → Allows (Whole m) slots id me i (λ _. 0) (λ _. GivesBook m (step slots i 0 0 at.none) me 0)
   give_book_allows slots id me i i_is working h t whole sized is_at fits = let r = give_book_makes slots id me i i_is working h t whole sized is_at fits in (r.0, r.1, r.2, (r.3.0, r.3.1), r.4)
 
+  -- splitting a processor's seat off is no event in the lock's core
   pub split_makes : SplitLaw m
   split_makes id k v part role kept t whole is_at =
       let d : Core E B T L I = seat_core whole.0 k (length t.views) in
       (d, subst (λ (o : Option (Option (Part E L I))). Shows m d (record { words = t.words; homes = t.homes; views = slice_set t.views id (split_off v k) ++ right_of v k o ∷ [] })) (sym kept) (split_shows m whole.0 t id v whole.1 is_at role k part kept), refl)
 
+  -- joining a processor's seat is no event in the lock's core
   pub join_makes : JoinLaw m
   join_makes id other v w role processor out unheld t whole is_at apart there =
       (seat_core whole.0 w.place id, join_shows m whole.0 t id v whole.1 is_at role other w apart (sym (set_else t.views id other (joined v w) apart) ∙ there) processor out unheld, refl)
 
+  -- splitting a receipt's seat off is no event in the lock's core
   pub receipt_makes : ReceiptLaw m
   receipt_makes id v role t whole is_at = (whole.0, receipt_shows m whole.0 t id v whole.1 is_at role, refl)
 
+  -- joining a receipt's seat into a processor's is no event in the lock's core
   pub hear_makes : HearLaw m
   hear_makes id other v w role receipt t whole is_at apart there =
       let c : Core E B T L I = whole.0 in
@@ -400,9 +423,11 @@ module _ {E B T L I : Type 0} (m : Meanings E B T L I) where
       let d : Core E B T L I = lock_core c v.place c.behind (informed_part v.part w.opened w.history) in
       (d, spent_shows m d (record { words = t.words; homes = t.homes; views = slice_set t.views id (informed v w) }) other w heard there receipt, refl)
 
+  -- the operator may split off a receipt's seat
   pub receipt_splits : (id : ℕ) (v : View E B T L I) → v.role ≡ Operator → Splits (Whole m) id v v (receipt_view v)
   receipt_splits id v role t whole is_at = let r = receipt_makes id v role t whole is_at in (r.0, r.1)
 
+  -- a processor's seat may be joined into the operator's, and a receipt's into a processor's
   pub joins_by : (id : ℕ) (v : View E B T L I) (other : ℕ) (w : View E B T L I) → ((v.role ≡ Operator) × (w.role ≡ Processor) × (w.phase ≡ Out) × (w.behind ≡ false)) ⊎ ((v.role ≡ Processor) × (w.role ≡ Receipt)) → Joins (Whole m) id v other w (joined_by w.role v w) spent_view
   joins_by id v other w (inl pair) = subst (λ (r : Role). Joins (Whole m) id v other w (joined_by r v w) spent_view) (sym pair.1) (joins id v other w pair.0 pair.1 pair.2 pair.3)
   joins_by id v other w (inr pair) = subst (λ (r : Role). Joins (Whole m) id v other w (joined_by r v w) spent_view) (sym pair.1) (λ t whole is_at apart there. let r = hear_makes id other v w pair.0 pair.1 t whole is_at apart there in (r.0, r.1))

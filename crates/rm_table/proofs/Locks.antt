@@ -37,6 +37,7 @@ pub record SamePart {E L I : Type 0} (a b : Part E L I) : Type 0 where
 
 module _ {E B T L I : Type 0} (m : Meanings E B T L I) where
   module _ (c : Core E B T L I) (t : State (Slot E B) (View E B T L I)) (id : ℕ) (v : View E B T L I) (shows : Shows m c t) (is_at : get_elem? t.views id ≡ at.some v) (working : IsWorking v) where
+    -- who works is a processor or the operator
     pub somebody : (v.role ≡ Processor) ⊎ (v.role ≡ Operator)
     somebody = ⊎_elim (λ processor. inl processor) (λ operator. inr operator.role) working
 
@@ -44,6 +45,7 @@ module _ {E B T L I : Type 0} (m : Meanings E B T L I) where
     pub no_receipt : v.role ≡ Receipt → ⊥
     no_receipt receipt = ⊎_elim (λ processor. let clash : Processor ≡ Receipt = sym processor ∙ receipt in absurd cc) (λ operator. let clash : Operator ≡ Receipt = sym operator ∙ receipt in absurd cc) somebody
 
+    -- what a seat at work knows of itself is so
     pub working_live : Live m c id v
     working_live = (shows.each id v is_at).live somebody
 
@@ -51,6 +53,7 @@ module _ {E B T L I : Type 0} (m : Meanings E B T L I) where
     pub nothing_kept : v.role ≡ Operator → AllSplit v
     nothing_kept role = ⊎_elim (λ processor. let clash : Processor ≡ Operator = sym processor ∙ role in absurd cc) (λ operator. operator.split) working
 
+    -- what the operator at work keeps is so
     pub operator_keeps : v.role ≡ Operator → Keeps m c id v
     operator_keeps role = (shows.each id v is_at).operator role
 
@@ -58,6 +61,7 @@ module _ {E B T L I : Type 0} (m : Meanings E B T L I) where
     abbrev pub moved : Bool → Part E L I → List (ℕ × ℕ) → View E B T L I
     moved behind a steps = record v { behind = behind; part = a; steps = steps }
 
+    -- after a step on the lock behind the table shows a state by the rule
     pub lock_shows : (e : Event) (b : Option ℕ) (behind : Bool) (a : Part E L I) (steps : List (ℕ × ℕ)) (words : List ℕ) → core_of (lock_core c v.place b a) ≡ after (core_of c) e → Allowed (core_of c) e
         → behind ≡ is_held_by b v.place → ((k : ℕ) → k ≢ v.place → is_held_by b k ≡ is_held_by c.behind k) → ((k : ℕ) → k ≢ v.place → b ≡ Some k → c.behind ≡ Some k) → ((h : ℕ) → b ≡ Some h → (0 < h) × (h ≤ c.count + 1))
         → ((k : ℕ) → is_regain_of k e ≡ false) → SamePart a v.part → ((x : ℕ) → v.place ≤ c.count → b ≡ Some v.place → a.read ≡ Some x → x ≡ c.number)
@@ -146,6 +150,7 @@ module _ {E B T L I : Type 0} (m : Meanings E B T L I) where
     pub take_back_may : c.behind ≡ None → Allowed (core_of c) (TakeBack v.place)
     take_back_may free = ((working_live.low, let h = working_live.high in let e = length-values c.state 1 c.count in omega arith), free)
 
+    -- once the free lock behind is taken the table shows a state by the rule
     pub take_back_shows : (hand : Hand E B) (found : ℕ) → c.behind ≡ None
         → Shows m (lock_core c v.place (Some v.place) (behind_part v.part)) (stepped t behind_index v.place id hand (noted (behind_taken v) behind_index found) keeps)
     take_back_shows hand found free =
@@ -184,6 +189,7 @@ module _ {E B T L I : Type 0} (m : Meanings E B T L I) where
             all_values (λ p. p.revoked ≡ false) c.state 1 c.count
             (λ j low within. sym (k.revoked j (omega arith) (omega arith)) ∙ unrevoked role j (omega arith) (let e = working_live.count in omega arith))
 
+    -- once the lock behind is given back the table shows a state by the rule
     pub give_back_shows : (hand : Hand E B) → v.behind ≡ true → (v.role ≡ Operator → NoneRevoked v)
         → Shows m (lock_core c v.place None (unread_part v.part)) (stepped t behind_index 0 id hand (noted (behind_given v) behind_index 0) keeps)
     give_back_shows hand held unrevoked =
@@ -212,6 +218,7 @@ module _ {E B T L I : Type 0} (m : Meanings E B T L I) where
     read_part_pairs true number = same_pairs
     read_part_pairs false number = same_pairs
 
+    -- once the number is read the table shows a state by the rule
     pub read_number_shows : (i number : ℕ) (hand : Hand E B) → number ≡ c.number
         → Shows m (lock_core c v.place c.behind (read_part v.behind v.part number)) (stepped t i (slice_index t.words i) id hand (noted (number_read v number) i (slice_index t.words i)) keeps)
     read_number_shows i number hand is =

@@ -52,6 +52,7 @@ module _ {E B T L I : Type 0} (m : Meanings E B T L I) where
         ap (λ (xs : List (L × T)). slice_get xs (o.number - o.opened)) k.history ∙ ap (λ (n : ℕ). slice_get c.history (n - o.opened)) k.number ∙ ap (λ (n : ℕ). slice_get c.history (c.number - n)) k.opened
         ∙ at_slice c.history (c.number - c.opened) (c.name, c.tag) shows.past.last
 
+    -- a processor that is in reads the published edition
     pub reads : (id : ℕ) (v : View E B T L I) → HasSeat t id v → v.role ≡ Processor → v.phase ≡ In → ReadsPublished m t v
     reads id v is_at role inside =
         let l : Live m c id v = live_at id v is_at (inl role) in
@@ -77,6 +78,7 @@ module _ {E B T L I : Type 0} (m : Meanings E B T L I) where
         let clash : Out ≡ In = sym q.out ∙ inside in absurd cc)
         got.2
 
+    -- an edition away from its slot is with its processor, which is in, or that processor is counted out
     pub away : (k : ℕ) → 0 < k → get_elem? t.homes k ≡ at.some at.none → IsReader t k ⊎ IsCountedOut t k
     away k low is =
         let high : k ≤ c.count = let h = get_within t.homes k at.none is in let s = shows.slots.size in omega arith in
@@ -85,6 +87,7 @@ module _ {E B T L I : Type 0} (m : Meanings E B T L I) where
         (λ flag. let o = shows.seats.operator in inr (c.seat (c.count + 1), o.0, o.1, o.2, (keeps_at (c.seat (c.count + 1)) o.0 o.1 o.2).drained k low high ∙ flag))
         (shows.slots.away k low high is)
 
+    -- no processor is in and counted out
     pub apart : (k : ℕ) → 0 < k → k < length t.homes → IsReader t k → IsCountedOut t k → ⊥
     apart k low below reader counted =
         let high : k ≤ c.count = let s = shows.slots.size in omega arith in
@@ -108,6 +111,7 @@ module _ {E B T L I : Type 0} (m : Meanings E B T L I) where
             let got = shows.seats.processors k low within in
             (c.seat k, got.0, got.1, inr (within, got.2))
 
+    -- the holder of the lock behind has a seat whose view says so
     pub behind : (h : ℕ) → c.behind ≡ Some h → (id : ℕ) × (v : View E B T L I) × HasSeat t id v × ((v.role ≡ Processor) ⊎ (v.role ≡ Operator)) × (v.place ≡ h) × (v.behind ≡ true)
     behind h is =
         let bounds = shows.sound.holder h is in
@@ -128,6 +132,7 @@ module _ {E B T L I : Type 0} (m : Meanings E B T L I) where
         held : (id : ℕ) (v : View E B T L I) → HasSeat t id v → (v.role ≡ Processor) ⊎ (v.role ≡ Operator) → v.place ≡ h → v.behind ≡ true
         held id v is_at somebody place = (live_at id v is_at somebody).behind ∙ ap (is_held_by c.behind) place ∙ holds h
 
+    -- the book's holder has a seat with the book: of a processor that is in, or the operator's
     pub book : c.holder ≢ 0 → (id : ℕ) × (v : View E B T L I) × HasSeat t id v × (((v.role ≡ Processor) × (v.phase ≡ In)) ⊎ (v.role ≡ Operator)) × (v.place ≡ c.holder) × ((book : B) × (v.book ≡ Some book))
     book taken = by_operator (c.holder == c.count + 1) refl
       where
@@ -146,9 +151,11 @@ module _ {E B T L I : Type 0} (m : Meanings E B T L I) where
             let r = reader_at c.holder (grind (arith, taken)) at_desk.0 at_desk.1 in
             (r.0, r.1, r.2, inl (r.3, r.5), r.4, has r.0 r.1 r.2 (inl r.3) r.4)
 
+  -- each processor that is in reads what is published
   pub reading_holds : ReadingLaw m
   reading_holds t whole id v is_at role inside = reads whole.0 t whole.1 id v is_at role inside
 
+  -- while a processor is in and reads one edition, the published number stays
   pub staying_holds : StayingLaw m
   staying_holds t u at_t at_u id v w v_at w_at v_role w_role v_in w_in same =
       let one = reads at_t.0 t at_t.1 id v v_at v_role v_in in
@@ -157,32 +164,39 @@ module _ {E B T L I : Type 0} (m : Meanings E B T L I) where
       let edition : one.edition ≡ two.edition = cc in
       sym one.number ∙ ap m.number edition ∙ two.number
 
+  -- an edition in its slot is of the published number
   pub home_holds : HomeLaw m
   home_holds t whole k y low is =
       let high : k ≤ (whole.0).count = let h = get_within t.homes k (at.some y) is in let s = whole.1.slots.size in omega arith in
       let got = whole.1.slots.home k y low high is in
       (got.0, got.1, got.2.number_is ∙ sym whole.1.words.number_is)
 
+  -- an edition is away from its slot only with its processor, or with the operator
   pub away_holds : AwayLaw m
   away_holds t whole k low is = away whole.0 t whole.1 k low is
 
+  -- no processor is in and counted as drained
   pub apart_holds : ApartLaw m
   apart_holds t whole k low below reader counted = apart whole.0 t whole.1 k low below reader counted
 
+  -- each processor has a seat of its own, or the operator's keeps its place
   pub seat_holds : SeatLaw m
   seat_holds t whole k low below =
       let got = whole.1.seats.processors k low (let s = whole.1.slots.size in omega arith) in
       ((whole.0).seat k, got.0, got.1, got.2)
 
+  -- there is an operator's seat, with the last place
   pub operator_holds : OperatorLaw m
   operator_holds t whole =
       let o = whole.1.seats.operator in
       let k : Keeps m whole.0 ((whole.0).seat ((whole.0).count + 1)) o.0 = (whole.1.each ((whole.0).seat ((whole.0).count + 1)) o.0 o.1).operator o.2 in
       ((whole.0).seat ((whole.0).count + 1), o.0, o.1, o.2, k.place ∙ sym whole.1.slots.size)
 
+  -- no place has two seats
   pub place_holds : PlaceLaw m
   place_holds t whole i j v w v_at w_at v_is w_is same = sym ((whole.1.each i v v_at).live v_is).seat ∙ ap (whole.0).seat same ∙ ((whole.1.each j w w_at).live w_is).seat
 
+  -- the word of the lock behind is 0, or names the seat that holds it
   pub behind_holds : BehindLaw m
   behind_holds t whole taken = by_holder (whole.0).behind refl
     where
@@ -193,11 +207,13 @@ module _ {E B T L I : Type 0} (m : Meanings E B T L I) where
           let got = behind whole.0 t whole.1 h is in
           (got.0, got.1, got.2, got.3, got.4 ∙ sym (whole.1.words.behind_is ∙ ap holder_word is), got.5)
 
+  -- the book's word is 0, or names the seat that has the book
   pub book_holds : BookLaw m
   book_holds t whole taken =
       let got = book whole.0 t whole.1 (λ free. taken (whole.1.words.book_is ∙ free)) in
       (got.0, got.1, got.2, got.3, got.4 ∙ sym whole.1.words.book_is, got.5)
 
+  -- each number and name that a processor has seen is in the operator's history and published
   pub seen_holds : SeenLaw m
   seen_holds t whole id i v o v_at o_at v_role o_role j x name is =
       let c : Core E B T L I = whole.0 in
@@ -210,6 +226,7 @@ module _ {E B T L I : Type 0} (m : Meanings E B T L I) where
         (found.1.0, ap (λ (xs : List (L × T)). slice_get xs (x - o.opened)) k.history ∙ ap (λ (n : ℕ). slice_get c.history (x - n)) k.opened ∙ at_slice c.history (x - c.opened) (name, found.1.0) found.1.1),
       )
 
+  -- the operator's history begins with that of each receipt
   pub told_holds : ToldLaw m
   told_holds t whole id i r o r_at o_at r_role o_role =
       let c : Core E B T L I = whole.0 in
@@ -217,6 +234,7 @@ module _ {E B T L I : Type 0} (m : Meanings E B T L I) where
       let p = (whole.1.each id r r_at).receipt r_role in
       (p.opened_is ∙ sym k.opened, p.begun, p.counts, subst (λ (h : List (L × T)). BeginsWith h r.history) (sym k.history) p.prefix)
 
+  -- a processor that has heard a receipt has seen the receipt's number
   pub heard_holds : HeardLaw m
   heard_holds v r number begun counts seen =
       let got = last_numbered r.opened r.history r.number counts (omega arith) in

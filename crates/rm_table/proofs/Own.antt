@@ -63,6 +63,7 @@ abbrev pub own_core : {E B T L I : Type 0} → Core E B T L I → ℕ → Proces
 own_core c p r a = record c { state = put c.state p r; part = put c.part p a }
 
 module _ {E B T L I : Type 0} (m : Meanings E B T L I) where
+  -- a processor's step on its own state changes nothing that other seats may see
   pub own_beside : (c : Core E B T L I) (p : ℕ) (r : ProcessorState) (a : Part E L I) → r.revoked ≡ (c.state p).revoked → r.drained ≡ (c.state p).drained → Beside c (own_core c p r a) p
   own_beside c p r a revoked drained = record {
     count = refl;
@@ -142,9 +143,11 @@ module _ {E B T L I : Type 0} (m : Meanings E B T L I) where
     pub now_behind : w.behind ≡ v.behind
     pub now_book : w.book ≡ v.book
 
+  -- what a processor's seat knows of itself is so
   pub processor_live : (c : Core E B T L I) (t : State (Slot E B) (View E B T L I)) (id : ℕ) (v : View E B T L I) → Shows m c t → get_elem? t.views id ≡ at.some v → v.role ≡ Processor → Live m c id v
   processor_live c t id v shows is_at role = (shows.each id v is_at).live (inl role)
 
+  -- after a processor's step on its own state the table shows a state by the rule
   pub own_shows : (c : Core E B T L I) (t : State (Slot E B) (View E B T L I)) (id : ℕ) (v : View E B T L I) (e : Event) (r : ProcessorState) (a : Part E L I) (w : View E B T L I) (words : List ℕ) (homes : List (at.Option (Slot E B)))
       → OwnStep c t id v e r a w words homes → Shows m (own_core c v.place r a) (record { words = words; homes = homes; views = slice_set t.views id w })
   own_shows c t id v e r a w words homes o =

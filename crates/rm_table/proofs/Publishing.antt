@@ -41,14 +41,17 @@ apart_from k from = by_test (nat_lt k from) refl
     by_test false is = inr (grind (arith, nat_tests))
 
 module _ {E B : Type 0} where
+  -- the first slots of a hand may always be given home
   pub valid_gives : (k : ℕ) (homes : List (at.Option (Slot E B))) (hand : Hand E B) → Valid homes hand (gives_first k)
   valid_gives zero homes hand = tt
   valid_gives (suc k) homes hand = (tt, valid_gives k (homes_after homes hand gives) (rest hand))
 
+  -- once the first slots went home, the rest is in hand
   pub carried_gives : (k : ℕ) (hand : Hand E B) → carried_after hand (gives_first k) ≡ rest_from k hand
   carried_gives zero hand = refl
   carried_gives (suc k) hand = carried_gives k (rest hand)
 
+  -- giving editions home leaves the number of slots
   pub gave_size : (es : List E) (from : ℕ) (homes : List (at.Option (Slot E B))) (hand : Hand E B) → length (homes_after homes (editions_from from es hand) (gives_first (length es))) ≡ length homes
   gave_size [] from homes hand = refl
   gave_size (e ∷ es) from homes hand = gave_size es (from + 1) (slice_set homes from (at.some (Edition (Some e)))) hand ∙ length-set homes from (at.some (Edition (Some e)))
@@ -84,6 +87,7 @@ module _ {E B T L I : Type 0} (m : Meanings E B T L I) where
     own = c.own ++ m.item tag ∷ [];
   }
 
+  -- a publication is of the name and tag that the editions in hand have
   pub published_is : (v : View E B T L I) (hand : Hand E B) (h : HasNext m v hand) → 0 < v.count → published m v hand ≡ published_as m v h.name h.tag
   published_is v hand h some = by_first h.editions refl
     where
@@ -101,12 +105,14 @@ module _ {E B T L I : Type 0} (m : Meanings E B T L I) where
     o_keeps : Keeps m c id v
     o_keeps = writer_keeps m c t id v shows is_at writer
 
+    -- the state after a publication is what its event makes of the lock's core
     pub publish_event : (name : L) (tag : T) → core_of (published_core c name tag) ≡ after (core_of c) Publish
     publish_event name tag = ap (λ (ps : List ProcessorState). record (core_of c) { number = c.number + 1; processors = ps }) (values-map after_publication c.state 1 c.count)
 
     each_drained : AllDrained v → (k : ℕ) → 0 < k → k ≤ c.count → (c.state k).drained ≡ true
     each_drained drained k low high = sym (o_keeps.drained k low high) ∙ drained k low (let e = o_live.count in omega arith)
 
+    -- the lock's core allows a publication once all are drained and the lock behind is held
     pub publish_may : AllDrained v → v.behind ≡ true → Allowed (core_of c) Publish
     publish_may drained behind = (
       holds_behind m c t id v shows is_at writer behind,
@@ -129,6 +135,7 @@ module _ {E B T L I : Type 0} (m : Meanings E B T L I) where
             let e : v.book ≡ None = o_live.book ∙ ap (λ (b : Bool). if b then Some c.book else None) is in
             absurd cc
 
+    -- after a publication the table shows a state by the rule
     pub publish_shows : (hand : Hand E B) (h : HasNext m v hand) (x : ℕ) (book : B) → AllDrained v → v.behind ≡ true → v.book ≡ Some book → x ≡ v.number + 1
         → Shows m (published_core c h.name h.tag) (record {
           words = slice_set t.words number_index x;

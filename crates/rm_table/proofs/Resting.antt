@@ -91,6 +91,7 @@ module _ {E B T L I : Type 0} where
   pub opening_after : (place : ℕ) (parts : ℕ → Part E L I) (old new : Me (Slot E B) (View E B T L I)) → new ≡ (split_off old.0 place, old.1) → 0 < place → place ≤ old.0.count → IsOpening place parts old.0 old.1 → IsOpening (place + 1) parts new.0 new.1
   opening_after place parts old new is low high o = subst (λ (s : Me (Slot E B) (View E B T L I)). IsOpening (place + 1) parts s.0 s.1) (sym is) (opening_splits place parts old.0 old.1 low high o)
 
+  -- once a place is split off, those from the next one on are left
   pub after_split : (place : ℕ) (old new : Me (Slot E B) (View E B T L I)) → new ≡ (split_off old.0 place, old.1) → 0 < place → place ≤ old.0.count → OpensFrom place old.0 old.1 → OpensFrom (place + 1) new.0 new.1
   after_split place old new is low high o = (o.0, opening_after place o.0 old new is low high o.1)
 
@@ -105,9 +106,11 @@ module _ {E B T L I : Type 0} where
       let view : seat ≡ (processor_view old.0 place (o.0 place), []) = is ∙ ap (λ (k : Option (Option (Part E L I))). (right_of old.0 place k, [])) kept in
       subst (λ (s : Me (Slot E B) (View E B T L I)). IsIdle s.0 s.1 × (s.0.place ≡ place)) (sym view) (record { processor = refl; out = refl; unheld = refl; bookless = refl; empty_hand = refl }, refl)
 
+  -- once every place is split off, none is joined again yet
   pub after_all_splits : (next : ℕ) (v : View E B T L I) (hand : Hand E B) → v.count < next → OpensFrom next v hand → IsRejoinedFrom next v hand
   after_all_splits next v hand past o = (o.0, inl (past, opening_ends next v hand past o))
 
+  -- the operator, at rest or with some seats joined, may join another
   pub may_join : (next : ℕ) (v : View E B T L I) (hand : Hand E B) → IsRejoinedFrom next v hand → (v.role ≡ Operator) × ((v.closing ≡ true) ⊎ AllSplit v)
   may_join next v hand r = by_end r.1
     where
@@ -123,9 +126,11 @@ module _ {E B T L I : Type 0} where
   pub rejoined_after : (place : ℕ) (parts : ℕ → Part E L I) (old new : Me (Slot E B) (View E B T L I)) (w : View E B T L I) → new ≡ (joined old.0 w, old.1) → w.place ≡ place → place ≤ old.0.count → IsRejoined (place + 1) parts old.0 old.1 → IsRejoined place (put parts place w.part) new.0 new.1
   rejoined_after place parts old new w is at within r = subst (λ (s : Me (Slot E B) (View E B T L I)). IsRejoined place (put parts place w.part) s.0 s.1) (sym is) (inr (joined_after place parts old.0 w old.1 at within r))
 
+  -- once a place is joined, those from it on are
   pub after_join : (place : ℕ) (old new : Me (Slot E B) (View E B T L I)) (w : View E B T L I) → new ≡ (joined old.0 w, old.1) → w.place ≡ place → place ≤ old.0.count → IsRejoinedFrom (place + 1) old.0 old.1 → IsRejoinedFrom place new.0 new.1
   after_join place old new w is at within r = (put r.0 place w.part, rejoined_after place r.0 old new w is at within r.1)
 
+  -- once the first place is joined, the operator keeps a part of each place
   pub rejoined_closing : (v : View E B T L I) (hand : Hand E B) → 0 < v.count → IsRejoinedFrom 1 v hand → (parts : ℕ → Part E L I) × IsClosing 1 parts v
   rejoined_closing v hand some r = by_end r.1
     where
@@ -133,6 +138,7 @@ module _ {E B T L I : Type 0} where
       by_end (inl rest) = absurd (let past = rest.0 in omega arith)
       by_end (inr c) = (r.0, c)
 
+  -- an operator that keeps a part of each place has joined every seat
   pub all_joined : (v : View E B T L I) (parts : ℕ → Part E L I) → IsClosing 1 parts v → AllJoined v
   all_joined v parts c = (c.closing, λ k low high. (parts k, c.kept k low high))
 
@@ -162,14 +168,17 @@ module _ {E B T L I : Type 0} where
           let e : 1 + k ≡ suc k = omega arith in
           values_at (λ place. Some (first_part m book place)) 1 n k (omega arith) ∙ ap (λ (p : ℕ). Some (Some (first_part m book p))) e
 
+-- a seat with the view of the opening has split no place off
 pub opens_me : {E B T L I : Type 0} (m : Meanings E B T L I) (n : ℕ) (edition : E) (book : B) (me : Me (Slot E B) (View E B T L I)) → 0 < n → me ≡ (first_view m n edition book, []) → OpensFrom 1 me.0 me.1
 opens_me {E} {B} {T} {L} {I} m n edition book me some is = (first_part m book, subst (λ (s : Me (Slot E B) (View E B T L I)). IsOpening 1 (first_part m book) s.0 s.1) (sym is) (opens_first m n edition book some))
 
+-- each of many copies is the one that was copied
 pub same_of-replicate : {A : Type 0} (a b : A) (n j : ℕ) → slice_get (replicate n a) j ≡ Some b → b ≡ a
 same_of-replicate a b zero j is = absurd cc
 same_of-replicate a b (suc n) zero is = cc
 same_of-replicate a b (suc n) (suc j) is = same_of-replicate a b n j is
 
+-- the first of some copies is the one that was copied
 pub first_of-replicate : {A : Type 0} (a : A) (n : ℕ) → 0 < n → slice_get (replicate n a) 0 ≡ Some a
 first_of-replicate a zero h = absurd (omega arith)
 first_of-replicate a (suc n) h = refl

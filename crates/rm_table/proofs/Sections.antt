@@ -81,6 +81,7 @@ module _ {E B T L I : Type 0} (m : Meanings E B T L I) where
     same_pairs : (j x : ℕ) (l : L) → get_elem? v.part.pairs j ≡ at.some (x, l) → InHistory c.opened c.history x l
     same_pairs j x l is = shows.insides.pairs v.place live_of.low high_of j x l (ap (λ (y : Part E L I). get_elem? y.pairs j) (sym live_of.part) ∙ is)
 
+    -- a processor that is in reads the current edition
     pub same_reading : (c.state v.place).phase ≡ In → (x : E) × (v.part.reading ≡ Some x) × Current m c.number c.name c.tag x
     same_reading inside =
         let got = shows.insides.reading v.place live_of.low high_of inside in
@@ -110,6 +111,7 @@ module _ {E B T L I : Type 0} (m : Meanings E B T L I) where
     pub raise_event : v.phase ≡ Out → core_of (own_core c v.place raised_state (begun v.part)) ≡ after (core_of c) (Raise v.place)
     raise_event out = core-put c v.place (λ q. record q { phase = Raised }) live_of.low high_of
 
+    -- after a raise the table shows a state by the rule
     pub raise_shows : (x : ℕ) (hand : Hand E B) → v.phase ≡ Out → x ≡ tracker_word (v.part.sections + 1) Raised
         → Shows m (own_core c v.place raised_state (begun v.part)) (stepped t (tracker_index v.place) x id hand (noted (raised v) (tracker_index v.place) x) keeps)
     raise_shows x hand out is =
@@ -162,11 +164,13 @@ module _ {E B T L I : Type 0} (m : Meanings E B T L I) where
     abbrev in_state : ProcessorState
     in_state = record (c.state v.place) { phase = In }
 
+    -- a check of a held token makes of the state what its event makes of the lock's core
     pub check_held_event : (a : Part E L I) → (c.state v.place).token ≡ Held → core_of (own_core c v.place in_state a) ≡ after (core_of c) (Check v.place)
     check_held_event a held =
         let same : in_state ≡ after_check (c.state v.place) = ap (λ (k : Token). with_token_read k (c.state v.place)) (sym held) in
         ap (λ (r : ProcessorState). core_of (own_core c v.place r a)) same ∙ core-put c v.place after_check live_of.low high_of
 
+    -- after a check that found the token held the table shows a state by the rule
     pub check_held_shows : (i : ℕ) (hand : Hand E B) (e : E) → v.phase ≡ Raised → (c.state v.place).token ≡ Held → get_elem? t.homes v.place ≡ at.some (at.some (Edition (Some e))) → Current m c.number c.name c.tag e
         → Shows m (own_core c v.place in_state (entered_part m v.part e)) (stepped t i (slice_index t.words i) id hand (noted (entered m v e) i (slice_index t.words i)) (takes v.place (Edition (Some e))))
     check_held_shows i hand e raised held home current =
@@ -212,6 +216,7 @@ module _ {E B T L I : Type 0} (m : Meanings E B T L I) where
         let same : c.state v.place ≡ after_check (c.state v.place) = ap (λ (k : Token). with_token_read k (c.state v.place)) (sym revoked) in
         ap (λ (r : ProcessorState). core_of (own_core c v.place r a)) same ∙ core-put c v.place after_check live_of.low high_of
 
+    -- after a check that found the token revoked the table shows a state by the rule
     pub check_refused_shows : (i number : ℕ) (hand : Hand E B) → v.phase ≡ Raised → (c.state v.place).token ≡ Revoked number
         → Shows m (own_core c v.place (c.state v.place) (refused_part v.part number)) (stepped t i (slice_index t.words i) id hand (noted (refused v number) i (slice_index t.words i)) keeps)
     check_refused_shows i number hand raised revoked =
@@ -256,6 +261,7 @@ module _ {E B T L I : Type 0} (m : Meanings E B T L I) where
     abbrev out_state : ProcessorState
     out_state = record (c.state v.place) { phase = Out }
 
+    -- a lowering makes of the state what its event makes of the lock's core
     pub lower_event : core_of (own_core c v.place out_state (left_part v.part)) ≡ after (core_of c) (Lower v.place)
     lower_event = core-put c v.place (λ q. record q { phase = Out }) live_of.low high_of
 
@@ -266,6 +272,7 @@ module _ {E B T L I : Type 0} (m : Meanings E B T L I) where
         ⊎_elim (λ same. let e : (if c.holder == v.place then Some c.book else None) ≡ Some c.book = ap (λ (b : Bool). if b then Some c.book else None) same.0 in let clash : None ≡ Some c.book = sym none ∙ mine ∙ e in absurd cc)
         (λ other. other.1 here) (eqb_tells c.holder v.place)
 
+    -- after a lowering that leaves the slots by the rule the table shows a state by the rule
     pub lower_shows : (x : ℕ) (homes : List (at.Option (Slot E B))) → (v.phase ≡ Raised) ⊎ (v.phase ≡ In) → v.book ≡ None → x ≡ tracker_word v.part.sections Out
         → Slots m c.number c.count (put c.state v.place out_state) c.name c.tag c.holder c.book homes
         → Shows m (own_core c v.place out_state (left_part v.part)) (record { words = slice_set t.words (tracker_index v.place) x; homes = homes; views = slice_set t.views id (noted (lowered v) (tracker_index v.place) x) })
@@ -299,6 +306,7 @@ module _ {E B T L I : Type 0} (m : Meanings E B T L I) where
           now_book = refl;
         })
 
+    -- after a refused processor's lowering the table shows a state by the rule
     pub lower_raised_shows : (x : ℕ) (hand : Hand E B) → v.phase ≡ Raised → v.book ≡ None → x ≡ tracker_word v.part.sections Out
         → Shows m (own_core c v.place out_state (left_part v.part)) (stepped t (tracker_index v.place) x id hand (noted (lowered v) (tracker_index v.place) x) keeps)
     lower_raised_shows x hand raised none is =
@@ -306,6 +314,7 @@ module _ {E B T L I : Type 0} (m : Meanings E B T L I) where
         lower_shows x t.homes (inl raised) none is
         (slots_stay m (put c.state v.place out_state) (same_away out_state (λ inside. let clash : Raised ≡ In = sym was ∙ inside in absurd cc) refl) shows.slots)
 
+    -- after a lowering that gives the edition home the table shows a state by the rule
     pub lower_in_shows : (x : ℕ) (hand : Hand E B) (e : E) → v.phase ≡ In → v.book ≡ None → x ≡ tracker_word v.part.sections Out → Current m c.number c.name c.tag e
         → Shows m (own_core c v.place out_state (left_part v.part)) (stepped t (tracker_index v.place) x id ((v.place, Edition (Some e)) ∷ hand) (noted (lowered v) (tracker_index v.place) x) gives)
     lower_in_shows x hand e inside none is current =
@@ -316,6 +325,7 @@ module _ {E B T L I : Type 0} (m : Meanings E B T L I) where
     abbrev held_state : ProcessorState
     held_state = record (c.state v.place) { token = Held }
 
+    -- a regain makes of the state what its event makes of the lock's core
     pub regain_event : (number : ℕ) → core_of (own_core c v.place held_state (regained_part v.part number)) ≡ after (core_of c) (Regain v.place)
     regain_event number = core-put c v.place (λ q. record q { token = Held }) live_of.low high_of
 
@@ -327,16 +337,20 @@ module _ {E B T L I : Type 0} (m : Meanings E B T L I) where
         holder_of None is = absurd cc
         holder_of (Some h) is = ⊎_elim (λ same. ap (λ (n : ℕ). Some n) same.1) (λ other. let clash : true ≡ false = sym is ∙ other.0 in absurd cc) (eqb_tells h v.place)
 
+    -- the lock's core allows a regain to a processor that is out and holds the lock behind
     pub regain_may : v.phase ≡ Out → v.behind ≡ true → Allowed (core_of c) (Regain v.place)
     regain_may out behind = (is_there c (λ q. q.phase ≡ Out) v.place live_of.low high_of (sym live_of.phase ∙ out), behind_of behind)
 
+    -- a number that was read under the lock behind is the published one
     pub number_read_is : (number : ℕ) → v.behind ≡ true → v.part.read ≡ Some number → number ≡ c.number
     number_read_is number behind read = same_read number (behind_of behind) read
 
+    -- the number of a refusal is published once the refused processor holds the lock behind
     pub refusal_published : (number : ℕ) → v.phase ≡ Out → v.behind ≡ true → v.part.refusal ≡ Some number → number ≤ c.number
     refusal_published number out behind refused =
         pending_regain (core_of c) v.place number shows.sound.safe (regain_may out behind) (shows.numbers.refusal v.place number (ap (λ (y : Part E L I). y.refusal) (sym live_of.part) ∙ refused))
 
+    -- after a regain the table shows a state by the rule
     pub regain_shows : (number : ℕ) (hand : Hand E B) → v.phase ≡ Out → v.behind ≡ true → v.part.read ≡ Some number
         → Shows m (own_core c v.place held_state (regained_part v.part number)) (stepped t (token_index v.count v.place) 0 id hand (noted (regained v number) (token_index v.count v.place) 0) keeps)
     regain_shows number hand out behind read =

@@ -37,9 +37,11 @@ even_word sections In = inr ((λ clash. absurd cc), omega arith)
 
 module _ {E B T L I : Type 0} (m : Meanings E B T L I) where
   module _ (c : Core E B T L I) (t : State (Slot E B) (View E B T L I)) (id : ℕ) (v : View E B T L I) (shows : Shows m c t) (is_at : get_elem? t.views id ≡ at.some v) (writer : IsOperator v) where
+    -- what the operator's seat knows of itself is so
     pub writer_live : Live m c id v
     writer_live = working_live m c t id v shows is_at (inr writer)
 
+    -- what the operator keeps is so
     pub writer_keeps : Keeps m c id v
     writer_keeps = operator_keeps m c t id v shows is_at (inr writer) writer.role
 
@@ -130,19 +132,23 @@ module _ {E B T L I : Type 0} (m : Meanings E B T L I) where
     abbrev revoked_state : ℕ → ProcessorState
     revoked_state k = record (c.state k) { token = Revoked (c.number + 1); revoked = true }
 
+    -- a revocation makes of the state what its event makes of the lock's core
     pub revoke_event : (k : ℕ) → 0 < k → k ≤ c.count → core_of (state_core c k (revoked_state k)) ≡ after (core_of c) (Revoke k)
     revoke_event k low high = core-put c k (λ q. record q { token = Revoked (c.number + 1); revoked = true }) low high
 
+    -- the operator that holds the lock behind is its holder in the lock's core
     pub holds_behind : v.behind ≡ true → c.behind ≡ Some (operator_of (core_of c))
     holds_behind behind =
         let e : v.place ≡ operator_of (core_of c) = let p = writer_keeps.place in let n = length-values c.state 1 c.count in omega arith in
         held_behind m c t id v shows is_at (inr writer) behind ∙ ap (λ (n : ℕ). Some n) e
 
+    -- the lock's core allows the operator that holds the lock behind to revoke a token that isn't yet
     pub revoke_may : (k : ℕ) → 0 < k → k ≤ v.count → v.behind ≡ true → is_revoked v k ≡ false → v.number < 2 ^ 64 - 1 → Allowed (core_of c) (Revoke k)
     revoke_may k low high behind unrevoked room =
         let within : k ≤ c.count = let e = writer_live.count in omega arith in
         (is_there c (λ q. q.revoked ≡ false) k low within (sym (writer_keeps.revoked k low within) ∙ unrevoked), holds_behind behind, let e = writer_keeps.number in omega arith)
 
+    -- after a revocation the table shows a state by the rule
     pub revoke_shows : (k x : ℕ) (hand : Hand E B) → 0 < k → k ≤ v.count → v.behind ≡ true → is_revoked v k ≡ false → v.number < 2 ^ 64 - 1 → x ≡ v.number + 1
         → Shows m (state_core c k (revoked_state k)) (stepped t (token_index v.count k) x id hand (noted (revoked v k) (token_index v.count k) x) keeps)
     revoke_shows k x hand low high behind unrevoked room is =
@@ -176,6 +182,7 @@ module _ {E B T L I : Type 0} (m : Meanings E B T L I) where
     abbrev drained_state : ℕ → ProcessorState
     drained_state k = record (c.state k) { drained = true }
 
+    -- a drain of a processor that is out makes of the state what its event makes of the lock's core
     pub drain_event : (k : ℕ) → 0 < k → k ≤ c.count → (c.state k).phase ≡ Out → core_of (state_core c k (drained_state k)) ≡ after (core_of c) (Drain k)
     drain_event k low high out =
         let same : drained_state k ≡ after_drain (c.state k) = ap (λ (p : Phase). with_tracker_read p (c.state k)) (sym out) in
@@ -194,6 +201,7 @@ module _ {E B T L I : Type 0} (m : Meanings E B T L I) where
         not_out Raised q inside = refl
         not_out In q inside = refl
 
+    -- a processor that is out and not drained yet has its edition at home
     pub drain_home : (k : ℕ) → 0 < k → k ≤ v.count → is_drained v k ≡ false → (c.state k).phase ≡ Out → (e : E) × (get_elem? t.homes k ≡ at.some (at.some (Edition (Some e)))) × Current m c.number c.name c.tag e
     drain_home k low high undrained out =
         let within : k ≤ c.count = let e = writer_live.count in omega arith in
@@ -201,6 +209,7 @@ module _ {E B T L I : Type 0} (m : Meanings E B T L I) where
         (λ away. ⊎_elim (λ inside. let clash : Out ≡ In = sym out ∙ inside in absurd cc) (λ flag. let clash : true ≡ false = sym flag ∙ sym (writer_keeps.drained k low within) ∙ undrained in absurd cc) away)
         shows.slots
 
+    -- after a drain that found the processor out the table shows a state by the rule
     pub drain_shows : (i k : ℕ) (hand : Hand E B) (e : E) → 0 < k → k ≤ v.count → is_revoked v k ≡ true → is_drained v k ≡ false → (c.state k).phase ≡ Out
         → Shows m (state_core c k (drained_state k)) (stepped t i (slice_index t.words i) id hand (noted (drained v k) i (slice_index t.words i)) (takes k (Edition (Some e))))
     drain_shows i k hand e low high revoked undrained out =

@@ -34,6 +34,7 @@ module _ {E B T L I : Type 0} where
   pub joined_all : (v : View E B T L I) (hand : Hand E B) → 0 < v.count → IsRejoinedFrom 1 v hand → AllJoined v
   joined_all v hand some r = let c = rejoined_closing v hand some r in all_joined v c.0 c.1
 
+  -- with one processor, one join joins all
   pub join_one : (old new : Me (Slot E B) (View E B T L I)) (w : View E B T L I) → new ≡ (joined old.0 w, old.1) → w.place ≡ 1 → old.0.count ≡ 1 → IsAtRest old.0 old.1 → AllJoined new.0
   join_one old new w is at one rests =
       let all : AllJoined (joined old.0 w) = joined_all (joined old.0 w) old.1 (omega (arith, one)) (after_join 1 old (joined old.0 w, old.1) w refl at (omega (arith, one)) (λ _. w.part, inl (omega (arith, one), rests))) in
@@ -61,6 +62,7 @@ module _ {E B T L I : Type 0} where
         let d : Checked m me Held after = subst (λ (h : Heard). Checked m me h after) is checked in
         (Some d.0, subst (λ (s : Me (Slot E B) (View E B T L I)). s.1 ≡ (me.0.place, Edition (Some d.0)) ∷ rest s.1) (sym d.1) refl)
 
+    -- a try that took the book brought it on top of the hand
     pub book_on_top : (me : Me (Slot E B) (View E B T L I)) (tried : Tried) (after : Me (Slot E B) (View E B T L I)) → tried ≡ Taken → TriedBook m me tried after → (old : Option B) × (after.1 ≡ (0, Book old) ∷ rest after.1)
     book_on_top me tried after is step =
         let d : TriedBook m me Taken after = subst (λ (t : Tried). TriedBook m me t after) is step in
@@ -96,6 +98,7 @@ module _ {E B T L I : Type 0} where
       ready = λ fresh. absurd cc;
     }
 
+    -- after its publication the operator has in hand a book that has taken it in
     pub has_written : (v : View E B T L I) (n : E) (taken b : B) (i x : ℕ) (new : Me (Slot E B) (View E B T L I)) → new ≡ (noted (published_as m v (m.name n) (m.tag n)) i x, (0, Book (Some b)) ∷ []) → v.role ≡ Operator → v.book ≡ Some taken
         → v.opened + length v.history ≡ v.number + 1 → m.book_number b ≡ v.number + 1 → m.tag n ≡ m.book_tag b → m.of taken 0 ≡ v.own → m.of b 0 ≡ m.of taken 0 ++ m.item (m.tag n) ∷ []
         → ((k : ℕ) → k ≢ 0 → m.of b k ≡ m.of taken k) → HasBook m new.0 new.1

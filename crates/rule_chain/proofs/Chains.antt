@@ -5,15 +5,18 @@ use Rattle.fw_rule.specs.declared.rule.Rule.{Rule}
 use Rattle.rule_chain.specs.Chain.{AscendsFrom}
 use Rattle.rule_chain.specs.Rules.{last_rule, insert_rule, renumber, in_set_for}
 
+-- rules whose numbers ascend from a number on do so from any lower one
 pub weaken : (a b : ℕ) (rules : List Rule) → a ≤ b → AscendsFrom b rules → AscendsFrom a rules
 weaken a b [] le h = h
 weaken a b (r ∷ []) le h = h
 weaken a b (r ∷ s ∷ rules) le h = (omega (arith, h.0), h.1, h.2)
 
+-- a rule before rules with no lower number leaves the numbers ascending
 pub put_first : (a : ℕ) (r : Rule) (rules : List Rule) → a ≤ r.number → r.number < 65535 → AscendsFrom r.number rules → AscendsFrom a (r ∷ rules)
 put_first a r [] le less h = absurd h
 put_first a r (s ∷ rules) le less h = (le, less, h)
 
+-- rules that are left, rule 65535 among them, stay in their order with it at the end
 pub filter_keeps : (p : Rule → Bool) → ((k : ℕ) → p (last_rule k) ≡ true) → (a : ℕ) (rules : List Rule) → AscendsFrom a rules → AscendsFrom a (filter p rules)
 filter_keeps p last a [] h = h
 filter_keeps p last a (r ∷ []) h =
@@ -33,6 +36,7 @@ last_moved set_for last k r is =
     with_set : ℕ → Rule
     with_set n = let l : Rule = last_rule k in record l { set = n }
 
+-- rules that change their sets, but not rule 65535, stay in their order with it at the end
 pub move_keeps : (set_for : Rule → ℕ) → ((k : ℕ) → set_for (last_rule k) ≡ 31) → (a : ℕ) (rules : List Rule) → AscendsFrom a rules → AscendsFrom a (map (in_set_for set_for) rules)
 move_keeps set_for last a [] h = h
 move_keeps set_for last a (r ∷ []) h = last_moved set_for last r.counter r h
@@ -45,6 +49,7 @@ last_zeroed : (n k : ℕ) (r : Rule) → r ≡ last_rule k → with_counter n r 
 unfolding with_counter
 last_zeroed n k r is = ap (λ (x : Rule). with_counter n x) is
 
+-- fresh counter numbers leave the rules in their order, with rule 65535 at the end
 pub renumber_keeps : (test : Rule → Bool) (a n : ℕ) (rules : List Rule) → AscendsFrom a rules → AscendsFrom a (renumber test n rules)
 unfolding renumber with_counter
 renumber_keeps test a n [] h = h
@@ -59,6 +64,7 @@ renumber_keeps test a n (r ∷ s ∷ rules) h =
 number_of_last : (k : ℕ) (r : Rule) → r ≡ last_rule k → r.number ≡ 65535
 number_of_last k r is = ap (λ (x : Rule). x.number) is
 
+-- a rule that is inserted leaves the rules in their order, with rule 65535 at the end
 pub insert_keeps : (rule : Rule) → rule.number < 65535 → (a : ℕ) (rules : List Rule) → a ≤ rule.number → AscendsFrom a rules → AscendsFrom a (insert_rule rule rules)
 unfolding insert_rule
 insert_keeps rule less a [] le h = absurd h
@@ -81,6 +87,7 @@ from_first a (r ∷ s ∷ rules) (suc j) d le h within =
     let rest = from_first r.number (s ∷ rules) j d (omega (arith, h.1)) h.2 (omega arith) in
     omega (arith, h.0, rest)
 
+-- of two rules the one before has no greater number
 pub numbers_ascend : (a : ℕ) (rules : List Rule) (i j : ℕ) (d : Rule) → AscendsFrom a rules → i ≤ j → j < length rules → (get_or rules i d).number ≤ (get_or rules j d).number
 numbers_ascend a [] i j d h le within = absurd h
 numbers_ascend a (r ∷ []) zero zero d h le within = omega arith

@@ -28,6 +28,7 @@ automatic_most : (rules : List Rule) → automatic_number rules ≤ 65535
 unfolding automatic_number
 automatic_most rules = behind_most (greatest_number rules) (greatest_below rules)
 
+-- the number of a new rule is 1 at least
 pub chosen_least : (rules : List Rule) (number : Option ℕ) → 1 ≤ chosen_number rules number
 chosen_least rules None = automatic_least rules
 chosen_least rules (Some n) =
@@ -37,6 +38,7 @@ chosen_least rules (Some n) =
       | false ↦ λ is. grind (arith, nat_tests)
     ] refl
 
+-- the number of a new rule is 65535 at most
 pub chosen_most : (rules : List Rule) (number : Option ℕ) → IfSome number (λ n. n ≤ 65535) → chosen_number rules number ≤ 65535
 chosen_most rules None within = automatic_most rules
 chosen_most rules (Some n) within =

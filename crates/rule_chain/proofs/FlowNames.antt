@@ -57,6 +57,7 @@ unlike names name i none low same =
     let passes = (name_same (get_or names i []) name).1 same in
     cc
 
+-- fewer than 64 names with a new one behind them are unlike each other still
 pub names_pushed : (names : List (List ℕ)) (name : List ℕ) → length names ≤ number_of names name → length names < 64 → AreNames names → AreNames (names ++ name ∷ [])
 names_pushed names name none room h =
     let longer = length-append names (name ∷ []) in

@@ -21,6 +21,7 @@ use Rattle.rule_chain.proofs.InPlaces.{stand_in_order, own_identities, own_count
 use Rattle.rule_chain.proofs.Lists.{length-filter_le, all-filter, all-map, all-weaker}
 use Rattle.rule_chain.proofs.Own.{filter_own, move_own, renumber_ids, renumber_counters, insert_ids, insert_counters}
 
+-- where rules go, but not rule 65535, what holds in every configuration holds still
 pub filter_kept : (c : Configuration) (p : Rule → Bool) → ((k : ℕ) → p (last_rule k) ≡ true) → IsConfiguration c → IsConfiguration (record c { rules = filter p c.rules })
 filter_kept c p last h =
     let ordered = filter_keeps p last 1 c.rules h.ordered in
@@ -57,6 +58,7 @@ length_moved : (set_for : Rule → ℕ) (rules : List Rule) → length (map (in_
 length_moved set_for [] = refl
 length_moved set_for (r ∷ rules) = ap suc (length_moved set_for rules)
 
+-- where rules change their sets, but not rule 65535, what holds in every configuration holds still
 pub move_kept : (c : Configuration) (set_for : Rule → ℕ) → ((k : ℕ) → set_for (last_rule k) ≡ 31) → ((r : Rule) → IsSet r.set → IsSet (set_for r)) → IsConfiguration c → IsConfiguration (record c { rules = move_rules set_for c.rules })
 move_kept c set_for last in_range h =
     let ordered = move_keeps set_for last 1 c.rules h.ordered in
@@ -128,6 +130,7 @@ length_zeroed test next (r ∷ rules) =
       | false ↦ ap suc (length_zeroed test next rules)
     ]
 
+-- where rules get fresh counter numbers, what holds in every configuration holds still
 pub zero_kept : (c : Configuration) (test : Rule → Bool) → c.greatest_counter + count_of test c.rules < 16777216 → IsConfiguration c
     → IsConfiguration (record c { rules = renumber test (c.greatest_counter + 1) c.rules; greatest_counter = c.greatest_counter + count_of test c.rules })
 zero_kept c test room h =
@@ -168,6 +171,7 @@ length_inserted rule (r ∷ rules) =
       | false ↦ ap suc (length_inserted rule rules)
     ]
 
+-- the rule of a well-formed draft has its parts in their ranges
 pub drafted : (draft : RuleDraft) (number id counter : ℕ) → 1 ≤ number → number < 65535 → IsDraft draft → IsRule id counter (rule_of draft number id counter)
 drafted draft number id counter least less h = record {
   number = record { least_le = least; most_ge = omega arith };
@@ -179,6 +183,7 @@ drafted draft number id counter least less h = record {
   body = h.body;
 }
 
+-- where a rule was added, what holds in every configuration holds still
 pub add_kept : (c d : Configuration) (rule : Rule) → rule.number < 65535 → c.greatest_id < rule.id → c.greatest_counter < rule.counter → IsRule (c.greatest_id + 1) (c.greatest_counter + 1) rule → length c.rules < 65535 → c.greatest_counter + 1 < 16777216
     → Keeps c.names d.names → IsNamed d.names rule → d.rules ≡ insert_rule rule c.rules → d.greatest_id ≡ c.greatest_id + 1 → d.greatest_counter ≡ c.greatest_counter + 1 → d.disabled ≡ c.disabled
     → IsConfiguration c → IsConfiguration d
@@ -203,6 +208,7 @@ add_kept c d rule less new_id new_counter is room counters made named rules ids 
       disabled = rw disabled h.disabled;
     }
 
+-- where sets but 31 are disabled, and sets enabled, what holds in every configuration holds still
 pub mask_kept : (c : Configuration) (disable enable : ℕ) → disable < 2147483648 → IsConfiguration c → IsConfiguration (record c { disabled = mask_after c.disabled disable enable })
 mask_kept c disable enable low h = record {
   ordered = h.ordered;
@@ -220,32 +226,39 @@ mask_kept c disable enable low h = record {
   disabled = let or_low = or_lt 31 c.disabled disable h.disabled low in let and_low = and_le_l (bit_or c.disabled disable) (4294967295 - enable) in omega arith;
 }
 
+-- whichever of two sets is chosen is a set
 pub chosen_set : (b : Bool) (x y : ℕ) → IsSet x → IsSet y → IsSet (if b then x else y)
 chosen_set true x y first second = first
 chosen_set false x y first second = second
 
+-- rule 65535 keeps its set where another set than 31 is moved
 pub moved_last : (from to : ℕ) → from ≢ 31 → (k : ℕ) → set_moved from to (last_rule k) ≡ 31
 moved_last from to other k =
     let no : (31 == from) ≡ false = grind (arith, nat_tests) in
     rw no refl
 
+-- a rule is in a set from 0 to 31 still where one set is moved into another
 pub moved_within : (from to : ℕ) → IsSet to → (r : Rule) → IsSet r.set → IsSet (set_moved from to r)
 moved_within from to low r h = chosen_set (r.set == from) to r.set low h
 
+-- rule 65535 keeps its set where rules of another number are moved
 pub number_last : (number to : ℕ) → number ≢ 65535 → (k : ℕ) → set_of_number number to (last_rule k) ≡ 31
 number_last number to other k =
     let no : (65535 == number) ≡ false = grind (arith, nat_tests) in
     rw no refl
 
+-- a rule is in a set from 0 to 31 still where rules of a number are moved
 pub number_within : (number to : ℕ) → IsSet to → (r : Rule) → IsSet r.set → IsSet (set_of_number number to r)
 number_within number to low r h = chosen_set (r.number == number) to r.set low h
 
+-- rule 65535 keeps its set where two sets other than 31 are exchanged
 pub swapped_last : (first second : ℕ) → first ≢ 31 → second ≢ 31 → (k : ℕ) → set_swapped first second (last_rule k) ≡ 31
 swapped_last first second other another k =
     let no : (31 == first) ≡ false = grind (arith, nat_tests) in
     let not_either : (31 == second) ≡ false = grind (arith, nat_tests) in
     rw (no, not_either) refl
 
+-- a rule is in a set from 0 to 31 still where two sets are exchanged
 pub swapped_within : (first second : ℕ) → IsSet first → IsSet second → (r : Rule) → IsSet r.set → IsSet (set_swapped first second r)
 swapped_within first second low also r h = chosen_set (r.set == first) second (if r.set == second then first else r.set) also (chosen_set (r.set == second) first r.set low h)
 
@@ -261,5 +274,6 @@ last_not_among rules (n ∷ numbers) none =
       ]
     ] none
 
+-- where no number is refused, rule 65535 isn't among the rules that go
 pub named_last : (rules : List Rule) (numbers : List ℕ) → first_fault (deletion_fault rules) numbers ≡ None → (k : ℕ) → not (is_named numbers (last_rule k)) ≡ true
 named_last rules numbers none k = ap not (last_not_among rules numbers none)

@@ -20,9 +20,11 @@ module _ {K V : Type 0} (cmp : K → K → Ordering) (same : (x y : K) → Decid
       let found = is_some-lookup (is_at (cmp key)) es in
       (λ some. member.0 (sym found ∙ some), λ has. found ∙ member.1 has)
 
+  -- a key that is listed has a value
   pub there : (es : List (K × V)) (key : K) → HasKey es key → is_some (value_of cmp es key) ≡ true
   there es key has = (decides es key).1 has
 
+  -- a key that isn't listed has no value
   pub not_there : (es : List (K × V)) (key : K) → (HasKey es key → ⊥) → is_some (value_of cmp es key) ≡ false
   not_there es key none =
       elim (is_some (value_of cmp es key)) as (λ b. is_some (value_of cmp es key) ≡ b → b ≡ false) [ true ↦ λ is. absurd (none ((decides es key).0 is)) | false ↦ λ is. refl ] refl

@@ -8,6 +8,7 @@ use Rattle.rule_chain.proofs.Chains.{numbers_ascend}
 use Rattle.rule_chain.proofs.Lists.{map_length, map_get}
 
 module _ {X : Type 0} (f : X → Rule) where
+  -- inserting an element where the search ends inserts its rule in number order
   pub insert_at : (xs : List X) (x : X) (i : ℕ) → i ≤ length xs
       → ((k : ℕ) (d : X) → k < i → (f (get_or xs k d)).number ≤ (f x).number)
       → ((d : X) → i < length xs → (f x).number < (f (get_or xs i d)).number)
@@ -23,6 +24,7 @@ module _ {X : Type 0} (f : X → Rule) where
       let rest = insert_at xs x i (omega arith) (λ k d less. low (suc k) d (omega arith)) (λ d less. high d (omega arith)) in
       rw first (ap (λ (rules : List Rule). f y ∷ rules) rest)
 
+  -- of two elements the one before has no greater number, as a rule
   pub ascend : (a : ℕ) (xs : List X) (i j : ℕ) (d : X) → AscendsFrom a (map f xs) → i ≤ j → j < length xs → (f (get_or xs i d)).number ≤ (f (get_or xs j d)).number
   ascend a xs i j d h le within =
       let up = numbers_ascend a (map f xs) i j (f d) h le (let same = map_length f xs in omega arith) in

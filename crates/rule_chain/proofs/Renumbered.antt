@@ -5,12 +5,14 @@ use Rattle.fw_rule.specs.declared.rule.Rule.{Rule}
 use Rattle.rule_chain.specs.Rules.{renumber, count_of}
 
 module _ {X : Type 0} (test : Rule → Bool) (f : X → Rule) where
+  -- a rule more that passes the test is counted
   pub count_fresh : (xs : List X) (x : X) → test (f x) ≡ true → count_of test (map f (xs ++ x ∷ [])) ≡ count_of test (map f xs) + 1
   count_fresh [] x passes = rw passes (omega arith)
   count_fresh (y ∷ xs) x passes =
       let rest = count_fresh xs x passes in
       elim (test (f y)) as (λ b. length (cond b (f y ∷ filter test (map f (xs ++ x ∷ []))) (filter test (map f (xs ++ x ∷ [])))) ≡ length (cond b (f y ∷ filter test (map f xs)) (filter test (map f xs))) + 1) [ true ↦ omega arith | false ↦ rest ]
 
+  -- a rule more that doesn't pass the test isn't counted
   pub count_same : (xs : List X) (x : X) → test (f x) ≡ false → count_of test (map f (xs ++ x ∷ [])) ≡ count_of test (map f xs)
   count_same [] x fails = rw fails refl
   count_same (y ∷ xs) x fails =
@@ -20,6 +22,7 @@ module _ {X : Type 0} (test : Rule → Bool) (f : X → Rule) where
   numbered : ℕ → Rule → Rule
   numbered n r = record r { counter = n }
 
+  -- a rule more that passes the test gets the next counter number
   pub fresh : (n m : ℕ) (xs : List X) (x : X) → test (f x) ≡ true → m ≡ n + count_of test (map f xs)
       → renumber test n (map f (xs ++ x ∷ [])) ≡ renumber test n (map f xs) ++ record (f x) { counter = m } ∷ []
   unfolding renumber numbered
@@ -33,6 +36,7 @@ module _ {X : Type 0} (test : Rule → Bool) (f : X → Rule) where
         | false ↦ λ more. ap (λ (l : List Rule). f y ∷ l) (fresh n m xs x passes more)
       ] is
 
+  -- a rule more that doesn't pass the test stays as it is
   pub same : (n : ℕ) (xs : List X) (x : X) → test (f x) ≡ false → renumber test n (map f (xs ++ x ∷ [])) ≡ renumber test n (map f xs) ++ f x ∷ []
   unfolding renumber numbered
   same n [] x fails = rw fails refl

@@ -6,6 +6,7 @@ use Rattle.rule_chain.specs.Answers.{◌>>=◌}
 use Rattle.rule_chain.specs.Lookups.{with_use, with_uses}
 use Rattle.rule_chain.specs.Uses.{Use}
 
+-- the uses of two lists are made one list after the other
 pub uses_append : (tables : NamedTables) (us vs : List Use) → with_uses tables (us ++ vs) ≡ with_uses tables us >>= λ made. with_uses made vs
 uses_append tables [] vs = refl
 uses_append tables (u ∷ us) vs =
@@ -18,5 +19,6 @@ uses_append tables (u ∷ us) vs =
 pub use_some : {X : Type 0} (use_of : X → Option Use) (x : X) (xs : List X) (u : Use) → use_of x ≡ Some u → filter_map use_of (x ∷ xs) ≡ u ∷ filter_map use_of xs
 use_some use_of x xs u is = rw is refl
 
+-- an element without a use adds none
 pub use_none : {X : Type 0} (use_of : X → Option Use) (x : X) (xs : List X) → use_of x ≡ None → filter_map use_of (x ∷ xs) ≡ filter_map use_of xs
 use_none use_of x xs is = rw is refl

@@ -245,6 +245,7 @@ eight : (a : ℕ) → length (groups_of a) ≡ 8
 unfolding groups_of
 eight a = refl
 
+-- an IPv6 address in its canonical text is read again
 pub address6_again : (a : ℕ) → a < 2 ^ 128 → address6_in (address6_text a) ≡ Some a
 unfolding address6_in address6_text
 address6_again a small =
@@ -267,6 +268,7 @@ groups_all P groups each colon all = elim (nat_lt (longest_run groups) 2) as (λ
       (colon, (colon, joined_all P back each colon (all_drop (λ g. g < 2 ^ 16) (place + longest_run groups) groups all)))
 ]
 
+-- what holds of hexadecimal digits and of colons holds of each byte of an IPv6 address
 pub address6_all : (P : ℕ → Type 0) (a : ℕ) → ((b : ℕ) → is_hex b ≡ true → P b) → P 58 → AllByRecursion P (address6_text a)
 unfolding address6_text
 address6_all P a each colon = groups_all P (groups_of a) each colon (are_groups a)
@@ -287,6 +289,7 @@ length6_again : (column bits : ℕ) → bits ≤ 128 → prefix6_length column (
 length6_again column bits small =
     ap (λ f. found_or BadPrefix column (up_to 128 f)) (decimal_again bits (omega arith)) ∙ ap (λ b. found_or BadPrefix column (if b then Some bits else None)) (le-leb bits 128 small)
 
+-- an IPv6 prefix in its canonical text is read as this prefix
 pub prefix6_again : (n : Network6) (column : ℕ) → IsNetwork6 n → n.address < 2 ^ 128 → prefix6 (record { column = column; text = network6_text n }) ≡ Ok n
 unfolding network6_text
 prefix6_again n column good small = elim (eqb_tells n.bits 128) [
@@ -311,6 +314,7 @@ network6_all P n each colon slash small =
     all_append P (address6_text n.address) (if n.bits == 128 then [] else 47 ∷ decimal n.bits) (address6_all P n.address each colon)
     (elim (n.bits == 128) as (λ t. AllByRecursion P (if t then [] else 47 ∷ decimal n.bits)) [ true ↦ tt | false ↦ (slash, all_passed P is_digit (decimal n.bits) (λ b told. each b (rw told refl)) (all_digits n.bits (omega arith))) ])
 
+-- a byte that is no hexadecimal digit, no colon and no / stands in no IPv6 prefix
 pub free_network6 : (byte : ℕ) (n : Network6) → is_hex byte ≡ false → 58 == byte ≡ false → 47 == byte ≡ false → n.bits ≤ 128 → IsFree byte (network6_text n)
 free_network6 byte n other colon slash small = network6_all (λ b. b == byte ≡ false) n (λ b told. apart is_hex b byte told other) colon slash small
 
@@ -320,12 +324,14 @@ unfolding has_colon
 colon_there [] rest = refl
 colon_there (b ∷ front) rest = elim (b == 58) as (λ t. (t || list_any (λ byte. byte == 58) (front ++ 58 ∷ rest)) ≡ true) [ true ↦ refl | false ↦ colon_there front rest ]
 
+-- a text has a colon where its front has one
 pub colon_append : (front rest : List ℕ) → has_colon front ≡ true → has_colon (front ++ rest) ≡ true
 unfolding has_colon
 colon_append [] rest told = clash false told refl
 colon_append (b ∷ front) rest told =
     (elim (b == 58) as (λ t. (t || list_any (λ byte. byte == 58) front) ≡ true → (t || list_any (λ byte. byte == 58) (front ++ rest)) ≡ true) [ true ↦ λ _. refl | false ↦ λ e. colon_append front rest e ]) told
 
+-- a text without a colon isn't taken for an IPv6 prefix
 pub no_colon_in : (text : List ℕ) → IsFree 58 text → has_colon text ≡ false
 unfolding has_colon
 no_colon_in [] free = refl
@@ -343,6 +349,7 @@ groups_colon groups many = elim (nat_lt (longest_run groups) 2) as (λ t. has_co
   | false ↦ colon_there (groups_joined (take (place_of_run (longest_run groups) groups) groups)) (58 ∷ groups_joined (drop (place_of_run (longest_run groups) groups + longest_run groups) groups))
 ]
 
+-- the text of each IPv6 prefix has a colon
 pub network6_colon : (n : Network6) → has_colon (network6_text n) ≡ true
 unfolding network6_text address6_text
 network6_colon n =

@@ -26,6 +26,7 @@ octet_again : (n : ℕ) → n < 256 → octet (decimal n) ≡ Some n
 unfolding octet
 octet_again n small = ap (up_to 255) (small_decimal n small) ∙ ap (λ b. if b then Some n else None) (le-leb n 255 (omega arith))
 
+-- a byte that is no digit stands in no decimal number
 pub free_decimal : (byte n : ℕ) → is_digit byte ≡ false → n < 2 ^ 32 → IsFree byte (decimal n)
 free_decimal byte n other small = free_digits byte (decimal n) other (all_digits n small)
 
@@ -40,21 +41,25 @@ dotted_again n rest small =
 unfoldable pub dots : ℕ → ℕ → ℕ → ℕ → List ℕ
 dots a b c d = decimal a ++ (46 ∷ (decimal b ++ (46 ∷ (decimal c ++ (46 ∷ decimal d)))))
 
+-- four octets with dots between them are read as their address
 pub dots_again : (a b c d : ℕ) → a < 256 → b < 256 → c < 256 → d < 256 → address_in (dots a b c d) ≡ Some (from_be_bytes w32 (a ∷ b ∷ c ∷ d ∷ []))
 unfolding address_in dots
 dots_again a b c d sa sb sc sd =
     rw (dotted_again a (decimal b ++ (46 ∷ (decimal c ++ (46 ∷ decimal d)))) sa, dotted_again b (decimal c ++ (46 ∷ decimal d)) sb, dotted_again c (decimal d) sc, octet_again d sd) refl
 
+-- an address is written as its four octets with dots between them
 pub text_is : (a : ℕ) → address_text a ≡ dots (a / 2 ^ 24 % 256) (a / 2 ^ 16 % 256) (a / 2 ^ 8 % 256) (a % 256)
 unfolding address_text dots
 text_is a = refl
 
+-- an address in its canonical text is read again
 pub address_again : (a : ℕ) → a < 2 ^ 32 → address_in (address_text a) ≡ Some a
 address_again a small =
     ap address_in (text_is a)
     ∙ dots_again (a / 2 ^ 24 % 256) (a / 2 ^ 16 % 256) (a / 2 ^ 8 % 256) (a % 256) (omega arith) (omega arith) (omega arith) (omega arith)
     ∙ ap (λ n. let found : Option ℕ = Some n in found) (from_be_bytes-to_be_bytes_4 a small)
 
+-- a byte that is no digit and no dot stands in no address
 pub free_dots : (byte a b c d : ℕ) → is_digit byte ≡ false → 46 == byte ≡ false → a < 256 → b < 256 → c < 256 → d < 256 → IsFree byte (dots a b c d)
 unfolding dots
 free_dots byte a b c d other dot sa sb sc sd =
@@ -80,6 +85,7 @@ length_again : (column bits : ℕ) → bits ≤ 32 → prefix_length column (Som
 length_again column bits small =
     ap (λ f. found_length column (up_to 32 f)) (decimal_again bits (omega arith)) ∙ ap (λ b. found_length column (if b then Some bits else None)) (le-leb bits 32 small)
 
+-- a prefix in its canonical text is read as this prefix
 pub prefix_again : (n : Network) (column : ℕ) → IsNetwork n → n.address < 2 ^ 32 → prefix (record { column = column; text = network_text n }) ≡ Ok n
 unfolding network_text
 prefix_again n column good small = elim (eqb_tells n.bits 32) [

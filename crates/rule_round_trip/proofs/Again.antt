@@ -45,12 +45,14 @@ read_behind front texts words =
     let line : List ℕ = join_with_byte 32 (front ++ texts) in let end : ℕ = end_column (length (before_comment line)) (words_of line) in
     ap (λ ws. rule end (drop (length front) ws)) (line_words (front ++ texts) words) ∙ ap (rule end) (behind (columns_of (map (word_of line) (words_of line))) front texts)
 
+-- a rule in its form is read again from its canonical words, whatever words stand before them
 pub form_again : RulesInFormAreReadAgain
 form_again r front form words =
     let line : List ℕ = line_behind front r in
     read_behind front (rule_words r) (all_append IsWordText front (rule_words r) words (words_of_good (rule_words r) (rule_are r form.number form.set form.action form.rest)))
     ∙ rule_again r (columns_of (map (word_of line) (words_of line))) (end_column (length (before_comment line)) (words_of line)) form.number form.set form.action form.rest
 
+-- a rule's canonical text as a command is its canonical words behind `add`
 pub add_is : (r : Rule) → add_line r ≡ line_behind (codes "add" ∷ []) r
 unfolding rule_text
 add_is r = refl
@@ -73,11 +75,13 @@ read_part : (line : List ℕ) → AllByRecursion (λ b. is_readable b ≡ true) 
 unfolding before_comment
 read_part line all = none_bad (take (unwrap_or (position (λ byte. byte == 35) line) (length line)) line) (all_take (λ b. is_readable b ≡ true) (unwrap_or (position (λ byte. byte == 35) line) (length line)) line all)
 
+-- the canonical text of a rule in its form has no byte that may not stand in a script
 pub readable : CanonicalTextsAreReadable
 readable r form =
     ap (λ line. first_bad (before_comment line)) (add_is r)
     ∙ read_part (line_behind (codes "add" ∷ []) r) (readable_joined (codes "add" ∷ rule_words r) (add_word, rule_are r form.number form.set form.action form.rest))
 
+-- a rule in its form, written behind `add`, has the words `add` and its canonical words
 pub words_kept : CanonicalTextsKeepTheirWords
 words_kept r form =
     ap (λ line. map (λ token. (word_of line token).text) (words_of line)) (add_is r)
@@ -86,6 +90,7 @@ words_kept r form =
 one_value : (d e : RuleDraft) → (let r : Result RuleDraft Fault = Ok d in r) ≡ Ok e → d ≡ e
 one_value d e same = cc
 
+-- rules in their form with one canonical text are one rule, identity and counter aside
 pub texts_apart : TextsTellRulesApart
 texts_apart r q form other same =
     one_value (draft_of r) (draft_of q) (sym (line_again r form) ∙ ap (λ t. let line : List ℕ = codes "add " ++ t in rule_in line (words_of line) 1) same ∙ line_again q other)
@@ -98,5 +103,6 @@ rule_form : (draft : RuleDraft) (r : Rule) → IsRuleOf draft r → IsDraftForm 
 rule_form draft r made form =
     record { number = made.number; set = subst (λ n. n ≤ 31) (sym made.set) form.set; action = subst IsAction (sym made.action) form.action; rest = same_form draft r made form.rest }
 
+-- each rule that the grammar yields is read again from its canonical text
 pub again : RulesAreReadAgain
 again line tokens skipped draft r ok made = line_again r (rule_form draft r made (of_ok (rule_in line tokens skipped) IsDraftForm draft (rule_in_on line tokens skipped) ok))

@@ -40,6 +40,7 @@ low_set m k told = or_top (m % 2 ^ k) k (low_below m k) ∙ ap (λ d. d * 2 ^ k 
 zero_times : (p r : ℕ) → 0 * p + r ≡ r
 zero_times p r = omega arith
 
+-- a bit that a mask doesn't have adds nothing to the bits below it
 pub low_clear : (m k : ℕ) → has_bit m k ≡ false → m % 2 ^ k ≡ m % 2 ^ (k + 1)
 low_clear m k told = sym (zero_times (2 ^ k) (m % 2 ^ k)) ∙ ap (λ d. d * 2 ^ k + m % 2 ^ k) (sym (bit_none m k told)) ∙ sym (next_low m k)
 

@@ -14,6 +14,7 @@ column_from : List Word → ℕ → ℕ
 column_from [] left = 0
 column_from (word ∷ words) left = if left == suc (length words) then word.column else column_from words left
 
+-- the column of each word, by the texts from it on
 pub columns_of : List Word → List (List ℕ) → ℕ
 columns_of words texts = column_from words (length texts)
 
@@ -47,6 +48,7 @@ words_are (word ∷ words) =
     (same_columns (columns_of (word ∷ words)) (columns_of words) (map (λ w. w.text) words) (λ ts fewer. later word words ts (omega (arith, fewer, length-map words (λ w. w.text))))
     ∙ words_are words)
 
+-- there are as many words as texts, whatever their columns
 pub length_at : (c : List (List ℕ) → ℕ) (texts : List (List ℕ)) → length (at_columns c texts) ≡ length texts
 length_at c [] = refl
 length_at c (text ∷ texts) = ap suc (length_at c texts)

@@ -24,6 +24,7 @@ digit_first digit digits h = (both_true (is_digit digit) (list_all is_digit digi
 pub free_digits : (byte : ℕ) (text : List ℕ) → is_digit byte ≡ false → list_all is_digit text ≡ true → IsFree byte text
 free_digits byte text other digits = all_passed (λ b. b == byte ≡ false) is_digit text (λ b told. apart is_digit b byte told other) digits
 
+-- a byte that stands in neither of two texts stands nowhere in both together
 pub free_append : (byte : ℕ) (front rest : List ℕ) → IsFree byte front → IsFree byte rest → IsFree byte (front ++ rest)
 free_append byte front rest p q = all_append (λ b. b == byte ≡ false) front rest p q
 
@@ -46,19 +47,23 @@ position_there byte text rest free =
     (lt-ltb (position_or_len (λ b. b == byte) (text ++ byte ∷ rest)) (length (text ++ byte ∷ rest)) (omega (arith, place_there byte text rest free, length-append text (byte ∷ rest))))
     ∙ ap (λ n. let found : Option ℕ = Some n in found) (place_there byte text rest free)
 
+-- of a text without the byte all stands before it
 pub before_free : (byte : ℕ) (text : List ℕ) → IsFree byte text → before byte text ≡ text
 unfolding before
 before_free byte text free = ap (λ found. take (unwrap_or found (length text)) text) (position_free byte text free) ∙ take_all (length text) text (omega arith)
 
+-- of a text without the byte nothing stands behind it
 pub behind_free : (byte : ℕ) (text : List ℕ) → IsFree byte text → behind byte text ≡ None
 unfolding behind
 behind_free byte text free = ap (λ found. option_map (λ (k : ℕ). drop (k + 1) text) found) (position_free byte text free)
 
+-- what stands before the first byte of a value is found again
 pub before_there : (byte : ℕ) (text rest : List ℕ) → IsFree byte text → before byte (text ++ byte ∷ rest) ≡ text
 unfolding before
 before_there byte text rest free =
     ap (λ found. take (unwrap_or found (length (text ++ byte ∷ rest))) (text ++ byte ∷ rest)) (position_there byte text rest free) ∙ take_at text (byte ∷ rest) (length text) refl
 
+-- what stands behind the first byte of a value is found again
 pub behind_there : (byte : ℕ) (text rest : List ℕ) → IsFree byte text → behind byte (text ++ byte ∷ rest) ≡ Some rest
 unfolding behind
 behind_there byte text rest free =
@@ -86,11 +91,13 @@ pub elements_again : (text : List ℕ) (texts : List (List ℕ)) → AllByRecurs
 unfolding elements
 elements_again text texts free = parts_again 44 text texts free
 
+-- a text of digits alone, one at least, begins with a digit
 pub starts_digits : (text : List ℕ) → 0 < length text → list_all is_digit text ≡ true → starts_with_digit text ≡ true
 unfolding starts_with_digit
 starts_digits [] some digits = absurd (omega (arith, some))
 starts_digits (digit ∷ text) some digits = digit_first digit text digits
 
+-- a text that begins with a digit does so with another behind it
 pub starts_append : (text rest : List ℕ) → starts_with_digit text ≡ true → starts_with_digit (text ++ rest) ≡ true
 unfolding starts_with_digit
 starts_append [] rest digit = clash false digit refl
@@ -104,6 +111,7 @@ starts_plain (byte ∷ bytes) = not (is_digit byte)
 not_digit : (byte : ℕ) → not (is_digit byte) ≡ true → is_digit byte ≡ false
 not_digit byte told = elim (is_digit byte) as (λ b. not b ≡ true → b ≡ false) [ true ↦ λ e. sym e | false ↦ λ _. refl ] told
 
+-- a text that begins with a digit isn't a name that begins with none
 pub not_same : (text name : List ℕ) → starts_with_digit text ≡ true → starts_plain name ≡ true → same text name ≡ false
 unfolding same starts_with_digit
 not_same [] name digit plain = clash false digit refl

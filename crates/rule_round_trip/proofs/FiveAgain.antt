@@ -11,9 +11,11 @@ use Rattle.ipfw_parser.specs.Numbers.{number, number_by, is_digit, value_after, 
 use Rattle.rule_round_trip.proofs.DigitTexts.{starts_digits}
 use Rattle.rule_round_trip.proofs.NumbersAgain.{digits_again, all_digits, number_again}
 
+-- a decimal number begins with a digit
 pub decimal_starts : (n : ℕ) → n < 2 ^ 32 → starts_with_digit (decimal n) ≡ true
 decimal_starts n small = starts_digits (decimal n) (decimal_nonempty n (omega arith)) (all_digits n small)
 
+-- a set's decimal number is read as this set
 pub set_again : (n column : ℕ) → n ≤ 31 → set_number (record { column = column; text = decimal n }) ≡ Ok n
 unfolding set_number
 set_again n column small =
@@ -45,16 +47,20 @@ five_read : (n : ℕ) → n ≤ 65535 → digits_value (five_digits n) ≡ Some 
 unfolding five_digits
 five_read n small = zeros_read (5 - length (decimal n)) (decimal n) ∙ digits_again n (omega arith)
 
+-- a rule's number in five digits has no other byte
 pub five_all : (n : ℕ) → n ≤ 65535 → list_all is_digit (five_digits n) ≡ true
 unfolding five_digits
 five_all n small = zeros_digits (5 - length (decimal n)) (decimal n) ∙ all_digits n (omega arith)
 
+-- a rule's number in five digits isn't empty
 pub five_some : (n : ℕ) → n ≤ 65535 → 0 < length (five_digits n)
 five_some n small = omega (arith, five_long n small)
 
+-- a rule's number in five digits begins with a digit
 pub five_starts : (n : ℕ) → n ≤ 65535 → starts_with_digit (five_digits n) ≡ true
 five_starts n small = starts_digits (five_digits n) (five_some n small) (five_all n small)
 
+-- a rule's number in five digits is read as this number
 pub five_again : (n column : ℕ) → n ≤ 65535 → number 0 65535 (record { column = column; text = five_digits n }) ≡ Ok n
 unfolding number decimal_of
 five_again n column small =

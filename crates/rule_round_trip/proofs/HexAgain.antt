@@ -86,12 +86,14 @@ pub record IsHexText (n : ℕ) (text : List ℕ) : Type 0 where
   pub some : 1 ≤ length text
   pub few : length text ≤ 4
 
+-- a group's text is one to four hexadecimal digits that write the group
 pub hex_text : (n : ℕ) → n < 2 ^ 16 → IsHexText n (hexadecimal n)
 unfolding digits
 hex_text n small =
     let onto = hex_onto 4 64 n [] (omega arith) (omega arith) (omega arith) refl in
     record { hex = onto.hex; value = onto.value; some = onto.some; few = omega (arith, onto.few) }
 
+-- a group in hexadecimal digits is read as this group
 pub group_again : (n : ℕ) → n < 2 ^ 16 → group (hexadecimal n) ≡ Some n
 unfolding group hex_number
 group_again n small =

@@ -82,6 +82,7 @@ free_network byte n other dot slash small =
 pub free_name : (byte : ℕ) (name : List ℕ) → is_name_byte byte ≡ false → list_all is_name_byte name ≡ true → IsFree byte name
 free_name byte name other all = all_passed (λ b. b == byte ≡ false) is_name_byte name (λ b told. apart is_name_byte b byte told other) all
 
+-- a name has no byte but those that names may have
 pub name_bytes : (most : ℕ) (name : List ℕ) → is_name most name ≡ true → list_all is_name_byte name ≡ true
 unfolding is_name
 name_bytes most name told = (both_true (list_all is_name_byte name) (nat_le 1 (length name) && nat_le (length name) most) told).0
@@ -140,6 +141,7 @@ part_front front next rest comma close here = take_at front (next ∷ rest) (par
 part_rest : (front : List ℕ) (next : ℕ) (rest : List ℕ) → IsFree 44 front → IsFree 41 front → (next == 44 || next == 41) ≡ true → drop (part_len (front ++ next ∷ rest)) (front ++ next ∷ rest) ≡ next ∷ rest
 part_rest front next rest comma close here = drop_at front (next ∷ rest) (part_len (front ++ next ∷ rest)) (sym (part_at front next rest comma close here))
 
+-- a table's name is read as this name
 pub name_again : (name : List ℕ) (column : ℕ) → is_name 63 name ≡ true → table_name (record { column = column; text = name }) ≡ Ok name
 unfolding table_name
 name_again name column told = ap (λ b. if b then Ok name else fault_at column BadName) told
@@ -199,6 +201,7 @@ address_starts a rest =
     let others : List ℕ = 46 ∷ (decimal (a / 2 ^ 16 % 256) ++ (46 ∷ (decimal (a / 2 ^ 8 % 256) ++ (46 ∷ decimal (a % 256))))) in
     ap (λ t. starts_with_digit (t ++ rest)) (text_is a) ∙ starts_append (first ++ others) rest (starts_append first others (decimal_starts (a / 2 ^ 24 % 256) (omega arith)))
 
+-- the text of an IPv4 prefix begins with a digit
 pub network_starts : (n : Network) → starts_with_digit (network_text n) ≡ true
 unfolding network_text
 network_starts n = address_starts n.address (if n.bits == 32 then [] else 47 ∷ decimal n.bits)
@@ -232,6 +235,7 @@ unfolding item
 item_net6 column text told free =
     rw (colon_differs text (codes "any") told any_plain, colon_differs text (codes "me") told me_plain, no_table text (codes "able(") free, told) refl
 
+-- an element of a list of addresses in its canonical text is read as this element
 pub item_again : (x : AddrItem) (column : ℕ) → IsItemForm x → item (record { column = column; text = item_text x }) ≡ Ok x
 item_again Any column form = item_any column
 item_again Me column form = item_me column
@@ -260,6 +264,7 @@ each_again (x ∷ xs) column form =
     ap (λ p. p >>= λ y. each item column (map item_text xs) >>= λ ys. Ok (y ∷ ys)) (item_again x column form.0)
     ∙ ap (λ p. p >>= λ ys. let a : Result (List AddrItem) Fault = Ok (x ∷ ys) in a) (each_again xs column form.1)
 
+-- a list of addresses in its canonical text is read as this list
 pub items_again : (first : AddrItem) (others : List AddrItem) (column : ℕ) → AllByRecursion IsItemForm (first ∷ others) → items (record { column = column; text = join_with_byte 44 (map item_text (first ∷ others)) }) ≡ Ok (first ∷ others)
 unfolding items
 items_again first others column form =

@@ -73,6 +73,7 @@ names_read all set clear column k (name ∷ names) apart are =
 abbrev pub AllOver : (ℕ → Type 0) → List (List ℕ) → Type 0
 AllOver P texts = AllByRecursion (AllByRecursion P) texts
 
+-- what holds of commas and of each byte of the texts holds of each byte of the texts joined by commas
 pub all_joined : (P : ℕ → Type 0) (texts : List (List ℕ)) → P 44 → AllOver P texts → AllByRecursion P (join_with_byte 44 texts)
 all_joined P [] comma all = tt
 all_joined P (text ∷ []) comma all = all.0
@@ -83,6 +84,7 @@ signed_all P true y name more mark p q = (p, q)
 signed_all P false true name more mark p q = ((mark, p), q)
 signed_all P false false name more mark p q = q
 
+-- what holds of ! and of each byte of the names holds of each byte of signed names
 pub names_all : (P : ℕ → Type 0) (names : List (List ℕ)) (k set clear : ℕ) → P 33 → AllOver P names → AllOver P (signed_names names k set clear)
 unfolding signed_names
 names_all P [] k set clear mark all = tt
@@ -133,8 +135,10 @@ free_options : AllOver (λ b. b == 44 ≡ false) option_names
 unfolding option_names
 free_options = search
 
+-- TCP flags in their canonical text are read as the same masks
 pub flags_again : (set clear column : ℕ) → AreSigns 6 set clear → signs flag_names (record { column = column; text = join_with_byte 44 (signed_names flag_names 0 set clear) }) ≡ Ok (record { set = set; clear = clear })
 flags_again set clear column form = signs_again flag_names 6 set clear column six form are_flags free_flags
 
+-- IP options in their canonical text are read as the same masks
 pub ip_options_again : (set clear column : ℕ) → AreSigns 4 set clear → signs option_names (record { column = column; text = join_with_byte 44 (signed_names option_names 0 set clear) }) ≡ Ok (record { set = set; clear = clear })
 ip_options_again set clear column form = signs_again option_names 4 set clear column four form are_options free_options

@@ -73,6 +73,7 @@ last_byte [] all some = absurd (omega (arith, some))
 last_byte (b ∷ []) all some = no_star b (both_true (is_name_byte b) true all).0
 last_byte (b ∷ next ∷ text) all some = ap (λ k. slice_index (b ∷ next ∷ text) k == 42) (one_less (length text)) ∙ ap (λ n. n == 42) (one_less_at b next text) ∙ last_byte (next ∷ text) (both_true (is_name_byte b) (list_all is_name_byte (next ∷ text)) all).1 (omega arith)
 
+-- where one number tests as at most another it is so
 pub le_of : (a b : ℕ) → nat_le a b ≡ true → a ≤ b
 le_of a b told = grind (arith, nat_tests)
 
@@ -88,6 +89,7 @@ and_three : (x y z : Bool) → (x && (y && (z && false))) ≡ false
 and_three true y z = and_two y z
 and_three false y z = refl
 
+-- a name isn't empty
 pub name_some : (most : ℕ) (name : List ℕ) → is_name most name ≡ true → 0 < length name
 unfolding is_name
 name_some most name told = le_of 1 (length name) (both_true (nat_le 1 (length name)) (nat_le (length name) most) (both_true (list_all is_name_byte name) (nat_le 1 (length name) && nat_le (length name) most) told).1).0
@@ -150,6 +152,7 @@ test_head (Icmp6Types set) = codes "icmp6types"
 test_head (IpOptions present absent) = codes "ipoptions"
 test_head (Lookup f name) = codes "lookup"
 
+-- the words of a test behind its first
 abbrev pub test_tail : Test → Words
 test_tail Inward = []
 test_tail Outward = []
@@ -165,6 +168,7 @@ test_tail (Icmp6Types set) = join_with_byte 44 (numbers_where (has_type set) 256
 test_tail (IpOptions present absent) = join_with_byte 44 (signed_names option_names 0 present absent) ∷ []
 test_tail (Lookup f name) = field_word f ∷ name ∷ []
 
+-- the words of a test are its first word and the others
 pub test_words_are : (t : Test) → test_words t ≡ test_head t ∷ test_tail t
 test_words_are Inward = refl
 test_words_are Outward = refl
@@ -355,6 +359,7 @@ state_long (Limit m n name) = omega arith
 taken_long : (os : List Opt) (at : ℕ) → length (take at os) + length (drop at os) ≡ length os
 taken_long os at = sym (length-append (take at os) (drop at os)) ∙ ap length (take-append-drop at os)
 
+-- options with the state in its place are read again from their canonical words
 pub placed_again : (os : List Opt) (made : Option StateOpt) (at end : ℕ) (c : List (List ℕ) → ℕ) → IsPlacedForm os made at
     → options (length (at_columns c (placed_words os made at))) end false (at_columns c (placed_words os made at)) ≡ Ok (record { options = os; state = made; state_at = at })
 placed_again os None at end c form =
@@ -412,5 +417,6 @@ all_begin c [] back (Some (Limit m n name)) = word_begins c (codes "limit") (mas
 all_begin c [] (o ∷ back) None = option_begins c o.negated o.test (flat_map option_words back)
 all_begin c [] [] None = none_begin c
 
+-- the canonical words of options aren't taken for ports
 pub placed_begin : (c : List (List ℕ) → ℕ) (os : List Opt) (made : Option StateOpt) (at : ℕ) → begin_with_ports (at_columns c (placed_words os made at)) ≡ false
 placed_begin c os made at = all_begin c (take at os) (drop at os) made

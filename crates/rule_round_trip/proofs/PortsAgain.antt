@@ -99,6 +99,7 @@ each_again (r ∷ all) column good =
     ap (λ p. p >>= λ x. each range column (map range_text all) >>= λ xs. Ok (x ∷ xs)) (range_again r column good.0)
     ∙ ap (λ p. p >>= λ xs. let a : Result (List Ports) Fault = Ok (r ∷ xs) in a) (each_again all column good.1)
 
+-- a list of port ranges in its canonical text is read as these ranges
 pub ranges_again : (first : Ports) (others : List Ports) (column : ℕ) → AllByRecursion IsRange (first ∷ others) → ranges (record { column = column; text = join_with_byte 44 (map range_text (first ∷ others)) }) ≡ Ok (first ∷ others)
 unfolding ranges
 ranges_again first others column good =

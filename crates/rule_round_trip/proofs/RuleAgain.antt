@@ -327,6 +327,7 @@ action_head (Call n) = codes "call"
 action_head Return = codes "return"
 action_head (CheckState flow) = codes "check-state"
 
+-- the words of an action behind its first
 abbrev pub action_tail : Action → Words
 action_tail Allow = []
 action_tail Deny = []
@@ -338,6 +339,7 @@ action_tail (Call n) = decimal n ∷ []
 action_tail Return = []
 action_tail (CheckState flow) = looked_up_words flow
 
+-- the words of an action are its first word and the others
 pub action_words_are : (a : Action) → action_words a ≡ action_head a ∷ action_tail a
 action_words_are Allow = refl
 action_words_are Deny = refl

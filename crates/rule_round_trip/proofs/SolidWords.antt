@@ -69,6 +69,7 @@ pub record IsGood (byte : ℕ) : Type 0 where
   pub solid : IsSolid byte
   pub readable : is_readable byte ≡ true
 
+-- a good word: a text that isn't empty, of bytes that may stand in words and in scripts
 pub record IsGoodWord (text : List ℕ) : Type 0 where
   pub some : 0 < length text
   pub bytes : AllByRecursion IsGood text
@@ -81,10 +82,12 @@ readable_all : (text : List ℕ) → AllByRecursion IsGood text → AllByRecursi
 readable_all [] good = tt
 readable_all (b ∷ text) good = (good.0.readable, readable_all text good.1)
 
+-- good words are words of a line: not empty, with no blank, and no comment begins in them
 pub words_of_good : (texts : Words) → AllByRecursion IsGoodWord texts → AllByRecursion IsWordText texts
 words_of_good [] good = tt
 words_of_good (text ∷ texts) good = (record { some = good.0.some; bytes = solid_all text good.0.bytes }, words_of_good texts good.1)
 
+-- good words with spaces between them have no byte that may not stand in a script
 pub readable_joined : (texts : Words) → AllByRecursion IsGoodWord texts → AllByRecursion (λ b. is_readable b ≡ true) (join_with_byte 32 texts)
 readable_joined [] good = tt
 readable_joined (text ∷ []) good = readable_all text good.0.bytes
@@ -489,6 +492,7 @@ rule_are r small in_set good form = (
       (rest_are r.action r.log r.body good form),
 )
 
+-- `add` is a good word
 pub add_word : IsGoodWord (codes "add")
 unfolding is_solid
 add_word = fixed _ _ refl

@@ -95,6 +95,7 @@ unfolding type_set types6
 set_joined [] set column ok some free = absurd (omega (arith, some, nothing set ok))
 set_joined (text ∷ texts) set column ok some free = ap (type_set no_types column) (elements_again text texts free) ∙ ok
 
+-- ICMPv6 types in their canonical text are read as the same set
 pub types6_again : (set : TypeSet) (column : ℕ) → IsTypesForm set → types6 (record { column = column; text = join_with_byte 44 (numbers_where (has_type set) 256 0) }) ≡ Ok set
 types6_again set column form =
     set_joined (numbers_where (has_type set) 256 0) set column

@@ -45,6 +45,7 @@ unfolding type_mask types
 types_joined [] mask column ok some free = let same : 0 ≡ mask = cc in absurd (omega (arith, some, same))
 types_joined (text ∷ texts) mask column ok some free = ap (type_mask 0 column) (elements_again text texts free) ∙ ok
 
+-- no comma stands in the number of a type
 pub free_number : (n : ℕ) → n < 256 → IsFree 44 (decimal n)
 free_number n small = free_digits 44 (decimal n) refl (all_digits n (omega arith))
 
@@ -56,6 +57,7 @@ read_at mask column n within small =
     ap (λ m. type_mask m column (numbers_where (has_bit mask) n 0)) (zero_low mask) ∙ bits_read mask column n 0 (omega (arith, within))
     ∙ ap (λ k. let r : Result ℕ Fault = Ok (mask % 2 ^ k) in r) (zero_plus n) ∙ ap (λ m. let r : Result ℕ Fault = Ok m in r) (mod-eq_of_lt small)
 
+-- ICMP types in their canonical text are read as the same mask
 pub types_again : (mask column : ℕ) → 0 < mask → mask < 2 ^ 32 → types (record { column = column; text = join_with_byte 44 (numbers_where (has_bit mask) 32 0) }) ≡ Ok mask
 types_again mask column some small =
     types_joined (numbers_where (has_bit mask) 32 0) mask column (read_at mask column 32 (omega arith) small) some

@@ -98,6 +98,7 @@ none_again : map (λ token. (word_of [] token).text) (words_of []) ≡ []
 unfolding words_of words_in words_from before_comment
 none_again = refl
 
+-- texts of words, written with one space between them, are read as these words
 pub words_again : (texts : List (List ℕ)) → AllByRecursion IsWordText texts → map (λ token. (word_of (join_with_byte 32 texts) token).text) (words_of (join_with_byte 32 texts)) ≡ texts
 unfolding words_of words_in words_from
 words_again [] words = none_again
