@@ -179,6 +179,7 @@ pub shown_is : (ps : List Text) → unwrap_or (shown ps) [] ≡ ps
 shown_is [] = refl
 shown_is (v ∷ vs) = refl
 
+-- what is read of the flag's text is whether `--journal` was there
 pub flag_is : (text : Option Text) (got journal : Bool) → text ≡ Some (flagged journal) → (text ≡ Some (codes "true") → got ≡ true) → (text ≡ Some (codes "false") → got ≡ false) → got ≡ journal
 flag_is text got true e set unset = set e
 flag_is text got false e set unset = unset e

@@ -20,9 +20,11 @@ use Rattle.command_words.specs.Words.{is_option}
 abbrev pub shape : Shape
 shape = (built journal_app).top
 
+-- the arguments of the command, as the library builds them
 abbrev pub rules : List Rule
 rules = shape.rules
 
+-- the argument `--journal`, as the library builds it
 abbrev pub journal : Rule
 journal = with_index 1 (filled journal_rule)
 
@@ -30,9 +32,11 @@ journal = with_index 1 (filled journal_rule)
 abbrev pub IsFaulty : Kinds → Type 0
 IsFaulty kinds = (k : ErrorKind) × (ks : Kinds) × (kinds ≡ k ∷ ks)
 
+-- a fault in front is a fault of both together
 pub faulty_front : (front back : Kinds) → IsFaulty front → IsFaulty (or_else front back)
 faulty_front front back (k, ks, e) = (k, ks, ap (λ f. or_else f back) e)
 
+-- a fault behind is a fault of both together
 pub faulty_back : (front back : Kinds) → IsFaulty back → IsFaulty (or_else front back)
 faulty_back [] back fault = fault
 faulty_back (k ∷ ks) back fault = (k, ks, refl)
@@ -116,6 +120,7 @@ unfolding is_option
 no_option byte [] e = refl
 no_option byte (other ∷ rest) e = e
 
+-- each word is of one of the sorts
 pub sort_of : (word : Text) → Sort word
 unfolding is_option
 sort_of [] = operand refl refl refl refl

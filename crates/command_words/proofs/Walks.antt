@@ -22,6 +22,7 @@ pub data Phase : Type 0 where
   unseen : Phase
   seen : List Text → Phase
 
+-- whether `--journal` was seen so far
 abbrev pub is_seen : Phase → Bool
 is_seen unseen = false
 is_seen (seen us) = true
@@ -47,6 +48,7 @@ abbrev waiting_at : List Text → Waiting
 waiting_at [] = idle
 waiting_at (v ∷ vs) = positional
 
+-- the whole walk behind these words, in front of `--` or behind it
 abbrev pub walk_at : Bool → Phase → List Text → Walk
 walk_at behind phase vs = record { held = held_at phase vs; waiting = waiting_at vs; position = 1; is_trailing = behind; stopped = None }
 
@@ -97,6 +99,7 @@ pushed_operand : (phase : Phase) (vs : List Text) (word : Text) → after_step r
 pushed_operand phase [] word = refl
 pushed_operand phase (v ∷ vs) word = refl
 
+-- a positional word is gathered behind those before it
 pub walked_operand : (phase : Phase) (vs : List Text) (word : Text) → is_divider word ≡ false → long_of word ≡ None → short_of word ≡ None
     → walked rules [] (walk_at false phase vs) word ≡ walk_at false phase (vs ++ word ∷ [])
 unfolding walked
@@ -104,6 +107,7 @@ walked_operand phase vs word other no_long no_short =
     ap (λ met. after_step rules word (walk_at false phase vs) met.0 met.1) (met_operand phase vs word other no_long no_short)
     ∙ pushed_operand phase vs word
 
+-- behind the first `--journal` the walk has seen it, and gathers positional words anew
 pub walked_journal : (vs : List Text) → walked rules [] (walk_at false unseen vs) (codes "--journal") ≡ walk_at false (seen vs) []
 unfolding walked
 walked_journal [] = refl
@@ -124,6 +128,7 @@ fault_divider : (phase : Phase) (vs : List Text) (word : Text) → is_divider wo
 fault_divider phase vs word same =
     ap₂ or_else (flag_fault phase vs word true same) (ap (λ met. step_fault shape 1 met.0 met.1) (met_divider phase vs word same))
 
+-- a positional word is no fault
 pub fault_operand : (phase : Phase) (vs : List Text) (word : Text) → is_divider word ≡ false → long_of word ≡ None → short_of word ≡ None
     → turn_fault shape [] (walk_at false phase vs) word ≡ []
 fault_operand phase vs word other no_long no_short =
@@ -143,6 +148,7 @@ pub values_ok : (vs : List Text) → values_kinds false String_parser vs ≡ []
 values_ok [] = refl
 values_ok (v ∷ vs) = values_ok vs
 
+-- one positional word or more are no fault, whatever their texts
 pub use_ok : (v : Text) (vs : List Text) → length (v ∷ vs) ≤ usize_max → or_else (range_kinds 0 usize_max (length (v ∷ vs))) (values_kinds false String_parser (v ∷ vs)) ≡ []
 use_ok v vs few = ap (λ k. or_else k (values_kinds false String_parser (v ∷ vs))) (range_ok (length (v ∷ vs)) few) ∙ values_ok (v ∷ vs)
 
@@ -176,6 +182,7 @@ bundle_is_faulty : (phase : Phase) (vs : List Text) (f : ℕ) (flags : Text) (x 
 unfolding flags_fault
 bundle_is_faulty phase vs f flags x e = ap (λ o. bundle_step_fault rules shape.args_override_self o (f ∷ flags) 0 (held_at phase vs) (flags_fault rules shape.args_override_self (length flags))) e
 
+-- a word with one `-` and more behind it is a fault
 pub fault_short : (phase : Phase) (vs : List Text) (word : Text) (f : ℕ) (flags : Text) → IsUtf8 word → is_divider word ≡ false → long_of word ≡ None → short_of word ≡ Some (f ∷ flags)
     → word ≡ 45 ∷ f ∷ flags → IsFaulty (turn_fault shape [] (walk_at false phase vs) word)
 unfolding encode_utf8
@@ -198,11 +205,13 @@ asked false options = journal_of options
 asked true [] = Some true
 asked true (option ∷ more) = None
 
+-- the first `--journal` asks for the journal, and no option may follow it
 pub asked_first : (options : List Text) → asked false (codes "--journal" ∷ options) ≡ asked true options
 unfolding journal_of
 asked_first [] = refl
 asked_first (option ∷ more) = refl
 
+-- with any other option the words ask for nothing, and are no command
 pub asked_other : (before : Bool) (word : Text) (options : List Text) → is_same word (codes "--journal") ≡ false → asked before (word ∷ options) ≡ None
 unfolding journal_of
 asked_other true word options other = refl
@@ -213,27 +222,32 @@ options_divider : (word : Text) (words : List Text) → is_divider word ≡ true
 unfolding words_before
 options_divider word words e = ap (λ t. filter is_option (if t then [] else word ∷ words_before words)) e
 
+-- an option in front of `--` stands before the options behind it
 pub options_other : (word : Text) (words : List Text) → is_divider word ≡ false → is_option word ≡ true → options_of (word ∷ words) ≡ word ∷ options_of words
 unfolding words_before
 options_other word words e option =
     ap (λ t. filter is_option (if t then [] else word ∷ words_before words)) e ∙ ap (λ t. cond t (word ∷ options_of words) (options_of words)) option
 
+-- a positional word is none of the options
 pub options_operand : (word : Text) (words : List Text) → is_divider word ≡ false → is_option word ≡ false → options_of (word ∷ words) ≡ options_of words
 unfolding words_before
 options_operand word words e option =
     ap (λ t. filter is_option (if t then [] else word ∷ words_before words)) e ∙ ap (λ t. cond t (word ∷ options_of words) (options_of words)) option
 
+-- all words behind `--` are positional
 pub positional_divider : (word : Text) (words : List Text) → is_divider word ≡ true → positional_of (word ∷ words) ≡ words
 unfolding words_before words_behind
 positional_divider word words e =
     ap (λ t. filter (λ w. not (is_option w)) (if t then [] else word ∷ words_before words) ++ (if t then words else words_behind words)) e
 
+-- an option in front of `--` is none of the positional words
 pub positional_option : (word : Text) (words : List Text) → is_divider word ≡ false → is_option word ≡ true → positional_of (word ∷ words) ≡ positional_of words
 unfolding words_before words_behind
 positional_option word words e option =
     ap (λ t. filter (λ w. not (is_option w)) (if t then [] else word ∷ words_before words) ++ (if t then words else words_behind words)) e
     ∙ ap (λ t. cond (not t) (word ∷ filter (λ w. not (is_option w)) (words_before words)) (filter (λ w. not (is_option w)) (words_before words)) ++ words_behind words) option
 
+-- a positional word stands before the positional words behind it
 pub positional_operand : (word : Text) (words : List Text) → is_divider word ≡ false → is_option word ≡ false → positional_of (word ∷ words) ≡ word ∷ positional_of words
 unfolding words_before words_behind
 positional_operand word words e option =

@@ -31,6 +31,7 @@ find_place test xs k d at =
     let told = position-Some test xs k d at in
     find_at test xs k d told.0 told.1 told.2
 
+-- the state at the place that `position` answers is the one changed
 pub with_first_place : (test : State → Bool) (change : State → State) (xs : List State) (k : ℕ) (d : State) → position test xs ≡ Some k → with_first test change xs ≡ set xs k (change (get_or xs k d))
 with_first_place test change xs k d at =
     let told = position-Some test xs k d at in
@@ -54,9 +55,11 @@ with_first_nowhere_from test change (x ∷ xs) i none = decided (test x) none (w
     decided true none deeper = cc
     decided false none deeper = ap (λ (rest : List State). x ∷ rest) (deeper none)
 
+-- where `position` answers none, no state is found
 pub find_nowhere : (test : State → Bool) (xs : List State) → position test xs ≡ None → find test xs ≡ None
 find_nowhere test xs none = find_nowhere_from test xs 0 (sym (position_from-zero test xs) ∙ none)
 
+-- where `position` answers none, no state is changed
 pub with_first_nowhere : (test : State → Bool) (change : State → State) (xs : List State) → position test xs ≡ None → with_first test change xs ≡ xs
 with_first_nowhere test change xs none = with_first_nowhere_from test change xs 0 (sym (position_from-zero test xs) ∙ none)
 

@@ -143,6 +143,7 @@ list_any-find test (x ∷ xs) s is = decided (test x) is (list_any-find test xs 
     decided true h deeper = refl
     decided false h deeper = deeper h
 
+-- where no state is found, none passes the test
 pub list_any-find_none : (test : State → Bool) (xs : List State) → find test xs ≡ None → list_any test xs ≡ false
 list_any-find_none test [] is = refl
 list_any-find_none test (x ∷ xs) is = decided (test x) is (list_any-find_none test xs)

@@ -5,6 +5,7 @@ use Rattle.dyn_states.specs.declared.state.State.{State}
 use Rattle.dyn_states.specs.Slots.{is_held, held_states}
 use Rattle.dyn_states.specs.StateTexts.{state_line, slot_text}
 
+-- the lines of slots are the lines of the states that they hold
 pub slots_text : (names : List (List ℕ)) (xs : List State) → flat_map (slot_text names) xs ≡ flat_map (state_line names) (held_states xs)
 unfolding slot_text
 slots_text names [] = refl

@@ -30,6 +30,7 @@ kept_place : (test : Bool) (new old : Option ℕ) (place k : ℕ) → new ≡ co
 kept_place true new old place k is other was = absurd (other refl)
 kept_place false new old place k is other was = is ∙ was
 
+-- a state in a new slot: its line leads there, and each other line where it led
 pub Leads-push : (slots : List State) (s : State) (old new : Lines) → Leads slots old
     → list_any (considers s.flow (Named s.name)) (held_states slots) ≡ false
     → ((q : Line) → place_of new q ≡ cond (same_line (line_at s) q) (Some (length slots)) (place_of old q))
@@ -48,6 +49,7 @@ Leads-push slots s old new was first is name names ends few = record {
     apart : {b : Bool} → b ≡ true → b ≡ false → ⊥
     apart here there = cc
 
+-- a held state changes, but not in its flow and name: the lines lead to it still
 pub Leads-touch : (slots : List State) (k : ℕ) (y : State) (lines : Lines) → Leads slots lines → k < length slots → is_held (slot slots k) ≡ true
     → y.flow ≡ (slot slots k).flow → y.name ≡ (slot slots k).name → Leads (set slots k y) lines
 Leads-touch slots k y lines was inside held flow name = record {
@@ -60,6 +62,7 @@ Leads-touch slots k y lines was inside held flow name = record {
 no_more : (s : State) → is_held (given_up s) ≡ true → ⊥
 no_more s held = cc
 
+-- a slot is given up: the lines lead to the other states still
 pub Leads-give_up : (slots : List State) (k : ℕ) (lines : Lines) → Leads slots lines → Leads (set slots k (given_up (slot slots k))) lines
 Leads-give_up slots k lines was = record {
   ends = was.ends;
@@ -83,6 +86,7 @@ served_now test e old new perm now = sym (list_any-IsPermutation test (e ∷ old
 serves_self : (expiry place : ℕ) → serves place expiry (record { 0 = (expiry, place) }) ≡ true
 serves_self expiry place = grind (arith, nat_tests)
 
+-- a state in a new slot, with its expiry in the queue: each held state has its entry
 pub Serves-push : (slots : List State) (s : State) (old new : ExpiryQueue) → Serves slots old → IsPermutation ((record { 0 = (s.expiry, length slots) }) ∷ entries old) (entries new) → IsQueue new → Serves (slots ++ s ∷ []) new
 Serves-push slots s old new was perm order = record {
   served = pushed_slots (λ k x. is_held x ≡ true → list_any (serves k x.expiry) (entries new) ≡ true) slots s
@@ -91,6 +95,7 @@ Serves-push slots s old new was perm order = record {
   order = order;
 }
 
+-- a slot is given up: it needs no entry, and the other states have theirs
 pub Serves-give_up : (slots : List State) (k : ℕ) (queue : ExpiryQueue) → ServesOthers slots queue k → Serves (set slots k (given_up (slot slots k))) queue
 Serves-give_up slots k queue was = record {
   served = changed_slots (λ j x. is_held x ≡ true → list_any (serves j x.expiry) (entries queue) ≡ true) slots k (given_up (slot slots k)) (λ j apart within. was.served j (λ e. apart (sym e)) within) (λ held. absurd (no_more (slot slots k) held));

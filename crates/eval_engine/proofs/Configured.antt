@@ -61,6 +61,7 @@ unfolding jumps_from
 jumps_length rules place [] = refl
 jumps_length rules place (rule ∷ rest) = ap (λ n. suc n) (jumps_length rules (place + 1) rest)
 
+-- each place with a rule has a jump
 pub jumps_within : (rules : List Rule) (place : ℕ) → place < length rules → place < length (jumps_of rules)
 jumps_within rules place lt = let same = jumps_length rules 0 rules in omega arith
 
@@ -75,6 +76,7 @@ jumps_at rules place (first ∷ rest) (suc i) rule d lt is =
     let same : place + 1 + i ≡ place + suc i = omega arith in
     rw (← same) (jumps_at rules (place + 1) rest i rule d (omega arith) is)
 
+-- the jump at a place is that of the rule there
 pub jump_there : (rules : List Rule) (place : ℕ) (rule : Rule) (d : Jump) → place < length rules → get_or rules place rule ≡ rule
     → get_or (jumps_of rules) place d ≡ jump_of rules place rule
 jump_there rules place rule d lt is =
@@ -113,6 +115,7 @@ shared_within rules shared place are lt =
     let same : length rules ≡ length shared = ap (λ (rs : List Rule). length rs) (sym are) ∙ map_length arc_value shared in
     omega arith
 
+-- what a shared rule holds is the rule in its place
 pub shared_there : (rules : List Rule) (shared : List (Arc Rule Global)) (place : ℕ) (here : Arc Rule Global) (rule : Rule) → map arc_value shared ≡ rules → place < length shared
     → here ≡ get_or shared place here → rule ≡ arc_value here → get_or rules place rule ≡ rule
 shared_there rules shared place here rule are lt is value =

@@ -27,6 +27,7 @@ after_end q progress reply (EndsWith judged) judgement is = refl
 after_end q progress reply (WaitsFor op pause) judgement is = absurd (grind arith)
 after_end q progress reply Mismatch judgement is = refl
 
+-- with more replies a whole evaluation is neither whole nor open
 pub ends_once : EndsOnce
 unfolding evaluate progress_from
 ends_once q judgement replies reply more is =

@@ -56,6 +56,7 @@ first_match deeper q seen (rule ∷ rest) callers back h = go (is_disabled q rul
         (ends_by q deeper rule (λ number. walk deeper q seen number rest callers back) callers back rule.action h.0.plain (find (decides q) rest) next refl))
     go false false off is next = rw (none_below rule.number, off, never_check rule.action h.0.plain, h.0.stateless) (rw (never_check rule.action h.0.plain, is) next)
 
+-- without jumps, calls and states the first rule that decides the packet decides, and nothing is asked
 pub first_match_decides : FirstMatchDecides
 unfolding evaluate progress_from
 first_match_decides q h = ap (λ (stop : Stop). outcome_of stop) (first_match _ q _ q.edition.config.rules [] _ h)

@@ -166,6 +166,7 @@ module _ (q : Question) (seen : Seen) where
 
 -- what a rule is to the packet, one question after the other
 module _ (q : Question) (seen : Seen) (callers : List ℕ) (rule : Rule) (rest suffix : List Rule) where
+  -- a rule of a disabled set is passed over
   pub disabled_passed : suffix ≡ rule ∷ rest → is_disabled q rule ≡ true → walk_from q seen callers suffix 0 ≡ PassesOver (walk_from q seen callers rest 0)
   disabled_passed there is = ap (λ (rules : List Rule). walk_from q seen callers rules 0) there ∙ walk_meets q seen callers rule rest ∙ rw is refl
 
@@ -176,21 +177,26 @@ module _ (q : Question) (seen : Seen) (callers : List ℕ) (rule : Rule) (rest s
       walk_meets q seen callers rule rest ∙ rw is refl
       ∙ ap (λ (f : Option Flow). looks q (pause_at seen callers (rule ∷ rest)) rule (PassesOver (walk_from q seen callers rest 0)) (acts_before q seen callers rule rest) f) due
 
+  -- a rule whose lookup is due asks for a state of the packet's flow
   pub looked_asks : suffix ≡ rule ∷ rest → is_disabled q rule ≡ false → (flow : Flow) → lookup_flow q seen rule ≡ Some flow
       → walk_from q seen callers suffix 0 ≡ Stops (WaitsFor (lookup_by q rule flow) (pause_at seen callers suffix))
   looked_asks there is flow due =
       ap (λ (rules : List Rule). walk_from q seen callers rules 0) there ∙ looked is (Some flow) due
       ∙ ap (λ (rules : List Rule). Stops (WaitsFor (lookup_by q rule flow) (pause_at seen callers rules))) (sym there)
 
+  -- a rule without a lookup that is due is tested at once
   pub unlooked_tests : suffix ≡ rule ∷ rest → is_disabled q rule ≡ false → lookup_flow q seen rule ≡ None → walk_from q seen callers suffix 0 ≡ tests_before q seen callers rule rest
   unlooked_tests there is due = ap (λ (rules : List Rule). walk_from q seen callers rules 0) there ∙ looked is None due
 
+  -- a `check-state` that is tested is passed over
   pub check_passed : is_check_state rule.action ≡ true → tests_before q seen callers rule rest ≡ PassesOver (walk_from q seen callers rest 0)
   check_passed is = rw is refl
 
+  -- a rule whose body doesn't hold is passed over
   pub unheld_passed : is_check_state rule.action ≡ false → is_held q rule ≡ false → tests_before q seen callers rule rest ≡ PassesOver (walk_from q seen callers rest 0)
   unheld_passed plain is = rw (plain, is) refl
 
+  -- a rule whose body holds makes its state first, if it makes one
   pub held_installs : is_check_state rule.action ≡ false → is_held q rule ≡ true → tests_before q seen callers rule rest ≡ installs_before q seen callers rule rest
   held_installs plain is = rw (plain, is) refl
 
@@ -201,12 +207,15 @@ module _ (q : Question) (seen : Seen) (callers : List ℕ) (rule : Rule) (rest s
       ap (λ (s : Option StateOpt). installs q (pause_at seen callers (rule ∷ rest)) rule (PassesOver (walk_from q seen callers rest 0)) (acts_before q seen callers rule rest) s (any_flow_of q.packet)) made
       ∙ ap (λ (f : Option Flow). installs q (pause_at seen callers (rule ∷ rest)) rule (PassesOver (walk_from q seen callers rest 0)) (acts_before q seen callers rule rest) state f) is
 
+  -- a rule that makes no state acts
   pub stateless_acts : state_of rule ≡ None → installs_before q seen callers rule rest ≡ acts_before q seen callers rule rest
   stateless_acts made = installed None (any_flow_of q.packet) made refl
 
+  -- a rule that makes a state is passed over at a packet without a flow
   pub flowless_passed : (state : StateOpt) → state_of rule ≡ Some state → any_flow_of q.packet ≡ None → installs_before q seen callers rule rest ≡ PassesOver (walk_from q seen callers rest 0)
   flowless_passed state made is = installed (Some state) None made is
 
+  -- a rule that makes a state asks for it at a packet with a flow
   pub install_asks : suffix ≡ rule ∷ rest → (state : StateOpt) (flow : Flow) → state_of rule ≡ Some state → any_flow_of q.packet ≡ Some flow
       → installs_before q seen callers rule rest ≡ Stops (WaitsFor (install_by q rule state flow) (pause_at seen callers suffix))
   install_asks there state flow made is =

@@ -182,10 +182,12 @@ told q replies lawful =
       tells_all = tells q replies reached.runs (record { place = 0; is = refl }) tt (all_known replies);
     }
 
+-- each install is by a rule of the edition whose set isn't disabled
 pub installs_are_of_rules : InstallsAreOfRules
 installs_are_of_rules q replies lawful =
     let is = told q replies lawful in subst (λ (e : Evaluated). AllByRecursion (λ op. is_installed q op ≡ true) e.asks) is.told is.tells_all.asks
 
+-- each hit is of a rule that isn't disabled, or whose state was found
 pub hits_are_of_acting : HitsAreOfActing
 hits_are_of_acting q replies lawful =
     let is = told q replies lawful in subst (λ (e : Evaluated). AllByRecursion (λ counter. is_hit q replies counter ≡ true) e.hits) is.told is.tells_all.hits
@@ -197,6 +199,7 @@ judge_by q replies (OpensAt op) other lawful is = absurd (grind arith)
 judge_by q replies Mistakes other lawful is = absurd (grind arith)
 judge_by q replies (Returns seen left) other lawful is = absurd (grind arith)
 
+-- the rule that decides is rule 65535, or one that isn't disabled or whose state was found
 pub judges_are_acting : JudgesAreActing
 judges_are_acting q replies judgement lawful whole =
     let is = told q replies lawful in

@@ -51,6 +51,7 @@ by_stop (EndsWith judgement) asks replies is = is
 by_stop (WaitsFor op pause) asks replies is = is
 by_stop Mismatch asks replies is = tt
 
+-- a whole evaluation has as many asks as replies, and an open one has one ask more
 pub asks_are_answered : AsksAreAnswered
 unfolding evaluate
 asks_are_answered q replies =
@@ -64,6 +65,7 @@ too_many (Whole judgement) asks replies is less = absurd (omega arith)
 too_many (OpenAt op) asks replies is less = absurd (omega arith)
 too_many Neither asks replies is less = refl
 
+-- with more replies than asks an evaluation is neither whole nor open
 pub replies_are_asked : RepliesAreAsked
 replies_are_asked q replies less = too_many (evaluate q replies).outcome (length (evaluate q replies).asks) (length replies) (asks_are_answered q replies) less
 
@@ -99,12 +101,14 @@ opens_at q replies reply more judgement (WaitsFor op pause) is whole = go (is_re
         (ap (λ (s : Stop). (replied q (progress_of q replies).asks (progress_of q replies).hits reply s).stop) is
         ∙ unfit q (progress_of q replies).asks (progress_of q replies).hits reply op pause is_not) whole)
 
+-- before each of its replies a whole evaluation was open at an ask that the reply fits
 pub opens_before_it_ends : OpensBeforeItEnds
 unfolding evaluate progress_from
 opens_before_it_ends q replies reply more judgement whole =
     opens_at q replies reply more judgement (progress_of q replies).stop refl
     (sym (ap (λ (p : Progress). outcome_of p.stop) (progress_in_two q (progress_by [] [] (begun q)) replies (reply ∷ more))) ∙ whole)
 
+-- a whole evaluation is whole with no reply more, and has one judgement
 pub has_one_outcome : HasOneOutcome
 has_one_outcome q replies [] judgement other whole also =
     let same : Whole judgement ≡ Whole other = sym whole ∙ ap (λ (rs : List Reply). (evaluate q rs).outcome) (sym (append-nil replies)) ∙ also in (refl, grind arith)

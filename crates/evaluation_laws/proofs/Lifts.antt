@@ -61,9 +61,11 @@ module _ (q : Question) (depth : ℕ) (seen : Seen) (place : ℕ) (rule : Rule) 
   here : (told : Story) → IsRun q depth seen (Meets (rule ∷ rest)) replies told → IsMet told
   here told run = subst (λ (rs : List Rule). IsRun q depth seen (Meets rs) replies told) (sym at.there) run
 
+  -- a rule of a disabled set is passed over
   pub disabled : (told : Story) → is_disabled q rule ≡ true → IsRun q depth seen (Meets rest) replies told → IsMet told
   disabled told is on = here told (record { runs = IsDisabled depth seen rule rest replies told is on.runs; fewer = on.fewer })
 
+  -- a rule without a lookup that is due is tested at once
   pub unasked : (told : Story) → is_disabled q rule ≡ false → lookup_flow q seen rule ≡ None → IsRun q depth seen (Tests rule rest) replies told → IsMet told
   unasked told enabled undue on = here told (record { runs = IsUnasked depth seen rule rest replies told enabled undue on.runs; fewer = on.fewer })
 
@@ -72,14 +74,17 @@ module _ (q : Question) (depth : ℕ) (seen : Seen) (place : ℕ) (rule : Rule) 
     abbrev lookup : Op
     lookup = lookup_by q rule flow
 
+    -- without a reply the run is open at the lookup
     pub unanswered : replies ≡ [] → IsMet (asked lookup (plainly (OpensAt lookup)))
     unanswered none =
         here _ (record { runs = subst (λ (rs : List Reply). Runs q depth seen (Meets (rule ∷ rest)) rs (asked lookup (plainly (OpensAt lookup)))) (sym none) (IsUnanswered depth seen rule rest flow enabled due); fewer = omega arith })
 
+    -- a reply that isn't one to the lookup is a mistake, which ends the run
     pub mistaken : (reply : Reply) (left : List Reply) → replies ≡ reply ∷ left → is_reply_to all lookup reply ≡ false → IsMet (asked lookup (plainly Mistakes))
     mistaken reply left is unfit =
         here _ (record { runs = subst (λ (rs : List Reply). Runs q depth seen (Meets (rule ∷ rest)) rs (asked lookup (plainly Mistakes))) (sym is) (IsMistaken depth seen rule rest flow reply left enabled due unfit); fewer = omega arith })
 
+    -- where a state is found the rule that made it acts, in its own place, and nothing more is looked up
     pub found : (maker : RuleRef) (way : Way) (left : List Reply) (there : ℕ) (other : Rule) (told : Story) → replies ≡ Found maker way ∷ left → IsMaker q maker.id there other
         → IsRun q depth Done (Acts other (drop (there + 1) all)) left told → IsMet (asked lookup told)
     found maker way left there other told is made on =
@@ -89,6 +94,7 @@ module _ (q : Question) (depth : ℕ) (seen : Seen) (place : ℕ) (rule : Rule) 
           fewer = fewer_by_one told.ending left replies (Found maker way) is on.fewer;
         })
 
+    -- where no state is found the name is no more due, and the rule is tested
     pub not_found : (left : List Reply) (told : Story) → replies ≡ NotFound ∷ left → IsRun q depth (with_seen seen (name_at q rule)) (Tests rule rest) left told → IsMet (asked lookup told)
     not_found left told is on =
         here (asked lookup told) (record {
@@ -99,15 +105,19 @@ module _ (q : Question) (depth : ℕ) (seen : Seen) (place : ℕ) (rule : Rule) 
   abbrev IsTested : Story → Type 0
   IsTested told = IsRun q depth seen (Tests rule rest) replies told
 
+  -- the test of a `check-state` goes on with the next rule
   pub checked_only : (told : Story) → is_check_state rule.action ≡ true → IsRun q depth seen (Meets rest) replies told → IsTested told
   checked_only told is on = record { runs = IsCheckState depth seen rule rest replies told is on.runs; fewer = on.fewer }
 
+  -- a rule whose body doesn't hold goes on with the next rule
   pub unheld : (told : Story) → is_check_state rule.action ≡ false → is_held q rule ≡ false → IsRun q depth seen (Meets rest) replies told → IsTested told
   unheld told plain is on = record { runs = IsUnheld depth seen rule rest replies told plain is on.runs; fewer = on.fewer }
 
+  -- a rule that would make a state goes on with the next rule at a packet without a flow
   pub flowless : (told : Story) (state : StateOpt) → is_check_state rule.action ≡ false → is_held q rule ≡ true → state_of rule ≡ Some state → any_flow_of q.packet ≡ None → IsRun q depth seen (Meets rest) replies told → IsTested told
   flowless told state plain held made none on = record { runs = IsFlowless depth seen rule rest state replies told plain held made none on.runs; fewer = on.fewer }
 
+  -- a rule whose body holds acts, where it makes no state
   pub stateless : (told : Story) → is_check_state rule.action ≡ false → is_held q rule ≡ true → state_of rule ≡ None → IsRun q depth seen (Acts rule rest) replies told → IsTested told
   stateless told plain held none on = record { runs = IsStateless depth seen rule rest replies told plain held none on.runs; fewer = on.fewer }
 
@@ -119,42 +129,53 @@ module _ (q : Question) (depth : ℕ) (seen : Seen) (place : ℕ) (rule : Rule) 
     by_replies : (rs : List Reply) (told : Story) → replies ≡ rs → Runs q depth seen (Tests rule rest) rs told → Runs q depth seen (Tests rule rest) replies told
     by_replies rs told is runs = subst (λ (some : List Reply). Runs q depth seen (Tests rule rest) some told) (sym is) runs
 
+    -- without a reply the run is open at the install
     pub waiting : replies ≡ [] → IsTested (asked install (plainly (OpensAt install)))
     waiting none = record { runs = by_replies [] _ none (IsWaiting depth seen rule rest state flow plain held made flowing); fewer = omega arith }
 
+    -- a rule acts once its state is made
     pub made_now : (left : List Reply) (told : Story) → replies ≡ Created ∷ left → IsRun q depth seen (Acts rule rest) left told → IsTested (asked install told)
     made_now left told is on =
         record { runs = by_replies (Created ∷ left) _ is (IsMade depth seen rule rest state flow left told plain held made flowing on.runs); fewer = fewer_by_one told.ending left replies Created is on.fewer }
 
+    -- a rule acts where its state was there already
     pub made_before : (left : List Reply) (told : Story) → replies ≡ Exists ∷ left → IsRun q depth seen (Acts rule rest) left told → IsTested (asked install told)
     made_before left told is on =
         record { runs = by_replies (Exists ∷ left) _ is (IsThere depth seen rule rest state flow left told plain held made flowing on.runs); fewer = fewer_by_one told.ending left replies Exists is on.fewer }
 
+    -- where the limit is reached the rule denies the packet, without a hit
     pub limited : (count : ℕ) (left : List Reply) → replies ≡ LimitReached count ∷ left → IsTested (asked install (plainly (Ends (judgement_of q verdicts.Deny (rule_ref rule) (cause.Limit count)) left)))
     limited count left is = record { runs = by_replies (LimitReached count ∷ left) _ is (IsLimited depth seen rule rest state flow count left plain held made flowing); fewer = omega arith }
 
+    -- where the states are full the rule denies the packet, without a hit
     pub full : (count : ℕ) (left : List Reply) → replies ≡ TableFull count ∷ left → IsTested (asked install (plainly (Ends (judgement_of q verdicts.Deny (rule_ref rule) (cause.Full count)) left)))
     full count left is = record { runs = by_replies (TableFull count ∷ left) _ is (IsFull depth seen rule rest state flow count left plain held made flowing); fewer = omega arith }
 
+    -- a reply that isn't one to the install is a mistake, which ends the run
     pub misread : (reply : Reply) (left : List Reply) → replies ≡ reply ∷ left → is_reply_to all install reply ≡ false → IsTested (asked install (plainly Mistakes))
     misread reply left is unfit = record { runs = by_replies (reply ∷ left) _ is (IsMisread depth seen rule rest state flow reply left plain held made flowing unfit); fewer = omega arith }
 
   abbrev IsActed : Story → Type 0
   IsActed told = IsRun q depth seen (Acts rule rest) replies told
 
+  -- an action with a verdict is counted and ends the search
   pub decided : (verdict : Verdict) → verdict_of rule.action ≡ Some verdict → IsActed (hit rule.counter (plainly (Ends (judgement_of q verdict (rule_ref rule) cause.Rule) replies)))
   decided verdict is = record { runs = IsDecided depth seen rule rest verdict replies is; fewer = omega arith }
 
+  -- `count` is counted and goes on with the next rule
   pub counts : (told : Story) → rule.action ≡ Count → IsRun q depth seen (Meets rest) replies told → IsActed (hit rule.counter told)
   counts told is on = record { runs = IsCounted depth seen rule rest replies told is on.runs; fewer = on.fewer }
 
+  -- a `check-state` that acts is counted and goes on with the next rule
   pub checks : (told : Story) (name : Option (List ℕ)) → rule.action ≡ CheckState name → IsRun q depth seen (Meets rest) replies told → IsActed (hit rule.counter told)
   checks told name is on = record { runs = IsChecked depth seen rule rest name replies told is on.runs; fewer = on.fewer }
 
+  -- `skipto` is counted and goes on with the first rule behind it that is numbered so or higher
   pub skips : (told : Story) (number next : ℕ) → rule.action ≡ SkipTo number → drop next all ≡ from number rest → IsRun q depth seen (Meets (drop next all)) replies told → IsActed (hit rule.counter told)
   skips told number next is there on =
       let later = subst (λ (rs : List Rule). IsRun q depth seen (Meets rs) replies told) there on in record { runs = IsSkipped depth seen rule rest number replies told is later.runs; fewer = later.fewer }
 
+  -- `call` is counted and goes on with the next rule, where sixteen calls are open
   pub deepest : (told : Story) (number : ℕ) → rule.action ≡ Call number → 16 ≤ depth → IsRun q depth seen (Meets rest) replies told → IsActed (hit rule.counter told)
   deepest told number is last on = record { runs = IsDeepest depth seen rule rest number replies told is last on.runs; fewer = on.fewer }
 
@@ -162,10 +183,12 @@ module _ (q : Question) (depth : ℕ) (seen : Seen) (place : ℕ) (rule : Rule) 
   inside told number start deeper more there on =
       subst (λ (n : ℕ). IsRun q n seen (Meets (from number all)) replies told) more (subst (λ (rs : List Rule). IsRun q deeper seen (Meets rs) replies told) there on)
 
+  -- where the run of the called rules ends, so does the run of the `call`
   pub ended : (told : Story) (number start deeper : ℕ) → rule.action ≡ Call number → depth < 16 → deeper ≡ suc depth → drop start all ≡ from number all → HasEnded told.ending → IsRun q deeper seen (Meets (drop start all)) replies told → IsActed (hit rule.counter told)
   ended told number start deeper is lt more there last on =
       let inner = inside told number start deeper more there on in record { runs = IsEnded depth seen rule rest number replies told is lt inner.runs last; fewer = inner.fewer }
 
+  -- where the called rules return, the run goes on behind all rules of the number of the `call`
   pub returned : (told then : Story) (number start deeper next : ℕ) (later : Seen) (left : List Reply) → rule.action ≡ Call number → depth < 16 → deeper ≡ suc depth → drop start all ≡ from number all
       → told.ending ≡ Returns later left → drop next all ≡ from (rule.number + 1) all
       → IsRun q deeper seen (Meets (drop start all)) replies told → IsRun q depth later (Meets (drop next all)) left then → IsActed (hit rule.counter (story.behind told then))
@@ -177,10 +200,12 @@ module _ (q : Question) (depth : ℕ) (seen : Seen) (place : ℕ) (rule : Rule) 
       let least = outer.fewer in
       record { runs = IsReturned depth seen rule rest number replies told later left then is lt inner.runs returns outer.runs; fewer = omega (arith, size, fewer, least) }
 
+  -- `return` within a call is counted and returns, with the names and the replies that it has then
   pub returns_in : rule.action ≡ Return → (outer : ℕ) → depth ≡ suc outer → IsActed (hit rule.counter (plainly (Returns seen replies)))
   returns_in is outer more =
       subst (λ (n : ℕ). IsRun q n seen (Acts rule rest) replies (hit rule.counter (plainly (Returns seen replies)))) (sym more) (record { runs = IsWithin outer seen rule rest replies is; fewer = omega arith })
 
+  -- `return` outside of calls is counted and goes on with the next rule
   pub returns_none : (told : Story) → rule.action ≡ Return → depth ≡ 0 → IsRun q depth seen (Meets rest) replies told → IsActed (hit rule.counter told)
   returns_none told is none on =
       subst (λ (n : ℕ). IsRun q n seen (Acts rule rest) replies (hit rule.counter told)) (sym none) (let on0 = subst (λ (n : ℕ). IsRun q n seen (Meets rest) replies told) none on in record { runs = IsOutside seen rule rest replies told is on0.runs; fewer = on0.fewer })

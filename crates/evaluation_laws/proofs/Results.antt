@@ -35,6 +35,7 @@ result_by q callers asks hits (OpensAt op) = record { asks = asks; hits = hits; 
 result_by q callers asks hits Mistakes = record { asks = asks; hits = hits; outcome = Neither }
 result_by q callers asks hits (Returns seen left) = result_behind q callers asks hits seen left
 
+-- what a story comes to behind these asks and hits, within these calls
 abbrev pub result_in : Question → List ℕ → List Op → List ℕ → Story → Evaluated
 result_in q callers asks hits story = result_by q callers (asks ++ story.asks) (hits ++ story.hits) story.ending
 
@@ -53,6 +54,7 @@ result_outside q story = go story.ending
 pub result_asked : (q : Question) (callers : List ℕ) (asks : List Op) (hits : List ℕ) (op : Op) (story : Story) → result_in q callers (asks ++ op ∷ []) hits story ≡ result_in q callers asks hits (asked op story)
 result_asked q callers asks hits op story = ap (λ (ops : List Op). result_by q callers ops (hits ++ story.hits) story.ending) (append_assoc asks (op ∷ []) story.asks)
 
+-- a hit before a story may be the first one of the story itself
 pub result_hit : (q : Question) (callers : List ℕ) (asks : List Op) (hits : List ℕ) (counter : ℕ) (story : Story) → result_in q callers asks (hits ++ counter ∷ []) story ≡ result_in q callers asks hits (hit counter story)
 result_hit q callers asks hits counter story = ap (λ (counters : List ℕ). result_by q callers (asks ++ story.asks) counters story.ending) (append_assoc hits (counter ∷ []) story.hits)
 
@@ -67,6 +69,7 @@ pub over : (q : Question) (asks : List Op) (hits : List ℕ) (trace next : Trace
 unfolding hits_of stop_of
 over q asks hits trace next replies is = ap (λ (t : Trace). result_of q asks hits t replies) is
 
+-- a trace that counts a rule comes to what the rest of it does behind that hit
 pub counted : (q : Question) (asks : List Op) (hits : List ℕ) (counter : ℕ) (next : Trace) (replies : List Reply) → result_of q asks hits (Counts counter next) replies ≡ result_of q asks (hits ++ counter ∷ []) next replies
 unfolding hits_of stop_of
 counted q asks hits counter next replies =
@@ -100,6 +103,7 @@ unfitting : (q : Question) (asks : List Op) (hits : List ℕ) (op : Op) (pause :
     → replied q asks hits reply (WaitsFor op pause) ≡ record { asks = asks; hits = hits; stop = Mismatch }
 unfitting q asks hits op pause reply unfit = rw unfit refl
 
+-- a reply to the ask: the ask was made, and the trace goes on as that reply says
 pub answered : (q : Question) (asks : List Op) (hits : List ℕ) (op : Op) (pause : Pause) (reply : Reply) (replies : List Reply) → is_reply_to q.edition.config.rules op reply ≡ true
     → result_of q asks hits (Stops (WaitsFor op pause)) (reply ∷ replies) ≡ result_of q (asks ++ op ∷ []) hits (resumed q pause reply) replies
 unfolding hits_of stop_of progress_from
@@ -107,6 +111,7 @@ answered q asks hits op pause reply replies fits =
     ap (λ (progress : Progress). evaluated (progress_from q progress replies)) (fitting q (asks ++ op ∷ []) (hits ++ []) op pause reply fits)
     ∙ (ap (λ (counters : List ℕ). result_of q (asks ++ op ∷ []) counters (resumed q pause reply) replies) (append-nil hits))
 
+-- a reply that isn't one to the ask: the ask was made, and the run ends by a mistake
 pub mistaken : (q : Question) (callers : List ℕ) (asks : List Op) (hits : List ℕ) (op : Op) (pause : Pause) (reply : Reply) (replies : List Reply) → is_reply_to q.edition.config.rules op reply ≡ false
     → result_of q asks hits (Stops (WaitsFor op pause)) (reply ∷ replies) ≡ result_in q callers asks hits (asked op (plainly Mistakes))
 unfolding hits_of stop_of progress_from

@@ -33,12 +33,14 @@ pub record IsSuffix (all suffix : List Rule) : Type 0 where
   pub place : ℕ
   pub is : drop place all ≡ suffix
 
+-- a place with a rule is within the list
 pub within : (all : List Rule) (place : ℕ) (rule : Rule) (rest : List Rule) → drop place all ≡ rule ∷ rest → place < length all
 within [] zero rule rest is = absurd (grind arith)
 within [] (suc place) rule rest is = absurd (grind arith)
 within (first ∷ all) zero rule rest is = omega arith
 within (first ∷ all) (suc place) rule rest is = let less = within all place rule rest is in omega arith
 
+-- at the place behind a rule stand the rules behind it
 pub rest_there : (all : List Rule) (place : ℕ) (rule : Rule) (rest : List Rule) → drop place all ≡ rule ∷ rest → drop (suc place) all ≡ rest
 rest_there [] zero rule rest is = absurd (grind arith)
 rest_there [] (suc place) rule rest is = absurd (grind arith)
@@ -49,12 +51,14 @@ rest_there (first ∷ all) (suc place) rule rest is = rest_there all place rule 
 pub rest_suffix : (all : List Rule) (rule : Rule) (rest : List Rule) → IsSuffix all (rule ∷ rest) → IsSuffix all rest
 rest_suffix all rule rest suffix = record { place = suc suffix.place; is = rest_there all suffix.place rule rest suffix.is }
 
+-- the rules of a suffix from a number on are a suffix of the same list
 pub from_suffix : (all suffix : List Rule) (number : ℕ) → IsSuffix all suffix → IsSuffix all (from number suffix)
 from_suffix all suffix number s = record {
   place = s.place + first_from number suffix;
   is = sym (drop-drop (first_from number suffix) s.place all) ∙ ap (λ (rules : List Rule). drop (first_from number suffix) rules) s.is;
 }
 
+-- the rules that are left at a moment: its own rule, where it has one, and those behind it
 abbrev pub rules_at : Moment → List Rule
 rules_at (Meets suffix) = suffix
 rules_at (Tests rule rest) = rule ∷ rest

@@ -50,6 +50,7 @@ pub found_at : (p : Rule → Bool) (rules : List Rule) (place : ℕ) → positio
 found_at p rules place is =
     let h = by_test (nat_lt (position_or_len p rules) (length rules)) (position_or_len p rules) place is in (sym (some_place p rules) ∙ h.0, h.1)
 
+-- where no place is found, no rule passes
 pub found_nowhere : (p : Rule → Bool) (rules : List Rule) → position p rules ≡ None → list_any p rules ≡ false
 found_nowhere p rules is = sym (some_place p rules) ∙ none_test (nat_lt (position_or_len p rules) (length rules)) (position_or_len p rules) is
 

@@ -6,6 +6,7 @@ use Rattle.fw_base.specs.Memory.{MemoryBytes, MemoryShelf, Named, Gives, pairs_o
 use Rattle.fw_base.specs.Pairs.{Pair, take_first, TakesOut}
 use Rattle.std.specs.Cmp.Lexicographic.{pointwise}
 
+-- the element at the first place that passes is the one taken out
 pub take_first-at : {X : Type 0} (test : X → Bool) (xs : List X) (i : ℕ) (d : X) → i < length xs
     → ((k : ℕ) → k < i → test (get_or xs k d) ≡ false) → test (get_or xs i d) ≡ true
     → take_first test xs ≡ Some (get_or xs i d, remove xs i)
@@ -17,6 +18,7 @@ take_first-at test (x ∷ xs) (suc i) d within before here =
     take_first-at test xs i d (omega arith) (λ k h. before (suc k) (omega arith)) here in
     rw (first, rest) refl
 
+-- where no element passes, none is taken out
 pub take_first-none : {X : Type 0} (test : X → Bool) (xs : List X) → ((k : ℕ) (d : X) → k < length xs → test (get_or xs k d) ≡ false) → take_first test xs ≡ None
 take_first-none test [] before = refl
 take_first-none test (x ∷ xs) before =

@@ -12,6 +12,7 @@ pub record IsUnderWay (old now : Option (List ℕ)) (before count : ℕ) (text r
   pub appended : Appends old now done
   pub later : before ≤ count
 
+-- before the first write the whole text is left
 pub starts : (a : Option (List ℕ)) (n : ℕ) (text : List ℕ) → IsUnderWay a a n n text text
 starts a n text = record { done = []; split = refl; appended = Appends-nil a; later = omega arith }
 
@@ -25,6 +26,7 @@ goes_on a b c before mid now text rest n way more rises = record {
   later = omega arith;
 }
 
+-- where nothing is left, the whole text was written
 pub ends : {T E : Type 0} (a b : Option (List ℕ)) (before now : ℕ) (text rest : List ℕ) (x : T) → IsUnderWay a b before now text rest → rest ≡ []
     → WritesText {E = E} a b before now text (Ok x)
 ends a b before now text rest x way none = record {

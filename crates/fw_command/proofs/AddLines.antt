@@ -28,6 +28,7 @@ first_add : (live : Bool) (line : List ℕ) (c : List (List ℕ) → ℕ) (words
 unfolding words_say same
 first_add live line c words = refl
 
+-- the line `add` with a rule's canonical text is read as the command that adds this rule
 pub add_again : AddLinesAreReadAgain
 unfolding says addition
 add_again live r form =

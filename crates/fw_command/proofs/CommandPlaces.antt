@@ -296,6 +296,7 @@ unless_stands : (live : Bool) (line : List ℕ) (bad : Option ℕ) → IfErr (sa
 unless_stands live line (Some at) = (refl, refl)
 unless_stands live line None = told_err line (words_say live line (map (word_of line) (words_of line))) (words_in_line live line (map (word_of line) (words_of line)) refl)
 
+-- a line's fault has the column of its first bad byte, else of a word, or one past the last word
 pub columns_are : FaultsHaveTheirColumns
 unfolding says
 columns_are live line = unless_stands live line (first_bad (before_comment line))

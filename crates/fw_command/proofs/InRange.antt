@@ -29,6 +29,7 @@ use Rattle.ipfw_parser.proofs.Following.{on_bind}
 after_first : {Y : Type 0} (end : ℕ) (words : List Word) (f : Word × List Word → Result Y Fault) (Q : Y → Type 0) → ((next : Word × List Word) → IfOk (f next) Q) → IfOk (first end words >>= f) Q
 after_first end words f Q each = on_bind (first end words) f (λ _. Unit {0}) Q (any (first end words)) (λ next u. each next)
 
+-- a number that is read of the next word is in its range
 pub number_behind_on : (least most end : ℕ) (words : List Word) → IfOk (number_behind least most end words) (λ r. IsFromTo least most r.0)
 unfolding number_behind
 number_behind_on least most end words =
@@ -222,6 +223,7 @@ local_on : (end : ℕ) (words : List Word) → IfOk (local end words) IsWellForm
 unfolding local
 local_on end words = after_first end words _ IsWellFormed (λ next. on_bind (addresses words) _ (λ _. Unit {0}) IsWellFormed (any (addresses words)) (λ found u. tt))
 
+-- each command that is read has its numbers in their ranges
 pub command_on : (end : ℕ) (word : Word) (words : List Word) → IfOk (command end word words) IsWellFormed
 unfolding command
 command_on end word words =

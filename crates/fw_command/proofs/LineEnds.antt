@@ -47,6 +47,7 @@ found_within bytes at found =
     let (within, is) = cond_some (nat_lt (first_end bytes) (length bytes)) (first_end bytes) at (sym found) in
     (ltb-true _ _ within, is)
 
+-- the bytes before the first byte 10 are the first line, and those behind it give the other lines
 pub lines_of_at : (bytes : List ℕ) (at : ℕ) → Some at ≡ position (λ b. b == 10) bytes
     → lines_of bytes ≡ take at bytes ∷ lines_of (drop (at + 1) bytes)
 lines_of_at bytes at found =
@@ -60,6 +61,7 @@ none_within : (b : Bool) (n : ℕ) → None ≡ cond b (Some n) None → b ≡ f
 none_within true n none = absurd (none-some n none)
 none_within false n none = refl
 
+-- bytes without a byte 10 are one line, where there are any
 pub lines_of_one : (bytes : List ℕ) → 0 < length bytes → None ≡ position (λ b. b == 10) bytes
     → lines_of bytes ≡ bytes ∷ lines_of []
 unfolding lines_of
@@ -67,6 +69,7 @@ lines_of_one bytes some none =
     let past = ltb-false _ _ (none_within (nat_lt (first_end bytes) (length bytes)) (first_end bytes) none) in
     one_line bytes some past
 
+-- no bytes have no line
 pub lines_of_none : lines_of [] ≡ []
 unfolding lines_of
 lines_of_none = refl

@@ -6,19 +6,23 @@ use Rattle.ipfw_parser.specs.Reading.{Word, Fault}
 use Rattle.ipfw_parser.proofs.Following.{on_bind}
 use Rattle.fw_command.specs.Ends.{each_word, finished}
 
+-- a claim that says nothing holds of whatever is read
 pub any : {X E : Type 0} (r : Result X E) → IfOk r (λ _. Unit {0})
 any (Ok x) = tt
 any (Err e) = tt
 
+-- what holds of the values of both branches holds of the one that is chosen
 pub on_if : {X E : Type 0} (b : Bool) (r s : Result X E) (P : X → Type 0) → IfOk r P → IfOk s P → IfOk (if b then r else s) P
 on_if true r s P p q = p
 on_if false r s P p q = q
 
+-- what holds of the value holds of a command that ends behind it
 pub finished_on : {X : Type 0} (x : X) (words : List Word) (P : X → Type 0) → P x → IfOk (finished x words) P
 unfolding finished
 finished_on x [] P p = p
 finished_on x (word ∷ words) P p = tt
 
+-- what holds of each word as it is read holds of all words that are read up to the line's end
 pub each_on : {X : Type 0} (read : Word → Result X Fault) (P : X → Type 0) → ((word : Word) → IfOk (read word) P) → (words : List Word) → IfOk (each_word read words) (AllByRecursion P)
 unfolding each_word
 each_on read P each [] = tt

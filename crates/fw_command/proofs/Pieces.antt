@@ -32,6 +32,7 @@ onto_end b [] [] = refl
 onto_end b [] (second ∷ others) = refl
 onto_end b (c ∷ first) others = refl
 
+-- the lines are the pieces between bytes 10, without an empty last one
 pub pieces_are : LinesArePieces
 unfolding lines_of
 pieces_are [] = refl

@@ -68,6 +68,7 @@ says_on : (live : Bool) (line : List ℕ) → IfOk (says live line) IsStatement
 unfolding says
 says_on live line = says_unless_on live line (first_bad (before_comment line))
 
+-- what the second step gives has its property, where it has it for each value of the first
 pub on_then : {X Y : Type 0} (r : Result X ScriptFault) (f : X → Result Y ScriptFault) (P : X → Type 0) (Q : Y → Type 0) → IfOk r P → ((x : X) → P x → IfOk (f x) Q) → IfOk (scripts.◌>>=◌ r f) Q
 on_then (Ok x) f P Q p q = q x p
 on_then (Err e) f P Q p q = tt
@@ -101,6 +102,7 @@ joined_on place (Order command) script p q = ordered_on (is_some place.live) (re
 joined_on place Live script p q = q
 joined_on place (After column count) script p q = record { before = q.before; live = (p, q.live) }
 
+-- a script that is read of lines has its commands' numbers in their ranges
 pub script_from_on : (pace : Pace) (place : Place) (lines : List (List ℕ)) → IfOk (script_from pace place lines) IsScript
 unfolding script_from
 script_from_on pace place [] = record { before = tt; live = tt }

@@ -40,6 +40,7 @@ with_draft-nil : (reading : Result Script ScriptFault) → with_draft (record { 
 with_draft-nil (Ok script) = refl
 with_draft-nil (Err fault) = refl
 
+-- the next line's number is one more than this one's
 pub next_line : (place : Place) (statement : Statement) → (next_place place statement).line ≡ place.line + 1
 next_line place Nothing = refl
 next_line place (Order command) = refl
@@ -50,6 +51,7 @@ counted : (live : Bool) (ran : ℕ) → (if live then ran + 1 else ran) ≤ ran 
 counted true ran = omega arith
 counted false ran = omega arith
 
+-- a line is one more command behind `live` at most
 pub next_ran : (place : Place) (statement : Statement) → (next_place place statement).ran ≤ place.ran + 1
 next_ran place Nothing = omega arith
 next_ran place (Order command) = counted (is_some place.live) place.ran
@@ -63,6 +65,7 @@ pub record IsScripting (pace : Pace) (whole : Result Script ScriptFault) (draft 
 pub starts : (pace : Pace) (place : Place) (lines : List (List ℕ)) → IsScripting pace (script_from pace place lines) (record { before = []; live = [] }) place lines
 starts pace place lines = record { same = with_draft-nil (script_from pace place lines) }
 
+-- a line that is read: what it says is taken into the draft, and the lines behind it are left
 pub goes : (pace : Pace) (whole : Result Script ScriptFault) (draft next : Draft) (place behind : Place) (line : List ℕ) (all left : List (List ℕ)) (statement : Statement)
     → IsScripting pace whole draft place all → all ≡ line ∷ left → line_at pace place line ≡ Ok statement → next ≡ taken place statement draft → behind ≡ next_place place statement
     → IsScripting pace whole next behind left
@@ -72,11 +75,13 @@ goes pace whole draft next place behind line all left statement so_far here ok t
     let step = with_draft-joined place statement draft (script_from pace (next_place place statement) left) in
     rw (took, moved) (record { same = sym step ∙ read })
 
+-- the first line with a fault gives the script's fault
 pub breaks : (pace : Pace) (whole : Result Script ScriptFault) (draft : Draft) (place : Place) (line : List ℕ) (all left : List (List ℕ)) (fault : ScriptFault)
     → IsScripting pace whole draft place all → all ≡ line ∷ left → line_at pace place line ≡ Err fault → whole ≡ Err fault
 unfolding script_from
 breaks pace whole draft place line all left fault so_far here failed = sym (rw (here, failed) at so_far.same)
 
+-- where no line is left, the draft is the script
 pub ends : (pace : Pace) (whole : Result Script ScriptFault) (draft : Draft) (place : Place) (all : List (List ℕ))
     → IsScripting pace whole draft place all → all ≡ [] → whole ≡ Ok (record { before = draft.before; live_at = place.live; live = draft.live })
 unfolding script_from

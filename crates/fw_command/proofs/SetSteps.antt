@@ -12,6 +12,7 @@ set_goes to_enable mask next bit word words whole on so_far ok joined =
     let here = rw (on, ok) at so_far in
     rw joined here
 
+-- a word that is no set gives the fault of the list of sets
 pub set_breaks : (to_enable : Bool) (mask : ℕ) (word : Word) (words : List Word) (whole : Reading ℕ) (e : Fault) → ends_sets to_enable word.text ≡ false
     → more_sets to_enable mask (word ∷ words) ≡ whole → set_bit word ≡ Err e → whole ≡ Err e
 unfolding more_sets

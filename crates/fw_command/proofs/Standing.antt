@@ -289,6 +289,7 @@ read_first : (lines : List (List ℕ)) (r : Result Script ScriptFault) → IfOk 
 read_first lines (Ok script) read = of_first lines script read
 read_first lines (Err e) read = tt
 
+-- what a script has stands on its lines, and what each line says is in the script
 pub commands_stand : CommandsStandOnTheirLines
 unfolding script_of
 commands_stand pace bytes =

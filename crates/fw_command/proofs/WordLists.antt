@@ -18,18 +18,21 @@ pub opened : {X : Type 0} (read : Word → Result X Fault) (all : List Word) (fr
     → Some (word ∷ words) ≡ some_words left → IsRead read all front left → IsRead read all front (word ∷ words)
 opened read all front left word words here so_far = subst (IsRead read all front) (some_words_is left (word ∷ words) here) so_far
 
+-- a word that is read stands behind those that were read
 pub goes : {X : Type 0} (read : Word → Result X Fault) (all : List Word) (front : List X) (word : Word) (left : List Word) (x : X)
     → IsRead read all front (word ∷ left) → read word ≡ Ok x → IsRead read all (front ++ x ∷ []) left
 unfolding each_word
 goes read all front word left x so_far ok =
     record { same = sym (ap (λ r. with_front front (r >>= λ y. each_word read left >>= λ ys. Ok (y ∷ ys))) ok ∙ with_front-step front x (each_word read left)) ∙ so_far.same }
 
+-- the first word that can't be read gives the list's fault
 pub breaks : {X : Type 0} (read : Word → Result X Fault) (all : List Word) (front : List X) (word : Word) (left : List Word) (e : Fault)
     → IsRead read all front (word ∷ left) → read word ≡ Err e → each_word read all ≡ Err e
 unfolding each_word
 breaks read all front word left e so_far failed =
     sym so_far.same ∙ ap (λ r. with_front front (r >>= λ y. each_word read left >>= λ ys. Ok (y ∷ ys))) failed
 
+-- where no word is left, what was read is the whole list
 pub ends : {X : Type 0} (read : Word → Result X Fault) (all : List Word) (front : List X) → IsRead read all front [] → each_word read all ≡ Ok front
 unfolding each_word
 ends read all front so_far = sym so_far.same ∙ ap Ok (append-nil front)

@@ -111,6 +111,7 @@ runs_at : (n : ℕ) (part : List ℕ) (i : ℕ) → n + i ≡ length part → Ar
 runs_at zero part i e = at_end part i (omega (arith, e))
 runs_at (suc n) part i e = step part i (is_blank (get_or part i 0)) (omega (arith, e)) refl (runs_at n part (i + 1) (omega (arith, e)))
 
+-- the words of a line are its longest runs of bytes that aren't blank, all of them in order
 pub words_are_longest : (part : List ℕ) → AreLongestRuns part (words_in part)
 unfolding words_in
 words_are_longest part =

@@ -12,6 +12,7 @@ use Rattle.fw_report.specs.Report.{last_edition}
 use Rattle.fw_report.specs.RulesText.{set_text, sets_text}
 use Rattle.fw_report.specs.declared.capture_end.CaptureEnd.{CaptureEnd}
 
+-- the text of the images of elements is that of the elements, each by its image
 pub flat_map_map : {X Y Z : Type 0} (f : Y → List Z) (g : X → Y) (xs : List X) → flat_map f (map g xs) ≡ flat_map (λ x. f (g x)) xs
 flat_map_map f g [] = refl
 flat_map_map f g (x ∷ xs) = ap (λ rest. f (g x) ++ rest) (flat_map_map f g xs)
@@ -49,6 +50,7 @@ no_capture_end capture [] ends none = refl
 no_capture_end capture (docket ∷ dockets) [] none = refl
 no_capture_end capture (docket ∷ dockets) (end ∷ ends) none = absurd (omega arith)
 
+-- behind the last docket no capture's section stands
 pub no_capture : (capture i : ℕ) (dockets : List DocketValue) (ends : List CaptureEnd) → length dockets ≤ i → captures_text capture (drop i dockets) ends ≡ []
 unfolding captures_text
 no_capture capture i dockets ends past = rw (drop_of_length-le dockets {i = i} past) refl
@@ -62,12 +64,14 @@ next_lane lane i dockets trackers others tracker docket within is split =
     let first : drop i dockets ≡ docket ∷ drop (i + 1) dockets = drop_more dockets i docket within ∙ ap (λ (d : DocketValue). d ∷ drop (i + 1) dockets) (sym is) in
     rw (first, split) refl
 
+-- without a tracker no lane's line stands
 pub no_tracker : (lane : ℕ) (dockets : List DocketValue) (trackers : List ℕ) → length trackers ≡ 0 → lanes_text lane dockets trackers ≡ []
 unfolding lanes_text
 no_tracker lane [] trackers none = refl
 no_tracker lane (docket ∷ dockets) [] none = refl
 no_tracker lane (docket ∷ dockets) (tracker ∷ trackers) none = absurd (omega arith)
 
+-- behind the last docket no lane's line stands
 pub no_lane : (lane i : ℕ) (dockets : List DocketValue) (trackers : List ℕ) → length dockets ≤ i → lanes_text lane (drop i dockets) trackers ≡ []
 unfolding lanes_text
 no_lane lane i dockets trackers past = rw (drop_of_length-le dockets {i = i} past) refl
@@ -77,6 +81,7 @@ pub next_hits : (lane i : ℕ) (hits : List ℕ) → i < length hits → hits_te
 unfolding hits_text
 next_hits lane i hits within = ap (hits_text lane) (drop_more hits i 0 within)
 
+-- behind the last lane's hits no line of hits stands
 pub no_hits : (lane i : ℕ) (hits : List ℕ) → length hits ≤ i → hits_text lane (drop i hits) ≡ []
 unfolding hits_text
 no_hits lane i hits past = rw (drop_of_length-le hits {i = i} past) refl
@@ -88,6 +93,7 @@ next_set mask set within =
     let some : 32 - set ≡ suc (32 - (set + 1)) = omega arith in
     rw some refl
 
+-- behind set 31 no set is named
 pub no_set : (mask set : ℕ) → 32 ≤ set → sets_text mask (32 - set) set ≡ []
 unfolding sets_text
 no_set mask set past =

@@ -31,11 +31,13 @@ record_asks after at [] replies = []
 record_asks after at (op ∷ ops) [] = []
 record_asks after at (op ∷ ops) (reply ∷ replies) = record { after = after; at = at; op = op; reply = reply } ∷ record_asks after at ops replies
 
+-- the asks of a record ask what was asked for it, in order
 pub ops-record_asks : (after at : ℕ) (ops : List Op) (replies : List Reply) → length ops ≡ length replies → ops_of (record_asks after at ops replies) ≡ ops
 ops-record_asks after at [] replies same = refl
 ops-record_asks after at (op ∷ ops) [] same = absurd (omega arith)
 ops-record_asks after at (op ∷ ops) (reply ∷ replies) same = ap (λ rest. op ∷ rest) (ops-record_asks after at ops replies (omega arith))
 
+-- the asks of a record have the replies that it was given, in order
 pub replies-record_asks : (after at : ℕ) (ops : List Op) (replies : List Reply) → length ops ≡ length replies → replies_of (record_asks after at ops replies) ≡ replies
 replies-record_asks after at [] [] same = refl
 replies-record_asks after at [] (reply ∷ replies) same = absurd (omega arith)
@@ -121,6 +123,7 @@ AreOfLanes-ask lanes lane at op reply [] first last are = ((first, last), tt)
 AreOfLanes-ask lanes lane at op reply (Publish number ∷ entries) first last are = (tt, AreOfLanes-ask lanes lane at op reply entries first last are.1)
 AreOfLanes-ask lanes lane at op reply (Ask by when asked told ∷ entries) first last are = (are.0, AreOfLanes-ask lanes lane at op reply entries first last are.1)
 
+-- a publication behind the entries leaves each ask one of a lane of the world
 pub AreOfLanes-publication : (lanes number : ℕ) (entries : List Entry) → AreOfLanes lanes entries → AreOfLanes lanes (entries ++ Publish number ∷ [])
 AreOfLanes-publication lanes number [] are = (tt, tt)
 AreOfLanes-publication lanes number (Publish earlier ∷ entries) are = (tt, AreOfLanes-publication lanes number entries are.1)
@@ -134,6 +137,7 @@ pub record KeepsAround (most : ℕ) (old new : Journal) : Type 0 where
   pub publications : publications new.entries ≡ publications old.entries
   pub asked : AreOfLanes most old.entries → AreOfLanes most new.entries
 
+-- asks of a record of one of the lanes leave all of the journal but its entries and its states
 pub KeepsAround-asks : (j : Journal) (lanes lane at : ℕ) (ops : List Op) (replies : List Reply) → 1 ≤ lane → lane ≤ lanes → KeepsAround lanes j (with_asks j lane at ops replies)
 KeepsAround-asks j lanes lane at [] replies first last = record { lanes = refl; facts = refl; ready = refl; publications = refl; asked = λ are. are }
 KeepsAround-asks j lanes lane at (op ∷ ops) [] first last = record { lanes = refl; facts = refl; ready = refl; publications = refl; asked = λ are. are }

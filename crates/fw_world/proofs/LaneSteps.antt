@@ -12,6 +12,7 @@ use Rattle.fw_world.specs.LaneKept.{IsLane, IsInside, pending_of}
 use Rattle.fw_world.specs.Sections.{judged_editions, tracker_after}
 use Rattle.fw_world.proofs.Records.{IsNonDecreasing-push}
 
+-- the judged editions of two lists of entries stand one behind the other
 pub judged_editions-append : (entries more : List DocketEntry) → judged_editions (entries ++ more) ≡ judged_editions entries ++ judged_editions more
 judged_editions-append [] more = refl
 judged_editions-append (Other ∷ entries) more = judged_editions-append entries more
@@ -79,6 +80,7 @@ IsLane-regained published lane is first held heard = record {
     few None most heard = omega arith
     few (Some number) most heard = omega arith
 
+-- a lane that left its section is as a lane has to be, with no section pending
 pub IsLane-left : (inside : InsideValue) → IsInside inside → IsLane 0 (left inside)
 IsLane-left inside is = record {
   numbered = is.numbered;

@@ -36,6 +36,7 @@ IsLane-passed (Ok done) entry before after entered failed is = subst (λ (l : La
 IsLane-passed (Err fault) entry before after entered failed is =
     subst (λ (l : LaneValue). IsLane 0 l) (sym failed) (record { numbered = is.numbered; above = is.above; rising = is.rising; few = is.few; tracked = is.tracked })
 
+-- a lane of the world is still one after it passed over a record, or failed to
 pub IsLaneOf-passed : (world : WorldValue) (result : Result (Unit {0}) OutOfMemory) (entry : Skipped) (before after : LaneValue)
     → OnOk result (after ≡ with_entry (entry_for entry) before) → OnErr result (after ≡ record before { failed = true }) → IsLaneOf world before → IsLaneOf world after
 IsLaneOf-passed world (Ok done) entry before after entered failed is =
@@ -50,6 +51,7 @@ IsLaneOf-passed world (Ok done) entry before after entered failed is =
 IsLaneOf-passed world (Err fault) entry before after entered failed is =
     subst (λ (l : LaneValue). IsLaneOf world l) (sym failed) (record { first = is.first; last = is.last; held = is.held; heard = is.heard; judged = is.judged })
 
+-- a lane that passed over a record stands for it behind its inputs, where the call succeeded
 pub LaneStandsFor-passed : (world : WorldValue) (result : Result (Unit {0}) OutOfMemory) (entry : Skipped) (before after : LaneValue) → OnOk result (after ≡ with_entry (entry_for entry) before)
     → OnOk result ((inputs : List Input) → LaneStandsFor world before inputs → LaneStandsFor world after (inputs ++ input_for entry ∷ []))
 LaneStandsFor-passed world (Ok done) entry before after entered = λ inputs stands.

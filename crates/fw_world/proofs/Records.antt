@@ -27,6 +27,7 @@ pub AllByRecursion-push : {X : Type 0} (P : X → Type 0) (xs : List X) (x : X) 
 AllByRecursion-push P [] x all one = (one, tt)
 AllByRecursion-push P (y ∷ xs) x all one = (all.0, AllByRecursion-push P xs x all.1 one)
 
+-- what follows of each element follows of all
 pub AllByRecursion-weaker : {X : Type 0} (P Q : X → Type 0) (xs : List X) → ((x : X) → P x → Q x) → AllByRecursion P xs → AllByRecursion Q xs
 AllByRecursion-weaker P Q [] weaker all = tt
 AllByRecursion-weaker P Q (x ∷ xs) weaker all = (weaker x all.0, AllByRecursion-weaker P Q xs weaker all.1)

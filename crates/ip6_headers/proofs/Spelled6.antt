@@ -259,6 +259,7 @@ read-behind : (link : Link) (bytes packet : List ℕ) → ipv6_packet link bytes
 unfolding read_any
 read-behind link bytes packet e = ap (λ o. read_either o link bytes) e
 
+-- an IPv6 frame that is spelled is read as its fields, with the protocol behind its extension headers
 pub packets_are_read : SpelledPacketsAreRead
 packets_are_read link front h es last payload padding header is all other some fits =
     let next : ℕ = next_number es last in

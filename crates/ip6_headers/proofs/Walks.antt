@@ -9,6 +9,7 @@ pub record StandsAt (packet : List ℕ) (header : Header) : Type 0 where
   pub enough : length packet < more + header.place
   pub within : header.place ≤ length packet
 
+-- a packet of 40 bytes or more stands at its first header
 pub begins : (packet : List ℕ) → 40 ≤ length packet → StandsAt packet (first_header packet)
 begins packet long = record { more = length packet; same = refl; enough = omega arith; within = long }
 
@@ -38,6 +39,7 @@ pub ends_here : (packet : List ℕ) (header : Header) → StandsAt packet header
 ends_here packet header here ended =
     here.same ∙ from-ended here.more packet header (omega (arith, here.enough, here.within)) ended
 
+-- the header that is found at the chain's end is the packet's last
 pub last-found : (packet : List ℕ) (header : Header) → find (ends_chain packet) (headers packet) ≡ Some header → header ≡ last_header packet
 unfolding last_header
 last-found packet header found = sym (ap (λ found. unwrap_or found (first_header packet)) found)

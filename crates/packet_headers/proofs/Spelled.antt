@@ -126,6 +126,7 @@ link-read Ethernet front packet (addresses, count, inr (a, b, e)) four = rw e (t
 link-read Raw front packet e four = rw e (raw-read packet four)
 link-read Cooked front packet (address, count, e) four = rw e (cooked-front address packet count)
 
+-- a frame that is spelled is read as its header's fields, whatever follows the packet
 pub frames_are_read : SpelledFramesAreRead
 frames_are_read link front h payload padding before is =
     link-read link front (packet_bytes h payload ++ padding) before (version-spelled h payload padding is)
@@ -149,6 +150,7 @@ option-told option behind some (inr other) =
     (option_types-long bytes some other (omega arith) (omega (arith, length-append option.1 behind))
     ∙ ap (λ (xs : List ℕ). option.0 ∷ option_types xs) left)
 
+-- the types of options that are spelled are told in their order
 pub options_are_told : SpelledOptionsAreTold
 options_are_told [] behind all = refl
 options_are_told (option ∷ options) behind all =

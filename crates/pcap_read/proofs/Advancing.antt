@@ -78,6 +78,7 @@ told_by before now None cause = record { failed_read = λ e. absurd (cc); steady
 told_by before now (Some fault) cause = told_by_fault before now fault cause
 
 module _ {S : Type 0} (left : S → Option (List ℕ)) (faults : S → ℕ) where
+  -- a capture that found its next record goes on to it
   pub advances_to_record : (old new : Capture S) → old.stop ≡ None → new.stop ≡ old.stop → new.format ≡ old.format → new.limit ≡ old.limit → new.given ≡ old.given + 1
       → Grows (left old.source) (left new.source) (held_of old) new.window → IsNextRecord old.limit old.format old.given new.window new.size → faults new.source ≡ faults old.source
       → Advances left faults old new (Ok (current_of new))
@@ -111,6 +112,7 @@ module _ {S : Type 0} (left : S → Option (List ℕ)) (faults : S → ℕ) wher
       } in
       subst (λ found. Advances left faults old new (Ok found)) (sym is) whole
 
+  -- a capture that found no record stops, at its end or with the fault
   pub advances_to_stop : (old new : Capture S) (how : Stop) → old.stop ≡ None → new.stop ≡ Some how → new.size ≡ 0 → new.format ≡ old.format → new.limit ≡ old.limit → new.given ≡ old.given
       → Grows (left old.source) (left new.source) (held_of old) new.window
       → StopsBefore (IsAtEnd (left new.source)) (Rose (faults old.source) (faults new.source)) old.limit old.format old.given new.window (stopped_with how)

@@ -43,6 +43,7 @@ module _ {S : Type 0} (left : S → Option (List ℕ)) (faults : S → ℕ) wher
       ) in
       subst (λ s. Counts limit source s count stop) (sym is) all
 
+  -- unless a read failed, the count and the stop are those of all bytes of the source
   pub exact_run : (limit : ℕ) (source final : S) (count : ℕ) (stop : Option CaptureFault) (whole : List ℕ) → Counts limit source final count stop → left source ≡ Some whole → stop ≢ Some ReadFault
       → (records : List Captured) (place : Place) → HasFront limit whole records place → (count ≡ length records) × (stop ≡ stop_at place)
   exact_run limit source final count stop whole k told ok records place front =
@@ -51,6 +52,7 @@ module _ {S : Type 0} (left : S → Option (List ℕ)) (faults : S → ℕ) wher
       let same = stops_as_whole limit _ whole k.0 (left final) k.1 records s.0 place stop came s.1 s.2 ok front in
       (sym k.2 ∙ ap length same.0, same.1)
 
+  -- unless a read failed or memory ran out, a refused header has the fault of all bytes of the source
   pub exact_refusal : (limit : ℕ) (source : S) (refused : OpenFault S) (whole : List ℕ) → IsRefused left faults limit source refused → left source ≡ Some whole → IsExactFault limit whole refused
   exact_refusal limit source refused whole is told ok memory records place front = elim is.cause [
     | inl m ↦ absurd (memory m.0)

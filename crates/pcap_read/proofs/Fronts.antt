@@ -21,6 +21,7 @@ pub record IsTaken (limit : ℕ) (format : Format) (given : ℕ) (bytes : List �
 apart : {X : Type 0} (n : Next) (place : Place) (r : Captured) (more : List ℕ) → n ≡ Stands place → n ≡ Took r more → X
 apart n place r more p q = absurd (cc)
 
+-- where a record was taken, its header and its bytes stand whole, and within the limits
 pub taken : (limit : ℕ) (format : Format) (given : ℕ) (bytes : List ℕ) (r : Captured) (more : List ℕ) → next_of limit format given bytes ≡ Took r more → IsTaken limit format given bytes r more
 taken limit format given bytes r more e =
     let some : 0 < length bytes = elim (cases_lt 0 (length bytes)) [ inl h ↦ h | inr h ↦ apart _ _ _ _ (at_boundary limit format given bytes (omega (arith, h))) e ] in
@@ -98,10 +99,12 @@ pub number_within : (bytes : List ℕ) (records : List Captured) → length byte
 unfolding place_number
 number_within bytes records h = grind arith
 
+-- where the header has a fault the place has number 0
 pub number_fault : (bytes : List ℕ) (records : List Captured) (fault : CaptureFault) → 24 ≤ length bytes → header_of (take 24 bytes) ≡ Err fault → place_number bytes records ≡ 0
 unfolding place_number
 number_fault bytes records fault h e = rw e (grind arith)
 
+-- behind a header the place's number is one more than there are records
 pub number_behind : (bytes : List ℕ) (records : List Captured) (format : Format) → 24 ≤ length bytes → header_of (take 24 bytes) ≡ Ok format → place_number bytes records ≡ length records + 1
 unfolding place_number
 number_behind bytes records format h e = rw e (grind arith)

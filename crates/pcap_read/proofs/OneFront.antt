@@ -31,6 +31,7 @@ ends_somewhere limit (suc fuel) format given bytes h = elim (whichever (next_of 
       ([], bytes, s.0, refl, ap (λ n. next_of limit format n bytes) next ∙ s.1)
 ]
 
+-- each string of bytes has a front
 pub front_exists : (limit : ℕ) (bytes : List ℕ) → (records : List Captured) × (place : Place) × HasFront limit bytes records place
 front_exists limit bytes = elim (cases_lt (length bytes) 24) [
   | inl short ↦ ([], Open InHeader, front_within limit bytes short)
@@ -147,6 +148,7 @@ ok_one r x y p q = cc
 not_ok_and_err : {X : Type 0} (r : Result Format CaptureFault) (x : Format) (y : CaptureFault) → r ≡ Ok x → r ≡ Err y → X
 not_ok_and_err r x y p q = absurd (cc)
 
+-- a string of bytes has no two fronts
 pub front_unique : (limit : ℕ) (bytes : List ℕ) (rs ss : List Captured) (p q : Place) → HasFront limit bytes rs p → HasFront limit bytes ss q → (rs ≡ ss) × (p ≡ q)
 front_unique limit bytes rs ss p q h k = same limit bytes rs ss p q (front_cases limit bytes rs p h) (front_cases limit bytes ss q k)
   where
@@ -206,6 +208,7 @@ pieces_give limit format given (p ∷ ps) all few =
       pieces_give limit format (given + 1) ps all.1 (omega arith),
     )
 
+-- a header and whole records have these records as their front, which ends at a record's boundary
 pub front_whole : (limit : ℕ) (header : List ℕ) (format : Format) (pieces : List (List ℕ)) → length header ≡ 24 → header_of header ≡ Ok format → AllByRecursion (IsRecord format) pieces → length pieces ≤ limit
     → HasFront limit (header ++ concat pieces) (map (record_of format) pieces) (Open AtBoundary)
 front_whole limit header format pieces size is all few =

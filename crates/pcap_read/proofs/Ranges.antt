@@ -29,5 +29,6 @@ slice_range-same xs ys a e h same =
     sym (drop-take a (e - a) xs) ∙ ap (λ k. drop a (take k xs)) whole ∙ ap (drop a) same
     ∙ ap (λ k. drop a (take k ys)) (sym whole) ∙ drop-take a (e - a) ys
 
+-- a range within a list has as many elements as its ends are apart
 pub length-slice_range : (xs : List ℕ) (a e : ℕ) → e ≤ length xs → length (slice_range xs a e) ≡ e - a
 length-slice_range xs a e h = omega (arith, length-take (e - a) (drop a xs), length-drop a xs)

@@ -155,6 +155,7 @@ judged_everywhere r lane (own ∷ inputs) (docket ∷ dockets) (tally ∷ tallie
     ∙ sym (map-append Whole (judgements docket.entries) (all_judgements dockets))
 judged_everywhere r lane inputs dockets tallies trackers each = absurd each
 
+-- the counters of a legal record add up to its judged packets' hits and bytes, modulo 2^64
 pub counters_add_up : CountersAddUp
 counters_add_up first commands inputs r legal = record {
   judged = judged_everywhere r 1 inputs r.dockets r.tallies r.trackers legal.lanes;

@@ -108,5 +108,6 @@ given_from (suc most) captures some = cases (given_from most) (first_capture (ma
           all = ap length turn ∙ ap (λ n. suc n) given.all;
         }
 
+-- replayed side by side, each capture gives all its records in their order
 pub captures_keep_their_order : CapturesKeepTheirOrder
 captures_keep_their_order captures = let given = given_from (record_count captures) captures refl in record { each = given.each; all = given.all }

@@ -148,6 +148,7 @@ published_number first commands r legal number least most =
     }
 
 module _ {S : Type 0} (left : S → Option (List ℕ)) (faults : S → ℕ) where
+  -- each listing of a replay names an edition that its journal publishes
   pub listings_name_published : ListingsNamePublishedEditions left faults
   listings_name_published config steps captures r is =
       let standing = outcome_of config steps in

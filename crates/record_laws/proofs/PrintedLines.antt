@@ -324,6 +324,7 @@ alone text records ends counts =
     let nothing : ends + others [] ≡ ends = omega arith in
     (ap verdicts (sym (append-nil text)) ∙ counts.verdict_count [] ∙ none, ap others (sym (append-nil text)) ∙ counts.other_count [] ∙ nothing)
 
+-- the report of a legal record has as many verdict lines as there are records
 pub verdict_lines_are_records : VerdictLinesAreRecords
 unfolding report_text start_text
 verdict_lines_are_records first commands inputs r hits ends answers journal legal as_many =
@@ -344,6 +345,7 @@ module _ {S : Type 0} (left : S → Option (List ℕ)) (faults : S → ℕ) wher
   end_count limit (opened ∷ captures) (source ∷ sources) (track ∷ tracks) (end ∷ ends) all = ap (λ n. suc n) (end_count limit captures sources tracks ends all.2)
   end_count limit captures sources tracks ends all = absurd all
 
+  -- the report of a replay has a verdict line for each record that was read
   pub replays_print_each_record : ReplaysPrintEachRecord left faults
   replays_print_each_record config steps captures r hits journal replay =
       verdict_lines_are_records config (outcome_of config steps).accepted (map track_inputs replay.tracks) r.record hits r.ends.captures r.ends.answers journal replay.legal

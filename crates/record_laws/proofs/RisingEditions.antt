@@ -50,6 +50,7 @@ lane_at P lane (own ∷ inputs) (first ∷ dockets) (tally ∷ tallies) (tracker
     lane_at P (suc lane) inputs dockets tallies trackers (let next : lane + 1 ≡ suc lane = omega arith in subst (λ n. EachLane P n inputs dockets tallies trackers) next each.1) place docket is
 lane_at P lane inputs dockets tallies trackers each place docket is = absurd each
 
+-- in a docket of a legal record a later packet has no older edition
 pub editions_never_fall : EditionsNeverFall
 editions_never_fall first commands inputs r legal lane docket is =
     let (number, own, tally, tracker, sections) = lane_at (LaneCounts r) 1 inputs r.dockets r.tallies r.trackers legal.sections lane docket is in

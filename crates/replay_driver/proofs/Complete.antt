@@ -320,6 +320,7 @@ module _ {K S L : Type 0} (written : K → Option (List ℕ)) (sink_faults : K �
     | inr h ↦ absurd (complete.sink_quiet h.2)
   ]
 
+  -- where all is as it should be a command's run answers 0, or 6 for want of memory
   pub all_complete : (command : Option Job) → IfSome command (λ job. IsRun written sink_faults pairs faults refused left failures job library libraryAfter sink sinkAfter outcome)
       → IfSome command (λ job. IsCompleteJob written sink_faults pairs faults refused left failures job library libraryAfter sink sinkAfter outcome → (outcome.status ≡ 0) ⊎ (outcome.status ≡ 6))
   all_complete command found = IfSome-map command _ _ (λ job run complete. ends_0 job run complete) found

@@ -35,6 +35,7 @@ pub IfNone-by : {A : Type 0} (o : Option A) (P : Type 0) → (o ≡ None → P) 
 IfNone-by None P f = f refl
 IfNone-by (Some x) P f = tt
 
+-- what follows of each value follows of the one that there is, if there is one
 pub IfSome-map : {A : Type 0} (o : Option A) (P Q : A → Type 0) → ((x : A) → P x → Q x) → IfSome o P → IfSome o Q
 IfSome-map None P Q f h = tt
 IfSome-map (Some x) P Q f h = f x h
@@ -381,41 +382,53 @@ module _ {K S L : Type 0} (written : K → Option (List ℕ)) (sink_faults : K �
       of_each : (R : Type 0) → (IsNoCommand written sink_faults library libraryAfter sink sinkAfter outcome → R) → ((job : Job) → Run job → R) → R
       of_each R none some = by_option command _ R (λ (e : command ≡ None). none (usage e)) found some
 
+      -- a record that is kept is that of the command's replay
       pub all_kept : IfSome outcome.kept (λ kept. IfSome command (λ job. IsKept written sink_faults pairs faults refused left failures job library libraryAfter sink sinkAfter outcome kept))
       all_kept = IfSome-by outcome.kept _ (λ kept had. IfSome-map command _ _ (λ job run. is_kept job run kept had) found)
 
+      -- status 0 says that each capture was read to its end and no command was refused
       pub all_quiet : outcome.status ≡ 0 → IsQuiet outcome
       all_quiet zero = of_each (IsQuiet outcome) (λ none. absurd (usage_status none 0 zero (omega arith) (λ e. omega arith))) (λ job run. is_quiet job run zero)
 
+      -- status 1 says that the words are no command
       pub all_1 : outcome.status ≡ 1 → command ≡ None
       all_1 one = only_none command _ found (λ job run. not_1 job run one)
 
+      -- status 2 without a record says that the script gives no edition
       pub all_unready : outcome.status ≡ 2 → IfNone outcome.kept (IfSome command (λ job. IsUnreadyJob written sink_faults pairs faults refused left failures job library libraryAfter sink sinkAfter outcome))
       all_unready two = IfNone-by outcome.kept _ (λ none. IfSome-map command _ _ (λ job run. is_unready job run two none) found)
 
+      -- status 2 with a record says that a command behind `live` was refused
       pub all_refused : outcome.status ≡ 2 → IfSome outcome.kept (λ kept. IsRefused outcome)
       all_refused two = IfSome-by outcome.kept _ (λ kept had.
           of_each (IsRefused outcome) (λ none. absurd (usage_status none 2 two (omega arith) (λ e. omega arith))) (λ job run. is_refused_run job run two kept had))
 
+      -- status 3 says that a capture has a fault, and no capture's source failed
       pub all_faulty : outcome.status ≡ 3 → IsFaulty outcome
       all_faulty three = of_each (IsFaulty outcome) (λ none. absurd (usage_status none 3 three (omega arith) (λ e. omega arith))) (λ job run. is_faulty job run three)
 
+      -- status 4 without a record says that a name could not be opened, or the script not be read
       pub all_unread : outcome.status ≡ 4 → IfNone outcome.kept (IfSome command (λ job. IsUnreadJob written sink_faults pairs faults refused left failures job library libraryAfter sink sinkAfter outcome))
       all_unread four = IfNone-by outcome.kept _ (λ none. IfSome-map command _ _ (λ job run. is_unread_run job run four none) found)
 
+      -- status 4 with a record says that a capture's source failed
       pub all_failed : outcome.status ≡ 4 → IfSome outcome.kept (λ kept. HasFailedRead outcome.ends.captures)
       all_failed four = IfSome-by outcome.kept _ (λ kept had.
           of_each (HasFailedRead outcome.ends.captures) (λ none. absurd (usage_status none 4 four (omega arith) (λ e. omega arith))) (λ job run. is_failed_run job run four kept had))
 
+      -- status 5 says that the sink's count of faults rose
       pub all_risen : outcome.status ≡ 5 → Rose (sink_faults sink) (sink_faults sinkAfter)
       all_risen five = of_each (Rose (sink_faults sink) (sink_faults sinkAfter)) (λ none. usage_risen none five) (λ job run. has_risen job run five)
 
+      -- status 6 says that nothing was written
       pub all_silent : outcome.status ≡ 6 → sinkAfter ≡ sink
       all_silent six = of_each (sinkAfter ≡ sink) (λ none. usage_silent none six) (λ job run. is_silent job run six)
 
+      -- a run takes the names that it opened, and no others, out of the library's list, but for status 6
       pub all_openings : IfSome (pairs library) (λ told. IfSome command (λ job. outcome.status ≢ 6 → pairs libraryAfter ≡ without (take (length outcome.sources.items) (in_order job)) told))
       all_openings = IfSome-by (pairs library) _ (λ told is. IfSome-map command _ _ (λ job run other. has_openings job told run is other) found)
 
+      -- where a record is kept no opening failed
       pub all_steady : IfSome outcome.kept (λ kept. faults libraryAfter ≡ faults library)
       all_steady = IfSome-by outcome.kept _ (λ kept had.
           of_each (faults libraryAfter ≡ faults library) (λ none. let no = usage_keeps_nothing none in absurd (cc)) (λ job run. steady job run kept had))

@@ -22,14 +22,17 @@ passed_on part whole OutOfMemory a b f h = tt
 passed_on part whole (Fault fault) a b f h = f (Fault fault) h
 passed_on part whole (Refused refused) a b f h = f (Refused refused) h
 
+-- a line that is accepted: the lines behind it are carried out on the configuration that it makes
 pub configured_on : (config next : Configuration) (x : Line) (rest : List Line) → configured_line config x ≡ Ok next → configured config (x ∷ rest) ≡ configured next rest
 unfolding configured
 configured_on config next x rest ok = ap (λ (r : Result Configuration ScriptError). r >>= λ (c : Configuration). configured c rest) ok
 
+-- the first line that is refused gives the error of all
 pub configured_stops : (config : Configuration) (x : Line) (rest : List Line) (e : ScriptError) → configured_line config x ≡ Err e → configured config (x ∷ rest) ≡ Err e
 unfolding configured
 configured_stops config x rest e stop = ap (λ (r : Result Configuration ScriptError). r >>= λ (c : Configuration). configured c rest) stop
 
+-- where no line is left, the configuration stands as it is
 pub configured_none : (config : Configuration) (lines : List Line) (i : ℕ) → length lines ≤ i → configured config (drop i lines) ≡ Ok config
 unfolding configured
 configured_none config lines i past = ap (configured config) (drop_of_length-le lines {i = i} past)
@@ -38,11 +41,13 @@ configured_none config lines i past = ap (configured config) (drop_of_length-le 
 abbrev pub behind : Configuration → List LineAnswer → List Line → Result (List LineAnswer) ScriptError
 behind config answers rest = listings_of config rest >>= λ others. Ok (answers ++ others)
 
+-- where no line is left, the answers so far are all of them
 pub listings_none : (config : Configuration) (answers : List LineAnswer) (lines : List Line) (i : ℕ) → length lines ≤ i → behind config answers (drop i lines) ≡ Ok answers
 unfolding listings_of
 listings_none config answers lines i past =
     ap (behind config answers) (drop_of_length-le lines {i = i} past) ∙ ap (λ (l : List LineAnswer). let r : Result (List LineAnswer) ScriptError = Ok l in r) (append-nil answers)
 
+-- the first listing that is refused gives the error of all
 pub listings_stops : (config : Configuration) (answers : List LineAnswer) (x : Line) (rest : List Line) (e : ScriptError) → listed_first config x.line (listing_of x.command) ≡ Err e → behind config answers (x ∷ rest) ≡ Err e
 unfolding listings_of
 listings_stops config answers x rest e stop =
@@ -52,6 +57,7 @@ joined : (answer : Option LineAnswer) (answers others : List LineAnswer) → ans
 joined None answers others = ap (λ (l : List LineAnswer). l ++ others) (sym (append-nil answers))
 joined (Some a) answers others = sym (append_assoc answers (a ∷ []) others)
 
+-- a line's answer, where it has one, stands behind the answers so far
 pub listings_on : (config : Configuration) (answers now : List LineAnswer) (x : Line) (rest : List Line) (answer : Option LineAnswer) → listed_first config x.line (listing_of x.command) ≡ Ok answer
     → now ≡ answers ++ with_answer answer [] → behind config answers (x ∷ rest) ≡ behind config now rest
 unfolding listings_of

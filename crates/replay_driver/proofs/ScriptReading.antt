@@ -20,6 +20,7 @@ with_listings script config = listings_of config script.before >>= λ answers. w
 abbrev of_script : Script → Result FirstEdition ScriptError
 of_script script = configured first_configuration script.before >>= λ config. with_listings script config
 
+-- a script with a fault gives that fault, and no edition
 pub script_stops : (bytes : List ℕ) (e : ScriptError) → read_script (script_of Serial bytes) ≡ Err e → first_edition bytes ≡ Err e
 unfolding first_edition
 script_stops bytes e stop = ap (λ (r : Result Script ScriptError). r >>= λ script. of_script script) stop
@@ -28,6 +29,7 @@ read : (bytes : List ℕ) (script : Script) → read_script (script_of Serial by
 unfolding first_edition
 read bytes script ok = ap (λ (r : Result Script ScriptError). r >>= λ s. of_script s) ok
 
+-- a command before `live` that is refused gives its refusal, and no edition
 pub command_stops : (bytes : List ℕ) (script : Script) (e : ScriptError) → read_script (script_of Serial bytes) ≡ Ok script
     → configured first_configuration script.before ≡ Err e → first_edition bytes ≡ Err e
 command_stops bytes script e ok stop = read bytes script ok ∙ ap (λ (r : Result Configuration ScriptError). r >>= λ config. with_listings script config) stop
@@ -36,11 +38,13 @@ configured_to : (bytes : List ℕ) (script : Script) (config : Configuration) �
     → configured first_configuration script.before ≡ Ok config → first_edition bytes ≡ with_listings script config
 configured_to bytes script config ok to = read bytes script ok ∙ ap (λ (r : Result Configuration ScriptError). r >>= λ c. with_listings script c) to
 
+-- a listing before `live` that is refused gives its refusal, and no edition
 pub listing_stops : (bytes : List ℕ) (script : Script) (config : Configuration) (e : ScriptError) → read_script (script_of Serial bytes) ≡ Ok script
     → configured first_configuration script.before ≡ Ok config → listings_of config script.before ≡ Err e → first_edition bytes ≡ Err e
 listing_stops bytes script config e ok to stop =
     configured_to bytes script config ok to ∙ ap (λ (r : Result (List LineAnswer) ScriptError). r >>= λ answers. with_answers script config answers) stop
 
+-- a script that is accepted gives edition 1, the answers to its listings, and what stands behind `live`
 pub edition_stands : (bytes : List ℕ) (script : Script) (config : Configuration) (answers : List LineAnswer) → read_script (script_of Serial bytes) ≡ Ok script
     → configured first_configuration script.before ≡ Ok config → listings_of config script.before ≡ Ok answers
     → first_edition bytes ≡ Ok (record { config = config; answers = answers; live = script.live })

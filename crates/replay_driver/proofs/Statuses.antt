@@ -57,15 +57,19 @@ zero_tests false false true a b c = absurd (cc)
 zero_tests false false false a b c = refl
 
 module _ (captures : List CaptureEnd) (answers : List LineAnswer) where
+  -- status 0: no capture ended with a fault, and no command was refused
   pub quiet_ends : report_status captures answers ≡ 0 → (list_any is_stopped captures ≡ false) × (list_any is_refused answers ≡ false)
   quiet_ends e = quiet_tests _ _ _ (sym (by_tests captures answers) ∙ e)
 
+  -- status 2: no capture ended with a fault, and a command was refused
   pub refused_lines : report_status captures answers ≡ 2 → (list_any is_stopped captures ≡ false) × (list_any is_refused answers ≡ true)
   refused_lines e = refused_tests _ _ _ (sym (by_tests captures answers) ∙ e)
 
+  -- status 3: a capture ended with a fault, and none because its source failed
   pub faulty_ends : report_status captures answers ≡ 3 → (list_any is_unread captures ≡ false) × (list_any is_stopped captures ≡ true)
   faulty_ends e = faulty_tests _ _ _ (sym (by_tests captures answers) ∙ e)
 
+  -- status 4: a capture ended because its source failed
   pub unread_ends : report_status captures answers ≡ 4 → list_any is_unread captures ≡ true
   unread_ends e = unread_tests _ _ _ (sym (by_tests captures answers) ∙ e)
 
@@ -73,6 +77,7 @@ module _ (captures : List CaptureEnd) (answers : List LineAnswer) where
   pub few : (report_status captures answers ≤ 4) × (report_status captures answers ≢ 1)
   few = rw (by_tests captures answers) (few_tests (list_any is_unread captures) (list_any is_stopped captures) (list_any is_refused answers))
 
+  -- where no source failed, no capture has a fault and no command was refused, the status is 0
   pub all_well : list_any is_unread captures ≡ false → list_any is_stopped captures ≡ false → list_any is_refused answers ≡ false → report_status captures answers ≡ 0
   all_well a b c = by_tests captures answers ∙ zero_tests _ _ _ a b c
 

@@ -54,6 +54,7 @@ module _ {L S : Type 0} (pairs : L → Option (List Pair)) (faults : L → ℕ) 
       → ReadsNames pairs faults refused left failures name captures old new script bytes opened → faults new ≡ faults old
   names_steady name captures old new script bytes opened reads = all_steady reads.between new captures opened reads.captures_opened ∙ reads.script_read.opens.steady
 
+  -- the captures that were opened have sources of which no read failed yet
   pub all_fresh : (old new : L) (captures : List CaptureNames) (opened : List (OpenedCapture S)) → OpensAll pairs faults refused left failures old new captures opened → AreFresh left failures opened
   all_fresh old new [] [] all = tt
   all_fresh old new [] (o ∷ os) all = absurd all
@@ -73,17 +74,20 @@ module _ {L S : Type 0} (pairs : L → Option (List Pair)) (faults : L → ℕ) 
       names_out name captures old new script bytes opened told reads is
       ∙ ap (λ l. without (name ∷ l) told) (sym (ap (λ n. take n (capture_names captures)) count ∙ take-length (capture_names captures)))
 
+  -- where the script's name was refused, nothing is taken out of the told list
   pub script_refused : (names : ReplayNames) (old new : L) (name : List ℕ) (sources : List S) (told : List Pair) → RefusesScript pairs faults refused left failures names old new name sources → pairs old ≡ Some told
       → pairs new ≡ without (take (length sources) (names.script ∷ capture_names names.captures)) told
   script_refused names old new name sources told found is =
       rw (found.nothing_opened) (found.refuses.list_kept ∙ is)
 
+  -- where the script could not be read, its name alone is taken out of the told list
   pub script_failed : (names : ReplayNames) (old new : L) (name : List ℕ) (sources : List S) (told : List Pair) → FailsScript pairs faults refused left failures names old new name sources → pairs old ≡ Some told
       → pairs new ≡ without (take (length sources) (names.script ∷ capture_names names.captures)) told
   script_failed names old new name sources told found is =
       let opens = subst (λ (n : List ℕ). Opens pairs faults refused left failures old new n found.opened) found.named found.opens in
       rw (found.given_back) (one_out (pairs old) (pairs new) names.script [] (left found.opened) told (pairs new) opens.took is (λ rest gone. gone))
 
+  -- where a capture's name was refused, the names before it are taken out of the told list
   pub capture_refused : (names : ReplayNames) (old new : L) (name : List ℕ) (sources : List S) (told : List Pair) → RefusesCapture pairs faults refused left failures names old new name sources → pairs old ≡ Some told
       → pairs new ≡ without (take (length sources) (names.script ∷ capture_names names.captures)) told
   capture_refused names old new name sources told found is =

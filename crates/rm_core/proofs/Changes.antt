@@ -22,6 +22,7 @@ IsProcessor-some s i P = some_of P (processor_of s i)
     some_of P (Some p) holds = (p, refl, holds)
     some_of P None holds = absurd holds
 
+-- what holds of a processor's state holds of the processor of that number
 pub IsProcessor-from : (s : CoreState) (i : ℕ) (P : ProcessorState → Type 0) (p : ProcessorState) → processor_of s i ≡ Some p → P p → IsProcessor s i P
 IsProcessor-from s i P p is holds = subst (λ (o : Option ProcessorState). IsSomeAnd o P) (sym is) holds
 
@@ -29,6 +30,7 @@ IsProcessor-from s i P p is holds = subst (λ (o : Option ProcessorState). IsSom
 pub processor_of-some : (s : CoreState) (i : ℕ) (p : ProcessorState) → processor_of s i ≡ Some p → (0 < i) × (slice_get s.processors (i - 1) ≡ Some p)
 processor_of-some s i p is = grind (arith, nat_tests)
 
+-- a processor that there is has a number from 1 to the processors' count
 pub processor_of-within : (s : CoreState) (i : ℕ) (p : ProcessorState) → processor_of s i ≡ Some p → (0 < i) × (i ≤ length s.processors)
 processor_of-within s i p is =
     let at : (0 < i) × (slice_get s.processors (i - 1) ≡ Some p) = processor_of-some s i p is in
@@ -38,6 +40,7 @@ processor_of-within s i p is =
 pub All-slice_get : {A : Type 0} (P : A → Type 0) (xs : List A) (k : ℕ) (x : A) → slice_get xs k ≡ Some x → All P xs → P x
 All-slice_get {A} P xs k x is all = subst P (get_or_from_slice_get xs k x x is) (all k x (slice_get_within xs k x is))
 
+-- what holds of all processors holds of each one, by its number
 pub All-processor_of : (P : ProcessorState → Type 0) (s : CoreState) (i : ℕ) (p : ProcessorState) → All P s.processors → processor_of s i ≡ Some p → P p
 All-processor_of P s i p all is = All-slice_get P s.processors (i - 1) p (processor_of-some s i p is).1 all
 
@@ -50,14 +53,17 @@ pub All-with_processor : (P : ProcessorState → Type 0) (s : CoreState) (i : �
 All-with_processor P s i change p is changed all =
     rw (with_processor-some s i change p is) (All-set P s.processors (i - 1) (change p) changed all)
 
+-- a change of one processor leaves the published number
 pub number-with_processor : (s : CoreState) (i : ℕ) (change : ProcessorState → ProcessorState) → (with_processor s i change).number ≡ s.number
 number-with_processor s i change =
     elim (processor_of s i) as (λ o. (option_map_or (λ p. record s { processors = slice_set s.processors (i - 1) (change p) }) o s).number ≡ s.number) [ None ↦ refl | Some p ↦ refl ]
 
+-- a change of one processor leaves the holder of the lock behind
 pub holder-with_processor : (s : CoreState) (i : ℕ) (change : ProcessorState → ProcessorState) → (with_processor s i change).holder ≡ s.holder
 holder-with_processor s i change =
     elim (processor_of s i) as (λ o. (option_map_or (λ p. record s { processors = slice_set s.processors (i - 1) (change p) }) o s).holder ≡ s.holder) [ None ↦ refl | Some p ↦ refl ]
 
+-- a change of one processor leaves the processors' count
 pub length-with_processor : (s : CoreState) (i : ℕ) (change : ProcessorState → ProcessorState) → length (with_processor s i change).processors ≡ length s.processors
 length-with_processor s i change =
     elim (processor_of s i) as (λ o. length (option_map_or (λ p. record s { processors = slice_set s.processors (i - 1) (change p) }) o s).processors ≡ length s.processors) [ None ↦ refl | Some p ↦ length-set s.processors (i - 1) (change p) ]

@@ -40,9 +40,11 @@ next_fits s safe fits drained =
     let revoked : first.revoked ≡ true = safe.within 0 idle fits.nonempty (drained 0 idle fits.nonempty) in
     fits.tokens 0 idle fits.nonempty (s.number + 1) (safe.announced 0 idle fits.nonempty revoked)
 
+-- where a publication may come, the number after it fits 64 bits
 pub next_number_fits : (s : CoreState) → Safe s → Fits s → Allowed s Publish → s.number + 1 < 2 ^ 64
 next_number_fits s safe fits may = next_fits s safe fits may.1
 
+-- each allowed step of a safe state keeps the core's numbers below 2^64
 pub Fits-after : (s : CoreState) (event : Event) → Safe s → Fits s → Allowed s event → Fits (after s event)
 Fits-after s (Raise i) safe fits may =
     let there : (p : ProcessorState) × (processor_of s i ≡ Some p) × (p.phase ≡ Out) = IsProcessor-some s i (λ p. p.phase ≡ Out) may in

@@ -18,6 +18,7 @@ Kept-after s event kept may = record {
 pub Kept-step : (fields s now : CoreState) (event : Event) → fields ≡ s → now ≡ after s event → Kept fields → Allowed s event → Kept now
 Kept-step fields s now event is new kept may = subst Kept (sym new) (Kept-after s event (subst Kept is kept) may)
 
+-- where the step is a publication, the next number fits 64 bits
 pub next_number : (fields s : CoreState) (event : Event) → fields ≡ s → Kept fields → Allowed s event → event ≡ Publish → fields.number + 1 < 2 ^ 64
 next_number fields s event is kept may publishes =
     let may_publish : Allowed fields Publish = subst (λ (e : Event). Allowed fields e) publishes (subst (λ (t : CoreState). Allowed t event) (sym is) may) in

@@ -21,6 +21,7 @@ pub record KnowsAt (number known : ℕ) (p : ProcessorState) : Type 0 where
   pub held : p.token ≡ Held → known ≡ number
   pub revoked : (t : ℕ) → p.token ≡ Revoked t → known < t
 
+-- `known` is the published number for a processor with its token, and below its refusal for another
 abbrev pub Knows : CoreState → ℕ → ℕ → Type 0
 Knows s i known = Holds (KnowsAt s.number known) s i
 
@@ -88,6 +89,7 @@ regain_knows s i j known q there knows =
     by_number (inr other) =
         rw other.0 (Holds-with_processor (KnowsAt s.number known) s i j (λ p. record p { token = Held }) q there (λ same _. absurd (other.1 same)) knows)
 
+-- a step keeps what a processor knows, and one that regains its token knows the published number
 pub Knows-after : (s : CoreState) (event : Event) (i known : ℕ) → Safe s → Allowed s event → Knows s i known → Knows (after s event) i (if is_regain_of i event then s.number else known)
 Knows-after s (Raise j) i known safe may knows =
     let there : (q : ProcessorState) × (processor_of s j ≡ Some q) × (q.phase ≡ Out) = IsProcessor-some s j (λ p. p.phase ≡ Out) may in
@@ -156,6 +158,7 @@ publish_entered s i entered safe drained p is inside =
     let same : (before.0).phase ≡ p.phase = ap (λ (q : ProcessorState). q.phase) before.2 in
     absurd (All-processor_of (λ p. p.drained ≡ true → p.phase ≢ In) s i before.0 safe.outside before.1 gone (same ∙ inside))
 
+-- a step keeps that a processor which is in came in under the published number
 pub Entered-after : (s : CoreState) (event : Event) (i entered : ℕ) → Safe s → Allowed s event → Entered s i entered → Entered (after s event) i (if is_check_of i event && is_held (heard s event) then s.number else entered)
 Entered-after s (Raise j) i entered safe may knows =
     let there : (q : ProcessorState) × (processor_of s j ≡ Some q) × (q.phase ≡ Out) = IsProcessor-some s j (λ p. p.phase ≡ Out) may in

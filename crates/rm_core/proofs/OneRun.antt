@@ -30,6 +30,7 @@ Safe-opening n number = record {
   outside = All-replicate (λ p. p.drained ≡ true → p.phase ≢ In) n idle (λ never. absurd cc);
 }
 
+-- a new lock's numbers fit 64 bits, where its first number does and it has a processor
 pub Fits-opening : (n number : ℕ) → 0 < n → number < 2 ^ 64 → Fits (opening n number)
 Fits-opening n number some room = record {
   nonempty = rw (length-replicate n idle) some;
@@ -37,6 +38,7 @@ Fits-opening n number some room = record {
   tokens = All-replicate (λ p. (t : ℕ) → p.token ≡ Revoked t → t < 2 ^ 64) n idle (λ t never. absurd cc);
 }
 
+-- a run from a safe state ends in a safe state
 pub Safe-after_all : (s : CoreState) (events : List Event) → Safe s → IsRun s events → Safe (after_all s events)
 Safe-after_all s [] safe may = safe
 Safe-after_all s (e ∷ es) safe may = Safe-after_all (after s e) es (Safe-after s e safe may.0) may.1
@@ -65,16 +67,19 @@ pub Entered-opening : (n number i : ℕ) (events : List Event) → IsRun (openin
 Entered-opening n number i events may =
     entered_run (opening n number) events i number (Safe-opening n number) may (λ p is inside. refl)
 
+-- whoever holds its token regained it last under the number that is published now
 pub token_known : (n number i : ℕ) (events : List Event) → IsRun (opening n number) events → IsProcessor (after_all (opening n number) events) i (λ p. p.token ≡ Held) → number_regained i number (opening n number) events ≡ (after_all (opening n number) events).number
 token_known n number i events may holds =
     let found : (p : ProcessorState) × (processor_of (after_all (opening n number) events) i ≡ Some p) × (p.token ≡ Held) = IsProcessor-some (after_all (opening n number) events) i (λ p. p.token ≡ Held) holds in
     (Knows-opening n number i events may found.0 found.1).held found.2
 
+-- whoever is refused with t regained its token last under a number below t
 pub refusal_newer : (n number i t : ℕ) (events : List Event) → IsRun (opening n number) events → IsProcessor (after_all (opening n number) events) i (λ p. p.token ≡ Revoked t) → number_regained i number (opening n number) events < t
 refusal_newer n number i t events may holds =
     let found : (p : ProcessorState) × (processor_of (after_all (opening n number) events) i ≡ Some p) × (p.token ≡ Revoked t) = IsProcessor-some (after_all (opening n number) events) i (λ p. p.token ≡ Revoked t) holds in
     (Knows-opening n number i events may found.0 found.1).revoked t found.2
 
+-- whoever is in came in under the number that is published now
 pub inside_number : (n number i : ℕ) (events : List Event) → IsRun (opening n number) events → IsProcessor (after_all (opening n number) events) i (λ p. p.phase ≡ In) → number_entered i number (opening n number) events ≡ (after_all (opening n number) events).number
 inside_number n number i events may holds =
     let found : (p : ProcessorState) × (processor_of (after_all (opening n number) events) i ≡ Some p) × (p.phase ≡ In) = IsProcessor-some (after_all (opening n number) events) i (λ p. p.phase ≡ In) holds in
@@ -108,6 +113,7 @@ number_after s (Drain i) = number-with_processor s i after_drain
 number_after s ReadNumber = refl
 number_after s Publish = refl
 
+-- a run raises the published number by one for each of its publications
 pub number-after_all : (s : CoreState) (events : List Event) → (after_all s events).number ≡ s.number + publications events
 number-after_all s [] = omega arith
 number-after_all s (e ∷ es) =
@@ -161,6 +167,7 @@ flag_stays P phases tokens revokes drains s i Publish may other holds = absurd (
 is_publish-apart : (e : Event) → is_publish e ≡ false → e ≢ Publish
 is_publish-apart e unflagged is = let flagged : is_publish e ≡ true = ap is_publish is in absurd cc
 
+-- a refusal that is published, or will be with the next publication, stays so over a step
 pub Pending-after : (s : CoreState) (e : Event) (i t : ℕ) → Allowed s e → Pending s i t → Pending (after s e) i t
 Pending-after s e i t may (inl done) = inl (pending_past (is_publish e) s.number (after s e).number (number_after s e) done)
   where
@@ -220,6 +227,7 @@ refused_then_regains s between i t safe may hears =
     pending_regain (after_all (after s (Check i)) between) i t (Safe-after_all (after s (Check i)) between first parts.0) parts.1.0
     (pending_run (after s (Check i)) between i t parts.0 (Pending-after s (Check i) i t may.0 (pending_check s i t safe may.0 hears)))
 
+-- whoever was refused with t finds t published once it regains its token, in each run from the opening
 pub refused_in_run : (n number i t : ℕ) (before between : List Event) → IsRun (opening n number) (before ++ (Check i ∷ between ++ Regain i ∷ [])) → heard (after_all (opening n number) before) (Check i) ≡ HeardRevoked t → t ≤ (after_all (opening n number) (before ++ (Check i ∷ between))).number
 refused_in_run n number i t before between may hears =
     let parts : IsRun (opening n number) before × IsRun (after_all (opening n number) before) (Check i ∷ between ++ Regain i ∷ []) = IsRun-append (opening n number) before (Check i ∷ between ++ Regain i ∷ []) may in
@@ -272,10 +280,12 @@ holder_after s (Drain i) h may other held = holder-with_processor s i after_drai
 holder_after s ReadNumber h may other held = held
 holder_after s Publish h may other held = held
 
+-- who holds the lock behind holds it through a run in which it doesn't give it back
 pub holder_stays : (s : CoreState) (events : List Event) (h : ℕ) → IsRun s events → All (λ e. e ≢ GiveBack h) events → s.holder ≡ Some h → (after_all s events).holder ≡ Some h
 holder_stays s [] h may none held = held
 holder_stays s (e ∷ es) h may none held =
     holder_stays (after s e) es h may.1 (All-tail (λ e. e ≢ GiveBack h) e es none) (holder_after s e h may.0 (All-head (λ e. e ≢ GiveBack h) e es none) held)
 
+-- each run from the opening ends with a published number that fits 64 bits
 pub number_fits : (n number : ℕ) (events : List Event) → 0 < n → number < 2 ^ 64 → IsRun (opening n number) events → (after_all (opening n number) events).number < 2 ^ 64
 number_fits n number events some room may = (Fits-after_all (opening n number) events (Safe-opening n number) (Fits-opening n number some room) may).number

@@ -206,6 +206,7 @@ publish_keeps s may safe =
     (All-map (SafeAt (s.number + 1) ⊥) after_publication s.processors
     (λ k d inside. publish_safe s.number (Writing s) ⊥ (slice_index_or s.processors k d) (may.1 k d inside) (SafeAt-all s safe k d inside)))
 
+-- each allowed step leads from a safe state to a safe one
 pub Safe-after : (s : CoreState) (event : Event) → Safe s → Allowed s event → Safe (after s event)
 Safe-after s (Raise i) safe may = raise_keeps s i may safe
 Safe-after s (Check i) safe may = check_keeps s i may safe

@@ -141,6 +141,7 @@ module _ {E B T L I : Type 0} where
         let same : w.editions ≡ editions = same_editions 1 w.editions editions s0.1 w.hand_is was in
         subst (λ (u : TokenState E B T L I). AreOld m u.view editions) is (subst (λ (es : List E). AreOld m s0.0 es) same w.old)
 
+    -- what the operator's seat publishes, its token publishes
     pub published_for : (token : TokenState E B T L I) (table : TableId) (s0 s1 : Me (Slot E B) (View E B T L I)) (editions : List E) (facts : T) (after : View E B T L I) → record { table_id = table; view = s0.0 } ≡ token → s1 ≡ (s0.0, editions_from 1 editions []) → Publishes m s1.0 editions facts after → Publishes m token.view editions facts after
     published_for token table s0 s1 editions facts after is now p =
         subst (λ (v : View E B T L I). Publishes m v editions facts after) (ap (λ (s : Me (Slot E B) (View E B T L I)). s.0) now ∙ ap (λ (u : TokenState E B T L I). u.view) is) p

@@ -17,6 +17,7 @@ module _ {A : Type 0} where
   last_of_one y [] x e = cc
   last_of_one y (z ∷ zs) x e = let l = ap (λ (ts : List A). length ts) e in let m = one_longer zs x in absurd (omega arith)
 
+  -- the value that is popped off a list of one is the first
   pub popped_one : (f : ℕ → A) (n : ℕ) (items others : List A) (x : A) → n ≡ 1 → items ≡ values_from f 1 n → items ≡ others ++ x ∷ [] → x ≡ f 1
   popped_one f n items others x one is popped = last_of_one (f 1) others x (sym (is ∙ ap (λ (k : ℕ). values_from f 1 k) one) ∙ popped)
 
@@ -24,6 +25,7 @@ module _ {A : Type 0} where
   last_of_two a b [] y x e = (cc, cc)
   last_of_two a b (z ∷ zs) y x e = let l = ap (λ (ts : List A). length ts) e in let m = one_longer (zs ++ y ∷ []) x in let k = one_longer zs y in absurd (omega arith)
 
+  -- the values that are popped off a list of two are the second and then the first
   pub popped_two : (f : ℕ → A) (n : ℕ) (items left others : List A) (y x : A) → n ≡ 2 → items ≡ values_from f 1 n → items ≡ left ++ x ∷ [] → left ≡ others ++ y ∷ [] → (y ≡ f 1) × (x ≡ f 2)
   popped_two f n items left others y x two is popped again =
       last_of_two (f 1) (f 2) others y x (sym (is ∙ ap (λ (k : ℕ). values_from f 1 k) two) ∙ popped ∙ ap (λ (ts : List A). ts ++ x ∷ []) again)
@@ -33,6 +35,7 @@ module _ {E B T L I : Type 0} where
   pub all_of_lock : (table : TableId) (f : ℕ → TokenState E B T L I) (n : ℕ) (tokens : List (TokenState E B T L I)) → ((k : ℕ) → (f k).table_id ≡ table) → tokens ≡ values_from f 1 n → All (λ p. p.table_id ≡ table) tokens
   all_of_lock table f n tokens each are = subst (λ (ts : List (TokenState E B T L I)). All (λ p. p.table_id ≡ table) ts) (sym are) (all_values (λ (p : TokenState E B T L I). p.table_id ≡ table) f 1 n (λ k low high. each k))
 
+  -- one token of place 1 is each processor's token once, where there is one processor
   pub one_each : (count : ℕ) (p : TokenState E B T L I) (tokens : List (TokenState E B T L I)) → tokens ≡ p ∷ [] → p.view.place ≡ 1 → count ≡ 1 → EachOnce count tokens
   one_each count p tokens are at one = subst (λ (ts : List (TokenState E B T L I)). EachOnce count ts) (sym are) (record {
     all = λ k low high. (0, p, refl, let e : p.view.place ≡ k = omega arith in e);
@@ -49,6 +52,7 @@ module _ {E B T L I : Type 0} where
       once zero (suc j) q r one_is other_is same = absurd cc
       once (suc i) j q r one_is other_is same = absurd cc
 
+  -- tokens of places 1 and 2 are each processor's token once, where there are two processors
   pub two_each : (count : ℕ) (p s : TokenState E B T L I) (tokens : List (TokenState E B T L I)) → tokens ≡ p ∷ s ∷ [] → p.view.place ≡ 1 → s.view.place ≡ 2 → count ≡ 2 → EachOnce count tokens
   two_each count p s tokens are first second two = subst (λ (ts : List (TokenState E B T L I)). EachOnce count ts) (sym are) (record {
     all = all;

@@ -25,6 +25,7 @@ module _ {E B T L I : Type 0} (m : Meanings E B T L I) where
       → ((b : B) → s1.1 ≡ (0, Book (Some b)) ∷ rest s1.1 → s2 ≡ (noted (book_given m s1.0 b) book_index 0, rest s1.1)) → s2.0 ≡ gave_book m token.view token.book
   gave token table s0 s1 s2 book is e1 step = ap (λ (s : Me (Slot E B) (View E B T L I)). s.0) (given s0 s1 s2 book e1 step) ∙ ap (λ (t : BookTokenState E B T L I). gave_book m t.view t.book) is
 
+  -- a processor that gives the book back has it on top of its hand, with its own list alone changed
   pub holder_has : (token : BookTokenState E B T L I) (table : TableId) (s0 s1 : Me (Slot E B) (View E B T L I)) (book : B) (place : ℕ) (edition : E) → record { table_id = table; view = s0.0; book = book } ≡ token → HoldsBy m.number place edition s0.0 s0.1
       → IsAsTaken m token.view token.book → s1 ≡ (s0.0, (0, Book (Some book)) ∷ rest s0.1) → HasBook m s1.0 s1.1
   holder_has token table s0 s1 book place edition is h left e1 =
@@ -39,6 +40,7 @@ module _ {E B T L I : Type 0} (m : Meanings E B T L I) where
         operator = λ other. let clash = sym h.processor ∙ other in absurd cc;
       })
 
+  -- a processor that gave the book back is in its section as before
   pub in_again : (s0 s1 s2 : Me (Slot E B) (View E B T L I)) (book : B) (place : ℕ) (edition : E) → HoldsBy m.number place edition s0.0 s0.1 → s1 ≡ (s0.0, (0, Book (Some book)) ∷ rest s0.1)
       → ((b : B) → s1.1 ≡ (0, Book (Some b)) ∷ rest s1.1 → s2 ≡ (noted (book_given m s1.0 b) book_index 0, rest s1.1)) → IsInBy m.number place edition s2.0 s2.1
   in_again s0 s1 s2 book place edition h e1 step = subst (λ (s : Me (Slot E B) (View E B T L I)). IsInBy m.number place edition s.0 s.1) (sym (given s0 s1 s2 book e1 step)) (record {
@@ -53,9 +55,11 @@ module _ {E B T L I : Type 0} (m : Meanings E B T L I) where
     told_is = h.told_is;
   })
 
+  -- the operator that has the book is at work
   pub keeper_works : (s0 s1 : Me (Slot E B) (View E B T L I)) (book : B) (processors number : ℕ) → KeepsBy m processors number s0.0 s0.1 → s1 ≡ (s0.0, (0, Book (Some book)) ∷ rest s0.1) → IsWorking s1.0
   keeper_works s0 s1 book processors number k e1 = subst (λ (s : Me (Slot E B) (View E B T L I)). IsWorking s.0) (sym e1) (inr (record { role = k.at_rest.operator.role; split = k.at_rest.operator.split }))
 
+  -- the operator that gives the book back has it on top of its hand, as it was found
   pub keeper_has : (token : BookTokenState E B T L I) (table : TableId) (s0 s1 : Me (Slot E B) (View E B T L I)) (book : B) (processors number : ℕ) → record { table_id = table; view = s0.0; book = book } ≡ token → KeepsBy m processors number s0.0 s0.1
       → IsAsFound m token.view token.book → s1 ≡ (s0.0, (0, Book (Some book)) ∷ rest s0.1) → HasBook m s1.0 s1.1
   keeper_has token table s0 s1 book processors number is k left e1 =
@@ -78,6 +82,7 @@ module _ {E B T L I : Type 0} (m : Meanings E B T L I) where
         };
       })
 
+  -- the operator that gave the book back is between two writes as before
   pub at_rest_again : (s0 s1 s2 : Me (Slot E B) (View E B T L I)) (book : B) (processors number : ℕ) → KeepsBy m processors number s0.0 s0.1 → s1 ≡ (s0.0, (0, Book (Some book)) ∷ rest s0.1)
       → ((b : B) → s1.1 ≡ (0, Book (Some b)) ∷ rest s1.1 → s2 ≡ (noted (book_given m s1.0 b) book_index 0, rest s1.1)) → IsAtRestBy processors number s2.0 s2.1
   at_rest_again s0 s1 s2 book processors number k e1 step = subst (λ (s : Me (Slot E B) (View E B T L I)). IsAtRestBy processors number s.0 s.1) (sym (given s0 s1 s2 book e1 step)) (record {

@@ -6,6 +6,7 @@ use Rattle.rm_table.specs.declared.slot.Slot.TheVariants.{Edition}
 use Rattle.rm_table.specs.Moves.{Hand, editions_from, rest_from}
 
 module _ {A : Type 0} where
+  -- nothing behind a list leaves it as it is
   pub append_nil : (xs : List A) → xs ++ [] ≡ xs
   append_nil [] = refl
   append_nil (x ∷ xs) = ap (λ (ys : List A). x ∷ ys) (append_nil xs)
@@ -51,6 +52,7 @@ module _ {A : Type 0} where
   get_prefix (z ∷ xs) (y ∷ ys) zero x e at = let same : z ≡ y = cc in cc
   get_prefix (z ∷ xs) (y ∷ ys) (suc i) x e at = let tails : xs ≡ take (length xs) ys = cc in get_prefix xs ys i x tails at
 
+  -- an item that is found stands within its list
   pub get_within : (xs : List A) (i : ℕ) (x : A) → slice_get xs i ≡ Some x → i < length xs
   get_within [] i x e = absurd cc
   get_within (y ∷ ys) zero x e = omega arith
@@ -97,6 +99,7 @@ module _ {E B : Type 0} where
     pub items_are : items ≡ gone ++ left
     pub hand_is : hand ≡ editions_from (done + 1) kept (editions_from 1 put [])
 
+  -- before the first exchange the old editions are in the hand, and the new ones in their list
   pub exchanging_none : (olds news : List E) (hand : Hand E B) → hand ≡ editions_from 1 olds [] → Exchanging 0 olds news news hand
   exchanging_none olds news hand is = record { gone = []; kept = olds; put = []; left = news; olds_are = refl; news_are = refl; gone_count = refl; put_count = refl; items_are = refl; hand_is = is }
 

@@ -68,6 +68,7 @@ module _ {E B T L I : Type 0} where
       joining_one old tokens p s new (then ∙ ap (λ (u : TokenState E B T L I). (joined s.0 u.view, s.1)) shown) (let low = w.0 in let high = w.1 in omega arith)
       (λ i q there same. let before = get_within tokens i q there in let i_is = e.once i (length tokens) q p (get_prefix tokens all i q so_far there) here same in absurd (omega arith)) j
 
+  -- once each token's seat was joined, all processors are
   pub joined_everyone : (token : TokenState E B T L I) (table : TableId) (processors number : ℕ) (old : Me (Slot E B) (View E B T L I)) (all tokens : List (TokenState E B T L I)) (s : Me (Slot E B) (View E B T L I)) → record { table_id = table; view = old.0 } ≡ token → IsAtRestBy processors number old.0 old.1
       → EachOnce token.view.count all → tokens ≡ all → Joining old tokens s → AllJoined s.0
   joined_everyone token table processors number old all tokens s is rests each done j =
@@ -123,6 +124,7 @@ module _ {E B T L I : Type 0} where
         once_more : ClosesAs m (unkept old.0) tokens book trackers editions → ClosesAs m old.0 tokens book trackers editions
         once_more d = record { name = d.name; tag = d.tag; last = d.last; book_number = d.book_number; book_tag = d.book_tag; list_0 = d.list_0; ready = d.ready; tracker_count = d.tracker_count; edition_count = d.edition_count; published = d.published; each = λ i p at. let x = d.each i p at in record { tracker = x.tracker; list = x.list; begins = x.begins; held = x.held; refusal = x.refusal; pairs = x.pairs } }
 
+    -- what a lock gives back at its end is what its tokens know
     pub closes_now : (token : TokenState E B T L I) (table : TableId) (processors number : ℕ) (old : Me (Slot E B) (View E B T L I)) (all tokens : List (TokenState E B T L I)) (s : Me (Slot E B) (View E B T L I)) (book : B) (trackers : List ℕ) (editions : List E) → record { table_id = table; view = old.0 } ≡ token
         → IsAtRestBy processors number old.0 old.1 → EachOnce token.view.count all → tokens ≡ all → Joining old tokens s → ClosesWith m s.0 book trackers editions → ClosesAs m token.view all book trackers editions
     closes_now token table processors number old all tokens s book trackers editions is rests each done j c =

@@ -85,6 +85,7 @@ module _ {E B T L I : Type 0} where
       pub steps : s.0.steps ≡ watched old.0.steps (place + 1) looks
       pub olds : (j : ℕ) (e : E) → slice_get editions j ≡ Some e → (m.number e ≡ old.0.number) × IsLast old.0 (m.name e) (m.tag e)
 
+    -- before the first look no processor was found out
     pub draining_none : (place : ℕ) (old : Me (Slot E B) (View E B T L I)) → IsOperator old.0 → NoneDrained old.0 → place ≡ old.0.count → old.1 ≡ [] → Draining place old old
     draining_none place old o none all empty = record {
       operator = o;
@@ -137,6 +138,7 @@ module _ {E B T L I : Type 0} where
         (λ w g c. subst (λ (z : Me (Slot E B) (View E B T L I)). Draining place old z) (sym g.3) (draining_step place g.1 g.0 g.2 old s w g.4 g.5 c)) in
         go at is within f d
 
+    -- behind the look at place 1 all processors were found out
     pub draining_all : (old s : Me (Slot E B) (View E B T L I)) → Draining 0 old s → HasFoundAll m old s
     draining_all old s d =
         let count : s.0.count ≡ old.0.count = ap (λ (v : View E B T L I). v.count) d.same in

@@ -92,6 +92,7 @@ module _ {E B T L I : Type 0} (m : Meanings E B T L I) where
     pub item : m.of book 0 ≡ m.of taken 0 ++ m.item facts ∷ []
     pub others : (k : ℕ) → k ≢ 0 → m.of book k ≡ m.of taken k
 
+  -- the book that was taken has the new facts, and lies behind the next editions
   pub taken_in : (s0 s1 s3 s4 : Me (Slot E B) (View E B T L I)) (editions : List E) (facts : T) (facts_number : ℕ) (taken book : B) → IsWriting s0.0 → length editions ≡ s0.0.count → s0.1 ≡ editions_from 1 editions [] → AreNext m s0.0.number editions facts → facts_number ≡ s0.0.number + 1
       → (s1 ≡ (noted (book_taken s0.0 taken) book_index 0, (0, Book None) ∷ s0.1)) × FoundBy m s0.0 taken → m.book_number book ≡ facts_number → m.book_tag book ≡ facts → m.of book 0 ≡ m.of taken 0 ++ m.item facts ∷ [] → ((k : ℕ) → k ≢ 0 → m.of book k ≡ m.of taken k)
       → s3 ≡ (s1.0, (0, Book (Some book)) ∷ rest s1.1) → s4 ≡ (s3.0, turned s3.1) → TakenIn s0 s4 editions facts
@@ -109,6 +110,7 @@ module _ {E B T L I : Type 0} (m : Meanings E B T L I) where
     others = others;
   }
 
+  -- with the next editions in its hand the operator may publish
   pub may_publish : (s0 s4 : Me (Slot E B) (View E B T L I)) (editions : List E) (facts : T) → TakenIn s0 s4 editions facts → HasNext m s4.0 s4.1
   may_publish s0 s4 editions facts t = next_ready s4 (noted (book_taken s0.0 t.taken) book_index 0) editions facts ((0, Book (Some t.book)) ∷ []) t.behind t.writing.some t.count t.next
 
@@ -123,6 +125,7 @@ module _ {E B T L I : Type 0} (m : Meanings E B T L I) where
       has_published s4 s5 v f.0 editions facts t.book number_index (s4.0.number + 1) t.behind f.1 t.count e5
       ∙ ap (λ (s : Me (Slot E B) (View E B T L I)). (noted (published_as m v (m.name f.0) (m.tag f.0)) number_index (s.0.number + 1), (0, Book (Some t.book)) ∷ [])) t.behind
 
+  -- behind the publication the operator has the book on top, and may give it back
   pub may_give : (s0 s4 s5 : Me (Slot E B) (View E B T L I)) (editions : List E) (facts : T) (t : TakenIn s0 s4 editions facts) → s5 ≡ (noted (published m s4.0 s4.1) number_index (s4.0.number + 1), rest_from s4.0.count s4.1) → HasBook m s5.0 s5.1
   may_give s0 s4 s5 editions facts t e5 =
       let f = edition_there s0 s4 editions facts t in
@@ -145,6 +148,7 @@ module _ {E B T L I : Type 0} (m : Meanings E B T L I) where
     pub behind : v.behind ≡ true
     pub unrevoked : NoneRevoked v
 
+  -- behind the book the operator may give the lock behind back
   pub may_give_back : (s0 s4 s5 s6 : Me (Slot E B) (View E B T L I)) (editions : List E) (facts : T) (t : TakenIn s0 s4 editions facts) → s5 ≡ (noted (published m s4.0 s4.1) number_index (s4.0.number + 1), rest_from s4.0.count s4.1)
       → ((c : B) → s5.1 ≡ (0, Book (Some c)) ∷ rest s5.1 → s6 ≡ (noted (book_given m s5.0 c) book_index 0, rest s5.1)) → MayGiveBack s6.0
   may_give_back s0 s4 s5 s6 editions facts t e5 step = subst (λ (s : Me (Slot E B) (View E B T L I)). MayGiveBack s.0) (sym (after_give s0 s4 s5 s6 editions facts t e5 step)) (record {
@@ -153,6 +157,7 @@ module _ {E B T L I : Type 0} (m : Meanings E B T L I) where
     unrevoked = λ k low high. flag_of-replicate _ k;
   })
 
+  -- publishing, giving the book back and giving the lock behind back are one publication, and empty the hand
   pub publishes : (s0 s4 s5 s6 s7 : Me (Slot E B) (View E B T L I)) (editions : List E) (facts : T) (t : TakenIn s0 s4 editions facts) → s5 ≡ (noted (published m s4.0 s4.1) number_index (s4.0.number + 1), rest_from s4.0.count s4.1)
       → ((c : B) → s5.1 ≡ (0, Book (Some c)) ∷ rest s5.1 → s6 ≡ (noted (book_given m s5.0 c) book_index 0, rest s5.1)) → s7 ≡ (noted (behind_given s6.0) behind_index 0, s6.1) → (Publishes m s0.0 editions facts s7.0) × (s7.1 ≡ [])
   publishes s0 s4 s5 s6 s7 editions facts t e5 step e7 =

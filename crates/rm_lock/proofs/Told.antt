@@ -39,6 +39,7 @@ module _ {E B T L I : Type 0} where
   told_informed : (v r : View E B T L I) (heard : ℕ) (hand : Hand E B) → IsReceiptBy heard r hand → told_number (informed v r) ≡ max (told_number v) r.number
   told_informed v r heard hand is = greatest_both v.part.pairs (numbered r.opened r.history) ∙ ap (λ (n : ℕ). max (told_number v) n) (greatest_numbered r.opened r.history r.number is.counts is.begun)
 
+  -- who hears a receipt has been told of the greater of both numbers
   pub told_by : (p r : TokenState E B T L I) (table its_table : TableId) (heard : ℕ) (s0 spent s1 : Me (Slot E B) (View E B T L I)) → record { table_id = table; view = s0.0 } ≡ p → record { table_id = its_table; view = spent.0 } ≡ r → IsReceiptBy heard spent.0 spent.1 → s1 ≡ (informed s0.0 spent.0, s0.1)
       → told_number s1.0 ≡ max (told_number p.view) r.view.number
   told_by p r table its_table heard s0 spent s1 p_is r_is receipt then =
@@ -64,6 +65,7 @@ module _ {E B T L I : Type 0} where
         let others = told_at_most v (m.number e) seen in
         omega arith
 
+    -- a processor that came in has been told of its edition's number, and of no greater one
     pub told_in : (s0 s1 s2 : Me (Slot E B) (View E B T L I)) (hand : Hand E B) → Checked m s0 Held s1 → s2 ≡ (s1.0, hand) → told_number s2.0 ≡ s2.0.part.held
     told_in s0 s1 s2 hand step now = subst (λ (s : Me (Slot E B) (View E B T L I)). told_number s.0 ≡ s.0.part.held) (sym now)
         (ap (λ (s : Me (Slot E B) (View E B T L I)). told_number s.0) step.1 ∙ told_inside s0.0 step.0 step.3 ∙ step.2 ∙ sym (ap (λ (s : Me (Slot E B) (View E B T L I)). s.0.part.held) step.1))

@@ -41,9 +41,11 @@ module _ {E B T L I : Type 0} where
   working_on i h v (inl p) = inl p
   working_on i h v (inr o) = inr (operator_on i h v o)
 
+  -- after a look at a word a seat that was at work still is
   pub works_on : (i h : ℕ) (s new : Me (Slot E B) (View E B T L I)) → IsWorking s.0 → new ≡ (noted s.0 i h, s.1) → IsWorking new.0
   works_on i h s new w e = subst (λ (z : Me (Slot E B) (View E B T L I)). IsWorking z.0) (sym e) (working_on i h s.0 w)
 
+  -- after a look at a word the operator is the operator still
   pub operates_on : (i h : ℕ) (s new : Me (Slot E B) (View E B T L I)) → IsOperator s.0 → new ≡ (noted s.0 i h, s.1) → IsOperator new.0
   operates_on i h s new w e = subst (λ (z : Me (Slot E B) (View E B T L I)). IsOperator z.0) (sym e) (operator_on i h s.0 w)
 

@@ -32,6 +32,7 @@ module _ {S : Type 0} (left : S → Option (List ℕ)) (faults : S → ℕ) wher
   pub keeps-none : (run : Running S) → IsReady left faults run → Keeps left faults run run
   keeps-none run ready = record { ready = ready; goes = λ config steps limit captures origins first goes. goes }
 
+  -- what each of two calls keeps, both of them keep, one after the other
   pub keeps-both : (a b c : Running S) → Keeps left faults a b → Keeps left faults b c → Keeps left faults a c
   keeps-both a b c h k = record { ready = k.ready; goes = λ config steps limit captures origins first goes. k.goes config steps limit captures origins first (h.goes config steps limit captures origins first goes) }
 

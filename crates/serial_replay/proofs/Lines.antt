@@ -146,10 +146,12 @@ pub ok-then : {T E : Type 0} (r : Result T E) (P Q : Type 0) → (P → Q) → O
 ok-then (Ok x) P Q follows h = follows h
 ok-then (Err e) P Q follows h = tt
 
+-- what follows from two facts that hold where a call succeeds
 pub ok-two : {T E : Type 0} (r : Result T E) (P Q R : Type 0) → (P → Q → R) → OnOk r P → OnOk r Q → OnOk r R
 ok-two (Ok x) P Q R follows p q = follows p q
 ok-two (Err e) P Q R follows p q = tt
 
+-- what follows of the value of a call that succeeds
 pub ok-with : {T E : Type 0} (r : Result T E) (P Q : T → Type 0) → ((x : T) → P x → Q x) → IfOk r P → IfOk r Q
 ok-with (Ok x) P Q follows h = follows x h
 ok-with (Err e) P Q follows h = tt

@@ -24,6 +24,7 @@ use Rattle.serial_replay.specs.declared.live_world.LiveWorld.{LiveWorld}
 pub has-config : (world : WorldValue) (desk : List Published) (config : Configuration) → desk ≡ world.editions → ((edition : Published) × IsLastOf desk edition × (config ≡ edition.config)) → HasConfig world config
 has-config world desk config same (edition, last, is) = (edition, subst (λ editions. IsLastOf editions edition) same last, sym is)
 
+-- a listing of the rules is answered by the edition that stands
 pub listed-rules : (live : LiveWorld) (config : Configuration) (number : ℕ) → HasConfig live.world config → number ≡ length live.desk → live.desk ≡ live.world.editions → IsListed live Rules (Listed number None)
 listed-rules live config number last is same = record { config = config; last = last; listed = ap (λ n. Listed n None) (is ∙ ap length same) }
 
@@ -34,6 +35,7 @@ copied-is_some (Some x) = refl
 answer_if : ℕ → List ℕ → Bool → Answer
 answer_if number name b = if b then Listed number (Some name) else Refused NoSuchTable
 
+-- a listing of a table that there is is answered by the edition that stands, with the table's name
 pub listed-entries : (live : LiveWorld) (config : Configuration) (number : ℕ) (name copy : List ℕ) (found : Option (Bor Table)) → HasConfig live.world config → number ≡ length live.desk → live.desk ≡ live.world.editions
     → option_copied found ≡ table_named config.tables name → is_some found ≡ true → copy ≡ name → IsListed live (Entries name) (Listed number (Some copy))
 unfolding answer_if
@@ -45,6 +47,7 @@ listed-entries live config number name copy found last is same named there copie
       ap (λ n. Listed number (Some n)) copied ∙ ap (λ n. Listed n (Some name)) (is ∙ ap length same) ∙ sym (ap (answer_if (length live.world.editions) name) test);
 }
 
+-- a listing of a table that there isn't is refused
 pub listed-refused : (live : LiveWorld) (config : Configuration) (name : List ℕ) (found : Option (Bor Table)) → HasConfig live.world config → option_copied found ≡ table_named config.tables name → is_some found ≡ false → IsListed live (Entries name) (Refused NoSuchTable)
 unfolding answer_if
 listed-refused live config name found last named none = record {

@@ -16,6 +16,7 @@ pub map-itself : {X : Type 0} (xs : List X) → map (λ x. x) xs ≡ xs
 map-itself [] = refl
 map-itself (x ∷ xs) = ap (λ rest. x ∷ rest) (map-itself xs)
 
+-- the moments of the records that are held, with one track more
 pub moments-push : {S : Type 0} (tracks : List (Track S)) (track : Track S) (moments pushed : List (Option Moment)) {moment : Option Moment} → moments ≡ map (option_map moment_of) (map held_of tracks) → moment ≡ option_map moment_of (held_of track)
     → pushed ≡ moments ++ moment ∷ [] → pushed ≡ map (option_map moment_of) (map held_of (tracks ++ track ∷ []))
 moments-push tracks track moments pushed {moment} is one e =
@@ -68,8 +69,10 @@ module _ {S : Type 0} (left : S → Option (List ℕ)) (faults : S → ℕ) wher
         omega (arith, sums, product, h.room, begins.room);
   }
 
+  -- where there are no captures there are no tracks
   pub begin-none : (limit : ℕ) → BeginAll left faults limit [] []
   begin-none limit = record { origins = []; begun = tt; room = omega arith }
 
+  -- of the tracks the one at this place went on, and the others stay
   pub further-at : (old new : List (Track S)) (place : ℕ) (before after : Track S) → place < length old → before ≡ get_or old place before → new ≡ slice_set old place after → GoesFurther left faults before after → GoesFurtherAt left faults place old new
   further-at old new place before after within is set goes = record { before = before; after = after; at = slice_get_read old (length old) place before refl within is; set = set; goes = goes }

@@ -112,10 +112,12 @@ module _ {S : Type 0} (left : S → Option (List ℕ)) (faults : S → ℕ) wher
     fewer = fewer-ended old new (Stopped at fault count) running ended;
   }
 
+  -- a track whose capture gave one more record goes on, and holds that one
   pub steps-found : (old new : OpenTrack S) (found : Option Captured) → is_some found ≡ true → old.end ≡ None → new.end ≡ None → new.port ≡ old.port → new.records ≡ min (old.records + 1) (2 ^ 64 - 1) → Advances left faults old.capture new.capture (Ok found) → StepsOn left faults old new
   steps-found old new None some running on port counted h = cc
   steps-found old new (Some r) some running on port counted h = steps-record old new r running on port counted h
 
+  -- a track whose capture has no record left ends with the records that it gave
   pub steps-not_found : (old new : OpenTrack S) (found : Option Captured) → is_some found ≡ false → old.end ≡ None → new.end ≡ Some (Read old.records) → new.port ≡ old.port → Advances left faults old.capture new.capture (Ok found) → StepsOn left faults old new
   steps-not_found old new None none running ended port h = steps-end old new running ended port h
   steps-not_found old new (Some r) none running ended port h = cc

@@ -118,6 +118,7 @@ module _ {S : Type 0} (left : S → Option (List ℕ)) (faults : S → ℕ) wher
         clean = subst (λ l. AllByRecursion IsClean l) (sym h.lanes) (clean-first 1 h.count);
       }
 
+  -- a replay that begins is ready for its steps
   pub starts-ready : (config : Configuration) (steps : List Step) (limit : ℕ) (captures : List (OpenedCapture S)) (run : Running S) → Starts config steps limit captures run → IsReady left faults run
   starts-ready config steps limit captures run h =
       let same = lengths limit captures run.tracks (map (λ (track : Track S). []) run.tracks) h.tracks.origins h.tracks.begun in

@@ -116,6 +116,7 @@ AreRuled-kept rules (s ∷ states) = decided (has_rule rules s) refl (AreRuled-k
     decided true is rest = (subst IsTrue is refl, rest)
     decided false is rest = rest
 
+-- the states that a publication leaves have rules of that publication
 pub AreRuled-publication : (rules : List ℕ) (keep : Bool) (states : List State) → IsTrue (has_id rules 0) → AreRuled rules (states_after keep rules states)
 AreRuled-publication rules true states first = AreRuled-handed rules states first
 AreRuled-publication rules false states first = AreRuled-kept rules states

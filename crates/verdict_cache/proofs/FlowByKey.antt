@@ -37,5 +37,6 @@ pub flow_of-by_key : (p : Fields) → flow_of p ≡ flow_by (key_of p)
 unfolding flow_of
 flow_of-by_key p = rw (has_header_is p) refl
 
+-- packets of one key have one flow, or none has any
 pub equal_keys_have_one_flow : EqualKeysHaveOneFlow
 equal_keys_have_one_flow p q same = flow_of-by_key p ∙ ap flow_by same ∙ sym (flow_of-by_key q)

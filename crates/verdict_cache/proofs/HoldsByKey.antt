@@ -120,6 +120,7 @@ unfolding holds
 holds-by_key p body tables locals port =
     rw (family_is p body.family, options_are p tables port body.options) refl
 
+-- each rule's body says the same of packets of one key
 pub equal_keys_hold_alike : EqualKeysHoldAlike
 equal_keys_hold_alike p q same body tables locals port =
     holds-by_key p body tables locals port

@@ -53,6 +53,7 @@ same_options-itself a =
     and_from _ _ (beq-itself a.strict_source_route) (and_from _ _ (beq-itself a.loose_source_route)
     (and_from _ _ (beq-itself a.record_route) (beq-itself a.time_stamp)))
 
+-- keys that the cache takes for one are equal
 pub same_key-equal : (a b : Key) → same_key a b ≡ true → a ≡ b
 same_key-equal a b h =
     let source = and_parts (a.source.0 == b.source.0) _ h in
@@ -76,6 +77,7 @@ same_key-equal a b h =
 number-itself : (n : ℕ) → nat_eq n n ≡ true
 number-itself n = eq-eqb n n refl
 
+-- the cache takes a key for itself
 pub same_key-itself : (a : Key) → same_key a a ≡ true
 same_key-itself a =
     and_from _ _ (number-itself a.source.0) (and_from _ _ (number-itself a.destination.0)
