@@ -2,6 +2,7 @@
 use Rattle.std.specs.Prelude.{ℕ}
 use Rattle.rm_lock.specs.Tokens.{TokenState}
 
+-- The reading, and its depth.
 pub record DeepState (E B T L I : Type 0) : Type 0 where
   pub reading : TokenState E B T L I
   pub depth : ℕ
