@@ -46,6 +46,7 @@ impl Model for Book {
           object = b.states.object;
           ready = b.is_ready;
         })
+        × (b.lanes ≤ 64)
         × (65536 ≤ b.states.room)
         × (b.is_ready ≡ true → (vec_len b.facts < vec_capacity b.facts) × (vec_len b.entries < vec_capacity b.entries)) };
 }
@@ -124,10 +125,10 @@ impl Book {
         self.entries.reserve(2)?;
         let reply = self.states.step(&op);
         self.entries.push_reserved(Entry::Ask {
-            lane,
-            at,
+            lane: lane as u16,
             op,
             reply,
+            at,
         });
         Ok(reply)
     }
