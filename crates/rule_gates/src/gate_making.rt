@@ -1,15 +1,20 @@
-ghost use Rattle.rule_gates.specs.Gates.{IsGateOf};
-ghost use Rattle.rule_gates.specs.Covers.{IsGateOfBody, IsOpen, TellsBody};
+ghost use Rattle.std.specs.Prelude.{◌≡◌, true, false};
+ghost use Rattle.rule_gates.specs.Gates.{IsGateOf, is_exact};
+ghost use Rattle.rule_gates.specs.Covers.{IsExactGate, IsGateOfBody, IsOpen, IsTold, TellsBody};
 
+use crate::address_gate::AddressGate;
 use crate::addresses::addresses;
+use crate::port_gate::PortGate;
 use crate::ports::ports;
 use crate::stateful::looks_up;
+use crate::versions::{is_among, narrower};
 use crate::{Gate, Interval};
 use fw_rule::{Body, Family, Rule};
 
 /// The gate that admits every key.
 fn open() -> Gate
-    ensures { IsOpen result }
+    ensures opens { IsOpen result }
+    ensures partial { is_exact result ≡ false }
 {
     let every = Interval::every();
     Gate {
@@ -21,25 +26,57 @@ fn open() -> Gate
         destination_word: 0,
         protocol: 0,
         family: Family::AnyIp,
+        is_exact: false,
     }
+}
+
+/// Whether these parts of a gate of that version tell all of the body.
+fn is_told(
+    body: &Body,
+    family: Family,
+    source: &AddressGate,
+    destination: &AddressGate,
+    source_ports: &PortGate,
+    destination_ports: &PortGate,
+) -> bool
+    ensures { result ≡ true
+        → IsTold body.now family source.now destination.now source_ports.now
+        destination_ports.now }
+{
+    (source.is_exact && is_among(family, source.family))
+        && (destination.is_exact && is_among(family, destination.family))
+        && (source_ports.is_exact && destination_ports.is_exact)
+        && body.options.as_slice().is_empty()
 }
 
 /// The gate that admits the keys of the packets that the body holds of.
 fn body_gate(body: &Body) -> Gate
     ensures covers { IsGateOfBody body.now result }
     ensures tells { TellsBody body.now result }
+    ensures exact { IsExactGate body.now result }
 {
     let source = addresses(&body.source);
     let destination = addresses(&body.destination);
+    let source_ports = ports(&body.source_ports);
+    let destination_ports = ports(&body.destination_ports);
+    let family = narrower(body.family, narrower(source.family, destination.family));
     Gate {
-        source: source.numbers,
-        destination: destination.numbers,
-        source_ports: ports(&body.source_ports),
-        destination_ports: ports(&body.destination_ports),
-        source_word: source.place,
-        destination_word: destination.place,
+        source: source.word.numbers,
+        destination: destination.word.numbers,
+        source_ports: source_ports.numbers,
+        destination_ports: destination_ports.numbers,
+        source_word: source.word.place,
+        destination_word: destination.word.place,
         protocol: body.protocol,
-        family: body.family,
+        family,
+        is_exact: is_told(
+            body,
+            family,
+            &source,
+            &destination,
+            &source_ports,
+            &destination_ports,
+        ),
     }
 }
 

@@ -1,13 +1,18 @@
 use Rattle.std.proofs.Common.{refl}
-use Rattle.rule_gates.proofs.Admitted.{body_admits, body_tells}
+use Rattle.rule_gates.proofs.Admitted.{body_admits, body_exact, body_tells}
 use Rattle.rule_gates.proofs.gate_making.body_gate.Goals as goal
 
 pub returns-clause-covers : goal.returns-clause-covers
 returns-clause-covers c =
-    body_admits c.args.body.now _ c.addresses-source.result c.addresses-destination.result c.addresses-source.ensures.covers c.addresses-destination.ensures.covers c.ports.ensures.covers c.ports-2.ensures.covers
-    refl refl refl refl refl refl
+    body_admits c.args.body.now _ c.addresses-source.result c.addresses-destination.result c.addresses-source.ensures.covers c.addresses-destination.ensures.covers c.ports-source_ports.ensures.covers c.ports-destination_ports.ensures.covers
+    refl refl refl refl refl (λ is_six asked from to. c.narrower-family.ensures.covers is_six asked (c.narrower.ensures.covers is_six from to))
 
 pub returns-clause-tells : goal.returns-clause-tells
 returns-clause-tells c =
-    body_tells c.args.body.now _ c.addresses-source.result c.addresses-destination.result c.addresses-source.ensures.tells c.addresses-destination.ensures.tells c.ports.ensures.tells c.ports-2.ensures.tells refl
-    refl refl refl refl refl
+    body_tells c.args.body.now _ c.addresses-source.result c.addresses-destination.result c.addresses-source.ensures.tells c.addresses-destination.ensures.tells c.ports-source_ports.ensures.tells c.ports-destination_ports.ensures.tells refl
+    refl refl refl refl c.narrower-family.ensures.tells
+
+pub returns-clause-exact : goal.returns-clause-exact
+returns-clause-exact c =
+    body_exact c.args.body.now _ c.addresses-source.result c.addresses-destination.result c.ports-source_ports.result c.ports-destination_ports.result c.addresses-source.ensures.exact c.addresses-destination.ensures.exact c.ports-source_ports.ensures.exact c.ports-destination_ports.ensures.exact
+    refl refl refl refl refl refl refl c.narrower-family.ensures.tells c.is_told.ensures
