@@ -1,5 +1,5 @@
 -- What the parts of a gate have to admit.
-use Rattle.std.specs.Prelude.{◌≡◌, ℕ, ◌^◌, ◌<◌, ◌≤◌, Bool, true, false, Option, List, []}
+use Rattle.std.specs.Prelude.{◌≡◌, ℕ, ◌^◌, ◌<◌, ◌≤◌, Bool, true, false, Option, List}
 use Rattle.fw_base.specs.PortRange.{Ports}
 use Rattle.fw_base.specs.Prefix.{Network}
 use Rattle.fw_base.specs.declared.address.Addr.{Addr}
@@ -9,6 +9,7 @@ use Rattle.fw_rule.specs.declared.addr_item.AddrItem.TheVariants.{Net}
 use Rattle.fw_rule.specs.declared.addr_spec.AddrSpec.{AddrSpec}
 use Rattle.fw_rule.specs.declared.body.Body.{Body}
 use Rattle.fw_rule.specs.declared.family.Family.{Family}
+use Rattle.fw_rule.specs.declared.family.Family.TheVariants as family
 use Rattle.fw_rule.specs.declared.port_list.PortList.{PortList}
 use Rattle.ip6_headers.specs.declared.any_ip.AnyIp.{AnyIp}
 use Rattle.lookup_tables.specs.Tables.{NamedTables}
@@ -18,6 +19,7 @@ use Rattle.rule_match.specs.Ports.{is_in_ranges}
 use Rattle.rule_gates.specs.Gates.{admits, admits_version, is_exact}
 use Rattle.rule_gates.specs.Keys.{HasAddresses, IsAddress, IsKeyOf, port_number}
 use Rattle.rule_gates.specs.Telling.{MayHold, only_net, only_range}
+use Rattle.rule_gates.specs.Told.{has_four}
 use Rattle.rule_gates.specs.Within.{is_within}
 use Rattle.rule_gates.specs.Words.{number_of, word}
 use Rattle.rule_gates.specs.declared.address_gate.AddressGate.{AddressGate}
@@ -99,20 +101,17 @@ abbrev pub IsGateOfBody : Body → Gate → Type 0
 IsGateOfBody body gate = (tables : NamedTables) (locals : List Addr) (packet : AnyIp) (port : Port) (key : Key)
     → IsKeyOf packet key → holds body tables locals packet port ≡ true → admits gate key ≡ true
 
--- each packet of the version is one of the other
-abbrev pub IsAmong : Family → Family → Type 0
-IsAmong family other = (is_six : Bool) → admits_version family is_six ≡ true → admits_version other is_six ≡ true
+-- the second version is every one, or IPv4 where the first one has it
+abbrev pub is_beside : Family → Family → Bool
+is_beside asked family.AnyIp = true
+is_beside asked family.Four = has_four asked
+is_beside asked family.Six = false
 
--- A gate of this version tells all of the body: its addresses and ports are told exactly, and there is no
--- option.
-pub record IsTold (body : Body) (family : Family) (source destination : AddressGate) (source_ports destination_ports : PortGate) : Type 0 where
-  pub source_exact : source.is_exact ≡ true
-  pub source_version : IsAmong family source.family
-  pub destination_exact : destination.is_exact ≡ true
-  pub destination_version : IsAmong family destination.family
-  pub source_ports_exact : source_ports.is_exact ≡ true
-  pub destination_ports_exact : destination_ports.is_exact ≡ true
-  pub no_option : body.options ≡ []
+-- the first version, but for where that is every one
+abbrev pub narrower : Family → Family → Family
+narrower family.AnyIp other = other
+narrower family.Four other = family.Four
+narrower family.Six other = family.Six
 
 -- where the gate tells all: the body holds of each packet whose key it admits
 abbrev pub IsExactGate : Body → Gate → Type 0

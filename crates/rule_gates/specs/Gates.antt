@@ -12,6 +12,7 @@ use Rattle.rule_match.specs.Holds.{holds, holds_protocol}
 use Rattle.rule_gates.specs.Keys.{HasAddresses, IsKeyOf}
 use Rattle.rule_gates.specs.Stateful.{looks_up}
 use Rattle.rule_gates.specs.Telling.{MayHold}
+use Rattle.rule_gates.specs.Told.{is_told}
 use Rattle.rule_gates.specs.Within.{is_within}
 use Rattle.rule_gates.specs.declared.gate.Gate.{Gate}
 use Rattle.rule_gates.specs.declared.key.Key.{Key}
@@ -47,14 +48,14 @@ concerns rule tables locals packet port = looks_up rule || is_body_held rule.bod
 
 -- Whatever the tables and the host's own addresses: the gate admits the key of each packet that concerns
 -- the rule. Where the rule looks nothing up, it admits no key of a packet that one range of ports, one
--- prefix of IPv4, the protocol or the version shuts out. Where it tells all, the rule looks nothing up, and
--- its body holds of each packet whose key is admitted: of those alone, as `sound` says.
+-- prefix of IPv4, the protocol or the version shuts out. It tells all of a rule that has no other parts:
+-- whose body then holds of each packet whose key is admitted, and of those alone, as `sound` says.
 pub record IsGateOf (rule : Rule) (gate : Gate) : Type 0 where
   pub sound : (tables : NamedTables) (locals : List Addr) (packet : AnyIp) (port : Port) (key : Key)
       → IsKeyOf packet key → concerns rule tables locals packet port ≡ true → admits gate key ≡ true
   pub telling : (body : Body) (packet : AnyIp) (key : Key) → rule.body ≡ Some body → looks_up rule ≡ false → IsKeyOf packet key
       → admits gate key ≡ true → MayHold body packet
-  pub plain : is_exact gate ≡ true → looks_up rule ≡ false
+  pub exact : is_exact gate ≡ is_told rule
   pub whole : (tables : NamedTables) (locals : List Addr) (packet : AnyIp) (port : Port) (key : Key)
       → is_exact gate ≡ true → IsKeyOf packet key → HasAddresses packet → admits gate key ≡ true → is_body_held rule.body tables locals packet port ≡ true
 

@@ -1,13 +1,14 @@
-ghost use Rattle.std.specs.Prelude.{◌≡◌, true, false};
+ghost use Rattle.std.specs.Prelude.{◌≡◌, false, ◌&&◌, ◌==◌, Some, length};
 ghost use Rattle.rule_gates.specs.Gates.{IsGateOf, is_exact};
-ghost use Rattle.rule_gates.specs.Covers.{IsExactGate, IsGateOfBody, IsOpen, IsTold, TellsBody};
+ghost use Rattle.rule_gates.specs.Covers.{IsExactGate, IsGateOfBody, IsOpen, TellsBody};
+ghost use Rattle.rule_gates.specs.Told.{is_told_body};
 
 use crate::address_gate::AddressGate;
 use crate::addresses::addresses;
 use crate::port_gate::PortGate;
 use crate::ports::ports;
 use crate::stateful::looks_up;
-use crate::versions::{is_among, narrower};
+use crate::versions::narrower;
 use crate::{Gate, Interval};
 use fw_rule::{Body, Family, Rule};
 
@@ -30,23 +31,22 @@ fn open() -> Gate
     }
 }
 
-/// Whether these parts of a gate of that version tell all of the body.
+/// Whether all parts of the body are told exactly; no gate tells of options.
 fn is_told(
     body: &Body,
-    family: Family,
     source: &AddressGate,
     destination: &AddressGate,
     source_ports: &PortGate,
     destination_ports: &PortGate,
 ) -> bool
-    ensures { result ≡ true
-        → IsTold body.now family source.now destination.now source_ports.now
-        destination_ports.now }
+    ensures { result
+        ≡ (source.now.is_exact && (destination.now.is_exact && (source_ports.now.is_exact
+        && (destination_ports.now.is_exact && length body.now.options == 0)))) }
 {
-    (source.is_exact && is_among(family, source.family))
-        && (destination.is_exact && is_among(family, destination.family))
-        && (source_ports.is_exact && destination_ports.is_exact)
-        && body.options.as_slice().is_empty()
+    source.is_exact
+        && (destination.is_exact
+            && (source_ports.is_exact
+                && (destination_ports.is_exact && body.options.as_slice().is_empty())))
 }
 
 /// The gate that admits the keys of the packets that the body holds of.
@@ -54,9 +54,10 @@ fn body_gate(body: &Body) -> Gate
     ensures covers { IsGateOfBody body.now result }
     ensures tells { TellsBody body.now result }
     ensures exact { IsExactGate body.now result }
+    ensures told { is_exact result ≡ is_told_body (Some body.now) }
 {
-    let source = addresses(&body.source);
-    let destination = addresses(&body.destination);
+    let source = addresses(&body.source, body.family);
+    let destination = addresses(&body.destination, body.family);
     let source_ports = ports(&body.source_ports);
     let destination_ports = ports(&body.destination_ports);
     let family = narrower(body.family, narrower(source.family, destination.family));
@@ -71,7 +72,6 @@ fn body_gate(body: &Body) -> Gate
         family,
         is_exact: is_told(
             body,
-            family,
             &source,
             &destination,
             &source_ports,

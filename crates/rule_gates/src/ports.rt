@@ -1,5 +1,6 @@
 ghost use Rattle.std.specs.Prelude.{◌≡◌, ◌+◌, ◌<◌};
 ghost use Rattle.rule_gates.specs.Covers.{CoversList, CoversPorts, IsExactPorts, TellsPorts};
+ghost use Rattle.rule_gates.specs.Told.{are_told_ports};
 
 use crate::Interval;
 use crate::port_gate::PortGate;
@@ -22,6 +23,7 @@ fn listed(asked: &PortList) -> PortGate
     ensures covers { CoversList asked.now result.numbers }
     ensures tells { TellsPorts (Some asked.now) result.numbers }
     ensures exact { IsExactPorts (Some asked.now) result }
+    ensures told { result.is_exact ≡ are_told_ports (Some asked.now) }
 {
     match asked.ranges.as_slice() {
         [only] if !asked.negated => PortGate {
@@ -40,6 +42,7 @@ pub(crate) fn ports(asked: &Option<PortList>) -> PortGate
     ensures covers { CoversPorts asked.now result.numbers }
     ensures tells { TellsPorts asked.now result.numbers }
     ensures exact { IsExactPorts asked.now result }
+    ensures told { result.is_exact ≡ are_told_ports asked.now }
 {
     match asked {
         Some(list) => listed(list),

@@ -1,14 +1,12 @@
-ghost use Rattle.std.specs.Prelude.{◌≡◌, Bool, true};
-ghost use Rattle.rule_gates.specs.Covers.{IsAmong};
-ghost use Rattle.rule_gates.specs.Gates.{admits_version};
+ghost use Rattle.std.specs.Prelude.{◌≡◌};
+ghost use Rattle.rule_gates.specs.Covers as covers;
+ghost use Rattle.rule_gates.specs.Told as spec;
 
 use fw_rule::Family;
 
 /// The version that is asked for twice: the first one, but for where that is every version.
 pub(crate) fn narrower(asked: Family, other: Family) -> Family
-    ensures covers { (is_six : Bool) → admits_version asked is_six ≡ true
-        → admits_version other is_six ≡ true → admits_version result is_six ≡ true }
-    ensures tells { IsAmong result asked }
+    ensures { result ≡ covers.narrower asked other }
 {
     match asked {
         Family::AnyIp => other,
@@ -17,13 +15,12 @@ pub(crate) fn narrower(asked: Family, other: Family) -> Family
     }
 }
 
-/// Whether each packet of the one version is of the other.
-pub(crate) fn is_among(family: Family, other: Family) -> bool
-    ensures { result ≡ true → IsAmong family other }
+/// Whether packets of IPv4 are of the version.
+pub(crate) fn has_four(asked: Family) -> bool
+    ensures { result ≡ spec.has_four asked }
 {
-    match other {
-        Family::AnyIp => true,
-        Family::Four => matches!(family, Family::Four),
-        Family::Six => matches!(family, Family::Six),
+    match asked {
+        Family::AnyIp | Family::Four => true,
+        Family::Six => false,
     }
 }

@@ -54,7 +54,7 @@ same_gate : (rule : Rule) (g h : Gate) → HaveSame g h → IsGateOf rule h → 
 same_gate rule g h same is = record {
   sound = λ tables locals packet port key key_is concerned. same_admits g h key same ∙ is.sound tables locals packet port key key_is concerned;
   telling = λ body packet key there unlooked key_is admitted. is.telling body packet key there unlooked key_is (sym (same_admits g h key same) ∙ admitted);
-  plain = λ all. is.plain (sym same.is_exact ∙ all);
+  exact = same.is_exact ∙ is.exact;
   whole = λ tables locals packet port key all key_is fit admitted. is.whole tables locals packet port key (sym same.is_exact ∙ all) key_is fit (sym (same_admits g h key same) ∙ admitted);
 }
 
