@@ -1,25 +1,31 @@
 -- Keys that a gate admits.
-use Rattle.std.proofs.Common.{◌≡◌, ℕ, zero, suc, ◌^◌, ◌<◌, Bool, true, false, ◌&&◌, List, get_or, slice_index, refl, ap, ◌∙◌, arith}
+use Rattle.std.proofs.Common.{◌≡◌, ℕ, zero, suc, ◌^◌, ◌<◌, Bool, true, false, ◌&&◌, List, [], ◌∷◌, ◌==◌, length, get_or, slice_index, refl, sym, ap, ◌∙◌, arith}
 use Rattle.std.proofs.Math.Nat.{mod-lt}
 use Rattle.std.proofs.lemmas.Nat.{pow_pos}
 use Rattle.std.proofs.lemmas.Bool.Decides.{nat_tests}
 use Rattle.fw_rule.specs.declared.body.Body.{Body}
 use Rattle.fw_rule.specs.declared.family.Family.{Family}
 use Rattle.fw_rule.specs.declared.family.Family.TheVariants as family
+use Rattle.fw_base.specs.declared.address.Addr.{Addr}
+use Rattle.fw_base.specs.declared.port.Port.{Port}
+use Rattle.ip6_headers.specs.Either.{protocol_of}
 use Rattle.ip6_headers.specs.declared.any_ip.AnyIp.{AnyIp}
+use Rattle.lookup_tables.specs.Tables.{NamedTables}
 use Rattle.ip6_headers.specs.declared.any_ip.AnyIp.TheVariants.{Four, Six}
-use Rattle.rule_match.specs.Holds.{holds, holds_family, holds_protocol}
+use Rattle.rule_match.specs.Holds.{holds, holds_addresses, holds_family, holds_ports, holds_protocol}
 use Rattle.rule_match.specs.Packet.{Address, source_of, destination_of}
 use Rattle.rule_match.specs.Ports.{source_port, destination_port}
-use Rattle.rule_gates.specs.Covers.{CoversAddresses, CoversPorts, IsGateOfBody, IsOpen, TellsAddresses, TellsBody, TellsPorts}
-use Rattle.rule_gates.specs.Gates.{admits, admits_version}
+use Rattle.rule_gates.specs.Covers.{CoversAddresses, CoversPorts, IsExactAddresses, IsExactGate, IsExactPorts, IsGateOfBody, IsOpen, TellsAddresses, TellsBody, TellsPorts, is_beside, is_six_address, narrower}
+use Rattle.rule_gates.specs.Gates.{admits, admits_version, is_exact}
 use Rattle.rule_gates.specs.Keys.{is_six}
 use Rattle.rule_gates.specs.Within.{is_within}
 use Rattle.rule_gates.specs.Words.{number_of, word, words_of}
+use Rattle.rule_gates.specs.declared.address_gate.AddressGate.{AddressGate}
 use Rattle.rule_gates.specs.declared.chosen_word.ChosenWord.{ChosenWord}
 use Rattle.rule_gates.specs.declared.gate.Gate.{Gate}
 use Rattle.rule_gates.specs.declared.interval.Interval.{Interval}
 use Rattle.rule_gates.specs.declared.key.Key.{Key}
+use Rattle.rule_gates.specs.declared.port_gate.PortGate.{PortGate}
 
 both_true : (a b : Bool) → (a && b) ≡ true → (a ≡ true) × (b ≡ true)
 both_true true b is = (refl, is)
@@ -81,28 +87,81 @@ open_admits gate every low span source destination source_ports destination_port
     word_within : (words : List ℕ) (n place : ℕ) → words ≡ words_of n → place < 4 → slice_index words place < 2 ^ 32
     word_within words n place are within = rw (key_word words n place are within) (word-fits place n)
 
+-- a packet's addresses are of its version
+source_version : (packet : AnyIp) → is_six_address (source_of packet) ≡ is_six packet
+source_version (Four packet) = refl
+source_version (Six packet) = refl
+
+destination_version : (packet : AnyIp) → is_six_address (destination_of packet) ≡ is_six packet
+destination_version (Four packet) = refl
+destination_version (Six packet) = refl
+
+-- a packet of both versions is of the narrower one
+narrower_admits : (asked other : Family) (is_six : Bool) → admits_version asked is_six ≡ true → admits_version other is_six ≡ true → admits_version (narrower asked other) is_six ≡ true
+narrower_admits family.AnyIp other is_six first second = second
+narrower_admits family.Four other is_six first second = first
+narrower_admits family.Six other is_six first second = first
+
+-- each packet of the version is one of the other
+abbrev IsAmong : Family → Family → Type 0
+IsAmong family other = (is_six : Bool) → admits_version family is_six ≡ true → admits_version other is_six ≡ true
+
+-- one of the narrower version is of the first
+narrower_among : (asked other : Family) → IsAmong (narrower asked other) asked
+narrower_among family.AnyIp other is_six is = refl
+narrower_among family.Four other is_six is = is
+narrower_among family.Six other is_six is = is
+
+-- and of each of two that are told beside it
+both_among : (asked source destination : Family) → is_beside asked source ≡ true → is_beside asked destination ≡ true
+    → IsAmong (narrower asked (narrower source destination)) source × IsAmong (narrower asked (narrower source destination)) destination
+both_among family.AnyIp family.AnyIp destination first second = (λ is_six is. refl, λ is_six is. is)
+both_among family.AnyIp family.Four family.AnyIp first second = (λ is_six is. is, λ is_six is. refl)
+both_among family.AnyIp family.Four family.Four first second = (λ is_six is. is, λ is_six is. is)
+both_among family.AnyIp family.Four family.Six first second = absurd (cc)
+both_among family.AnyIp family.Six destination first second = absurd (cc)
+both_among family.Four family.AnyIp family.AnyIp first second = (λ is_six is. refl, λ is_six is. refl)
+both_among family.Four family.AnyIp family.Four first second = (λ is_six is. refl, λ is_six is. is)
+both_among family.Four family.AnyIp family.Six first second = absurd (cc)
+both_among family.Four family.Four family.AnyIp first second = (λ is_six is. is, λ is_six is. refl)
+both_among family.Four family.Four family.Four first second = (λ is_six is. is, λ is_six is. is)
+both_among family.Four family.Four family.Six first second = absurd (cc)
+both_among family.Four family.Six destination first second = absurd (cc)
+both_among family.Six family.AnyIp family.AnyIp first second = (λ is_six is. refl, λ is_six is. refl)
+both_among family.Six family.AnyIp family.Four first second = absurd (cc)
+both_among family.Six family.AnyIp family.Six first second = absurd (cc)
+both_among family.Six family.Four destination first second = absurd (cc)
+both_among family.Six family.Six destination first second = absurd (cc)
+
 -- a gate whose parts have what the parts of the body ask for
-pub body_admits : (body : Body) (gate : Gate) (source destination : ChosenWord)
+pub body_admits : (body : Body) (gate : Gate) (source destination : AddressGate)
     → CoversAddresses body.source source → CoversAddresses body.destination destination
     → CoversPorts body.source_ports gate.source_ports → CoversPorts body.destination_ports gate.destination_ports
-    → gate.source ≡ source.numbers → gate.source_word ≡ source.place → gate.destination ≡ destination.numbers → gate.destination_word ≡ destination.place
-    → gate.protocol ≡ body.protocol → gate.family ≡ body.family
+    → gate.source ≡ source.word.numbers → gate.source_word ≡ source.word.place → gate.destination ≡ destination.word.numbers → gate.destination_word ≡ destination.word.place
+    → gate.protocol ≡ body.protocol
+    → gate.family ≡ narrower body.family (narrower source.family destination.family)
     → IsGateOfBody body gate
 unfolding holds
-body_admits body gate source destination sources destinations source_ports destination_ports source_is source_at destination_is destination_at protocol version tables locals packet port key is held =
+body_admits body gate source destination sources destinations source_ports destination_ports source_is source_at destination_is destination_at protocol family_is tables locals packet port key is held =
     let by_version = both_true _ _ held in
     let by_protocol = both_true _ _ by_version.1 in
     let by_source = both_true _ _ by_protocol.1 in
     let by_source_ports = both_true _ _ by_source.1 in
     let by_destination = both_true _ _ by_source_ports.1 in
     let by_destination_ports = both_true _ _ by_destination.1 in
+    let from = sources tables locals (source_of packet) by_source.0 in
+    let to = destinations tables locals (destination_of packet) by_destination.0 in
     admits_by gate key
-    (addressed gate.source source gate.source_word key.source (number_of (source_of packet)) source_is source_at is.source (sources tables locals (source_of packet) by_source.0))
-    (addressed gate.destination destination gate.destination_word key.destination (number_of (destination_of packet)) destination_is destination_at is.destination (destinations tables locals (destination_of packet) by_destination.0))
+    (addressed gate.source source.word gate.source_word key.source (number_of (source_of packet)) source_is source_at is.source from.1)
+    (addressed gate.destination destination.word gate.destination_word key.destination (number_of (destination_of packet)) destination_is destination_at is.destination to.1)
     (rw is.destination_port (destination_ports (destination_port packet) (rw (← is.destination_port) key.ported.1) by_destination_ports.0))
     (rw (protocol, is.protocol) by_protocol.0)
     (rw is.source_port (source_ports (source_port packet) (rw (← is.source_port) key.ported.0) by_source_ports.0))
-    (rw (version, is.version) (version_admitted body.family packet by_version.0))
+    (rw (family_is, is.version)
+    (narrower_admits body.family (narrower source.family destination.family) (is_six packet) (version_admitted body.family packet by_version.0)
+    (narrower_admits source.family destination.family (is_six packet)
+    (ap (λ six. admits_version source.family six) (sym (source_version packet)) ∙ from.0)
+    (ap (λ six. admits_version destination.family six) (sym (destination_version packet)) ∙ to.0))))
   where
     addressed : (interval : Interval) (chosen : ChosenWord) (place : ℕ) (words : List ℕ) (n : ℕ) → interval ≡ chosen.numbers → place ≡ chosen.place → words ≡ words_of n
         → is_within chosen.numbers (word chosen.place n) ≡ true → is_within interval (slice_index words place) ≡ true
@@ -143,28 +202,82 @@ version_held family.Four (Six packet) admitted = cc
 version_held family.Six (Four packet) admitted = cc
 version_held family.Six (Six packet) admitted = refl
 
+-- the chosen word of an address is one of the numbers, where it is one of the gate's
+told : (interval : Interval) (chosen : ChosenWord) (place : ℕ) (words : List ℕ) (n : ℕ) → interval ≡ chosen.numbers → place ≡ chosen.place → words ≡ words_of n
+    → is_within interval (slice_index words place) ≡ true → is_within chosen.numbers (word chosen.place n) ≡ true
+told interval chosen place words n numbers at are has =
+    let has_word : is_within chosen.numbers (slice_index words chosen.place) ≡ true = rw (← numbers, ← at) has in
+    rw (← key_word words n chosen.place are chosen.within) has_word
+
 -- a gate whose parts tell what the parts of the body ask for
-pub body_tells : (body : Body) (gate : Gate) (source destination : ChosenWord)
-    → TellsAddresses body.source source → TellsAddresses body.destination destination
+pub body_tells : (body : Body) (gate : Gate) (source destination : AddressGate)
+    → TellsAddresses body.source source.word → TellsAddresses body.destination destination.word
     → TellsPorts body.source_ports gate.source_ports → TellsPorts body.destination_ports gate.destination_ports
-    → gate.source ≡ source.numbers → gate.source_word ≡ source.place → gate.destination ≡ destination.numbers → gate.destination_word ≡ destination.place
-    → gate.protocol ≡ body.protocol → gate.family ≡ body.family
+    → gate.source ≡ source.word.numbers → gate.source_word ≡ source.word.place → gate.destination ≡ destination.word.numbers → gate.destination_word ≡ destination.word.place
+    → gate.protocol ≡ body.protocol → gate.family ≡ narrower body.family (narrower source.family destination.family)
     → TellsBody body gate
 body_tells body gate source destination sources destinations source_ports destination_ports source_is source_at destination_is destination_at protocol version packet key is admitted =
     let parts = admitted_by gate key admitted in
     record {
-      version = version_held body.family packet (rw (← version, ← is.version) parts.version);
+      version = version_held body.family packet (narrower_among body.family (narrower source.family destination.family) (is_six packet) (rw (← version, ← is.version) parts.version));
       protocol = rw (← protocol, ← is.protocol) parts.protocol;
       source = λ net address only from fits. sources net address only fits
-          (addressed gate.source source gate.source_word key.source address source_is source_at (is.source ∙ ap (λ (a : Address). words_of (number_of a)) from) parts.source);
+          (told gate.source source.word gate.source_word key.source address source_is source_at (is.source ∙ ap (λ (a : Address). words_of (number_of a)) from) parts.source);
       destination = λ net address only to fits. destinations net address only fits
-          (addressed gate.destination destination gate.destination_word key.destination address destination_is destination_at (is.destination ∙ ap (λ (a : Address). words_of (number_of a)) to) parts.destination);
+          (told gate.destination destination.word gate.destination_word key.destination address destination_is destination_at (is.destination ∙ ap (λ (a : Address). words_of (number_of a)) to) parts.destination);
       source_ports = λ range only. source_ports range (source_port packet) only (rw (← is.source_port) parts.source_ports);
       destination_ports = λ range only. destination_ports range (destination_port packet) only (rw (← is.destination_port) parts.destination_ports);
     }
-  where
-    addressed : (interval : Interval) (chosen : ChosenWord) (place : ℕ) (words : List ℕ) (n : ℕ) → interval ≡ chosen.numbers → place ≡ chosen.place → words ≡ words_of n
-        → is_within interval (slice_index words place) ≡ true → is_within chosen.numbers (word chosen.place n) ≡ true
-    addressed interval chosen place words n numbers at are has =
-        let has_word : is_within chosen.numbers (slice_index words chosen.place) ≡ true = rw (← numbers, ← at) has in
-        rw (← key_word words n chosen.place are chosen.within) has_word
+
+no_elements : {A : Type 0} (xs : List A) → (length xs == 0) ≡ true → xs ≡ []
+no_elements [] none = refl
+no_elements (x ∷ xs) none =
+    let none_at_all : suc (length xs) ≡ 0 = grind (arith, nat_tests) in
+    absurd (omega arith)
+
+-- a body holds part by part
+holds_by : (body : Body) (tables : NamedTables) (locals : List Addr) (packet : AnyIp) (port : Port)
+    → holds_family body.family packet ≡ true
+    → holds_protocol body.protocol (protocol_of packet) ≡ true
+    → holds_addresses tables locals (source_of packet) body.source ≡ true
+    → holds_ports (source_port packet) body.source_ports ≡ true
+    → holds_addresses tables locals (destination_of packet) body.destination ≡ true
+    → holds_ports (destination_port packet) body.destination_ports ≡ true
+    → body.options ≡ []
+    → holds body tables locals packet port ≡ true
+unfolding holds
+holds_by body tables locals packet port version protocol source source_ports destination destination_ports options =
+    rw (version, protocol, source, source_ports, destination, destination_ports, options) refl
+
+-- a gate of exact parts tells all
+pub body_exact : (body : Body) (gate : Gate) (source destination : AddressGate) (source_ports destination_ports : PortGate)
+    → IsExactAddresses body.source source → IsExactAddresses body.destination destination
+    → IsExactPorts body.source_ports source_ports → IsExactPorts body.destination_ports destination_ports
+    → gate.source ≡ source.word.numbers → gate.source_word ≡ source.word.place → gate.destination ≡ destination.word.numbers → gate.destination_word ≡ destination.word.place
+    → gate.source_ports ≡ source_ports.numbers → gate.destination_ports ≡ destination_ports.numbers
+    → gate.protocol ≡ body.protocol → gate.family ≡ narrower body.family (narrower source.family destination.family)
+    → (source.is_exact ≡ true → is_beside body.family source.family ≡ true) → (destination.is_exact ≡ true → is_beside body.family destination.family ≡ true)
+    → is_exact gate ≡ (source.is_exact && (destination.is_exact && (source_ports.is_exact && (destination_ports.is_exact && length body.options == 0))))
+    → IsExactGate body gate
+body_exact body gate source destination source_ports destination_ports sources destinations source_ports_of destination_ports_of source_is source_at destination_is destination_at source_ports_are destination_ports_are protocol version beside_source beside_destination exact tables locals packet port key all is fit admitted =
+    let parts = admitted_by gate key admitted in
+    let by_source = both_true source.is_exact _ (sym exact ∙ all) in
+    let by_destination = both_true destination.is_exact _ by_source.1 in
+    let by_source_ports = both_true source_ports.is_exact _ by_destination.1 in
+    let by_destination_ports = both_true destination_ports.is_exact _ by_source_ports.1 in
+    let among = both_among body.family source.family destination.family (beside_source by_source.0) (beside_destination by_destination.0) in
+    let of_version : admits_version (narrower body.family (narrower source.family destination.family)) (is_six packet) ≡ true = rw (← version, ← is.version) parts.version in
+    holds_by body tables locals packet port
+    (version_held body.family packet (narrower_among body.family (narrower source.family destination.family) (is_six packet) of_version))
+    (rw (← protocol, ← is.protocol) parts.protocol)
+    (sources tables locals (source_of packet) by_source.0 fit.source (
+      ap (λ six. admits_version source.family six) (source_version packet) ∙ among.0 (is_six packet) of_version,
+      told gate.source source.word gate.source_word key.source (number_of (source_of packet)) source_is source_at is.source parts.source,
+    ))
+    (source_ports_of (source_port packet) by_source_ports.0 (rw (← source_ports_are, ← is.source_port) parts.source_ports))
+    (destinations tables locals (destination_of packet) by_destination.0 fit.destination (
+      ap (λ six. admits_version destination.family six) (destination_version packet) ∙ among.1 (is_six packet) of_version,
+      told gate.destination destination.word gate.destination_word key.destination (number_of (destination_of packet)) destination_is destination_at is.destination parts.destination,
+    ))
+    (destination_ports_of (destination_port packet) by_destination_ports.0 (rw (← destination_ports_are, ← is.destination_port) parts.destination_ports))
+    (no_elements body.options by_destination_ports.1)

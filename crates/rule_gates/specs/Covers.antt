@@ -1,5 +1,5 @@
 -- What the parts of a gate have to admit.
-use Rattle.std.specs.Prelude.{◌≡◌, ℕ, ◌^◌, ◌<◌, ◌≤◌, true, Option, List}
+use Rattle.std.specs.Prelude.{◌≡◌, ℕ, ◌^◌, ◌<◌, ◌≤◌, Bool, true, false, Option, List}
 use Rattle.fw_base.specs.PortRange.{Ports}
 use Rattle.fw_base.specs.Prefix.{Network}
 use Rattle.fw_base.specs.declared.address.Addr.{Addr}
@@ -8,35 +8,59 @@ use Rattle.fw_rule.specs.declared.addr_item.AddrItem.{AddrItem}
 use Rattle.fw_rule.specs.declared.addr_item.AddrItem.TheVariants.{Net}
 use Rattle.fw_rule.specs.declared.addr_spec.AddrSpec.{AddrSpec}
 use Rattle.fw_rule.specs.declared.body.Body.{Body}
+use Rattle.fw_rule.specs.declared.family.Family.{Family}
+use Rattle.fw_rule.specs.declared.family.Family.TheVariants as family
 use Rattle.fw_rule.specs.declared.port_list.PortList.{PortList}
 use Rattle.ip6_headers.specs.declared.any_ip.AnyIp.{AnyIp}
 use Rattle.lookup_tables.specs.Tables.{NamedTables}
 use Rattle.rule_match.specs.Holds.{as_signed, has_address, holds, holds_addresses, holds_item, holds_ports}
-use Rattle.rule_match.specs.Packet.{Address}
+use Rattle.rule_match.specs.Packet.{Address, V4, V6}
 use Rattle.rule_match.specs.Ports.{is_in_ranges}
-use Rattle.rule_gates.specs.Gates.{admits}
-use Rattle.rule_gates.specs.Keys.{IsKeyOf, port_number}
+use Rattle.rule_gates.specs.Gates.{admits, admits_version, is_exact}
+use Rattle.rule_gates.specs.Keys.{HasAddresses, IsAddress, IsKeyOf, port_number}
 use Rattle.rule_gates.specs.Telling.{MayHold, only_net, only_range}
+use Rattle.rule_gates.specs.Told.{has_four}
 use Rattle.rule_gates.specs.Within.{is_within}
 use Rattle.rule_gates.specs.Words.{number_of, word}
+use Rattle.rule_gates.specs.declared.address_gate.AddressGate.{AddressGate}
 use Rattle.rule_gates.specs.declared.chosen_word.ChosenWord.{ChosenWord}
 use Rattle.rule_gates.specs.declared.gate.Gate.{Gate}
 use Rattle.rule_gates.specs.declared.interval.Interval.{Interval}
 use Rattle.rule_gates.specs.declared.key.Key.{Key}
+use Rattle.rule_gates.specs.declared.port_gate.PortGate.{PortGate}
 
 -- the chosen word of the address is one of the numbers
 abbrev pub HasAddress : ChosenWord → ℕ → Type 0
 HasAddress chosen number = is_within chosen.numbers (word chosen.place number) ≡ true
 
+-- the address is one of IPv6
+abbrev pub is_six_address : Address → Bool
+is_six_address (V4 address) = false
+is_six_address (V6 address) = true
+
+-- the address is of that version, and its chosen word is one of the numbers
+abbrev pub AdmitsAddress : AddressGate → Address → Type 0
+AdmitsAddress gate address = (admits_version gate.family (is_six_address address) ≡ true) × HasAddress gate.word (number_of address)
+
 -- so for each address that the element has
-abbrev pub CoversItem : AddrItem → ChosenWord → Type 0
-CoversItem item chosen = (tables : NamedTables) (locals : List Addr) (address : Address)
-    → holds_item tables locals address item ≡ true → HasAddress chosen (number_of address)
+abbrev pub CoversItem : AddrItem → AddressGate → Type 0
+CoversItem item gate = (tables : NamedTables) (locals : List Addr) (address : Address)
+    → holds_item tables locals address item ≡ true → AdmitsAddress gate address
 
 -- and for each that a rule asks for
-abbrev pub CoversAddresses : AddrSpec → ChosenWord → Type 0
-CoversAddresses asked chosen = (tables : NamedTables) (locals : List Addr) (address : Address)
-    → holds_addresses tables locals address asked ≡ true → HasAddress chosen (number_of address)
+abbrev pub CoversAddresses : AddrSpec → AddressGate → Type 0
+CoversAddresses asked gate = (tables : NamedTables) (locals : List Addr) (address : Address)
+    → holds_addresses tables locals address asked ≡ true → AdmitsAddress gate address
+
+-- where the element is told exactly: it has each address that is admitted
+abbrev pub IsExactItem : AddrItem → AddressGate → Type 0
+IsExactItem item gate = (tables : NamedTables) (locals : List Addr) (address : Address)
+    → gate.is_exact ≡ true → IsAddress address → AdmitsAddress gate address → holds_item tables locals address item ≡ true
+
+-- where the addresses are told exactly: the rule asks for each that is admitted
+abbrev pub IsExactAddresses : AddrSpec → AddressGate → Type 0
+IsExactAddresses asked gate = (tables : NamedTables) (locals : List Addr) (address : Address)
+    → gate.is_exact ≡ true → IsAddress address → AdmitsAddress gate address → holds_addresses tables locals address asked ≡ true
 
 -- a port that the list asks for is one of the numbers
 abbrev pub CoversList : PortList → Interval → Type 0
@@ -60,6 +84,10 @@ TellsAddresses asked chosen = (net : Network) (address : ℕ) → asked ≡ only
 abbrev pub TellsPorts : Option PortList → Interval → Type 0
 TellsPorts asked numbers = (range : Ports) (port : Option ℕ) → asked ≡ only_range range → is_within numbers (port_number port) ≡ true → holds_ports port asked ≡ true
 
+-- where the ports are told exactly: a port that is one of the numbers is one that the rule asks for; so is none
+abbrev pub IsExactPorts : Option PortList → PortGate → Type 0
+IsExactPorts asked gate = (port : Option ℕ) → gate.is_exact ≡ true → is_within gate.numbers (port_number port) ≡ true → holds_ports port asked ≡ true
+
 -- the gate admits the keys of all packets
 abbrev pub IsOpen : Gate → Type 0
 IsOpen gate = (packet : AnyIp) (key : Key) → IsKeyOf packet key → admits gate key ≡ true
@@ -72,3 +100,20 @@ TellsBody body gate = (packet : AnyIp) (key : Key) → IsKeyOf packet key → ad
 abbrev pub IsGateOfBody : Body → Gate → Type 0
 IsGateOfBody body gate = (tables : NamedTables) (locals : List Addr) (packet : AnyIp) (port : Port) (key : Key)
     → IsKeyOf packet key → holds body tables locals packet port ≡ true → admits gate key ≡ true
+
+-- the second version is every one, or IPv4 where the first one has it
+abbrev pub is_beside : Family → Family → Bool
+is_beside asked family.AnyIp = true
+is_beside asked family.Four = has_four asked
+is_beside asked family.Six = false
+
+-- the first version, but for where that is every one
+abbrev pub narrower : Family → Family → Family
+narrower family.AnyIp other = other
+narrower family.Four other = family.Four
+narrower family.Six other = family.Six
+
+-- where the gate tells all: the body holds of each packet whose key it admits
+abbrev pub IsExactGate : Body → Gate → Type 0
+IsExactGate body gate = (tables : NamedTables) (locals : List Addr) (packet : AnyIp) (port : Port) (key : Key)
+    → is_exact gate ≡ true → IsKeyOf packet key → HasAddresses packet → admits gate key ≡ true → holds body tables locals packet port ≡ true

@@ -9,9 +9,10 @@ use Rattle.fw_rule.specs.declared.rule.Rule.{Rule}
 use Rattle.ip6_headers.specs.declared.any_ip.AnyIp.{AnyIp}
 use Rattle.lookup_tables.specs.Tables.{NamedTables}
 use Rattle.rule_match.specs.Holds.{holds, holds_protocol}
-use Rattle.rule_gates.specs.Keys.{IsKeyOf}
+use Rattle.rule_gates.specs.Keys.{HasAddresses, IsKeyOf}
 use Rattle.rule_gates.specs.Stateful.{looks_up}
 use Rattle.rule_gates.specs.Telling.{MayHold}
+use Rattle.rule_gates.specs.Told.{is_told}
 use Rattle.rule_gates.specs.Within.{is_within}
 use Rattle.rule_gates.specs.declared.gate.Gate.{Gate}
 use Rattle.rule_gates.specs.declared.key.Key.{Key}
@@ -32,6 +33,10 @@ admits gate key =
     && (is_within gate.source_ports key.source_port
     && admits_version gate.family key.is_six))))
 
+-- the gate tells all of its rule
+abbrev pub is_exact : Gate → Bool
+is_exact gate = gate.is_exact
+
 -- the body holds; a rule without one has nothing to hold
 abbrev pub is_body_held : Option Body → NamedTables → List Addr → AnyIp → Port → Bool
 is_body_held None tables locals packet port = false
@@ -43,12 +48,16 @@ concerns rule tables locals packet port = looks_up rule || is_body_held rule.bod
 
 -- Whatever the tables and the host's own addresses: the gate admits the key of each packet that concerns
 -- the rule. Where the rule looks nothing up, it admits no key of a packet that one range of ports, one
--- prefix of IPv4, the protocol or the version shuts out.
+-- prefix of IPv4, the protocol or the version shuts out. It tells all of a rule that has no other parts:
+-- whose body then holds of each packet whose key is admitted, and of those alone, as `sound` says.
 pub record IsGateOf (rule : Rule) (gate : Gate) : Type 0 where
   pub sound : (tables : NamedTables) (locals : List Addr) (packet : AnyIp) (port : Port) (key : Key)
       → IsKeyOf packet key → concerns rule tables locals packet port ≡ true → admits gate key ≡ true
   pub telling : (body : Body) (packet : AnyIp) (key : Key) → rule.body ≡ Some body → looks_up rule ≡ false → IsKeyOf packet key
       → admits gate key ≡ true → MayHold body packet
+  pub exact : is_exact gate ≡ is_told rule
+  pub whole : (tables : NamedTables) (locals : List Addr) (packet : AnyIp) (port : Port) (key : Key)
+      → is_exact gate ≡ true → IsKeyOf packet key → HasAddresses packet → admits gate key ≡ true → is_body_held rule.body tables locals packet port ≡ true
 
 -- one gate for each rule, in their order
 abbrev pub AreGates : List Rule → List Gate → Type 0

@@ -1,9 +1,9 @@
 -- What a gate asks of a packet, made once a packet.
-use Rattle.std.specs.Prelude.{◌≡◌, ℕ, Bool, true, false, Option, Some, None}
+use Rattle.std.specs.Prelude.{◌≡◌, ℕ, ◌^◌, ◌<◌, ⊤, Bool, true, false, Option, Some, None}
 use Rattle.ip6_headers.specs.declared.any_ip.AnyIp.{AnyIp}
 use Rattle.ip6_headers.specs.declared.any_ip.AnyIp.TheVariants.{Four, Six}
 use Rattle.ip6_headers.specs.Either.{protocol_of}
-use Rattle.rule_match.specs.Packet.{source_of, destination_of}
+use Rattle.rule_match.specs.Packet.{Address, V4, V6, source_of, destination_of}
 use Rattle.rule_match.specs.Ports.{source_port, destination_port}
 use Rattle.rule_gates.specs.Words.{number_of, words_of}
 use Rattle.rule_gates.specs.declared.key.Key.{Key}
@@ -26,3 +26,13 @@ pub record IsKeyOf (packet : AnyIp) (key : Key) : Type 0 where
   pub destination_port : key.destination_port ≡ port_number (destination_port packet)
   pub protocol : key.protocol ≡ protocol_of packet
   pub version : key.is_six ≡ is_six packet
+
+-- an address of IPv4 has thirty-two bits (RFC 791 section 3.1); of IPv6 only the number is compared
+abbrev pub IsAddress : Address → Type 0
+IsAddress (V4 address) = address < 2 ^ 32
+IsAddress (V6 address) = ⊤
+
+-- so of both addresses of the packet, as of every packet that was read
+pub record HasAddresses (packet : AnyIp) : Type 0 where
+  pub source : IsAddress (source_of packet)
+  pub destination : IsAddress (destination_of packet)

@@ -6,6 +6,7 @@ pub mod Stateful
 -- a packet's key, a gate, and what a gate promises of its rule
 pub mod Keys
 pub mod Telling
+pub mod Told
 pub mod Gates
 -- what its parts have to admit
 pub mod Covers

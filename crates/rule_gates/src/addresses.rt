@@ -1,10 +1,13 @@
-ghost use Rattle.std.specs.Prelude.{◌≡◌, ℕ, ◌/◌, ◌^◌, ◌<◌, ◌≤◌};
-ghost use Rattle.rule_gates.specs.Covers.{CoversAddresses, CoversItem, HasAddress, TellsAddresses, TellsItem};
+ghost use Rattle.std.specs.Prelude.{◌≡◌, ℕ, true, ◌/◌, ◌^◌, ◌<◌, ◌≤◌};
+ghost use Rattle.rule_gates.specs.Covers.{CoversAddresses, CoversItem, HasAddress, IsExactAddresses, IsExactItem, TellsAddresses, TellsItem, is_beside};
+ghost use Rattle.rule_gates.specs.Told as spec;
 
 use crate::Interval;
+use crate::address_gate::AddressGate;
 use crate::chosen_word::ChosenWord;
+use crate::versions::has_four;
 use crate::words::word;
-use fw_rule::{AddrItem, AddrSpec};
+use fw_rule::{AddrItem, AddrSpec, Family};
 
 /// Every address.
 fn every() -> ChosenWord
@@ -36,26 +39,54 @@ fn network(address: u128, host_bits: u8) -> ChosenWord
     }
 }
 
-/// The addresses of an element of a list.
-fn item(asked: &AddrItem) -> ChosenWord
+/// The addresses of an element of a list, for a rule that asks for that version. Only addresses of IPv4 are
+/// the host's own or in a table.
+fn item(asked: &AddrItem, family: Family) -> AddressGate
     ensures covers { CoversItem asked.now result }
-    ensures tells { TellsItem asked.now result }
+    ensures tells { TellsItem asked.now result.word }
+    ensures exact { IsExactItem asked.now result }
+    ensures told { result.is_exact ≡ spec.is_told_item family asked.now }
+    ensures beside { result.is_exact ≡ true → is_beside family result.family ≡ true }
 {
     match asked {
-        AddrItem::Net(prefix) => network(u128::from(prefix.address().0), 32 - prefix.length()),
-        AddrItem::Net6(prefix) => network(prefix.address().0, 128 - prefix.length()),
-        AddrItem::Any | AddrItem::Me | AddrItem::InTable(_) | AddrItem::TableValue(_, _) => every(),
+        AddrItem::Any => AddressGate {
+            word: every(),
+            family: Family::AnyIp,
+            is_exact: true,
+        },
+        AddrItem::Net(prefix) => AddressGate {
+            word: network(u128::from(prefix.address().0), 32 - prefix.length()),
+            family: Family::Four,
+            is_exact: has_four(family),
+        },
+        AddrItem::Net6(prefix) => AddressGate {
+            word: network(prefix.address().0, 128 - prefix.length()),
+            family: Family::Six,
+            is_exact: false,
+        },
+        AddrItem::Me | AddrItem::InTable(_) | AddrItem::TableValue(_, _) => AddressGate {
+            word: every(),
+            family: Family::Four,
+            is_exact: false,
+        },
     }
 }
 
-/// The addresses that a rule asks for: those of a single element, and every address where the rule asks
-/// for more or for others.
-pub(crate) fn addresses(asked: &AddrSpec) -> ChosenWord
+/// The addresses that a rule of that version asks for: those of a single element, and every address where
+/// the rule asks for more or for others.
+pub(crate) fn addresses(asked: &AddrSpec, family: Family) -> AddressGate
     ensures covers { CoversAddresses asked.now result }
-    ensures tells { TellsAddresses asked.now result }
+    ensures tells { TellsAddresses asked.now result.word }
+    ensures exact { IsExactAddresses asked.now result }
+    ensures told { result.is_exact ≡ spec.are_told_addresses family asked.now }
+    ensures beside { result.is_exact ≡ true → is_beside family result.family ≡ true }
 {
     match asked.items.as_slice() {
-        [only] if !asked.negated => item(only),
-        _ => every(),
+        [only] if !asked.negated => item(only, family),
+        _ => AddressGate {
+            word: every(),
+            family: Family::AnyIp,
+            is_exact: false,
+        },
     }
 }

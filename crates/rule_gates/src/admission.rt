@@ -23,6 +23,14 @@ fn admits_version(asked: Family, is_six: bool) -> bool
     }
 }
 
+/// Whether the gate tells all of its rule: that looks nothing up, and its body holds of each packet whose
+/// key the gate admits.
+pub fn is_exact(gate: &Gate) -> bool
+    ensures { result ≡ spec.is_exact gate.now }
+{
+    gate.is_exact
+}
+
 /// Whether the gate admits the key. What most rules fail comes first.
 #[tactic(auto, unfolding(crate::specs::Gates::admits))]
 pub fn admits(gate: &Gate, key: &Key) -> bool

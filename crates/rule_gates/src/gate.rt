@@ -4,7 +4,7 @@ use crate::Interval;
 use fw_rule::Family;
 
 /// What can be told of a rule by a few comparisons: a packet whose key it doesn't admit has nothing to do
-/// with the rule. It takes 36 bytes.
+/// with the rule. It takes 40 bytes.
 #[derive(Clone, Copy, Debug, PartialEq, Eq)]
 pub struct Gate {
     /// The numbers that the chosen word of the source address may be.
@@ -23,5 +23,7 @@ pub struct Gate {
     pub(crate) protocol: u8,
     /// The version of IP.
     pub(crate) family: Family,
+    /// It tells all: the rule looks nothing up, and its body holds of each packet whose key is admitted.
+    pub(crate) is_exact: bool,
     ghost chosen: { (source_word < 4) × (destination_word < 4) },
 }

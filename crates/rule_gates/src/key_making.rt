@@ -1,6 +1,6 @@
 ghost use Rattle.std.specs.Prelude.{◌≡◌, ◌≤◌};
 ghost use Rattle.rule_gates.specs.Keys as spec;
-ghost use Rattle.rule_gates.specs.Keys.{IsKeyOf};
+ghost use Rattle.rule_gates.specs.Keys.{HasAddresses, IsAddress, IsKeyOf};
 ghost use Rattle.rule_gates.specs.Words.{number_of};
 ghost use Rattle.rule_match.specs.Packet.{source_of, destination_of};
 ghost use Rattle.rule_match.specs.Ports as ports;
@@ -23,7 +23,8 @@ fn is_six(packet: &AnyIp<'_>) -> bool
 
 /// The source address as a number.
 fn source_number(packet: &AnyIp<'_>) -> u128
-    ensures { result ≡ number_of (source_of packet.now) }
+    ensures number { result ≡ number_of (source_of packet.now) }
+    ensures fits { IsAddress (source_of packet.now) }
 {
     match packet {
         AnyIp::Four(packet) => u128::from(packet.source().0),
@@ -33,7 +34,8 @@ fn source_number(packet: &AnyIp<'_>) -> u128
 
 /// The destination address as a number.
 fn destination_number(packet: &AnyIp<'_>) -> u128
-    ensures { result ≡ number_of (destination_of packet.now) }
+    ensures number { result ≡ number_of (destination_of packet.now) }
+    ensures fits { IsAddress (destination_of packet.now) }
 {
     match packet {
         AnyIp::Four(packet) => u128::from(packet.destination().0),
@@ -55,7 +57,8 @@ fn port_numbers(packet: &AnyIp<'_>) -> (u32, u32)
 
 /// The key of the packet.
 pub fn key_of(packet: &AnyIp<'_>) -> Key
-    ensures { IsKeyOf packet.now result }
+    ensures key { IsKeyOf packet.now result }
+    ensures addresses { HasAddresses packet.now }
 {
     let (source_port, destination_port) = port_numbers(packet);
     Key {

@@ -2,7 +2,7 @@
 //! to do with a packet, without a look at the rule itself.
 #![tactic(auto)]
 
-pub use admission::{admits, next_admitted};
+pub use admission::{admits, is_exact, next_admitted};
 pub use gate::Gate;
 pub use gates::gates_of;
 pub use interval::Interval;
@@ -11,6 +11,7 @@ pub use key_making::key_of;
 pub use sharing::are_same;
 pub use stateful::{is_check_state, looks_up, state_of};
 
+mod address_gate;
 mod addresses;
 mod admission;
 mod chosen_word;
@@ -20,9 +21,11 @@ mod gates;
 mod interval;
 mod key;
 mod key_making;
+mod port_gate;
 mod ports;
 mod sharing;
 mod stateful;
 #[cfg(test)]
 mod tests;
+mod versions;
 mod words;

@@ -4,7 +4,8 @@ mod packets;
 mod random_rules;
 
 use crate::{
-    Gate, Key, admits, are_same, gates_of, is_check_state, key_of, next_admitted, state_of,
+    Gate, Key, admits, are_same, gates_of, is_check_state, is_exact, key_of, next_admitted,
+    state_of,
 };
 use fw_base::{Addr, Direction, Link, Name, Port};
 use fw_rule::Rule;
@@ -31,11 +32,12 @@ struct Host {
     port: Port,
 }
 
-/// How often a rule's body held, and how often its gate shut a packet out.
+/// How often a rule's body held, how often its gate shut a packet out, and how often it told all.
 #[derive(Clone, Copy, Debug)]
 struct Seen {
     held: u32,
     shut: u32,
+    told: u32,
 }
 
 /// Whether an evaluation has to look at the rule.
@@ -70,12 +72,17 @@ fn compare(
     let mut now = seen;
     for (rule, gate) in rules.iter().zip(gates.iter()) {
         let admitted = admits(gate, &key);
-        if concerns(rule, host, packet) {
+        let concerned = concerns(rule, host, packet);
+        if concerned {
             assert!(rt; admitted);
             now.held = now.held.saturating_add(1);
         }
         if !admitted {
             now.shut = now.shut.saturating_add(1);
+        }
+        if admitted && is_exact(gate) {
+            assert!(rt; concerned);
+            now.told = now.told.saturating_add(1);
         }
     }
     for from in 0..gates.len().saturating_add(2) {
@@ -122,16 +129,22 @@ fn round(
     Ok(now)
 }
 
-/// The gate admits each packet that an evaluation has to look at the rule for; it shuts most others out.
+/// The gate admits each packet that an evaluation has to look at the rule for; it shuts most others out,
+/// and all others where it is exact.
 #[test]
 fn gates_admit_what_concerns_their_rules(rt: HostRuntime) -> Result<(), Fail> {
     let host = make_host(rt.alloc())?;
     let mut numbers = Numbers::new(1);
-    let mut seen = Seen { held: 0, shut: 0 };
+    let mut seen = Seen {
+        held: 0,
+        shut: 0,
+        told: 0,
+    };
     for _ in 0..ROUNDS {
         seen = round(&rt, rt.alloc(), &host, &mut numbers, seen)?;
     }
     assert!(rt; seen.held > 5000, "{} held", seen.held);
     assert!(rt; seen.shut > 5000, "{} shut", seen.shut);
+    assert!(rt; seen.told > 200, "{} told", seen.told);
     Ok(())
 }

@@ -1,4 +1,5 @@
 use Rattle.std.proofs.Common.{◌≡◌, Bool, true, false, ◌&&◌, List, [], ◌∷◌, refl, sym, ◌∙◌, rules, arith}
+use Rattle.std.proofs.Math.Bool.{beq}
 use Rattle.std.proofs.lemmas.Grind.{common_steps}
 use Rattle.std.specs.Cmp.Lexicographic.{pointwise}
 use Rattle.fw_rule.specs.declared.rule.Rule.{Rule}
@@ -23,6 +24,13 @@ record HaveSame (g h : Gate) : Type 0 where
   destination_word : g.destination_word ≡ h.destination_word
   protocol : g.protocol ≡ h.protocol
   family : g.family ≡ h.family
+  is_exact : g.is_exact ≡ h.is_exact
+
+beq_same : (a b : Bool) → beq a b ≡ true → a ≡ b
+beq_same true true is = refl
+beq_same true false is = cc
+beq_same false true is = cc
+beq_same false false is = refl
 
 same_fields : (g h : Gate) → eq-value.it g h ≡ true → HaveSame g h
 same_fields g h same = record {
@@ -34,6 +42,7 @@ same_fields g h same = record {
   destination_word = grind (arith, common_steps);
   protocol = grind (arith, common_steps);
   family = search rules;
+  is_exact = beq_same g.is_exact h.is_exact (grind (arith, common_steps));
 }
 
 same_admits : (g h : Gate) (key : Key) → HaveSame g h → admits g key ≡ admits h key
@@ -45,6 +54,8 @@ same_gate : (rule : Rule) (g h : Gate) → HaveSame g h → IsGateOf rule h → 
 same_gate rule g h same is = record {
   sound = λ tables locals packet port key key_is concerned. same_admits g h key same ∙ is.sound tables locals packet port key key_is concerned;
   telling = λ body packet key there unlooked key_is admitted. is.telling body packet key there unlooked key_is (sym (same_admits g h key same) ∙ admitted);
+  exact = same.is_exact ∙ is.exact;
+  whole = λ tables locals packet port key all key_is fit admitted. is.whole tables locals packet port key (sym same.is_exact ∙ all) key_is fit (sym (same_admits g h key same) ∙ admitted);
 }
 
 both_true : (a b : Bool) → (a && b) ≡ true → (a ≡ true) × (b ≡ true)

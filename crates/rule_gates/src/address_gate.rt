@@ -1,0 +1,13 @@
+use crate::chosen_word::ChosenWord;
+use fw_rule::Family;
+
+/// What is told of the addresses that a rule asks for.
+#[derive(Clone, Copy, Debug)]
+pub(crate) struct AddressGate {
+    /// A word of each of them is one of these numbers.
+    pub(crate) word: ChosenWord,
+    /// Each of them is of this version.
+    pub(crate) family: Family,
+    /// Each address of which this is true is one of them.
+    pub(crate) is_exact: bool,
+}
