@@ -43,7 +43,7 @@ fn judgement(record: u32) -> Judgement {
 fn docket(alloc: Global, records: u32) -> Result<Docket, OutOfMemory> {
     let mut docket = Docket::new(alloc);
     for record in 0..records {
-        docket.push(DocketEntry::Judged(judgement(record)))?;
+        docket.push(DocketEntry::judged(judgement(record)))?;
     }
     Ok(docket)
 }
