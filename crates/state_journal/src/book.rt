@@ -46,9 +46,9 @@ impl Model for Book {
           object = b.states.object;
           ready = b.is_ready;
         })
-        × (b.lanes ≤ 64)
         × (65536 ≤ b.states.room)
-        × (b.is_ready ≡ true → (vec_len b.facts < vec_capacity b.facts) × (vec_len b.entries < vec_capacity b.entries)) };
+        × (b.is_ready ≡ true → (vec_len b.facts < vec_capacity b.facts) × (vec_len b.entries < vec_capacity b.entries))
+        × (b.lanes ≤ 64) };
 }
 
 impl Book {
