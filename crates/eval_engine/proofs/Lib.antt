@@ -11,6 +11,8 @@ pub mod Walks
 pub mod Leading
 -- rules whose gates don't admit the packet's key
 pub mod ShutGates
+-- and rules whose gates tell all
+pub mod OpenGates
 -- how far an evaluation is behind one reply more
 pub mod Progressing
 -- laws

@@ -1,5 +1,5 @@
 -- Where an evaluation goes on.
-use Rattle.std.proofs.Common.{◌≡◌, ℕ, suc, ◌+◌, ◌≤◌, ◌<◌, Bool, true, false, max, nat_lt, nat_le, Option, Some, None, List, [], ◌∷◌, length, get_or, drop, refl, ap, sym, ◌∙◌, arith}
+use Rattle.std.proofs.Common.{◌≡◌, ℕ, suc, ◌+◌, ◌≤◌, ◌<◌, Bool, true, false, ◌||◌, is_some, max, nat_lt, nat_le, Option, Some, None, List, [], ◌∷◌, length, get_or, drop, refl, ap, sym, ◌∙◌, arith}
 use Rattle.fw_rule.specs.declared.action.Action.{Action}
 use Rattle.fw_rule.specs.declared.action.Action.TheVariants.{Allow, Deny, Reset, Unreach, Count, SkipTo, Call, Return, CheckState}
 use Rattle.fw_rule.specs.declared.rule.Rule.{Rule}
@@ -10,6 +10,7 @@ use Rattle.rule_chain.specs.Chain.{AscendsFrom}
 use Rattle.eval_engine.proofs.Places.{first_behind_place, behind}
 use Rattle.std.proofs.lemmas.List.{drop-drop}
 use Rattle.eval_engine.specs.Encounter.{IsCall, IsOnward, is_disabled, is_held, is_check_state, state_of, any_flow_of, lookup_by, install_by}
+use Rattle.eval_engine.specs.Place.{IsTold}
 use Rattle.eval_engine.specs.Question.{Question}
 use Rattle.eval_engine.specs.Trace.{Seen, WaitsFor, Trace, PassesOver, Stops}
 use Rattle.eval_engine.specs.Walk.{Walk, walk, deeper_walk, way_back, walk_from, calls_left, call_from, meets, pause_at, follows, return_to, acts_before, looks, lookup_flow, denied_at_end, installs, installs_before, tests_before}
@@ -220,3 +221,19 @@ module _ (q : Question) (seen : Seen) (callers : List ℕ) (rule : Rule) (rest s
       → installs_before q seen callers rule rest ≡ Stops (WaitsFor (install_by q rule state flow) (pause_at seen callers suffix))
   install_asks there state flow made is =
       installed (Some state) (Some flow) made is ∙ ap (λ (rules : List Rule). Stops (WaitsFor (install_by q rule state flow) (pause_at seen callers rules))) (sym there)
+
+  no_state : (b : Bool) (state : Option StateOpt) → (b || is_some state) ≡ false → state ≡ None
+  no_state true state is = cc
+  no_state false None is = refl
+  no_state false (Some state) is = cc
+
+  no_check : (b c : Bool) → (b || c) ≡ false → b ≡ false
+  no_check true c is = cc
+  no_check false c is = refl
+
+  -- a rule of which the gate told all acts at once
+  pub told_acts : suffix ≡ rule ∷ rest → is_disabled q rule ≡ false → IsTold q rule → walk_from q seen callers suffix 0 ≡ acts_before q seen callers rule rest
+  told_acts there is told =
+      unlooked_tests there is (rw told.plain refl)
+      ∙ held_installs (no_check (is_check_state rule.action) (is_some (state_of rule)) told.plain) told.held
+      ∙ stateless_acts (no_state (is_check_state rule.action) (state_of rule) told.plain)

@@ -1,11 +1,11 @@
 -- A place in an edition's rules.
-use Rattle.std.specs.Prelude.{◌≡◌, ℕ, ◌+◌, ◌<◌, ◌≤◌, ⊤, true, ◌∷◌, length, drop}
+use Rattle.std.specs.Prelude.{◌≡◌, ℕ, ◌+◌, ◌<◌, ◌≤◌, ⊤, true, false, ◌∷◌, length, drop}
 use Rattle.dyn_states.specs.declared.flow_name.FlowName.{FlowName}
 use Rattle.dyn_states.specs.declared.flow_name.FlowName.TheVariants.{Any, Named}
 use Rattle.fw_rule.specs.declared.rule.Rule.{Rule}
 use Rattle.rule_chain.specs.Chain.{AscendsFrom}
 use Rattle.generation_store.specs.Published.{has_identity}
-use Rattle.eval_engine.specs.Encounter.{name_at}
+use Rattle.eval_engine.specs.Encounter.{is_held, looks_up, name_at}
 use Rattle.eval_engine.specs.Question.{Question}
 
 -- there are 64 flow names
@@ -23,3 +23,8 @@ pub record IsRuleAt (q : Question) (place : ℕ) (rule : Rule) : Type 0 where
   pub named : IsNumbered (name_at q rule)
   pub ordered : AscendsFrom 1 q.edition.config.rules
   pub listed : has_identity q.edition.config.rules rule.id ≡ true
+
+-- a rule of which the gate told all: it looks nothing up, and its body holds
+pub record IsTold (q : Question) (rule : Rule) : Type 0 where
+  pub plain : looks_up rule ≡ false
+  pub held : is_held q rule ≡ true

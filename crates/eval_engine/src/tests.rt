@@ -4,13 +4,15 @@ ghost use Rattle.fw_rule.specs.WellFormed.{IsBody, IsState, IsWellFormed};
 ghost use Rattle.fw_rule.specs.declared.addr_item.AddrItem.TheVariants as items;
 
 mod rows;
+mod worked;
 
 use crate::{DocketEntry, Judgement, Stage, begin, is_reply_to, resume};
 use counter_book::Tally;
 use dyn_states::{Op, Reply};
-use fw_base::{Direction, Link, Name, Port};
+use fw_base::{Addr6, Direction, Link, Name, Port, PortRange, Prefix6};
 use fw_rule::{
-    Action, AddrItem, AddrSpec, Body, Command, Family, Items, LimitMask, RuleDraft, StateOpt,
+    Action, AddrItem, AddrSpec, Body, Command, Family, Items, LimitMask, Opt, PortList, RuleDraft,
+    StateOpt, Test,
 };
 use generation_store::Edition;
 use ip6_headers::{AnyIp, AnyPacket, read_any};
@@ -21,6 +23,7 @@ use std::mem::size_of;
 use std::process::Abort;
 use std::sync::Arc;
 use std::test::Fail;
+use worked::{WORKED, check_worked};
 
 /// What a rule of a test does. A flow's name is `n` and a digit.
 #[derive(Clone, Copy, Debug)]
@@ -38,6 +41,12 @@ pub enum Deed {
     CountKeep(u8),
     /// `deny tcp from any to any keep-state` of a body that doesn't hold of UDP
     KeepTcp(u8),
+    /// `allow tcp from any to any setup keep-state`
+    KeepSetup(u8),
+    /// `allow ip6 from 2001:db8::/32 to any`
+    AllowNet6,
+    /// `deny udp from any to any` of this port
+    DenyTo(u16),
     Check(u8),
     CheckAny,
 }
@@ -80,6 +89,78 @@ fn body(alloc: Global, protocol: u8, state: Option<StateOpt>) -> Result<Option<B
         destination_ports: None,
         options: Items::from_vec(Vec::new(alloc)),
         state,
+        state_at: 0,
+    }))
+}
+
+/// `tcp from any to any setup keep-state`
+fn set_up(alloc: Global, digit: u8) -> Result<Option<Body>, Fail>
+    ensures { IfOk result (λ body. IsSomeAnd body IsBody) }
+{
+    let mut options = Vec::new(alloc);
+    options.push(Opt {
+        negated: false,
+        test: Test::Setup,
+    })?;
+    Ok(Some(Body {
+        family: Family::AnyIp,
+        protocol: 6,
+        source: any(alloc)?,
+        source_ports: None,
+        destination: any(alloc)?,
+        destination_ports: None,
+        options: Items::from_vec(options),
+        state: Some(StateOpt::Keep(name(alloc, digit)?)),
+        state_at: 1,
+    }))
+}
+
+/// `ip6 from 2001:db8::/32 to any`
+fn from_net6(alloc: Global) -> Result<Option<Body>, Fail>
+    ensures { IfOk result (λ body. IsSomeAnd body IsBody) }
+{
+    let mut from = Vec::new(alloc);
+    let Some(prefix) = Prefix6::new(Addr6(0x2001_0db8 << 96), 32) else {
+        return Err(Fail::from("no prefix"));
+    };
+    from.push(AddrItem::Net6(prefix))?;
+    Ok(Some(Body {
+        family: Family::Six,
+        protocol: 0,
+        source: AddrSpec {
+            negated: false,
+            items: Items::from_vec(from),
+        },
+        source_ports: None,
+        destination: any(alloc)?,
+        destination_ports: None,
+        options: Items::from_vec(Vec::new(alloc)),
+        state: None,
+        state_at: 0,
+    }))
+}
+
+/// `udp from any to any` of this port
+fn to_port(alloc: Global, port: u16) -> Result<Option<Body>, Fail>
+    ensures { IfOk result (λ body. IsSomeAnd body IsBody) }
+{
+    let mut ranges = Vec::new(alloc);
+    let Some(range) = PortRange::new(port, port) else {
+        return Err(Fail::from("no range"));
+    };
+    ranges.push(range)?;
+    Ok(Some(Body {
+        family: Family::AnyIp,
+        protocol: 17,
+        source: any(alloc)?,
+        source_ports: None,
+        destination: any(alloc)?,
+        destination_ports: Some(PortList {
+            negated: false,
+            ranges: Items::from_vec(ranges),
+        }),
+        options: Items::from_vec(Vec::new(alloc)),
+        state: None,
         state_at: 0,
     }))
 }
@@ -133,6 +214,9 @@ fn add(alloc: Global, number: u16, set: u8, deed: Deed) -> Result<Command, Fail>
         }
         Deed::CountKeep(digit) => draft(number, set, Action::Count, kept(alloc, 0, digit)?),
         Deed::KeepTcp(digit) => draft(number, set, Action::Deny, kept(alloc, 6, digit)?),
+        Deed::KeepSetup(digit) => draft(number, set, Action::Allow, set_up(alloc, digit)?),
+        Deed::AllowNet6 => draft(number, set, Action::Allow, from_net6(alloc)?),
+        Deed::DenyTo(port) => draft(number, set, Action::Deny, to_port(alloc, port)?),
         Deed::Check(digit) => {
             let looked_up = Some(name(alloc, digit)?);
             draft(number, set, Action::CheckState(looked_up), None)
@@ -153,7 +237,7 @@ fn applied(alloc: Global, config: Config, command: &Command) -> Result<Config, F
     }
 }
 
-/// The seventh edition, with these rules added in this order; set 5 is disabled.
+/// The seventh edition, with these rules added in this order; number 0 stands for none. Set 5 is disabled.
 fn edition(alloc: Global, rules: &[(u16, u8, Deed)]) -> Result<Arc<Edition>, Fail> {
     let mut config = Config::new(alloc)?;
     for (number, set, deed) in rules {
@@ -246,6 +330,14 @@ fn rows_without_states(rt: HostRuntime) -> Result<(), Fail> {
 fn rows_with_states(rt: HostRuntime) -> Result<(), Fail> {
     for row in STATEFUL {
         check(&rt, rt.alloc(), row)?;
+    }
+    Ok(())
+}
+
+#[test]
+fn worked_rows(rt: HostRuntime) -> Result<(), Fail> {
+    for row in WORKED {
+        check_worked(&rt, rt.alloc(), row)?;
     }
     Ok(())
 }
