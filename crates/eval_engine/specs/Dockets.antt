@@ -8,8 +8,8 @@ use Rattle.eval_engine.specs.declared.judgement.Judgement.{Judgement}
 use Rattle.eval_engine.specs.declared.verdict.Verdict.{Verdict}
 
 -- the entry of a judgement, which has its fields
-abbrev pub entry_of : Judgement → DocketEntry
-entry_of judgement = Judged judgement.verdict judgement.cause judgement.rule judgement.edition
+abbrev pub judged_entry : Judgement → DocketEntry
+judged_entry judgement = Judged judgement.verdict judgement.cause judgement.rule judgement.edition
 
 -- the judgement of these fields
 abbrev pub judgement_of : Verdict → Cause → RuleRef → ℕ → Judgement

@@ -1,5 +1,5 @@
 ghost use Rattle.std.specs.Prelude.{◌≡◌};
-ghost use Rattle.eval_engine.specs.Dockets.{entry_of, judgement_in};
+ghost use Rattle.eval_engine.specs.Dockets.{judged_entry, judgement_in};
 
 use crate::{Cause, Judgement, Verdict};
 use dyn_states::RuleRef;
@@ -24,7 +24,7 @@ pub enum DocketEntry {
 impl DocketEntry {
     /// The entry of a judgement.
     pub fn judged(judgement: Judgement) -> DocketEntry
-        ensures { result ≡ entry_of judgement }
+        ensures { result ≡ judged_entry judgement }
     {
         let Judgement {
             edition,

@@ -4,7 +4,7 @@ use Rattle.std.proofs.lemmas.List.{append-nil, length-append}
 use Rattle.std.specs.Prelude.{◌==◌, All, IfSome, is_some, not, unwrap_or, get_or}
 use Rattle.std.specs.List.{AllByRecursion}
 use Rattle.counter_book.specs.declared.count.Count.{Count}
-use Rattle.eval_engine.specs.Dockets.{entry_of}
+use Rattle.eval_engine.specs.Dockets.{judged_entry}
 use Rattle.eval_engine.specs.declared.docket_entry.DocketEntry.{DocketEntry}
 use Rattle.eval_engine.specs.declared.docket_entry.DocketEntry.TheVariants.{Other, Malformed, Judged}
 use Rattle.eval_engine.specs.declared.judgement.Judgement.{Judgement}
@@ -99,9 +99,9 @@ IsLane-left inside is = record {
 
 -- where nothing pends after a judgement, its section is told
 pub IsLane-judged : (lane : LaneValue) (judgement : Judgement) (tally : List Count) → IsLane 1 lane → All (λ number. number ≤ judgement.edition) (judged_editions lane.docket.entries)
-    → IsLane 0 (record (with_entry (entry_of judgement) lane) { tally = tally })
+    → IsLane 0 (record (with_entry (judged_entry judgement) lane) { tally = tally })
 IsLane-judged lane judgement tally is below =
-    let grown = judged_editions-append lane.docket.entries (entry_of judgement ∷ []) in
+    let grown = judged_editions-append lane.docket.entries (judged_entry judgement ∷ []) in
     record {
       numbered = is.numbered;
       above = is.above;
@@ -109,7 +109,7 @@ IsLane-judged lane judgement tally is below =
       few = is.few;
       tracked = λ none.
           let longer = ap length grown ∙ length-append (judged_editions lane.docket.entries) (judgement.edition ∷ []) in
-          let same : length (judged_editions lane.docket.entries) + lane.docket.refused + 1 ≡ length (judged_editions (lane.docket.entries ++ entry_of judgement ∷ [])) + lane.docket.refused + 0 = omega (arith, longer) in
+          let same : length (judged_editions lane.docket.entries) + lane.docket.refused + 1 ≡ length (judged_editions (lane.docket.entries ++ judged_entry judgement ∷ [])) + lane.docket.refused + 0 = omega (arith, longer) in
           is.tracked none ∙ ap tracker_after same;
     }
 

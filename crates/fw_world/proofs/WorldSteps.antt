@@ -19,7 +19,7 @@ use Rattle.eval_engine.proofs.Hits.{judgement_names_edition}
 use Rattle.eval_engine.specs.Dockets.{DocketValue}
 use Rattle.eval_engine.specs.Evaluation.{evaluate}
 use Rattle.eval_engine.specs.Question.{Question}
-use Rattle.eval_engine.specs.Dockets.{entry_of}
+use Rattle.eval_engine.specs.Dockets.{judged_entry}
 use Rattle.eval_engine.specs.declared.judgement.Judgement.{Judgement}
 use Rattle.fw_world.specs.AskRuns.{EntersEach, Evaluates, AsksSome}
 use Rattle.fw_world.specs.Asks.{LaneAsk, AreOfLanes}
@@ -137,7 +137,7 @@ Judges-run editions old new lane at edition packet port second counts after judg
 -- the lane that judged stands for the packet behind its inputs
 pub LaneStandsFor-judged : (old new : WorldValue) (before after : LaneValue) (packet : AnyIp) (port : Port) (second : ℕ) (judgement : Judgement) (inputs : List Input)
     → IsWorld old → Judges old new before.place (length before.docket.entries + 1) packet port second before.tally after.tally judgement
-    → after.place ≡ before.place → after.docket.entries ≡ before.docket.entries ++ entry_of judgement ∷ [] → LaneStandsFor old before inputs → LaneStandsFor new after (inputs ++ Packet packet port second ∷ [])
+    → after.place ≡ before.place → after.docket.entries ≡ before.docket.entries ++ judged_entry judgement ∷ [] → LaneStandsFor old before inputs → LaneStandsFor new after (inputs ++ Packet packet port second ∷ [])
 LaneStandsFor-judged old new before after packet port second judgement inputs is judges place entries stands =
     let at : ℕ = length before.docket.entries + 1 in
     let q : Question = question_of judges.edition packet port second in

@@ -3,7 +3,7 @@ use Rattle.std.proofs.Common.{◌≡◌, ℕ, zero, suc, ◌+◌, ◌<◌, ◌�
 use Rattle.std.specs.Prelude.{Some, slice_get}
 use Rattle.std.specs.List.Sorted.{IsNonDecreasing}
 use Rattle.counter_book.specs.declared.count.Count.{Count}
-use Rattle.eval_engine.specs.Dockets.{DocketValue, entry_of}
+use Rattle.eval_engine.specs.Dockets.{DocketValue, judged_entry}
 use Rattle.eval_engine.specs.declared.docket_entry.DocketEntry.{DocketEntry}
 use Rattle.eval_engine.specs.declared.docket_entry.DocketEntry.TheVariants.{Other, Malformed, Judged}
 use Rattle.eval_engine.specs.declared.judgement.Judgement.{Judgement}
@@ -13,7 +13,7 @@ use Rattle.fw_world.specs.Sections.{judged_editions}
 use Rattle.record_laws.specs.Dockets.{EditionsNeverFall}
 
 -- a bound of all judged editions is one of each
-above : (low : ℕ) (entries : List DocketEntry) (place : ℕ) (b : Judgement) → slice_get entries place ≡ Some (entry_of b)
+above : (low : ℕ) (entries : List DocketEntry) (place : ℕ) (b : Judgement) → slice_get entries place ≡ Some (judged_entry b)
     → ((k d : ℕ) → k < length (judged_editions entries) → low ≤ get_or (judged_editions entries) k d) → low ≤ b.edition
 above low [] place b is all = cc
 above low (Other ∷ entries) zero b is all = cc
@@ -25,7 +25,7 @@ above low (Judged verdict cause rule edition ∷ entries) zero b is all =
 above low (Judged verdict cause rule edition ∷ entries) (suc place) b is all = above low entries place b is (λ k d within. all (suc k) d (omega arith))
 
 never_falls : (entries : List DocketEntry) → IsNonDecreasing (judged_editions entries) → (earlier later : ℕ) (a b : Judgement) → earlier < later
-    → slice_get entries earlier ≡ Some (entry_of a) → slice_get entries later ≡ Some (entry_of b) → a.edition ≤ b.edition
+    → slice_get entries earlier ≡ Some (judged_entry a) → slice_get entries later ≡ Some (judged_entry b) → a.edition ≤ b.edition
 never_falls [] rising earlier later a b less first second = cc
 never_falls (entered ∷ entries) rising earlier zero a b less first second = absurd (omega arith)
 never_falls (Other ∷ entries) rising zero (suc later) a b less first second = cc
