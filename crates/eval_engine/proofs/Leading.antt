@@ -1,16 +1,27 @@
 -- How steps move an evaluation on.
-use Rattle.std.proofs.Common.{◌≡◌, ℕ, suc, ◌<◌, List, length, refl, ap, sym, ◌∙◌, arith, slice_set}
+use Rattle.std.proofs.Common.{◌≡◌, ℕ, suc, ◌<◌, true, Option, Some, None, IsSome, IsSomeAnd, List, [], ◌∷◌, drop, length, refl, ap, sym, ◌∙◌, subst, arith, slice_set}
 use Rattle.std.proofs.lemmas.List.{length-set}
 use Rattle.counter_book.specs.Counts.{count_of, raised}
 use Rattle.counter_book.specs.declared.count.Count.{Count}
 use Rattle.ip6_headers.specs.Either.{total_of}
+use Rattle.dyn_states.specs.declared.op.Op.{Op}
+use Rattle.fw_rule.specs.declared.rule.Rule.{Rule}
+use Rattle.eval_engine.specs.Encounter.{rule_ref}
 use Rattle.eval_engine.specs.Question.{Question}
-use Rattle.eval_engine.specs.Standing.{counts_after}
-use Rattle.eval_engine.specs.Steps.{walk_at, IsStopped, IsStep, Comes, Remains, Nears, Leads, PassesTo}
-use Rattle.eval_engine.specs.Trace.{Seen, Trace, PassesOver, Counts, hits_of, stop_of, length_of}
+use Rattle.eval_engine.specs.Standing.{counts_after, seen_by}
+use Rattle.eval_engine.specs.Steps.{walk_at, judged_at, judgement_from, waiting_at, IsStopped, IsStep, Comes, Remains, Nears, Leads, PassesTo}
+use Rattle.eval_engine.specs.Trace.{Trace, PassesOver, Counts, hits_of, stop_of, length_of}
+use Rattle.eval_engine.specs.Walk.{judged, denied_at_end, refuses_from}
+use Rattle.eval_engine.specs.declared.judgement.Cause.{Cause}
+use Rattle.eval_engine.specs.declared.judgement.Cause.TheVariants as causes
+use Rattle.eval_engine.specs.declared.position.Position.{Position}
+use Rattle.eval_engine.specs.declared.searched.Searched.{Searched}
 use Rattle.eval_engine.specs.declared.stage.Stage.{Stage}
+use Rattle.eval_engine.specs.declared.stage.Stage.TheVariants.{Judged}
 use Rattle.eval_engine.specs.declared.step.Step.{Step}
-use Rattle.eval_engine.specs.declared.step.Step.TheVariants.{On, Stop}
+use Rattle.eval_engine.specs.declared.step.Step.TheVariants.{On, Decides, Waits}
+use Rattle.eval_engine.specs.declared.verdict.Verdict.{Verdict}
+use Rattle.eval_engine.specs.declared.verdict.Verdict.TheVariants as verdicts
 
 longer : (trace next : Trace) (more : ℕ) → more ≡ suc (length_of next) → length_of trace ≡ more → length_of next < length_of trace
 longer trace next more one is = omega arith
@@ -36,24 +47,42 @@ comes_at_once q trace stage before is = record {
   asked = is.asked;
 }
 
+-- the rule at a position decides the packet
+pub decided_there : (q : Question) (at : Position) (rule : Rule) (rest : List Rule) (verdict : Verdict) (cause : Cause) → drop at.place q.edition.config.rules ≡ rule ∷ rest
+    → IsStopped q (judged q verdict (rule_ref rule) cause) (judged_at q verdict cause at)
+decided_there q at rule rest verdict cause there = rw there (record { stop = refl; asked = tt })
+
+-- behind the last rule the packet is denied
+pub denied_there : (q : Question) (at : Position) (verdict : Verdict) (cause : Cause) → drop at.place q.edition.config.rules ≡ [] → IsStopped q (denied_at_end q) (judged_at q verdict cause at)
+denied_there q at verdict cause there = rw there (record { stop = refl; asked = tt })
+
+-- the rule at a position denies without a hit
+pub refused_there : (q : Question) (at : Position) (cause : Cause) → IsStopped q (refuses_from q cause (drop at.place q.edition.config.rules)) (judged_at q verdicts.Deny cause at)
+refused_there q at cause = go (drop at.place q.edition.config.rules)
+  where
+    go : (suffix : List Rule) → IsStopped q (refuses_from q cause suffix) (Judged (judgement_from q verdicts.Deny cause suffix))
+    go [] = record { stop = refl; asked = tt }
+    go (rule ∷ rest) = record { stop = refl; asked = tt }
+
 -- a rule that is counted
-pub leads_counted : (q : Question) (seen : Seen) (trace : Trace) (step : Step) (counter : ℕ) (before now : List Count)
-    → now ≡ slice_set before counter (raised (count_of before counter) (total_of q.packet)) → IsStep q seen trace step → Leads q seen (Counts counter trace) step before now
+pub leads_counted : (q : Question) (searched : Searched) (trace : Trace) (step : Step) (at : Position) (counter : ℕ) (before now : List Count)
+    → now ≡ slice_set before counter (raised (count_of before counter) (total_of q.packet)) → IsStep q searched trace step at → Leads q searched (Counts counter trace) step at before now
 unfolding hits_of stop_of length_of counts_after
-leads_counted q seen trace (On at) counter before now counted is = record {
+leads_counted q searched trace On at counter before now counted is = record {
   remains = record {
     tallied = ap (λ (t : Trace). counts_after (total_of q.packet) (hits_of t) (slice_set before counter (raised (count_of before counter) (total_of q.packet)))) is
-        ∙ ap (λ (counts : List Count). counts_after (total_of q.packet) (hits_of (walk_at q seen at)) counts) (sym counted);
+        ∙ ap (λ (counts : List Count). counts_after (total_of q.packet) (hits_of (walk_at q (seen_by searched) at)) counts) (sym counted);
     stop = ap (λ (t : Trace). stop_of t) is;
     fitted = ap (λ (counts : List Count). length counts) counted ∙ length-set before counter (raised (count_of before counter) (total_of q.packet));
   };
-  sooner = longer (Counts counter trace) (walk_at q seen at) _ refl (ap (λ (t : Trace). suc (length_of t)) is);
+  sooner = longer (Counts counter trace) (walk_at q (seen_by searched) at) _ refl (ap (λ (t : Trace). suc (length_of t)) is);
 }
-leads_counted q seen trace (Stop stage) counter before now counted is = record {
+leads_counted q searched trace (Decides verdict cause) at counter before now counted is = record {
   tallied = counted ∙ ap (λ (t : Trace). counts_after (total_of q.packet) (hits_of t) (slice_set before counter (raised (count_of before counter) (total_of q.packet)))) (sym is.stop);
   stop = ap (λ (t : Trace). stop_of t) is.stop;
   asked = is.asked;
 }
+leads_counted q searched trace Waits at counter before now counted is = absurd is
 
 -- the rest of an evaluation ends it
 pub comes_by : (q : Question) (trace next : Trace) (stage : Stage) (before between now : List Count) → Remains q trace next before between → Comes q next stage between now
@@ -73,10 +102,17 @@ remains_by q trace next later before between now first last = record {
   fitted = last.fitted ∙ first.fitted;
 }
 
+comes_passed : (q : Question) (trace next : Trace) (stage : Stage) (before now : List Count) → PassesTo trace next → Comes q next stage before now → Comes q trace stage before now
+comes_passed q trace next stage before now passes comes = record {
+  tallied = comes.tallied ∙ ap (λ (hits : List ℕ). counts_after (total_of q.packet) hits before) (sym passes.hits);
+  stop = passes.stop ∙ comes.stop;
+  asked = comes.asked;
+}
+
 -- what leads on from behind rules that are passed over leads on from before them
-pub leads_passed : (q : Question) (seen : Seen) (trace next : Trace) (step : Step) (before now : List Count) → PassesTo trace next → Leads q seen next step before now
-    → Leads q seen trace step before now
-leads_passed q seen trace next (On at) before now passes leads = record {
+pub leads_passed : (q : Question) (searched : Searched) (trace next : Trace) (step : Step) (at : Position) (before now : List Count) → PassesTo trace next → Leads q searched next step at before now
+    → Leads q searched trace step at before now
+leads_passed q searched trace next On at before now passes leads = record {
   remains = record {
     tallied = ap (λ (hits : List ℕ). counts_after (total_of q.packet) hits before) passes.hits ∙ leads.remains.tallied;
     stop = passes.stop ∙ leads.remains.stop;
@@ -84,8 +120,20 @@ leads_passed q seen trace next (On at) before now passes leads = record {
   };
   sooner = let less = leads.sooner in let more = passes.sooner in omega arith;
 }
-leads_passed q seen trace next (Stop stage) before now passes leads = record {
-  tallied = leads.tallied ∙ ap (λ (hits : List ℕ). counts_after (total_of q.packet) hits before) (sym passes.hits);
-  stop = passes.stop ∙ leads.stop;
-  asked = leads.asked;
-}
+leads_passed q searched trace next (Decides verdict cause) at before now passes leads = comes_passed q trace next _ before now passes leads
+leads_passed q searched trace next Waits at before now passes leads = go at.ask leads
+  where
+    go : (ask : Option Op) → IsSomeAnd ask (λ op. Comes q next (waiting_at searched op at) before now) → IsSomeAnd ask (λ op. Comes q trace (waiting_at searched op at) before now)
+    go None leads = absurd leads
+    go (Some op) leads = comes_passed q trace next _ before now passes leads
+
+-- what a position asks of which something holds is there
+pub asks : (ask : Option Op) (P : Op → Type 0) → IsSomeAnd ask P → IsSome ask
+asks None P holds = absurd holds
+asks (Some op) P holds = refl
+
+-- where an evaluation waits it comes to the ask
+pub comes_waiting : (q : Question) (trace : Trace) (searched : Searched) (at : Position) (stage : Stage) (before now : List Count) (ask : Option Op)
+    → IsSomeAnd ask (λ op. Comes q trace (waiting_at searched op at) before now) → IsSomeAnd ask (λ op. stage ≡ waiting_at searched op at) → Comes q trace stage before now
+comes_waiting q trace searched at stage before now None comes is = absurd comes
+comes_waiting q trace searched at stage before now (Some op) comes is = subst (λ (s : Stage). Comes q trace s before now) (sym is) comes

@@ -1,16 +1,26 @@
 -- How a call moves an evaluation on.
-use Rattle.std.specs.Prelude.{◌≡◌, ◌<◌, ◌≤◌, List, drop, length}
+use Rattle.std.specs.Prelude.{◌≡◌, ◌<◌, ◌≤◌, List, [], ◌∷◌, drop, length, IsSomeAnd}
 use Rattle.counter_book.specs.declared.count.Count.{Count}
+use Rattle.dyn_states.specs.declared.op.Op.{Op}
+use Rattle.fw_rule.specs.declared.rule.Rule.{Rule}
 use Rattle.ip6_headers.specs.Either.{total_of}
+use Rattle.eval_engine.specs.Encounter.{rule_ref}
 use Rattle.eval_engine.specs.Question.{Question}
-use Rattle.eval_engine.specs.Standing.{callers_of, counts_after, stop_at, IsAskOf}
+use Rattle.eval_engine.specs.Standing.{callers_of, counts_after, kind_of, seen_by, stop_at, IsAskOf}
 use Rattle.eval_engine.specs.Trace.{Seen, Trace, Stops, hits_of, stop_of, length_of}
 use Rattle.eval_engine.specs.Walk.{walk_from}
+use Rattle.eval_engine.specs.declared.judgement.Cause.{Cause}
+use Rattle.eval_engine.specs.declared.judgement.Cause.TheVariants as causes
+use Rattle.eval_engine.specs.declared.judgement.Judgement.{Judgement}
 use Rattle.eval_engine.specs.declared.position.Position.{Position}
 use Rattle.eval_engine.specs.declared.search.Search.{Search}
 use Rattle.eval_engine.specs.declared.step.Step.{Step}
-use Rattle.eval_engine.specs.declared.step.Step.TheVariants.{On, Stop}
+use Rattle.eval_engine.specs.declared.step.Step.TheVariants.{On, Decides, Waits}
+use Rattle.eval_engine.specs.declared.searched.Searched.{Searched}
 use Rattle.eval_engine.specs.declared.stage.Stage.{Stage}
+use Rattle.eval_engine.specs.declared.stage.Stage.TheVariants.{Judged, Asks}
+use Rattle.eval_engine.specs.declared.verdict.Verdict.{Verdict}
+use Rattle.eval_engine.specs.declared.verdict.Verdict.TheVariants as verdicts
 
 -- what is evaluated, as the definition names it
 abbrev pub question_of : Search → Question
@@ -31,10 +41,24 @@ pub record IsStopped (q : Question) (trace : Trace) (stage : Stage) : Type 0 whe
   pub stop : trace ≡ Stops (stop_at q stage)
   pub asked : IsAskOf q stage
 
--- the evaluation is that of the step, with no hit between
-abbrev pub IsStep : Question → Seen → Trace → Step → Type 0
-IsStep q seen trace (On at) = trace ≡ walk_at q seen at
-IsStep q seen trace (Stop stage) = IsStopped q trace stage
+-- the first rule of the suffix decides the packet so; behind the last one rule 65535 denies it
+abbrev pub judgement_from : Question → Verdict → Cause → List Rule → Judgement
+judgement_from q verdict cause [] = record { edition = q.edition.number; verdict = verdicts.Deny; rule = record { id = 0; number = 65535 }; cause = causes.Rule }
+judgement_from q verdict cause (rule ∷ rest) = record { edition = q.edition.number; verdict = verdict; rule = rule_ref rule; cause = cause }
+
+-- the rule at this position decides the packet so
+abbrev pub judged_at : Question → Verdict → Cause → Position → Stage
+judged_at q verdict cause at = Judged (judgement_from q verdict cause (drop at.place q.edition.config.rules))
+
+-- the evaluation waits at this position for the reply to this ask
+abbrev pub waiting_at : Searched → Op → Position → Stage
+waiting_at searched op at = Asks op (record { place = at.place; callers = at.callers; searched = searched; kind = kind_of op })
+
+-- the evaluation is that of the step to this position, with no hit between; an action waits for nothing
+abbrev pub IsStep : Question → Searched → Trace → Step → Position → Type 0
+IsStep q searched trace On at = trace ≡ walk_at q (seen_by searched) at
+IsStep q searched trace (Decides verdict cause) at = IsStopped q trace (judged_at q verdict cause at)
+IsStep q searched trace Waits at = ⊥
 
 -- the evaluation comes to this stage, and the tally rises by its hits
 pub record Comes (q : Question) (trace : Trace) (stage : Stage) (before now : List Count) : Type 0 where
@@ -53,7 +77,8 @@ pub record Nears (q : Question) (trace next : Trace) (before now : List Count) :
   pub remains : Remains q trace next before now
   pub sooner : length_of next < length_of trace
 
--- where a step leads: on to a place, or to a stop
-abbrev pub Leads : Question → Seen → Trace → Step → List Count → List Count → Type 0
-Leads q seen trace (On at) before now = Nears q trace (walk_at q seen at) before now
-Leads q seen trace (Stop stage) before now = Comes q trace stage before now
+-- where a step to this position leads: on from there, to the judgement there, or to the ask there
+abbrev pub Leads : Question → Searched → Trace → Step → Position → List Count → List Count → Type 0
+Leads q searched trace On at before now = Nears q trace (walk_at q (seen_by searched) at) before now
+Leads q searched trace (Decides verdict cause) at before now = Comes q trace (judged_at q verdict cause at) before now
+Leads q searched trace Waits at before now = IsSomeAnd at.ask (λ op. Comes q trace (waiting_at searched op at) before now)

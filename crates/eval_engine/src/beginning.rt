@@ -31,10 +31,11 @@ pub fn begin(
     }) [] [] tally.old result tally.new }
 {
     let search = search_for(edition, packet, port, second);
-    let start = Position {
+    let mut at = Position {
         place: 0,
         callers: Callers::none(),
+        ask: None,
     };
     let key = key_of(search.packet);
-    walk(&search, &key, &Searched::none(), start, tally)
+    walk(&search, &key, &Searched::none(), &mut at, tally)
 }

@@ -32,38 +32,29 @@ impl Callers {
         self.depth == MOST_CALLS
     }
 
-    /// With a call by the rule of this number.
+    /// A call by the rule of this number is opened.
     #[tactic(auto, unfolding(crate::specs::Callers::innermost_first))]
-    pub(crate) fn with(&self, number: u16) -> Callers
-        requires { length (innermost_first self.now.numbers self.now.depth) < 16 }
-        ensures { innermost_first result.numbers result.depth
-            ≡ number ∷ innermost_first self.now.numbers self.now.depth }
+    pub(crate) fn push(&mut self, number: u16)
+        requires { length (innermost_first self.old.numbers self.old.depth) < 16 }
+        ensures { innermost_first self.new.numbers self.new.depth
+            ≡ number ∷ innermost_first self.old.numbers self.old.depth }
     {
-        let mut numbers = self.numbers;
-        numbers[self.depth] = number;
-        Callers {
-            numbers,
-            depth: self.depth + 1,
-        }
+        self.numbers[self.depth] = number;
+        self.depth += 1;
     }
 
-    /// The number of the rule of the last call, and the others.
+    /// The last call is closed, and its rule's number answered; where none is open nothing changes.
     #[tactic(auto, unfolding(crate::specs::Callers::innermost_first))]
-    pub(crate) fn last(&self) -> Option<(u16, Callers)>
-        ensures { MatchOption result (innermost_first self.now.numbers self.now.depth ≡ []) (λ r.
-            innermost_first self.now.numbers self.now.depth
-            ≡ r.0 ∷ innermost_first r.1.numbers r.1.depth) }
+    pub(crate) fn pop(&mut self) -> Option<u16>
+        ensures { MatchOption result
+            ((innermost_first self.old.numbers self.old.depth ≡ []) × (self.new ≡ self.old))
+            (λ number. innermost_first self.old.numbers self.old.depth
+            ≡ number ∷ innermost_first self.new.numbers self.new.depth) }
     {
         if self.depth == 0 {
             return None;
         }
-        let depth = self.depth - 1;
-        Some((
-            self.numbers[depth],
-            Callers {
-                numbers: self.numbers,
-                depth,
-            },
-        ))
+        self.depth -= 1;
+        Some(self.numbers[self.depth])
     }
 }

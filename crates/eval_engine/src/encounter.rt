@@ -62,6 +62,7 @@ pub(crate) fn is_disabled(search: &Search<'_, '_>, rule: &Rule) -> bool
 }
 
 /// Whether the rule's body holds of the packet.
+#[inline(never)]
 #[tactic(auto, unfolding(crate::specs::Encounter::is_held))]
 pub(crate) fn is_held(search: &Search<'_, '_>, rule: &Rule) -> bool
     ensures { result ≡ spec.is_held (question_of search.now) rule.now }
@@ -123,6 +124,7 @@ pub(crate) fn rule_ref(rule: &Rule) -> RuleRef
     }
 }
 
+/// The rule looks the packet's flow up.
 pub(crate) fn lookup_by(search: &Search<'_, '_>, place: usize, rule: &Rule, flow: Flow) -> Op
     requires { IsRuleAt (question_of search.now) place rule.now }
     ensures { result ≡ spec.lookup_by (question_of search.now) rule.now flow }

@@ -3,17 +3,17 @@ ghost use Rattle.dyn_states.specs.declared.op.Op.{Op};
 ghost use Rattle.dyn_states.specs.declared.reply.Reply.{Reply};
 ghost use Rattle.counter_book.specs.declared.count.Count.{Count};
 ghost use Rattle.eval_engine.specs.Standing.{StandsAt, IsAnswered, callers_of, seen_by};
-ghost use Rattle.eval_engine.specs.Steps.{question_of, IsStopped, Leads};
+ghost use Rattle.eval_engine.specs.Steps.{question_of, Leads};
 ghost use Rattle.eval_engine.specs.Trace.{Seen};
 ghost use Rattle.eval_engine.specs.Walk as definition;
 ghost use Rattle.eval_engine.specs.declared.stage.Stage.TheVariants.{Asks};
 
-use crate::encounter::{name_at, rule_at, rule_ref, search_for};
+use crate::encounter::{name_at, rule_at, search_for};
 use crate::position::Position;
 use crate::search::Search;
 use crate::searched::Searched;
 use crate::step::Step;
-use crate::walking::{act, denied_at_end, judged, test, walk};
+use crate::walking::{act, judgement_at, test, waiting, walk};
 use crate::{Cause, Paused, Stage, Verdict};
 use counter_book::Tally;
 use dyn_states::Reply;
@@ -46,12 +46,20 @@ pub fn resume(
 {
     let search = search_for(edition, packet, port, second);
     let searched = searched_after(&search, &paused, &reply);
-    match answered(&search, &searched, &paused, reply, tally) {
-        Step::On(next) => {
+    let mut at = Position {
+        place: paused.place,
+        callers: paused.callers,
+        ask: None,
+    };
+    match answered(&search, &searched, reply, &mut at, tally) {
+        Step::On => {
             let key = key_of(search.packet);
-            walk(&search, &key, &searched, next, tally)
+            walk(&search, &key, &searched, &mut at, tally)
         }
-        Step::Stop(stage) => stage,
+        Step::Decides(verdict, cause) => {
+            Stage::Judged(judgement_at(&search, at.place, verdict, cause))
+        }
+        Step::Waits => waiting(&searched, &at),
     }
 }
 
@@ -94,78 +102,65 @@ fn place_of(search: &Search<'_, '_>, id: u32) -> usize
 }
 
 /// The first rule from that place on acts.
-fn act_at(search: &Search<'_, '_>, searched: &Searched, at: &Position, tally: &mut Tally) -> Step
+fn act_at(
+    search: &Search<'_, '_>,
+    searched: &Searched,
+    at: &mut Position,
+    tally: &mut Tally,
+) -> Step
     requires { search.now.edition.now.config.greatest_counter < length tally.old }
-    ensures { Leads (question_of search.now) (seen_by searched.now)
+    ensures { Leads (question_of search.now) searched.now
         (definition.acts_from (question_of search.now) (seen_by searched.now)
-        (callers_of at.now.callers) (drop at.now.place search.now.edition.now.config.rules)) result
-        tally.old tally.new }
+        (callers_of at.old.callers) (drop at.old.place search.now.edition.now.config.rules)) result
+        at.new tally.old tally.new }
 {
     match rule_at(search, at.place) {
         Some(rule) => act(search, at, rule, tally),
-        None => Step::Stop(denied_at_end(search)),
+        None => Step::Decides(Verdict::Deny, Cause::Rule),
     }
 }
 
 /// The first rule from that place on, behind its lookup.
-fn test_at(search: &Search<'_, '_>, searched: &Searched, at: &Position, tally: &mut Tally) -> Step
-    requires { search.now.edition.now.config.greatest_counter < length tally.old }
-    ensures { Leads (question_of search.now) (seen_by searched.now)
-        (definition.tests_from (question_of search.now) (seen_by searched.now)
-        (callers_of at.now.callers) (drop at.now.place search.now.edition.now.config.rules)) result
-        tally.old tally.new }
-{
-    match rule_at(search, at.place) {
-        Some(rule) => test(search, searched, at, rule, tally),
-        None => Step::Stop(denied_at_end(search)),
-    }
-}
-
-/// The first rule from that place on denies without a hit.
-fn refuse_at(search: &Search<'_, '_>, place: usize, cause: Cause) -> Stage
-    ensures { IsStopped (question_of search.now)
-        (definition.refuses_from (question_of search.now) cause
-        (drop place search.now.edition.now.config.rules)) result }
-{
-    match rule_at(search, place) {
-        Some(rule) => judged(search, Verdict::Deny, rule_ref(rule), cause),
-        None => denied_at_end(search),
-    }
-}
-
-/// Where the reply leads.
-fn answered(
+fn test_at(
     search: &Search<'_, '_>,
     searched: &Searched,
-    paused: &Paused,
-    reply: Reply,
+    at: &mut Position,
     tally: &mut Tally,
 ) -> Step
     requires { search.now.edition.now.config.greatest_counter < length tally.old }
-    ensures { Leads (question_of search.now) (seen_by searched.now)
-        (definition.leads_to (question_of search.now) (seen_by searched.now)
-        (callers_of paused.now.callers) (drop paused.now.place search.now.edition.now.config.rules)
-        reply) result tally.old tally.new }
+    ensures { Leads (question_of search.now) searched.now
+        (definition.tests_from (question_of search.now) (seen_by searched.now)
+        (callers_of at.old.callers) (drop at.old.place search.now.edition.now.config.rules)) result
+        at.new tally.old tally.new }
 {
-    let here = Position {
-        place: paused.place,
-        callers: paused.callers,
-    };
+    match rule_at(search, at.place) {
+        Some(rule) => test(search, searched, at, rule, tally),
+        None => Step::Decides(Verdict::Deny, Cause::Rule),
+    }
+}
+
+/// Where the reply to the ask of the rule in that place leads.
+fn answered(
+    search: &Search<'_, '_>,
+    searched: &Searched,
+    reply: Reply,
+    at: &mut Position,
+    tally: &mut Tally,
+) -> Step
+    requires { search.now.edition.now.config.greatest_counter < length tally.old }
+    ensures { Leads (question_of search.now) searched.now
+        (definition.leads_to (question_of search.now) (seen_by searched.now)
+        (callers_of at.old.callers) (drop at.old.place search.now.edition.now.config.rules) reply)
+        result at.new tally.old tally.new }
+{
     match reply {
         Reply::Found(rule, _) => {
-            let at = Position {
-                place: place_of(search, rule.id),
-                callers: paused.callers,
-            };
-            act_at(search, searched, &at, tally)
+            at.place = place_of(search, rule.id);
+            act_at(search, searched, at, tally)
         }
-        Reply::NotFound => test_at(search, searched, &here, tally),
-        Reply::Created | Reply::Exists => act_at(search, searched, &here, tally),
-        Reply::LimitReached(count) => {
-            Step::Stop(refuse_at(search, paused.place, Cause::Limit(count)))
-        }
-        Reply::TableFull(count) => {
-            Step::Stop(refuse_at(search, paused.place, Cause::Full(count)))
-        }
+        Reply::NotFound => test_at(search, searched, at, tally),
+        Reply::Created | Reply::Exists => act_at(search, searched, at, tally),
+        Reply::LimitReached(count) => Step::Decides(Verdict::Deny, Cause::Limit(count)),
+        Reply::TableFull(count) => Step::Decides(Verdict::Deny, Cause::Full(count)),
     }
 }

@@ -1,14 +1,14 @@
-ghost use Rattle.std.specs.Prelude.{◌≡◌, ◌+◌, ◌<◌, false, [], ◌∷◌, length, drop};
+ghost use Rattle.std.specs.Prelude.{◌≡◌, ◌+◌, ◌<◌, false, Some, length, drop, IsSome, IsSomeAnd};
 ghost use Rattle.rule_gates.specs.Keys.{IsKeyOf};
 ghost use Rattle.eval_engine.specs.Encounter as spec;
 ghost use Rattle.eval_engine.specs.Place.{IsRuleAt};
-ghost use Rattle.eval_engine.specs.Standing.{callers_of, seen_by};
-ghost use Rattle.eval_engine.specs.Steps.{question_of, walk_at, IsStep, IsStopped, Leads, Comes, PassesTo};
+ghost use Rattle.eval_engine.specs.Standing.{callers_of, kind_of, seen_by};
+ghost use Rattle.eval_engine.specs.Steps.{question_of, walk_at, waiting_at, judgement_from, IsStep, Leads, Comes, PassesTo};
 ghost use Rattle.eval_engine.specs.Trace.{Seen};
 ghost use Rattle.eval_engine.specs.Walk as definition;
 ghost use Rattle.eval_engine.specs.declared.judgement.Cause.TheVariants as cause;
-ghost use Rattle.eval_engine.specs.declared.stage.Stage.TheVariants.{Asks};
-ghost use Rattle.eval_engine.specs.declared.step.Step.TheVariants.{Stop};
+ghost use Rattle.eval_engine.specs.declared.searched.Searched.{Searched};
+ghost use Rattle.eval_engine.specs.declared.step.Step.TheVariants.{On, Waits};
 
 use crate::ask_kind::AskKind;
 use crate::encounter::{
@@ -22,259 +22,251 @@ use crate::step::Step;
 use crate::{Cause, Judgement, Paused, Stage, Verdict};
 use counter_book::Tally;
 use dyn_states::{Op, RuleRef};
-use fw_rule::{Action, Rule};
+use fw_rule::{Action, Rule, StateOpt};
+use packet_headers::Flow;
 use rule_gates::{Key, is_check_state, next_admitted, state_of};
 
-/// The evaluation ends with this verdict.
-pub(crate) fn judged(
-    search: &Search<'_, '_>,
-    verdict: Verdict,
-    rule: RuleRef,
-    cause: Cause,
-) -> Stage
-    ensures { IsStopped (question_of search.now)
-        (definition.judged (question_of search.now) verdict rule cause) result }
-{
-    Stage::Judged(Judgement {
-        edition: search.edition.number(),
-        verdict,
-        rule,
-        cause,
-    })
-}
-
-/// Rule 65535 denies what comes to the end of the rules.
-pub(crate) fn denied_at_end(search: &Search<'_, '_>) -> Stage
-    ensures { IsStopped (question_of search.now) (definition.denied_at_end (question_of search.now))
-        result }
-{
-    let last = RuleRef {
-        id: 0,
-        number: u16::MAX,
-    };
-    judged(search, Verdict::Deny, last, Cause::Rule)
-}
+/// The rule that each list ends with.
+const LAST: RuleRef = RuleRef {
+    id: 0,
+    number: u16::MAX,
+};
 
 /// The rule in that place is passed over.
-fn behind(search: &Search<'_, '_>, at: &Position) -> Position
-    requires { at.now.place < 65535 }
-    ensures { (seen : Seen)
-        → walk_at (question_of search.now) seen result
-        ≡ definition.walk_from (question_of search.now) seen (callers_of at.now.callers)
-        (drop (at.now.place + 1) search.now.edition.now.config.rules) 0 }
+fn pass_over(search: &Search<'_, '_>, at: &mut Position) -> Step
+    requires { at.old.place < 65535 }
+    ensures on { result ≡ On }
+    ensures next { (seen : Seen)
+        → walk_at (question_of search.now) seen at.new
+        ≡ definition.walk_from (question_of search.now) seen (callers_of at.old.callers)
+        (drop (at.old.place + 1) search.now.edition.now.config.rules) 0 }
 {
-    Position {
-        place: at.place + 1,
-        callers: at.callers,
-    }
+    at.place += 1;
+    Step::On
 }
 
 /// `call` goes on at the first rule of that number or a higher one; where no call more may be open it is passed over.
-fn call(search: &Search<'_, '_>, at: &Position, rule: &Rule) -> Position
-    requires there { IsRuleAt (question_of search.now) at.now.place rule.now }
+#[inline(never)]
+fn call(search: &Search<'_, '_>, at: &mut Position, rule: &Rule) -> Step
+    requires there { IsRuleAt (question_of search.now) at.old.place rule.now }
     requires called { spec.IsCall rule.now.action }
-    ensures { (seen : Seen)
-        → definition.follows_before (question_of search.now) seen (callers_of at.now.callers)
-        rule.now (drop (at.now.place + 1) search.now.edition.now.config.rules)
-        ≡ walk_at (question_of search.now) seen result }
+    ensures { (searched : Searched)
+        → IsStep (question_of search.now) searched
+        (definition.follows_before (question_of search.now) (seen_by searched)
+        (callers_of at.old.callers) rule.now
+        (drop (at.old.place + 1) search.now.edition.now.config.rules)) result at.new }
 {
     if at.callers.is_full() {
-        behind(search, at)
-    } else {
-        Position {
-            place: target(search, at.place, rule),
-            callers: at.callers.with(rule.number),
-        }
+        return pass_over(search, at);
     }
+    at.place = target(search, at.place, rule);
+    at.callers.push(rule.number);
+    Step::On
 }
 
 /// `return` goes on behind the last call; where there is none it is passed over.
-fn back(search: &Search<'_, '_>, at: &Position) -> Position
-    requires { at.now.place < 65535 }
-    ensures { (seen : Seen)
-        → definition.return_before (question_of search.now) seen (callers_of at.now.callers)
-        (drop (at.now.place + 1) search.now.edition.now.config.rules)
-        ≡ walk_at (question_of search.now) seen result }
+#[inline(never)]
+fn back(search: &Search<'_, '_>, at: &mut Position) -> Step
+    requires { at.old.place < 65535 }
+    ensures { (searched : Searched)
+        → IsStep (question_of search.now) searched
+        (definition.return_before (question_of search.now) (seen_by searched)
+        (callers_of at.old.callers) (drop (at.old.place + 1) search.now.edition.now.config.rules))
+        result at.new }
 {
-    match at.callers.last() {
-        Some((number, callers)) => Position {
-            place: first_behind(search, number),
-            callers,
-        },
-        None => behind(search, at),
-    }
+    let Some(number) = at.callers.pop() else {
+        return pass_over(search, at);
+    };
+    at.place = first_behind(search, number);
+    Step::On
 }
 
 /// `count` goes on behind its place, `skipto` at a later rule.
-fn onward(search: &Search<'_, '_>, at: &Position, rule: &Rule) -> Position
-    requires there { IsRuleAt (question_of search.now) at.now.place rule.now }
+fn onward(search: &Search<'_, '_>, at: &mut Position, rule: &Rule) -> Step
+    requires there { IsRuleAt (question_of search.now) at.old.place rule.now }
     requires onward { spec.IsOnward rule.now.action }
-    ensures { (seen : Seen)
-        → definition.follows_before (question_of search.now) seen (callers_of at.now.callers)
-        rule.now (drop (at.now.place + 1) search.now.edition.now.config.rules)
-        ≡ walk_at (question_of search.now) seen result }
+    ensures { (searched : Searched)
+        → IsStep (question_of search.now) searched
+        (definition.follows_before (question_of search.now) (seen_by searched)
+        (callers_of at.old.callers) rule.now
+        (drop (at.old.place + 1) search.now.edition.now.config.rules)) result at.new }
 {
-    Position {
-        place: target(search, at.place, rule),
-        callers: at.callers,
-    }
+    at.place = target(search, at.place, rule);
+    Step::On
 }
 
-/// The judgement by the rule, with a verdict that ends the search.
-fn decided(search: &Search<'_, '_>, rule: &Rule, verdict: Verdict) -> Step
-    ensures { (seen : Seen)
-        → IsStep (question_of search.now) seen
+/// The rule decides the packet, with a verdict that ends the search.
+fn decided(search: &Search<'_, '_>, at: &Position, rule: &Rule, verdict: Verdict) -> Step
+    requires { IsRuleAt (question_of search.now) at.now.place rule.now }
+    ensures { (searched : Searched)
+        → IsStep (question_of search.now) searched
         (definition.judged (question_of search.now) verdict (spec.rule_ref rule.now) cause.Rule)
-        result }
+        result at.now }
 {
-    Step::Stop(judged(search, verdict, rule_ref(rule), Cause::Rule))
+    Step::Decides(verdict, Cause::Rule)
 }
 
 /// What follows the rule's action.
-fn follow(search: &Search<'_, '_>, at: &Position, rule: &Rule) -> Step
-    requires { IsRuleAt (question_of search.now) at.now.place rule.now }
-    ensures { (seen : Seen)
-        → IsStep (question_of search.now) seen
-        (definition.follows_before (question_of search.now) seen (callers_of at.now.callers)
-        rule.now (drop (at.now.place + 1) search.now.edition.now.config.rules)) result }
+#[inline(always)]
+fn follow(search: &Search<'_, '_>, at: &mut Position, rule: &Rule) -> Step
+    requires { IsRuleAt (question_of search.now) at.old.place rule.now }
+    ensures { (searched : Searched)
+        → IsStep (question_of search.now) searched
+        (definition.follows_before (question_of search.now) (seen_by searched)
+        (callers_of at.old.callers) rule.now
+        (drop (at.old.place + 1) search.now.edition.now.config.rules)) result at.new }
 {
     match &rule.action {
-        Action::Allow => decided(search, rule, Verdict::Allow),
-        Action::Deny => decided(search, rule, Verdict::Deny),
-        Action::Reset => decided(search, rule, Verdict::Reset),
-        Action::Unreach(code) => decided(search, rule, Verdict::Unreach(*code)),
-        Action::Count | Action::SkipTo(_) | Action::CheckState(_) => {
-            Step::On(onward(search, at, rule))
-        }
-        Action::Call(_) => Step::On(call(search, at, rule)),
-        Action::Return => Step::On(back(search, at)),
+        Action::Allow => decided(search, at, rule, Verdict::Allow),
+        Action::Deny => decided(search, at, rule, Verdict::Deny),
+        Action::Reset => decided(search, at, rule, Verdict::Reset),
+        Action::Unreach(code) => decided(search, at, rule, Verdict::Unreach(*code)),
+        Action::Count | Action::SkipTo(_) | Action::CheckState(_) => onward(search, at, rule),
+        Action::Call(_) => call(search, at, rule),
+        Action::Return => back(search, at),
     }
 }
 
 /// The rule is counted, and its action runs.
-pub(crate) fn act(search: &Search<'_, '_>, at: &Position, rule: &Rule, tally: &mut Tally) -> Step
-    requires there { IsRuleAt (question_of search.now) at.now.place rule.now }
+#[inline(always)]
+pub(crate) fn act(
+    search: &Search<'_, '_>,
+    at: &mut Position,
+    rule: &Rule,
+    tally: &mut Tally,
+) -> Step
+    requires there { IsRuleAt (question_of search.now) at.old.place rule.now }
     requires fitted { search.now.edition.now.config.greatest_counter < length tally.old }
-    ensures { (seen : Seen)
-        → Leads (question_of search.now) seen
-        (definition.acts_before (question_of search.now) seen (callers_of at.now.callers) rule.now
-        (drop (at.now.place + 1) search.now.edition.now.config.rules)) result tally.old tally.new }
+    ensures { (searched : Searched)
+        → Leads (question_of search.now) searched
+        (definition.acts_before (question_of search.now) (seen_by searched)
+        (callers_of at.old.callers) rule.now
+        (drop (at.old.place + 1) search.now.edition.now.config.rules)) result at.new tally.old
+        tally.new }
 {
     tally.hit(rule.counter, search.packet.total());
     follow(search, at, rule)
 }
 
-/// The evaluation asks, and waits there.
-fn ask(at: &Position, searched: &Searched, op: Op, kind: AskKind) -> Step
-    ensures { result ≡ Stop
-        (Asks op (record {
-          place = at.now.place;
-          callers = at.now.callers;
-          searched = searched.now;
-          kind = kind;
-        })) }
-{
-    Step::Stop(Stage::Asks(
-        op,
-        Paused {
-            place: at.place,
-            callers: at.callers,
-            searched: *searched,
-            kind,
-        },
-    ))
-}
-
 /// The rule behind its lookup: it is passed over, asks for a state or acts.
+#[inline(always)]
 pub(crate) fn test(
     search: &Search<'_, '_>,
     searched: &Searched,
-    at: &Position,
+    at: &mut Position,
     rule: &Rule,
     tally: &mut Tally,
 ) -> Step
-    requires there { IsRuleAt (question_of search.now) at.now.place rule.now }
+    requires there { IsRuleAt (question_of search.now) at.old.place rule.now }
     requires fitted { search.now.edition.now.config.greatest_counter < length tally.old }
-    ensures { Leads (question_of search.now) (seen_by searched.now)
+    ensures { Leads (question_of search.now) searched.now
         (definition.tests_before (question_of search.now) (seen_by searched.now)
-        (callers_of at.now.callers) rule.now
-        (drop (at.now.place + 1) search.now.edition.now.config.rules)) result tally.old tally.new }
+        (callers_of at.old.callers) rule.now
+        (drop (at.old.place + 1) search.now.edition.now.config.rules)) result at.new tally.old
+        tally.new }
 {
     if is_check_state(&rule.action) {
-        return Step::On(behind(search, at));
+        return pass_over(search, at);
     }
     if is_held(search, rule) {
         install(search, searched, at, rule, tally)
     } else {
-        Step::On(behind(search, at))
+        pass_over(search, at)
     }
 }
 
+/// The rule in that place asks for a state of this flow.
+#[inline(never)]
+fn ask_install(
+    search: &Search<'_, '_>,
+    at: &mut Position,
+    rule: &Rule,
+    state: &StateOpt,
+    flow: Flow,
+) -> Step
+    requires there { IsRuleAt (question_of search.now) at.old.place rule.now }
+    requires plain { spec.is_check_state rule.now.action ≡ false }
+    requires made { spec.state_of rule.now ≡ Some state.now }
+    ensures waits { result ≡ Waits }
+    ensures asked { at.new ≡ record at.old {
+      ask = Some (spec.install_by (question_of search.now) rule.now state.now flow);
+    } }
+{
+    at.ask = Some(install_by(search, at.place, rule, state, flow));
+    Step::Waits
+}
+
 /// A rule whose body holds asks for a state, if it makes one, or acts.
+#[inline(always)]
 fn install(
     search: &Search<'_, '_>,
     searched: &Searched,
-    at: &Position,
+    at: &mut Position,
     rule: &Rule,
     tally: &mut Tally,
 ) -> Step
-    requires there { IsRuleAt (question_of search.now) at.now.place rule.now }
+    requires there { IsRuleAt (question_of search.now) at.old.place rule.now }
     requires plain { spec.is_check_state rule.now.action ≡ false }
     requires fitted { search.now.edition.now.config.greatest_counter < length tally.old }
-    ensures { Leads (question_of search.now) (seen_by searched.now)
+    ensures { Leads (question_of search.now) searched.now
         (definition.installs_before (question_of search.now) (seen_by searched.now)
-        (callers_of at.now.callers) rule.now
-        (drop (at.now.place + 1) search.now.edition.now.config.rules)) result tally.old tally.new }
+        (callers_of at.old.callers) rule.now
+        (drop (at.old.place + 1) search.now.edition.now.config.rules)) result at.new tally.old
+        tally.new }
 {
     let Some(state) = state_of(rule) else {
         return act(search, at, rule, tally);
     };
     match flow_of(search.packet) {
-        Some(flow) => {
-            let op = install_by(search, at.place, rule, state, flow);
-            ask(at, searched, op, AskKind::Install)
-        }
-        None => Step::On(behind(search, at)),
+        Some(flow) => ask_install(search, at, rule, state, flow),
+        None => pass_over(search, at),
     }
+}
+
+/// The rule in that place looks this flow up.
+#[inline(never)]
+fn ask_lookup(search: &Search<'_, '_>, at: &mut Position, rule: &Rule, flow: Flow) -> Step
+    requires { IsRuleAt (question_of search.now) at.old.place rule.now }
+    ensures waits { result ≡ Waits }
+    ensures asked { at.new ≡ record at.old {
+      ask = Some (spec.lookup_by (question_of search.now) rule.now flow);
+    } }
+{
+    at.ask = Some(lookup_by(search, at.place, rule, flow));
+    Step::Waits
 }
 
 /// The rule in this place: it is passed over, looked up, or tested.
 fn meet(
     search: &Search<'_, '_>,
     searched: &Searched,
-    at: &Position,
+    at: &mut Position,
     rule: &Rule,
     tally: &mut Tally,
 ) -> Step
-    requires there { IsRuleAt (question_of search.now) at.now.place rule.now }
+    requires there { IsRuleAt (question_of search.now) at.old.place rule.now }
     requires fitted { search.now.edition.now.config.greatest_counter < length tally.old }
-    ensures { Leads (question_of search.now) (seen_by searched.now)
-        (walk_at (question_of search.now) (seen_by searched.now) at.now) result tally.old
+    ensures { Leads (question_of search.now) searched.now
+        (walk_at (question_of search.now) (seen_by searched.now) at.old) result at.new tally.old
         tally.new }
 {
     if is_disabled(search, rule) {
-        return Step::On(behind(search, at));
+        return pass_over(search, at);
     }
     match lookup_flow(search, searched, at.place, rule) {
-        Some(flow) => {
-            let op = lookup_by(search, at.place, rule, flow);
-            ask(at, searched, op, AskKind::Lookup)
-        }
+        Some(flow) => ask_lookup(search, at, rule, flow),
         None => test(search, searched, at, rule, tally),
     }
 }
 
-/// Behind the rules whose gates don't admit the packet's key: each of them is passed over.
-fn behind_shut_gates(search: &Search<'_, '_>, key: &Key, at: &Position) -> Position
+/// Goes on behind the rules whose gates don't admit the packet's key: each of them is passed over.
+fn pass_shut_gates(search: &Search<'_, '_>, key: &Key, at: &mut Position)
     requires { IsKeyOf search.now.packet.now key.now }
     ensures { (seen : Seen)
-        → PassesTo (walk_at (question_of search.now) seen at.now)
-        (walk_at (question_of search.now) seen result) }
+        → PassesTo (walk_at (question_of search.now) seen at.old)
+        (walk_at (question_of search.now) seen at.new) }
 {
-    Position {
-        place: next_admitted(search.edition.gates(), at.place, key),
-        callers: at.callers,
-    }
+    at.place = next_admitted(search.edition.gates(), at.place, key);
 }
 
 /// The next rule whose gate admits the packet's key, or the end of the rules.
@@ -282,20 +274,70 @@ fn step(
     search: &Search<'_, '_>,
     key: &Key,
     searched: &Searched,
-    at: &Position,
+    at: &mut Position,
     tally: &mut Tally,
 ) -> Step
     requires key { IsKeyOf search.now.packet.now key.now }
     requires fitted { search.now.edition.now.config.greatest_counter < length tally.old }
-    ensures { Leads (question_of search.now) (seen_by searched.now)
-        (walk_at (question_of search.now) (seen_by searched.now) at.now) result tally.old
+    ensures { Leads (question_of search.now) searched.now
+        (walk_at (question_of search.now) (seen_by searched.now) at.old) result at.new tally.old
         tally.new }
 {
-    let next = behind_shut_gates(search, key, at);
-    match rule_at(search, next.place) {
-        Some(rule) => meet(search, searched, &next, rule, tally),
-        None => Step::Stop(denied_at_end(search)),
+    pass_shut_gates(search, key, at);
+    match rule_at(search, at.place) {
+        Some(rule) => meet(search, searched, at, rule, tally),
+        None => Step::Decides(Verdict::Deny, Cause::Rule),
     }
+}
+
+/// The judgement by the rule in that place; behind the last one rule 65535 denies.
+pub(crate) fn judgement_at(
+    search: &Search<'_, '_>,
+    place: usize,
+    verdict: Verdict,
+    cause: Cause,
+) -> Judgement
+    ensures { result ≡ judgement_from (question_of search.now) verdict cause
+        (drop place search.now.edition.now.config.rules) }
+{
+    let (verdict, rule, cause) = match rule_at(search, place) {
+        Some(rule) => (verdict, rule_ref(rule), cause),
+        None => (Verdict::Deny, LAST, Cause::Rule),
+    };
+    Judgement {
+        edition: search.edition.number(),
+        verdict,
+        rule,
+        cause,
+    }
+}
+
+/// Which ask it is.
+fn kind_of(op: &Op) -> AskKind
+    ensures { result ≡ kind_of op.now }
+{
+    match op {
+        Op::Lookup { .. } => AskKind::Lookup,
+        Op::Install { .. } => AskKind::Install,
+    }
+}
+
+/// The evaluation waits there for the reply to its ask.
+#[inline(never)]
+pub(crate) fn waiting(searched: &Searched, at: &Position) -> Stage
+    requires { IsSome at.now.ask }
+    ensures { IsSomeAnd at.now.ask (λ op. result ≡ waiting_at searched.now op at.now) }
+{
+    let Some(op) = at.ask else { unreachable!() };
+    Stage::Asks(
+        op,
+        Paused {
+            place: at.place,
+            callers: at.callers,
+            searched: *searched,
+            kind: kind_of(&op),
+        },
+    )
 }
 
 /// From there to the next ask or to the end. Of the packet gates ask its key.
@@ -303,19 +345,22 @@ pub(crate) fn walk(
     search: &Search<'_, '_>,
     key: &Key,
     searched: &Searched,
-    start: Position,
+    at: &mut Position,
     tally: &mut Tally,
 ) -> Stage
     requires key { IsKeyOf search.now.packet.now key.now }
     requires fitted { search.now.edition.now.config.greatest_counter < length tally.old }
     ensures { Comes (question_of search.now)
-        (walk_at (question_of search.now) (seen_by searched.now) start) result tally.old tally.new }
+        (walk_at (question_of search.now) (seen_by searched.now) at.old) result tally.old
+        tally.new }
 {
-    let mut at = start;
     loop {
-        match step(search, key, searched, &at, tally) {
-            Step::On(next) => at = next,
-            Step::Stop(stage) => return stage,
+        match step(search, key, searched, at, tally) {
+            Step::On => {}
+            Step::Decides(verdict, cause) => {
+                return Stage::Judged(judgement_at(search, at.place, verdict, cause));
+            }
+            Step::Waits => return waiting(searched, at),
         }
     }
 }

@@ -3,5 +3,5 @@ use Rattle.eval_engine.proofs.Leading.{leads_counted}
 use Rattle.eval_engine.proofs.walking.act.Goals as goal
 
 pub returns : goal.returns
-returns c = λ seen.
-    leads_counted (question_of c.args.search.now) seen _ c.follow.result c.args.rule.now.counter c.args.tally.now c.hit.new.self (rw (← c.total.ensures) c.hit.ensures) (c.follow.ensures seen)
+returns c = λ searched.
+    leads_counted (question_of c.args.search.now) searched _ c.follow.result c.follow.new.at c.args.rule.now.counter c.args.tally.now c.hit.new.self (rw (← c.total.ensures) c.hit.ensures) (c.follow.ensures searched)

@@ -11,7 +11,7 @@ returns-in_default c =
     let q = question_of c.args.search.now in
     let seen = seen_by c.args.searched.now in
     let acts = stateless_acts q seen (callers_of c.args.at.now.callers) c.args.rule.now (drop (c.args.at.now.place + 1) q.edition.config.rules) [] (sym c.in_default.ensures) in
-    rw acts (c.act.ensures seen)
+    rw acts (c.act.ensures c.args.searched.now)
 
 pub returns-in-Some-flow_of : goal.returns-in-Some-flow_of
 returns-in-Some-flow_of c =
@@ -19,7 +19,7 @@ returns-in-Some-flow_of c =
     let seen = seen_by c.args.searched.now in
     let flow = sym c.flow_of.ensures ∙ c.in-Some-flow_of.is in
     let asks = install_asks q seen (callers_of c.args.at.now.callers) c.args.rule.now (drop (c.args.at.now.place + 1) q.edition.config.rules) (drop c.args.at.now.place q.edition.config.rules) c.requires.there.there c.in-Some.state.now c.in-Some-flow_of.flow (sym c.in-Some.ensures) flow in
-    rw c.ask.ensures (comes_at_once q _ _ c.args.tally.now (record { stop = rw c.install_by-op.ensures asks; asked = rw c.install_by-op.ensures (search rules, c.requires.there.listed) }))
+    rw (c.ask_install.ensures.waits, c.ask_install.ensures.asked) (comes_at_once q _ _ c.args.tally.now (record { stop = asks; asked = (search rules, c.requires.there.listed) }))
 
 pub returns-in-None : goal.returns-in-None
 returns-in-None c =
@@ -27,4 +27,4 @@ returns-in-None c =
     let seen = seen_by c.args.searched.now in
     let flow = sym c.flow_of.ensures ∙ c.in-None.is in
     let passed = flowless_passed q seen (callers_of c.args.at.now.callers) c.args.rule.now (drop (c.args.at.now.place + 1) q.edition.config.rules) [] c.in-Some.state.now (sym c.in-Some.ensures) flow in
-    nears_by q _ _ c.args.tally.now (passed ∙ ap (λ (t : Trace). PassesOver t) (sym (c.behind.ensures seen)))
+    rw c.pass_over.ensures.on (nears_by q _ _ c.args.tally.now (passed ∙ ap (λ (t : Trace). PassesOver t) (sym (c.pass_over.ensures.next seen))))

@@ -11,14 +11,14 @@ returns-then-is_disabled c =
     let q = question_of c.args.search.now in
     let seen = seen_by c.args.searched.now in
     let passed = disabled_passed q seen (callers_of c.args.at.now.callers) c.args.rule.now (drop (c.args.at.now.place + 1) q.edition.config.rules) (drop c.args.at.now.place q.edition.config.rules) c.requires.there.there (sym c.if-is_disabled.ensures) in
-    nears_by q _ _ c.args.tally.now (passed ∙ ap (λ (t : Trace). PassesOver t) (sym (c.behind.ensures seen)))
+    rw c.pass_over.ensures.on (nears_by q _ _ c.args.tally.now (passed ∙ ap (λ (t : Trace). PassesOver t) (sym (c.pass_over.ensures.next seen))))
 
 pub returns-in-Some : goal.returns-in-Some
 returns-in-Some c =
     let q = question_of c.args.search.now in
     let seen = seen_by c.args.searched.now in
     let asks = looked_asks q seen (callers_of c.args.at.now.callers) c.args.rule.now (drop (c.args.at.now.place + 1) q.edition.config.rules) (drop c.args.at.now.place q.edition.config.rules) c.requires.there.there (sym c.if-is_disabled.ensures) c.in-Some.flow (sym c.in-Some.ensures) in
-    rw c.ask.ensures (comes_at_once q _ _ c.args.tally.now (record { stop = rw c.lookup_by-op.ensures asks; asked = rw c.lookup_by-op.ensures (search rules, search rules) }))
+    rw (c.ask_lookup.ensures.waits, c.ask_lookup.ensures.asked) (comes_at_once q _ _ c.args.tally.now (record { stop = asks; asked = (search rules, search rules) }))
 
 pub returns-in-None : goal.returns-in-None
 returns-in-None c =

@@ -11,7 +11,7 @@ returns-then-is_check_state c =
     let q = question_of c.args.search.now in
     let seen = seen_by c.args.searched.now in
     let passed = check_passed q seen (callers_of c.args.at.now.callers) c.args.rule.now (drop (c.args.at.now.place + 1) q.edition.config.rules) [] (sym c.if-is_check_state.ensures) in
-    nears_by q _ _ c.args.tally.now (passed ∙ ap (λ (t : Trace). PassesOver t) (sym (c.behind.ensures seen)))
+    rw c.pass_over.ensures.on (nears_by q _ _ c.args.tally.now (passed ∙ ap (λ (t : Trace). PassesOver t) (sym (c.pass_over.ensures.next seen))))
 
 pub returns-then-is_held : goal.returns-then-is_held
 returns-then-is_held c =
@@ -24,4 +24,4 @@ returns-else-is_held c =
     let q = question_of c.args.search.now in
     let seen = seen_by c.args.searched.now in
     let passed = unheld_passed q seen (callers_of c.args.at.now.callers) c.args.rule.now (drop (c.args.at.now.place + 1) q.edition.config.rules) [] (sym c.if-is_check_state.ensures) (sym c.if-is_held.ensures) in
-    nears_by q _ _ c.args.tally.now (passed ∙ ap (λ (t : Trace). PassesOver t) (sym (c.behind-else-is_held.ensures seen)))
+    rw c.pass_over-else-is_held.ensures.on (nears_by q _ _ c.args.tally.now (passed ∙ ap (λ (t : Trace). PassesOver t) (sym (c.pass_over-else-is_held.ensures.next seen))))

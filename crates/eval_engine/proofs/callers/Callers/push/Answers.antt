@@ -1,6 +1,6 @@
 use Rattle.std.proofs.Common.{◌≡◌, ◌+◌, suc, arith}
 use Rattle.eval_engine.proofs.Calls.{innermost_first-length, innermost_first-call}
-use Rattle.eval_engine.proofs.callers.Callers.with.Goals as goal
+use Rattle.eval_engine.proofs.callers.Callers.push.Goals as goal
 
 pub returns : goal.returns
 returns c =
