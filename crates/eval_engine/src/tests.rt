@@ -35,20 +35,27 @@ pub enum Deed {
     Return,
     /// `allow` with `keep-state`
     Keep(u8),
-    /// `allow` with `limit src-addr 2`
-    Limit(u8),
     /// `count` with `keep-state`
     CountKeep(u8),
-    /// `deny tcp from any to any keep-state` of a body that doesn't hold of UDP
-    KeepTcp(u8),
-    /// `allow tcp from any to any setup keep-state`
-    KeepSetup(u8),
-    /// `allow ip6 from 2001:db8::/32 to any`
-    AllowNet6,
-    /// `deny udp from any to any` of this port
-    DenyTo(u16),
+    AllowOf(Parts),
+    DenyOf(Parts),
     Check(u8),
     CheckAny,
+}
+
+/// The body of a rule.
+#[derive(Clone, Copy, Debug)]
+pub enum Parts {
+    /// `limit src-addr 2`
+    Limit(u8),
+    /// `tcp from any to any keep-state`, which doesn't hold of UDP
+    KeepTcp(u8),
+    /// `tcp from any to any setup keep-state`
+    KeepSetup(u8),
+    /// `ip6 from 2001:db8::/32 to any`
+    FromNet6,
+    /// `udp from any to any` of this port
+    ToPort(u16),
 }
 
 /// An ask that is wanted, and the reply that is given.
@@ -171,6 +178,25 @@ fn kept(alloc: Global, protocol: u8, digit: u8) -> Result<Option<Body>, Fail>
     body(alloc, protocol, Some(StateOpt::Keep(name(alloc, digit)?)))
 }
 
+fn limited(alloc: Global, digit: u8) -> Result<Option<Body>, Fail>
+    ensures { IfOk result (λ body. IsSomeAnd body IsBody) }
+{
+    let limit = StateOpt::Limit(LimitMask::SrcAddr, 2, name(alloc, digit)?);
+    body(alloc, 0, Some(limit))
+}
+
+fn body_of(alloc: Global, parts: Parts) -> Result<Option<Body>, Fail>
+    ensures { IfOk result (λ body. IsSomeAnd body IsBody) }
+{
+    match parts {
+        Parts::Limit(digit) => limited(alloc, digit),
+        Parts::KeepTcp(digit) => kept(alloc, 6, digit),
+        Parts::KeepSetup(digit) => set_up(alloc, digit),
+        Parts::FromNet6 => from_net6(alloc),
+        Parts::ToPort(port) => to_port(alloc, port),
+    }
+}
+
 fn draft(number: u16, set: u8, action: Action, body: Option<Body>) -> RuleDraft
     ensures number { result.number ≡ Some number }
     ensures set { result.set ≡ set }
@@ -208,15 +234,9 @@ fn add(alloc: Global, number: u16, set: u8, deed: Deed) -> Result<Command, Fail>
         ),
         Deed::Return => draft(number, set, Action::Return, body(alloc, 0, None)?),
         Deed::Keep(digit) => draft(number, set, Action::Allow, kept(alloc, 0, digit)?),
-        Deed::Limit(digit) => {
-            let limit = StateOpt::Limit(LimitMask::SrcAddr, 2, name(alloc, digit)?);
-            draft(number, set, Action::Allow, body(alloc, 0, Some(limit))?)
-        }
         Deed::CountKeep(digit) => draft(number, set, Action::Count, kept(alloc, 0, digit)?),
-        Deed::KeepTcp(digit) => draft(number, set, Action::Deny, kept(alloc, 6, digit)?),
-        Deed::KeepSetup(digit) => draft(number, set, Action::Allow, set_up(alloc, digit)?),
-        Deed::AllowNet6 => draft(number, set, Action::Allow, from_net6(alloc)?),
-        Deed::DenyTo(port) => draft(number, set, Action::Deny, to_port(alloc, port)?),
+        Deed::AllowOf(parts) => draft(number, set, Action::Allow, body_of(alloc, parts)?),
+        Deed::DenyOf(parts) => draft(number, set, Action::Deny, body_of(alloc, parts)?),
         Deed::Check(digit) => {
             let looked_up = Some(name(alloc, digit)?);
             draft(number, set, Action::CheckState(looked_up), None)

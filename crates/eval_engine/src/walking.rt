@@ -1,7 +1,8 @@
-ghost use Rattle.std.specs.Prelude.{◌≡◌, ◌+◌, ◌<◌, false, Some, length, drop, IsSome, IsSomeAnd};
-ghost use Rattle.rule_gates.specs.Keys.{IsKeyOf};
+ghost use Rattle.std.specs.Prelude.{◌≡◌, true, ◌+◌, ◌<◌, false, Some, length, drop, IsSome, IsSomeAnd};
+ghost use Rattle.fw_rule.specs.declared.rule.Rule.{Rule};
+ghost use Rattle.rule_gates.specs.Keys.{HasAddresses, IsKeyOf};
 ghost use Rattle.eval_engine.specs.Encounter as spec;
-ghost use Rattle.eval_engine.specs.Place.{IsRuleAt};
+ghost use Rattle.eval_engine.specs.Place.{IsRuleAt, IsTold};
 ghost use Rattle.eval_engine.specs.Standing.{callers_of, kind_of, seen_by};
 ghost use Rattle.eval_engine.specs.Steps.{question_of, walk_at, waiting_at, judgement_from, IsStep, Leads, Comes, PassesTo};
 ghost use Rattle.eval_engine.specs.Trace.{Seen};
@@ -24,7 +25,7 @@ use counter_book::Tally;
 use dyn_states::{Op, RuleRef};
 use fw_rule::{Action, Rule, StateOpt};
 use packet_headers::Flow;
-use rule_gates::{Key, is_check_state, next_admitted, state_of};
+use rule_gates::{Key, is_check_state, is_exact, next_admitted, state_of};
 
 /// The rule that each list ends with.
 const LAST: RuleRef = RuleRef {
@@ -236,15 +237,17 @@ fn ask_lookup(search: &Search<'_, '_>, at: &mut Position, rule: &Rule, flow: Flo
     Step::Waits
 }
 
-/// The rule in this place: it is passed over, looked up, or tested.
+/// The rule in this place: it is passed over, looked up, or tested. Where its gate told all it acts at once.
 fn meet(
     search: &Search<'_, '_>,
     searched: &Searched,
+    is_told: bool,
     at: &mut Position,
     rule: &Rule,
     tally: &mut Tally,
 ) -> Step
     requires there { IsRuleAt (question_of search.now) at.old.place rule.now }
+    requires told { is_told ≡ true → IsTold (question_of search.now) rule.now }
     requires fitted { search.now.edition.now.config.greatest_counter < length tally.old }
     ensures { Leads (question_of search.now) searched.now
         (walk_at (question_of search.now) (seen_by searched.now) at.old) result at.new tally.old
@@ -253,20 +256,31 @@ fn meet(
     if is_disabled(search, rule) {
         return pass_over(search, at);
     }
+    if is_told {
+        return act(search, at, rule, tally);
+    }
     match lookup_flow(search, searched, at.place, rule) {
         Some(flow) => ask_lookup(search, at, rule, flow),
         None => test(search, searched, at, rule, tally),
     }
 }
 
-/// Goes on behind the rules whose gates don't admit the packet's key: each of them is passed over.
-fn pass_shut_gates(search: &Search<'_, '_>, key: &Key, at: &mut Position)
-    requires { IsKeyOf search.now.packet.now key.now }
-    ensures { (seen : Seen)
+/// Goes on behind the rules whose gates don't admit the packet's key: each of them is passed over. Whether
+/// the gate there tells all of its rule: it looks nothing up, and its body holds.
+fn pass_shut_gates(search: &Search<'_, '_>, key: &Key, at: &mut Position) -> bool
+    requires key { IsKeyOf search.now.packet.now key.now }
+    requires addresses { HasAddresses search.now.packet.now }
+    ensures passes { (seen : Seen)
         → PassesTo (walk_at (question_of search.now) seen at.old)
         (walk_at (question_of search.now) seen at.new) }
+    ensures told { result ≡ true → (rule : Rule)
+        → IsRuleAt (question_of search.now) at.new.place rule
+        → IsTold (question_of search.now) rule }
 {
-    at.place = next_admitted(search.edition.gates(), at.place, key);
+    let gates = search.edition.gates();
+    let place = next_admitted(gates, at.place, key);
+    at.place = place;
+    place < gates.len() && is_exact(&gates[place])
 }
 
 /// The next rule whose gate admits the packet's key, or the end of the rules.
@@ -278,14 +292,15 @@ fn step(
     tally: &mut Tally,
 ) -> Step
     requires key { IsKeyOf search.now.packet.now key.now }
+    requires addresses { HasAddresses search.now.packet.now }
     requires fitted { search.now.edition.now.config.greatest_counter < length tally.old }
     ensures { Leads (question_of search.now) searched.now
         (walk_at (question_of search.now) (seen_by searched.now) at.old) result at.new tally.old
         tally.new }
 {
-    pass_shut_gates(search, key, at);
+    let is_told = pass_shut_gates(search, key, at);
     match rule_at(search, at.place) {
-        Some(rule) => meet(search, searched, at, rule, tally),
+        Some(rule) => meet(search, searched, is_told, at, rule, tally),
         None => Step::Decides(Verdict::Deny, Cause::Rule),
     }
 }
@@ -349,6 +364,7 @@ pub(crate) fn walk(
     tally: &mut Tally,
 ) -> Stage
     requires key { IsKeyOf search.now.packet.now key.now }
+    requires addresses { HasAddresses search.now.packet.now }
     requires fitted { search.now.edition.now.config.greatest_counter < length tally.old }
     ensures { Comes (question_of search.now)
         (walk_at (question_of search.now) (seen_by searched.now) at.old) result tally.old

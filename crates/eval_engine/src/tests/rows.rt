@@ -1,4 +1,4 @@
-use super::{Deed, Turn};
+use super::{Deed, Parts, Turn};
 use crate::{Cause, Verdict};
 use dyn_states::{FlowName, Op, Reply, RuleRef, Way};
 use fw_base::Addr;
@@ -275,7 +275,7 @@ pub const STATEFUL: &[Row] = &[
     },
     Row {
         name: "limit_is_reached",
-        rules: &[(100, 0, Deed::Limit(b'1'))],
+        rules: &[(100, 0, Deed::AllowOf(Parts::Limit(b'1')))],
         packet: SYN,
         turns: &[
             Turn {
@@ -436,7 +436,10 @@ pub const STATEFUL: &[Row] = &[
     },
     Row {
         name: "lookup_before_the_body",
-        rules: &[(100, 0, Deed::KeepTcp(b'1')), (200, 0, Deed::Allow)],
+        rules: &[
+            (100, 0, Deed::DenyOf(Parts::KeepTcp(b'1'))),
+            (200, 0, Deed::Allow),
+        ],
         packet: DATAGRAM,
         turns: &[Turn {
             op: Op::Lookup {

@@ -1,6 +1,6 @@
-ghost use Rattle.std.specs.Prelude.{◌≡◌, ◌<◌, length};
+ghost use Rattle.std.specs.Prelude.{◌<◌, length};
 
-use super::{Deed, edition};
+use super::{Deed, Parts, edition};
 use crate::{Cause, Judgement, Stage, Verdict, begin, is_reply_to, resume};
 use counter_book::Tally;
 use dyn_states::{RuleRef, States};
@@ -76,7 +76,10 @@ const LAST: RuleRef = RuleRef {
 pub const WORKED: &[Worked] = &[
     Worked {
         name: "tcp_state_lives_and_dies",
-        rules: &[(100, 0, Deed::Check(b'1')), (200, 0, Deed::KeepSetup(b'1'))],
+        rules: &[
+            (100, 0, Deed::Check(b'1')),
+            (200, 0, Deed::AllowOf(Parts::KeepSetup(b'1'))),
+        ],
         packets: &[
             (100, SYN, Verdict::Allow, SECOND),
             (101, SYN_ACK, Verdict::Allow, SECOND),
@@ -89,14 +92,14 @@ pub const WORKED: &[Worked] = &[
     },
     Worked {
         name: "ipv6_prefix",
-        rules: &[(100, 0, Deed::AllowNet6)],
+        rules: &[(100, 0, Deed::AllowOf(Parts::FromNet6))],
         packets: &[(100, DATAGRAM6, Verdict::Allow, FIRST)],
         counts: &[(100, 1, 48), (65535, 0, 0)],
         clock: 0,
     },
     Worked {
         name: "ipv6_fragment_header",
-        rules: &[(100, 0, Deed::DenyTo(6))],
+        rules: &[(100, 0, Deed::DenyOf(Parts::ToPort(6)))],
         packets: &[
             (100, OPTIONS6, Verdict::Deny, FIRST),
             (100, FIRST_FRAGMENT6, Verdict::Deny, FIRST),
@@ -127,7 +130,6 @@ fn judged_over(
     tally: &mut Tally,
 ) -> Option<Judgement>
     requires { edition.now.config.greatest_counter < length tally.old }
-    ensures { length tally.new ≡ length tally.old }
 {
     let mut stage = begin(edition, packet, port, second, tally);
     for _turn in 0..9 {
@@ -154,9 +156,7 @@ fn check_packets(
     edition: &Edition,
     states: &mut States,
     tally: &mut Tally,
-) -> Result<(), Fail>
-    requires { edition.now.config.greatest_counter < length tally.old }
-{
+) -> Result<(), Fail> {
     let port = Port {
         direction: Direction::In,
         interface: Name::new(alloc, b"em0")?,
@@ -166,6 +166,7 @@ fn check_packets(
         let AnyPacket::Ip(packet) = read_any(Link::Raw, bytes) else {
             return Err(Fail::from("no packet"));
         };
+        tally.fit(edition.config().counters())?;
         let judgement = judged_over(edition, &packet, &port, *second, states, tally);
         let wanted = Judgement {
             edition: 7,
@@ -184,8 +185,8 @@ pub fn check_worked(rt: &impl Abort, alloc: Global, row: &Worked) -> Result<(), 
     let settings = edition.config().settings();
     let mut states = States::open(alloc, settings.max, settings)?;
     let mut tally = Tally::new(alloc);
-    tally.fit(edition.config().counters())?;
     check_packets(rt, alloc, row, &edition, &mut states, &mut tally)?;
+    tally.fit(edition.config().counters())?;
     let rules = edition.config().rules();
     assert_eq!(rt; rules.len(), row.counts.len(), "{}", row.name);
     for (rule, (number, packets, bytes)) in rules.iter().zip(row.counts) {

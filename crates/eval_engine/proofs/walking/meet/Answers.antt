@@ -3,7 +3,7 @@ use Rattle.eval_engine.specs.Standing.{callers_of, seen_by}
 use Rattle.eval_engine.specs.Steps.{question_of}
 use Rattle.eval_engine.specs.Trace.{Trace, PassesOver}
 use Rattle.eval_engine.proofs.Leading.{nears_by, comes_at_once}
-use Rattle.eval_engine.proofs.Walks.{disabled_passed, looked_asks, unlooked_tests}
+use Rattle.eval_engine.proofs.Walks.{disabled_passed, looked_asks, told_acts, unlooked_tests}
 use Rattle.eval_engine.proofs.walking.meet.Goals as goal
 
 pub returns-then-is_disabled : goal.returns-then-is_disabled
@@ -12,6 +12,13 @@ returns-then-is_disabled c =
     let seen = seen_by c.args.searched.now in
     let passed = disabled_passed q seen (callers_of c.args.at.now.callers) c.args.rule.now (drop (c.args.at.now.place + 1) q.edition.config.rules) (drop c.args.at.now.place q.edition.config.rules) c.requires.there.there (sym c.if-is_disabled.ensures) in
     rw c.pass_over.ensures.on (nears_by q _ _ c.args.tally.now (passed ∙ ap (λ (t : Trace). PassesOver t) (sym (c.pass_over.ensures.next seen))))
+
+pub returns-then-is_told : goal.returns-then-is_told
+returns-then-is_told c =
+    let q = question_of c.args.search.now in
+    let seen = seen_by c.args.searched.now in
+    let acts = told_acts q seen (callers_of c.args.at.now.callers) c.args.rule.now (drop (c.args.at.now.place + 1) q.edition.config.rules) (drop c.args.at.now.place q.edition.config.rules) c.requires.there.there (sym c.if-is_disabled.ensures) (c.requires.told c.if-is_told.true) in
+    rw acts (c.act.ensures c.args.searched.now)
 
 pub returns-in-Some : goal.returns-in-Some
 returns-in-Some c =

@@ -13,15 +13,15 @@ use Rattle.eval_engine.proofs.walking.step.Goals as goal
 pub returns-in-Some : goal.returns-in-Some
 returns-in-Some c =
     leads_passed (question_of c.args.search.now) c.args.searched.now _ _ c.meet.result c.meet.new.at c.args.tally.now c.meet.new.tally
-    (c.pass_shut_gates.ensures (seen_by c.args.searched.now)) c.meet.ensures
+    (c.pass_shut_gates-is_told.ensures.passes (seen_by c.args.searched.now)) c.meet.ensures
 
 pub returns-in-None : goal.returns-in-None
 returns-in-None c =
     let q = question_of c.args.search.now in
     let seen = seen_by c.args.searched.now in
-    let next = c.pass_shut_gates.new.at in
+    let next = c.pass_shut_gates-is_told.new.at in
     let callers = callers_of next.callers in
     let ended = ap (λ (suffix : List Rule). walk_from q seen callers suffix 0) c.in-None.ensures ∙ walk_ends q seen callers in
-    let passes : PassesTo (walk_at q seen c.args.at.now) (walk_at q seen next) = c.pass_shut_gates.ensures seen in
+    let passes : PassesTo (walk_at q seen c.args.at.now) (walk_at q seen next) = c.pass_shut_gates-is_told.ensures.passes seen in
     leads_passed q c.args.searched.now _ _ (Decides verdicts.Deny causes.Rule) next c.args.tally.now c.args.tally.now passes
     (rw ended (comes_at_once q _ (judged_at q verdicts.Deny causes.Rule next) c.args.tally.now (denied_there q next verdicts.Deny causes.Rule c.in-None.ensures)))
