@@ -1,4 +1,4 @@
-ghost use Rattle.std.specs.Prelude.{◌≡◌, ◌++◌, codes};
+ghost use Rattle.std.specs.Prelude.{◌≡◌, ◌++◌, ℕ, codes};
 ghost use Rattle.std.specs.Bool.{OnTrue};
 ghost use Rattle.std.specs.Fmt.{decimal};
 ghost use Rattle.eval_engine.specs.Dockets.{judged_entry};
@@ -14,6 +14,7 @@ use crate::part::{Part, code_part};
 use arrayvec::ArrayVec;
 use eval_engine::{Cause, Docket, DocketEntry, Judgement, Verdict};
 use fw_base::{Failed, Sink, write_text};
+use itoa::Buffer;
 use pcap_read::CaptureFault;
 
 fn verdict_part(verdict: Verdict) -> Part<'static>
@@ -123,18 +124,19 @@ fn add_judged(line: &mut ArrayVec<u8, LINE_BYTES>, judgement: Judgement) -> bool
 }
 
 /// Appends the line of a packet that was judged, where there is room for it, and says whether there was.
+/// `digits` are those of the capture's number.
 #[tactic(auto, unfolding(crate::specs::DocketText::record_line, crate::specs::DocketText::entry_text))]
 #[inline(always)]
 fn add_judged_line(
     line: &mut ArrayVec<u8, LINE_BYTES>,
-    capture: u64,
+    digits: &[u8],
     at: u64,
     judgement: Judgement,
 ) -> bool
-    ensures { OnTrue result (line.new.items
+    ensures { (capture : ℕ) → digits.now ≡ decimal capture → OnTrue result (line.new.items
         ≡ line.old.items ++ text.record_line capture at (judged_entry judgement)) }
 {
-    add_number(line, capture)
+    add_text(line, digits)
         && add_text(line, b".")
         && add_number(line, at)
         && add_judged(line, judgement)
@@ -144,14 +146,16 @@ fn add_judged_line(
 fn write_judged<K: Sink>(
     out: &mut K,
     capture: u64,
+    digits: &[u8],
     at: u64,
     judgement: Judgement,
 ) -> Result<(), Failed>
+    requires { digits.now ≡ decimal capture }
     ensures { WritesText (K.written out.old) (K.written out.new) (K.faults out.old)
         (K.faults out.new) (text.record_line capture at (judged_entry judgement)) result }
 {
     let mut line = ArrayVec::new();
-    if add_judged_line(&mut line, capture, at, judgement) {
+    if add_judged_line(&mut line, digits, at, judgement) {
         write_text(out, line.as_slice())
     } else {
         write_long_judged(out, capture, at, judgement)
@@ -192,40 +196,56 @@ fn write_long_judged<K: Sink>(
     write_line(out, &line)
 }
 
-/// Writes the line of a record.
+/// Writes the line of a record that is no packet of IP.
+#[tactic(auto, unfolding(crate::specs::DocketText::record_line, crate::specs::DocketText::entry_text))]
+#[inline(never)]
+fn write_other<K: Sink>(out: &mut K, capture: u64, at: u64) -> Result<(), Failed>
+    ensures { WritesText (K.written out.old) (K.written out.new) (K.faults out.old)
+        (K.faults out.new) (text.record_line capture at DocketEntry.Other) result }
+{
+    let line = [
+        Part::Number(capture),
+        Part::Text(b"."),
+        Part::Number(at),
+        Part::Text(b" other\n"),
+    ];
+    write_line(out, &line)
+}
+
+/// Writes the line of a packet whose header can't be read.
+#[tactic(auto, unfolding(crate::specs::DocketText::record_line, crate::specs::DocketText::entry_text))]
+#[inline(never)]
+fn write_malformed<K: Sink>(out: &mut K, capture: u64, at: u64, kind: u8) -> Result<(), Failed>
+    ensures { WritesText (K.written out.old) (K.written out.new) (K.faults out.old)
+        (K.faults out.new) (text.record_line capture at (DocketEntry.Malformed kind)) result }
+{
+    let line = [
+        Part::Number(capture),
+        Part::Text(b"."),
+        Part::Number(at),
+        Part::Text(b" malformed "),
+        Part::Number(u64::from(kind)),
+        Part::Text(b"\n"),
+    ];
+    write_line(out, &line)
+}
+
+/// Writes the line of a record; `digits` are those of the capture's number.
 #[tactic(auto, unfolding(crate::specs::DocketText::record_line, crate::specs::DocketText::entry_text))]
 fn write_record<K: Sink>(
     out: &mut K,
     capture: u64,
+    digits: &[u8],
     at: u64,
     entry: DocketEntry,
 ) -> Result<(), Failed>
+    requires { digits.now ≡ decimal capture }
     ensures { WritesText (K.written out.old) (K.written out.new) (K.faults out.old)
         (K.faults out.new) (text.record_line capture at entry) result }
 {
-    let capture_number = Part::Number(capture);
-    let number = Part::Number(at);
-    let dot = Part::Text(b".");
     match entry {
-        DocketEntry::Other => write_line(
-            out,
-            &[capture_number, dot, number, Part::Text(b" other\n")],
-        ),
-        DocketEntry::Malformed(kind) => {
-            let malformed = Part::Text(b" malformed ");
-            let kind = Part::Number(u64::from(kind));
-            write_line(
-                out,
-                &[
-                    capture_number,
-                    dot,
-                    number,
-                    malformed,
-                    kind,
-                    Part::Text(b"\n"),
-                ],
-            )
-        }
+        DocketEntry::Other => write_other(out, capture, at),
+        DocketEntry::Malformed(kind) => write_malformed(out, capture, at, kind),
         DocketEntry::Judged {
             verdict,
             cause,
@@ -238,7 +258,7 @@ fn write_record<K: Sink>(
                 rule,
                 cause,
             };
-            write_judged(out, capture, at, judgement)
+            write_judged(out, capture, digits, at, judgement)
         }
     }
 }
@@ -292,9 +312,11 @@ fn write_capture<K: Sink>(
     ensures { WritesText (K.written out.old) (K.written out.new) (K.faults out.old)
         (K.faults out.new) (text.capture_text capture entries.now end) result }
 {
+    let mut buffer = Buffer::new();
+    let digits = buffer.format(capture).as_bytes();
     let mut at = 1u64;
     for entry in entries {
-        write_record(out, capture, at, *entry)?;
+        write_record(out, capture, digits, at, *entry)?;
         at += 1;
     }
     write_end(out, capture, end)

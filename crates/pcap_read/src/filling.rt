@@ -7,6 +7,7 @@ use fw_base::{Failed, Source};
 
 /// Reads until the window holds that many bytes. Answers whether it does: it may not at the source's
 /// end.
+#[inline(always)]
 pub(crate) fn fill<S: Source>(
     window: &mut Window,
     source: &mut S,

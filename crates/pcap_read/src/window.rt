@@ -75,6 +75,7 @@ impl Window {
     }
 
     /// Reads once behind the bytes that it holds, and answers how many bytes came.
+    #[inline(never)]
     pub(crate) fn refill<S: Source>(&mut self, source: &mut S) -> Result<usize, Failed>
         requires { length self.old < 262160 }
         ensures refills { Refills (S.left source.old) (S.left source.new) self.old self.new result }
