@@ -14,6 +14,8 @@ pub mod LanesOf
 -- lanes that stand aside while the world goes on
 pub mod Keeping
 pub mod Passing
+-- lanes in the order of their places
+pub mod Arranging
 -- records of worlds that are closed
 pub mod Recording
 -- desks that stand for commands, and commits that fail

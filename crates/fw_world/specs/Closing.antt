@@ -1,5 +1,5 @@
 -- What closing a world leaves.
-use Rattle.std.specs.Prelude.{◌≡◌, ℕ, ◌+◌, ⊤, List, [], ◌∷◌, length, map}
+use Rattle.std.specs.Prelude.{◌≡◌, ℕ, ◌+◌, ⊤, nat_le, if◌then◌else◌, List, [], ◌∷◌, length, map}
 use Rattle.std.specs.List.Sorted.{IsNonDecreasing}
 use Rattle.counter_book.specs.declared.count.Count.{Count}
 use Rattle.eval_engine.specs.Dockets.{DocketValue}
@@ -14,6 +14,16 @@ use Rattle.fw_world.specs.Publications.{PublishesEach, IsLawful}
 use Rattle.fw_world.specs.RecordValue.{RecordValue}
 use Rattle.fw_world.specs.Sections.{judged_editions}
 use Rattle.fw_world.specs.World.{WorldValue, IsLaneOf, LaneStandsFor}
+
+-- a lane among these: before the first whose place isn't below its own
+abbrev pub among : LaneValue → List LaneValue → List LaneValue
+among lane [] = lane ∷ []
+among lane (first ∷ others) = if nat_le lane.place first.place then lane ∷ first ∷ others else first ∷ among lane others
+
+-- these lanes in the order of their places
+abbrev pub by_place : List LaneValue → List LaneValue
+by_place [] = []
+by_place (lane ∷ lanes) = among lane (by_place lanes)
 
 -- the lanes are those of this world from this place on, each once, in the order of their places
 abbrev pub AreLanesFrom : WorldValue → ℕ → List LaneValue → Type 0

@@ -57,6 +57,12 @@ impl LaneState {
         }
     }
 
+    pub(crate) fn place(&self) -> u32
+        ensures { result ≡ self.now.place }
+    {
+        self.place
+    }
+
     pub(crate) fn has_failed(&self) -> bool
         ensures { result ≡ self.now.failed }
     {

@@ -21,6 +21,13 @@ impl Model for SerialLane {
 }
 
 impl SerialLane {
+    /// Its place among the world's lanes, from 1.
+    pub(crate) fn place(&self) -> u32
+        ensures { result ≡ self.now.place }
+    {
+        self.state.place()
+    }
+
     /// Whether want of memory failed it.
     pub(crate) fn has_failed(&self) -> bool
         ensures { result ≡ self.now.failed }

@@ -2,7 +2,7 @@ ghost use Rattle.std.specs.Prelude.{◌≡◌, ℕ, ◌+◌, ◌≤◌, ◌++◌
 ghost use Rattle.std.specs.List.{list_any, AllByRecursion};
 ghost use Rattle.fw_rule.specs.declared.command.Command.{Command};
 ghost use Rattle.rule_chain.specs.Configuration.{Configuration};
-ghost use Rattle.fw_world.specs.Closing.{AreLanesFrom, EachStandsFor, record_of, IsLegalButSections};
+ghost use Rattle.fw_world.specs.Closing.{AreLanesFrom, by_place, EachStandsFor, record_of, IsLegalButSections};
 ghost use Rattle.fw_world.specs.Columns.{no_columns};
 ghost use Rattle.fw_world.specs.Legal.{IsLegal};
 ghost use Rattle.eval_engine.specs.Dockets.{judged_entry};
@@ -17,7 +17,7 @@ ghost use Rattle.fw_world.specs.CommitFaults.{IsCauseOf};
 ghost use Rattle.fw_world.specs.LaneKept.{IsLane, pending_of};
 ghost use Rattle.fw_world.specs.SerialEntries.{entry_of};
 ghost use Rattle.fw_world.specs.Committing.{IsCommitFault};
-ghost use Rattle.fw_world.specs.World.{published, IsLaneOf, LaneStandsFor, DeskStandsFor};
+ghost use Rattle.fw_world.specs.World.{WorldValue, published, IsLaneOf, LaneStandsFor, DeskStandsFor};
 ghost use Rattle.fw_world.specs.WorldKept.{IsOpened};
 
 use crate::columns::Columns;
@@ -376,21 +376,23 @@ impl SerialWorld {
         lane.state.skip(skipped_entry(entry))
     }
 
-    /// The record of the world and of its lanes, each once and in the order of their places. Want of
-    /// memory comes exactly where a lane has failed.
+    /// The record of the world and of its lanes, each once and in any order: dockets, tallies and tracker
+    /// words come in the order of the lanes' places. Want of memory comes exactly where a lane has failed.
     pub fn close(self, lanes: Vec<SerialLane>, desk: SerialDesk) -> Result<Record, OutOfMemory>
-        requires lanes { AreLanesFrom self 1 lanes.items }
+        requires lanes { AreLanesFrom self 1 (by_place lanes.items) }
         requires all { length lanes.items ≡ self.journal.lanes }
         requires desk { desk ≡ self.editions }
         ensures failed { is_err result ≡ list_any (λ lane. lane.failed) lanes.items }
-        ensures exact { IfOk result (λ r. r ≡ record_of self lanes.items) }
+        ensures exact { IfOk result (λ r. r ≡ record_of self (by_place lanes.items)) }
         ensures legal { OnOk result
             ((first : Configuration) (commands : List Command) (inputs : List (List Input))
-            → DeskStandsFor desk first commands → EachStandsFor self lanes.items inputs
-            → AllByRecursion (λ lane. lane.loose ≡ 0) lanes.items → IsLegal first commands inputs (record_of self lanes.items)) }
+            → DeskStandsFor desk first commands → EachStandsFor self (by_place lanes.items) inputs
+            → AllByRecursion (λ lane. lane.loose ≡ 0) lanes.items
+            → IsLegal first commands inputs (record_of self (by_place lanes.items))) }
         ensures nearly { OnOk result
             ((first : Configuration) (commands : List Command) (inputs : List (List Input))
-            → DeskStandsFor desk first commands → EachStandsFor self lanes.items inputs → IsLegalButSections first commands inputs (record_of self lanes.items)) }
+            → DeskStandsFor desk first commands → EachStandsFor self (by_place lanes.items) inputs
+            → IsLegalButSections first commands inputs (record_of self (by_place lanes.items))) }
     {
         if any_failed(&lanes) {
             return Err(OutOfMemory);
@@ -401,7 +403,7 @@ impl SerialWorld {
             store,
             columns,
         } = self;
-        let (dockets, tallies, trackers) = filled(columns, lanes).into_parts();
+        let (dockets, tallies, trackers) = filled(columns, ordered(lanes)).into_parts();
         Ok(Record {
             editions: store.into_all(),
             book,
@@ -410,6 +412,16 @@ impl SerialWorld {
             trackers,
         })
     }
+}
+
+/// The lanes of a world in the order of their places.
+fn ordered(mut lanes: Vec<SerialLane>) -> Vec<SerialLane>
+    ensures lanes { (world : WorldValue) (place : ℕ)
+        → AreLanesFrom world place (by_place lanes.items) → result.items ≡ by_place lanes.items }
+    ensures all { length result.items ≡ length lanes.items }
+{
+    lanes.sort_unstable_by_key(|lane| lane.place());
+    lanes
 }
 
 /// Whether memory has failed one of the lanes.

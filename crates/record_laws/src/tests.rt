@@ -12,6 +12,7 @@ use fw_report::{Answer, CaptureEnd, Ends, LineAnswer, write_report};
 use fw_rule::Items;
 use fw_world::{
     CommitFault, OpenSerial, SerialDesk, SerialEntry, SerialInside, SerialLane, SerialWorld,
+    Skipped,
 };
 use ip6_headers::{AnyIp, AnyPacket, read_any};
 use rows::{ROWS, Row, Timed};
@@ -291,10 +292,32 @@ fn check(rt: &impl Abort, alloc: Global, row: &Row) -> Result<(), Fail> {
     Ok(())
 }
 
+/// How many records the first and the second of two lanes entered, where the second passed one over and the
+/// lanes are closed in this order or the other.
+fn entered_by_two(alloc: Global, turned: bool) -> Result<(usize, usize), Fail> {
+    let OpenSerial {
+        mut world,
+        mut lanes,
+        desk,
+    } = SerialWorld::open(alloc, Config::new(alloc)?, 2)?;
+    world.pass_over(&mut lanes[1], Skipped::Other)?;
+    if turned {
+        lanes.reverse();
+    }
+    let record = world.close(lanes, desk)?;
+    match record.dockets() {
+        [first, second] => Ok((first.entries().len(), second.entries().len())),
+        _ => Err(Fail::from("not two dockets")),
+    }
+}
+
 #[test]
 fn rows_of_one_lane(rt: HostRuntime) -> Result<(), Fail> {
     for row in ROWS {
         check(&rt, rt.alloc(), row)?;
+    }
+    for turned in [false, true] {
+        assert_eq!(rt; entered_by_two(rt.alloc(), turned)?, (0, 1));
     }
     Ok(())
 }
