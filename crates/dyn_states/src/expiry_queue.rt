@@ -1,4 +1,4 @@
-ghost use Rattle.std.specs.Prelude.{◌≡◌, ℕ, ◌+◌, ◌<◌, ◌≤◌, [], ◌∷◌, IfOk, IfSome, MatchOption, IsTrue, All, OnSome, IfNone, IsPermutation, false};
+ghost use Rattle.std.specs.Prelude.{◌≡◌, ℕ, ◌+◌, ◌<◌, ◌≤◌, [], ◌∷◌, IfOk, IfSome, MatchOption, IsTrue, All, OnSome, IfNone, IsPermutation, false, nat_le};
 ghost use Rattle.dyn_states.specs.ExpiryQueue as queue;
 ghost use Rattle.dyn_states.specs.ExpiryQueue.{entries, entry_count, entry_room, IsQueue};
 
@@ -28,7 +28,7 @@ impl ExpiryQueue {
 
     /// Whether there is no room for an entry.
     pub fn is_full(&self) -> bool
-        ensures { result ≡ false → entry_count self.now < entry_room self.now }
+        ensures { result ≡ nat_le (entry_room self.now) (entry_count self.now) }
     {
         self.heap.capacity() <= self.heap.len()
     }
