@@ -1,5 +1,5 @@
 -- How steps move an evaluation on.
-use Rattle.std.proofs.Common.{◌≡◌, ℕ, suc, ◌<◌, true, Option, Some, None, IsSome, IsSomeAnd, List, [], ◌∷◌, drop, length, refl, ap, sym, ◌∙◌, subst, arith, slice_set}
+use Rattle.std.proofs.Common.{◌≡◌, ℕ, suc, ◌<◌, Option, Some, None, IsSome, IsSomeAnd, List, [], ◌∷◌, drop, length, refl, ap, sym, ◌∙◌, subst, arith, slice_set}
 use Rattle.std.proofs.lemmas.List.{length-set}
 use Rattle.counter_book.specs.Counts.{count_of, raised}
 use Rattle.counter_book.specs.declared.count.Count.{Count}
@@ -13,7 +13,6 @@ use Rattle.eval_engine.specs.Steps.{walk_at, judged_at, judgement_from, waiting_
 use Rattle.eval_engine.specs.Trace.{Trace, PassesOver, Counts, hits_of, stop_of, length_of}
 use Rattle.eval_engine.specs.Walk.{judged, denied_at_end, refuses_from}
 use Rattle.eval_engine.specs.declared.judgement.Cause.{Cause}
-use Rattle.eval_engine.specs.declared.judgement.Cause.TheVariants as causes
 use Rattle.eval_engine.specs.declared.position.Position.{Position}
 use Rattle.eval_engine.specs.declared.searched.Searched.{Searched}
 use Rattle.eval_engine.specs.declared.stage.Stage.{Stage}
