@@ -9,7 +9,7 @@ ghost use Rattle.eval_engine.specs.Trace.{Seen};
 ghost use Rattle.eval_engine.specs.Walk as definition;
 ghost use Rattle.eval_engine.specs.declared.judgement.Cause.TheVariants as cause;
 ghost use Rattle.eval_engine.specs.declared.searched.Searched.{Searched};
-ghost use Rattle.eval_engine.specs.declared.step.Step.TheVariants.{On, Waits};
+ghost use Rattle.eval_engine.specs.declared.step.Step.TheVariants.{On};
 
 use crate::ask_kind::AskKind;
 use crate::encounter::{
@@ -33,6 +33,17 @@ const LAST: RuleRef = RuleRef {
     number: u16::MAX,
 };
 
+/// The position behind the rule in that place.
+fn leave(search: &Search<'_, '_>, at: &mut Position)
+    requires { at.old.place < 65535 }
+    ensures { (seen : Seen)
+        → walk_at (question_of search.now) seen at.new
+        ≡ definition.walk_from (question_of search.now) seen (callers_of at.old.callers)
+        (drop (at.old.place + 1) search.now.edition.now.config.rules) 0 }
+{
+    at.place += 1;
+}
+
 /// The rule in that place is passed over.
 fn pass_over(search: &Search<'_, '_>, at: &mut Position) -> Step
     requires { at.old.place < 65535 }
@@ -42,58 +53,53 @@ fn pass_over(search: &Search<'_, '_>, at: &mut Position) -> Step
         ≡ definition.walk_from (question_of search.now) seen (callers_of at.old.callers)
         (drop (at.old.place + 1) search.now.edition.now.config.rules) 0 }
 {
-    at.place += 1;
+    leave(search, at);
     Step::On
 }
 
 /// `call` goes on at the first rule of that number or a higher one; where no call more may be open it is passed over.
 #[inline(never)]
-fn call(search: &Search<'_, '_>, at: &mut Position, rule: &Rule) -> Step
+fn call(search: &Search<'_, '_>, at: &mut Position, rule: &Rule)
     requires there { IsRuleAt (question_of search.now) at.old.place rule.now }
     requires called { spec.IsCall rule.now.action }
-    ensures { (searched : Searched)
-        → IsStep (question_of search.now) searched
-        (definition.follows_before (question_of search.now) (seen_by searched)
-        (callers_of at.old.callers) rule.now
-        (drop (at.old.place + 1) search.now.edition.now.config.rules)) result at.new }
+    ensures { (seen : Seen)
+        → definition.follows_before (question_of search.now) seen (callers_of at.old.callers)
+        rule.now (drop (at.old.place + 1) search.now.edition.now.config.rules)
+        ≡ walk_at (question_of search.now) seen at.new }
 {
     if at.callers.is_full() {
-        return pass_over(search, at);
+        leave(search, at);
+    } else {
+        at.place = target(search, at.place, rule);
+        at.callers.push(rule.number);
     }
-    at.place = target(search, at.place, rule);
-    at.callers.push(rule.number);
-    Step::On
 }
 
 /// `return` goes on behind the last call; where there is none it is passed over.
 #[inline(never)]
-fn back(search: &Search<'_, '_>, at: &mut Position) -> Step
+fn back(search: &Search<'_, '_>, at: &mut Position)
     requires { at.old.place < 65535 }
-    ensures { (searched : Searched)
-        → IsStep (question_of search.now) searched
-        (definition.return_before (question_of search.now) (seen_by searched)
-        (callers_of at.old.callers) (drop (at.old.place + 1) search.now.edition.now.config.rules))
-        result at.new }
+    ensures { (seen : Seen)
+        → definition.return_before (question_of search.now) seen (callers_of at.old.callers)
+        (drop (at.old.place + 1) search.now.edition.now.config.rules)
+        ≡ walk_at (question_of search.now) seen at.new }
 {
-    let Some(number) = at.callers.pop() else {
-        return pass_over(search, at);
-    };
-    at.place = first_behind(search, number);
-    Step::On
+    match at.callers.pop() {
+        Some(number) => at.place = first_behind(search, number),
+        None => leave(search, at),
+    }
 }
 
 /// `count` goes on behind its place, `skipto` at a later rule.
-fn onward(search: &Search<'_, '_>, at: &mut Position, rule: &Rule) -> Step
+fn onward(search: &Search<'_, '_>, at: &mut Position, rule: &Rule)
     requires there { IsRuleAt (question_of search.now) at.old.place rule.now }
     requires onward { spec.IsOnward rule.now.action }
-    ensures { (searched : Searched)
-        → IsStep (question_of search.now) searched
-        (definition.follows_before (question_of search.now) (seen_by searched)
-        (callers_of at.old.callers) rule.now
-        (drop (at.old.place + 1) search.now.edition.now.config.rules)) result at.new }
+    ensures { (seen : Seen)
+        → definition.follows_before (question_of search.now) seen (callers_of at.old.callers)
+        rule.now (drop (at.old.place + 1) search.now.edition.now.config.rules)
+        ≡ walk_at (question_of search.now) seen at.new }
 {
     at.place = target(search, at.place, rule);
-    Step::On
 }
 
 /// The rule decides the packet, with a verdict that ends the search.
@@ -122,9 +128,18 @@ fn follow(search: &Search<'_, '_>, at: &mut Position, rule: &Rule) -> Step
         Action::Deny => decided(search, at, rule, Verdict::Deny),
         Action::Reset => decided(search, at, rule, Verdict::Reset),
         Action::Unreach(code) => decided(search, at, rule, Verdict::Unreach(*code)),
-        Action::Count | Action::SkipTo(_) | Action::CheckState(_) => onward(search, at, rule),
-        Action::Call(_) => call(search, at, rule),
-        Action::Return => back(search, at),
+        Action::Count | Action::SkipTo(_) | Action::CheckState(_) => {
+            onward(search, at, rule);
+            Step::On
+        }
+        Action::Call(_) => {
+            call(search, at, rule);
+            Step::On
+        }
+        Action::Return => {
+            back(search, at);
+            Step::On
+        }
     }
 }
 
@@ -184,17 +199,15 @@ fn ask_install(
     rule: &Rule,
     state: &StateOpt,
     flow: Flow,
-) -> Step
+)
     requires there { IsRuleAt (question_of search.now) at.old.place rule.now }
     requires plain { spec.is_check_state rule.now.action ≡ false }
     requires made { spec.state_of rule.now ≡ Some state.now }
-    ensures waits { result ≡ Waits }
-    ensures asked { at.new ≡ record at.old {
+    ensures { at.new ≡ record at.old {
       ask = Some (spec.install_by (question_of search.now) rule.now state.now flow);
     } }
 {
     at.ask = Some(install_by(search, at.place, rule, state, flow));
-    Step::Waits
 }
 
 /// A rule whose body holds asks for a state, if it makes one, or acts.
@@ -219,22 +232,23 @@ fn install(
         return act(search, at, rule, tally);
     };
     match flow_of(search.packet) {
-        Some(flow) => ask_install(search, at, rule, state, flow),
+        Some(flow) => {
+            ask_install(search, at, rule, state, flow);
+            Step::Waits
+        }
         None => pass_over(search, at),
     }
 }
 
 /// The rule in that place looks this flow up.
 #[inline(never)]
-fn ask_lookup(search: &Search<'_, '_>, at: &mut Position, rule: &Rule, flow: Flow) -> Step
+fn ask_lookup(search: &Search<'_, '_>, at: &mut Position, rule: &Rule, flow: Flow)
     requires { IsRuleAt (question_of search.now) at.old.place rule.now }
-    ensures waits { result ≡ Waits }
-    ensures asked { at.new ≡ record at.old {
+    ensures { at.new ≡ record at.old {
       ask = Some (spec.lookup_by (question_of search.now) rule.now flow);
     } }
 {
     at.ask = Some(lookup_by(search, at.place, rule, flow));
-    Step::Waits
 }
 
 /// The rule in this place: it is passed over, looked up, or tested. Where its gate told all it acts at once.
@@ -260,7 +274,10 @@ fn meet(
         return act(search, at, rule, tally);
     }
     match lookup_flow(search, searched, at.place, rule) {
-        Some(flow) => ask_lookup(search, at, rule, flow),
+        Some(flow) => {
+            ask_lookup(search, at, rule, flow);
+            Step::Waits
+        }
         None => test(search, searched, at, rule, tally),
     }
 }
@@ -338,7 +355,6 @@ fn kind_of(op: &Op) -> AskKind
 }
 
 /// The evaluation waits there for the reply to its ask.
-#[inline(never)]
 pub(crate) fn waiting(searched: &Searched, at: &Position) -> Stage
     requires { IsSome at.now.ask }
     ensures { IsSomeAnd at.now.ask (λ op. result ≡ waiting_at searched.now op at.now) }

@@ -1,6 +1,6 @@
 use Rattle.std.proofs.Common.{◌≡◌, ℕ, ◌<◌, ◌≤◌, length, drop, ◌+◌, nat_eq, false, true, sym, ◌∙◌, arith}
 use Rattle.eval_engine.specs.Steps.{question_of}
-use Rattle.eval_engine.specs.Standing.{callers_of, seen_by}
+use Rattle.eval_engine.specs.Standing.{callers_of}
 use Rattle.eval_engine.specs.Walk.{walk_from, way_back, calls_left}
 use Rattle.eval_engine.proofs.Calls.{innermost_first-length}
 use Rattle.eval_engine.proofs.Configured.{rule_read}
@@ -20,20 +20,17 @@ push-requires c =
     has_room _ (omega arith) c.if-is_full.ensures
 
 pub returns-then-is_full : goal.returns-then-is_full
-returns-then-is_full c = λ searched.
+returns-then-is_full c = λ seen.
     let q = question_of c.args.search.now in
-    let seen = seen_by searched in
     let callers = callers_of c.args.at.now.callers in
     let full : 16 ≤ length callers = is_full _ c.if-is_full.ensures in
-    rw c.pass_over.ensures.on
-    (call_full q seen c.args.rule.now (walk_from q seen callers (drop (c.args.at.now.place + 1) q.edition.config.rules)) callers (way_back (calls_left callers) q seen callers) c.args.rule.now.action
+    call_full q seen c.args.rule.now (walk_from q seen callers (drop (c.args.at.now.place + 1) q.edition.config.rules)) callers (way_back (calls_left callers) q seen callers) c.args.rule.now.action
     c.requires.called full
-    ∙ sym (c.pass_over.ensures.next seen))
+    ∙ sym (c.leave.ensures seen)
 
-pub returns : goal.returns
-returns c = λ searched.
+pub returns-else-is_full : goal.returns-else-is_full
+returns-else-is_full c = λ seen.
     let q = question_of c.args.search.now in
-    let seen = seen_by searched in
     let callers = callers_of c.args.at.now.callers in
     let there = c.requires.there in
     let size = innermost_first-length c.args.at.now.callers.numbers c.args.at.now.callers.depth in

@@ -11,6 +11,3 @@ returns-in-Reset c = λ searched. rw c.in-Reset.is (c.decided-in-Reset.ensures s
 
 pub returns-in-Unreach : goal.returns-in-Unreach
 returns-in-Unreach c = λ searched. rw c.in-Unreach.is (c.decided-in-Unreach.ensures searched)
-
-pub returns-in-Return : goal.returns-in-Return
-returns-in-Return c = λ searched. rw c.in-Return.is (c.back.ensures searched)
