@@ -126,10 +126,10 @@ leads_passed q searched trace next Waits at before now passes leads = go at.ask 
     go None leads = absurd leads
     go (Some op) leads = comes_passed q trace next _ before now passes leads
 
--- what a position asks of which something holds is there
-pub asks : (ask : Option Op) (P : Op → Type 0) → IsSomeAnd ask P → IsSome ask
-asks None P holds = absurd holds
-asks (Some op) P holds = refl
+-- an ask of which something holds is there
+pub ask_is_there : (ask : Option Op) (P : Op → Type 0) → IsSomeAnd ask P → IsSome ask
+ask_is_there None P holds = absurd holds
+ask_is_there (Some op) P holds = refl
 
 -- where an evaluation waits it comes to the ask
 pub comes_waiting : (q : Question) (trace : Trace) (searched : Searched) (at : Position) (stage : Stage) (before now : List Count) (ask : Option Op)

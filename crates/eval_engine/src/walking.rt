@@ -33,7 +33,7 @@ const LAST: RuleRef = RuleRef {
     number: u16::MAX,
 };
 
-/// The position behind the rule in that place.
+/// Goes on behind the rule in that place.
 fn leave(search: &Search<'_, '_>, at: &mut Position)
     requires { at.old.place < 65535 }
     ensures { (seen : Seen)

@@ -1,10 +1,10 @@
 use Rattle.eval_engine.specs.Steps.{question_of}
 use Rattle.eval_engine.proofs.Progressing.{stands_resumed}
-use Rattle.eval_engine.proofs.Leading.{asks, comes_by, comes_waiting}
+use Rattle.eval_engine.proofs.Leading.{ask_is_there, comes_by, comes_waiting}
 use Rattle.eval_engine.proofs.resuming.resume.Goals as goal
 
 pub waiting-requires : goal.waiting-requires
-waiting-requires c = asks c.answered.new.at.ask _ c.in-Waits.ensures
+waiting-requires c = ask_is_there c.answered.new.at.ask _ c.in-Waits.ensures
 
 pub returns-in-On : goal.returns-in-On
 returns-in-On c = λ op asks replies start stands.
