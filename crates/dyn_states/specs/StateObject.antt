@@ -68,7 +68,7 @@ with_first test change (s ∷ rest) = if test s then change s ∷ rest else s �
 -- Of several states the first made is found.
 abbrev pub found_reply : Flow → Option State → Reply
 found_reply flow None = NotFound
-found_reply flow (Some s) = Found s.rule (way_of s.flow flow)
+found_reply flow (Some s) = Found (way_of s.flow flow) s.rule
 
 -- what a lookup answers
 unfoldable pub lookup_reply : StateObject → Flow → FlowName → Reply
@@ -128,7 +128,7 @@ new_state o flow flags rule limit name =
 
 -- a state was made
 abbrev pub is_created : Reply → Bool
-is_created (Found rule way) = false
+is_created (Found way rule) = false
 is_created NotFound = false
 is_created Created = true
 is_created Exists = false
@@ -144,13 +144,13 @@ after_install o flow flags rule limit name =
 
 -- what an ask answers
 abbrev pub reply_of : StateObject → Op → Reply
-reply_of o (Lookup flow flags second name) = lookup_reply (raised o second) flow name
-reply_of o (Install flow flags second rule limit name) = install_reply (raised o second) flow rule limit name
+reply_of o (Lookup flags flow second name) = lookup_reply (raised o second) flow name
+reply_of o (Install flags flow second rule limit name) = install_reply (raised o second) flow rule limit name
 
 -- what an ask leaves
 abbrev pub after_ask : StateObject → Op → StateObject
-after_ask o (Lookup flow flags second name) = after_lookup (raised o second) flow flags name
-after_ask o (Install flow flags second rule limit name) = after_install (raised o second) flow flags rule limit name
+after_ask o (Lookup flags flow second name) = after_lookup (raised o second) flow flags name
+after_ask o (Install flags flow second rule limit name) = after_install (raised o second) flow flags rule limit name
 
 -- the rule 65535, which gets the states whose own rule is gone where they are kept
 abbrev pub last_rule : RuleRef

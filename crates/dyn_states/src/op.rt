@@ -8,15 +8,15 @@ use packet_headers::Flow;
 pub enum Op {
     /// Is there a state for it, of this flow name?
     Lookup {
-        flow: Flow,
         flags: u8,
+        flow: Flow,
         second: u32,
         name: FlowName,
     },
     /// A rule with `keep-state` or, where there is a limit, with `limit` makes a state for it.
     Install {
-        flow: Flow,
         flags: u8,
+        flow: Flow,
         second: u32,
         rule: RuleRef,
         limit: Option<(LimitMask, u16)>,

@@ -3,8 +3,8 @@ use crate::{RuleRef, Way};
 /// What the states answer. `Found` and `NotFound` answer a lookup, the others an install.
 #[derive(Clone, Copy, Debug, PartialEq, Eq, Hash)]
 pub enum Reply {
-    /// A live state matches; it was made by this rule, and the packet goes this way.
-    Found(RuleRef, Way),
+    /// A live state matches; the packet goes this way, and the state was made by this rule.
+    Found(Way, RuleRef),
     NotFound,
     /// A state was made.
     Created,

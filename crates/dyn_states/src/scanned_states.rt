@@ -219,7 +219,7 @@ impl ScannedStates {
         let way = way_of(&state.flow, flow);
         let settings = self.settings;
         self.states[place] = renewed(&settings, self.clock, with_flags(way, flags, state));
-        Reply::Found(state.rule, way)
+        Reply::Found(way, state.rule)
     }
 
     /// What an install answers.

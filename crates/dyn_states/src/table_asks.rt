@@ -57,7 +57,7 @@ pub(crate) fn look_up(
         Some(place) => {
             let state = table.slots()[place];
             table.touch(place, touched(settings, clock, flow, flags, state));
-            Reply::Found(state.rule, way_of(&state.flow, flow))
+            Reply::Found(way_of(&state.flow, flow), state.rule)
         }
     }
 }

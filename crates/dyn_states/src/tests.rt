@@ -153,8 +153,8 @@ const LAST_RULE: RuleRef = RuleRef {
 /// Each row of asks and replies is a worked row of the manual's subject, by its name.
 #[test]
 fn worked_rows(rt: HostRuntime) -> Result<(), Fail> {
-    let found = Reply::Found(RULE, Way::Forward);
-    let answered = Reply::Found(RULE, Way::Reverse);
+    let found = Reply::Found(Way::Forward, RULE);
+    let answered = Reply::Found(Way::Reverse, RULE);
 
     let mut tcp_state_lives_and_dies = States::open(rt.alloc(), USUAL_MOST_STATES, usual())?;
     assert_answers(
@@ -232,11 +232,11 @@ fn names_and_publications(rt: HostRuntime) -> Result<(), Fail> {
             (install(datagram(5), 0, 101, OTHER_RULE, 1), Reply::Created),
             (
                 lookup(datagram(5), 0, 101, FlowName::Any),
-                Reply::Found(RULE, Way::Forward),
+                Reply::Found(Way::Forward, RULE),
             ),
             (
                 lookup(datagram(5), 0, 101, web),
-                Reply::Found(OTHER_RULE, Way::Forward),
+                Reply::Found(Way::Forward, OTHER_RULE),
             ),
         ],
     );
@@ -262,7 +262,7 @@ fn names_and_publications(rt: HostRuntime) -> Result<(), Fail> {
 
     let kept_state_gets_the_last_rule = facts(&rt, 3, vec![in rt.alloc(); 0]?, true);
     publish(&rt, &mut states, &kept_state_gets_the_last_rule);
-    let found = Reply::Found(LAST_RULE, Way::Forward);
+    let found = Reply::Found(Way::Forward, LAST_RULE);
     assert_answers(
         &rt,
         &mut states,
@@ -307,7 +307,7 @@ fn lifetimes_by_the_flags_seen(rt: HostRuntime) -> Result<(), Fail> {
                     ),
                     (
                         find(answer(9), reverse | ACK, 100),
-                        Reply::Found(RULE, Way::Reverse),
+                        Reply::Found(Way::Reverse, RULE),
                     ),
                 ],
             );

@@ -149,7 +149,7 @@ module _ (q : Question) (P : ℕ → Type 0) where
     behind_on (suc n) (rule ∷ rules) s = behind_on n rules s.1
 
     leads_on : (seen : Seen) (callers : List ℕ) (suffix : List Rule) (reply : Reply) → AllByRecursion IsCounted suffix → IsTraceOf (leads_to q seen callers suffix reply)
-    leads_on seen callers suffix (Found rule way) s =
+    leads_on seen callers suffix (Found way rule) s =
         acts_on seen callers (suffix_of rule.id q.edition.config.rules) (behind_on (position_or_len (is_identity rule.id) q.edition.config.rules) q.edition.config.rules counted)
     leads_on seen callers suffix NotFound s = test_on seen callers suffix s
     leads_on seen callers suffix Created s = acts_on seen callers suffix s

@@ -57,20 +57,20 @@ stands_first q trace stage before now is comes =
 
 -- whether a reply is one to an ask rests on the ask's kind
 same_kind : (rules : List Rule) (op other : Op) (reply : Reply) → kind_of op ≡ kind_of other → is_reply_to rules op reply ≡ is_reply_to rules other reply
-same_kind rules (Lookup f1 g1 s1 n1) (Lookup f2 g2 s2 n2) (Found rule way) is = refl
-same_kind rules (Lookup f1 g1 s1 n1) (Lookup f2 g2 s2 n2) NotFound is = refl
-same_kind rules (Lookup f1 g1 s1 n1) (Lookup f2 g2 s2 n2) Created is = refl
-same_kind rules (Lookup f1 g1 s1 n1) (Lookup f2 g2 s2 n2) Exists is = refl
-same_kind rules (Lookup f1 g1 s1 n1) (Lookup f2 g2 s2 n2) (LimitReached count) is = refl
-same_kind rules (Lookup f1 g1 s1 n1) (Lookup f2 g2 s2 n2) (TableFull count) is = refl
-same_kind rules (Lookup f1 g1 s1 n1) (Install f2 g2 s2 r2 l2 n2) reply is = absurd (grind arith)
-same_kind rules (Install f1 g1 s1 r1 l1 n1) (Lookup f2 g2 s2 n2) reply is = absurd (grind arith)
-same_kind rules (Install f1 g1 s1 r1 l1 n1) (Install f2 g2 s2 r2 l2 n2) (Found rule way) is = refl
-same_kind rules (Install f1 g1 s1 r1 l1 n1) (Install f2 g2 s2 r2 l2 n2) NotFound is = refl
-same_kind rules (Install f1 g1 s1 r1 l1 n1) (Install f2 g2 s2 r2 l2 n2) Created is = refl
-same_kind rules (Install f1 g1 s1 r1 l1 n1) (Install f2 g2 s2 r2 l2 n2) Exists is = refl
-same_kind rules (Install f1 g1 s1 r1 l1 n1) (Install f2 g2 s2 r2 l2 n2) (LimitReached count) is = refl
-same_kind rules (Install f1 g1 s1 r1 l1 n1) (Install f2 g2 s2 r2 l2 n2) (TableFull count) is = refl
+same_kind rules (Lookup g1 f1 s1 n1) (Lookup g2 f2 s2 n2) (Found way rule) is = refl
+same_kind rules (Lookup g1 f1 s1 n1) (Lookup g2 f2 s2 n2) NotFound is = refl
+same_kind rules (Lookup g1 f1 s1 n1) (Lookup g2 f2 s2 n2) Created is = refl
+same_kind rules (Lookup g1 f1 s1 n1) (Lookup g2 f2 s2 n2) Exists is = refl
+same_kind rules (Lookup g1 f1 s1 n1) (Lookup g2 f2 s2 n2) (LimitReached count) is = refl
+same_kind rules (Lookup g1 f1 s1 n1) (Lookup g2 f2 s2 n2) (TableFull count) is = refl
+same_kind rules (Lookup g1 f1 s1 n1) (Install g2 f2 s2 r2 l2 n2) reply is = absurd (grind arith)
+same_kind rules (Install g1 f1 s1 r1 l1 n1) (Lookup g2 f2 s2 n2) reply is = absurd (grind arith)
+same_kind rules (Install g1 f1 s1 r1 l1 n1) (Install g2 f2 s2 r2 l2 n2) (Found way rule) is = refl
+same_kind rules (Install g1 f1 s1 r1 l1 n1) (Install g2 f2 s2 r2 l2 n2) NotFound is = refl
+same_kind rules (Install g1 f1 s1 r1 l1 n1) (Install g2 f2 s2 r2 l2 n2) Created is = refl
+same_kind rules (Install g1 f1 s1 r1 l1 n1) (Install g2 f2 s2 r2 l2 n2) Exists is = refl
+same_kind rules (Install g1 f1 s1 r1 l1 n1) (Install g2 f2 s2 r2 l2 n2) (LimitReached count) is = refl
+same_kind rules (Install g1 f1 s1 r1 l1 n1) (Install g2 f2 s2 r2 l2 n2) (TableFull count) is = refl
 
 fits_by : (q : Question) (op : Op) (paused : Paused) (reply : Reply) → IsOpenAt q op paused → IsAnswered q paused reply → is_reply_to q.edition.config.rules op reply ≡ true
 fits_by q op paused reply waiting answered = same_kind q.edition.config.rules op answered.op reply (waiting ∙ sym answered.waiting) ∙ answered.fits

@@ -79,7 +79,7 @@ rule_ref rule = record { id = rule.id; number = rule.number }
 
 -- is there a state of this rule's flow name
 abbrev pub lookup_by : Question → Rule → Flow → Op
-lookup_by q rule flow = Lookup flow (flags_of q.packet) q.second (name_at q rule)
+lookup_by q rule flow = Lookup (flags_of q.packet) flow q.second (name_at q rule)
 
 -- `limit` by its mask and its number
 abbrev pub limit_of : StateOpt → Option (LimitMask × ℕ)
@@ -89,4 +89,4 @@ limit_of (Limit mask most name) = Some (mask, most)
 -- make a state for this rule
 abbrev pub install_by : Question → Rule → StateOpt → Flow → Op
 install_by q rule state flow =
-    Install flow (flags_of q.packet) q.second (rule_ref rule) (limit_of state) (number_of q.edition.config.names (state_name state))
+    Install (flags_of q.packet) flow q.second (rule_ref rule) (limit_of state) (number_of q.edition.config.names (state_name state))

@@ -14,18 +14,18 @@ use Rattle.eval_engine.specs.Walk.{begun, resumed}
 -- A reply that is one to the ask: a state of a rule of the list that was found, or none, to a lookup; one
 -- of the other four to an install.
 abbrev pub is_reply_to : List Rule → Op → Reply → Bool
-is_reply_to rules (Lookup flow flags second name) (Found rule way) = has_identity rules rule.id
-is_reply_to rules (Lookup flow flags second name) NotFound = true
-is_reply_to rules (Lookup flow flags second name) Created = false
-is_reply_to rules (Lookup flow flags second name) Exists = false
-is_reply_to rules (Lookup flow flags second name) (LimitReached count) = false
-is_reply_to rules (Lookup flow flags second name) (TableFull count) = false
-is_reply_to rules (Install flow flags second rule limit name) (Found found way) = false
-is_reply_to rules (Install flow flags second rule limit name) NotFound = false
-is_reply_to rules (Install flow flags second rule limit name) Created = true
-is_reply_to rules (Install flow flags second rule limit name) Exists = true
-is_reply_to rules (Install flow flags second rule limit name) (LimitReached count) = true
-is_reply_to rules (Install flow flags second rule limit name) (TableFull count) = true
+is_reply_to rules (Lookup flags flow second name) (Found way rule) = has_identity rules rule.id
+is_reply_to rules (Lookup flags flow second name) NotFound = true
+is_reply_to rules (Lookup flags flow second name) Created = false
+is_reply_to rules (Lookup flags flow second name) Exists = false
+is_reply_to rules (Lookup flags flow second name) (LimitReached count) = false
+is_reply_to rules (Lookup flags flow second name) (TableFull count) = false
+is_reply_to rules (Install flags flow second rule limit name) (Found way found) = false
+is_reply_to rules (Install flags flow second rule limit name) NotFound = false
+is_reply_to rules (Install flags flow second rule limit name) Created = true
+is_reply_to rules (Install flags flow second rule limit name) Exists = true
+is_reply_to rules (Install flags flow second rule limit name) (LimitReached count) = true
+is_reply_to rules (Install flags flow second rule limit name) (TableFull count) = true
 
 -- how far an evaluation is: its asks and the counter numbers of its hits so far, and how it stops
 pub record Progress : Type 0 where

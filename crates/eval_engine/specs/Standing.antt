@@ -28,8 +28,8 @@ use Rattle.eval_engine.specs.declared.stage.Stage.TheVariants.{Judged, Asks}
 
 -- an install asks for a rule of the list
 abbrev pub InstallsRuleOf : List Rule → Op → Type 0
-InstallsRuleOf rules (Lookup flow flags second name) = ⊤
-InstallsRuleOf rules (Install flow flags second rule limit name) = IsTrue (has_identity rules rule.id)
+InstallsRuleOf rules (Lookup flags flow second name) = ⊤
+InstallsRuleOf rules (Install flags flow second rule limit name) = IsTrue (has_identity rules rule.id)
 
 -- the counts of a tally after one packet of so many bytes under each of these counter numbers
 unfoldable pub counts_after : ℕ → List ℕ → List Count → List Count
@@ -70,8 +70,8 @@ stop_at q (Asks op paused) = WaitsFor op (pause_of q paused)
 
 -- a lookup or an install
 abbrev pub kind_of : Op → AskKind
-kind_of (Lookup flow flags second name) = kind.Lookup
-kind_of (Install flow flags second rule limit name) = kind.Install
+kind_of (Lookup flags flow second name) = kind.Lookup
+kind_of (Install flags flow second rule limit name) = kind.Install
 
 -- it waits for the reply to an ask of this kind
 abbrev pub IsOpenAt : Question → Op → Paused → Type 0

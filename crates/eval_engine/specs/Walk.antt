@@ -159,7 +159,7 @@ suffix_of id rules = drop (position_or_len (is_identity id) rules) rules
 
 -- where the reply leads: a state's rule acts in its own place, and a rule acts once its state is there
 abbrev pub leads_to : Question → Seen → List ℕ → List Rule → Reply → Trace
-leads_to q seen callers suffix (Found rule way) = acts_from q seen callers (suffix_of rule.id q.edition.config.rules)
+leads_to q seen callers suffix (Found way rule) = acts_from q seen callers (suffix_of rule.id q.edition.config.rules)
 leads_to q seen callers suffix NotFound = tests_from q seen callers suffix
 leads_to q seen callers suffix Created = acts_from q seen callers suffix
 leads_to q seen callers suffix Exists = acts_from q seen callers suffix
@@ -173,7 +173,7 @@ with_name_at q seen (rule ∷ rest) = with_seen seen (name_at q rule)
 
 -- nothing is looked up behind a state that was found, and no name twice
 abbrev pub seen_after : Question → Seen → List Rule → Reply → Seen
-seen_after q seen suffix (Found rule way) = Done
+seen_after q seen suffix (Found way rule) = Done
 seen_after q seen suffix NotFound = with_name_at q seen suffix
 seen_after q seen suffix Created = seen
 seen_after q seen suffix Exists = seen

@@ -12,7 +12,7 @@ pub fn is_reply_to(edition: &Edition, op: &Op, reply: &Reply) -> bool
 {
     match op {
         Op::Lookup { .. } => match reply {
-            Reply::Found(rule, _) => has_identity(edition, rule.id),
+            Reply::Found(_, rule) => has_identity(edition, rule.id),
             Reply::NotFound => true,
             Reply::Created | Reply::Exists | Reply::LimitReached(_) | Reply::TableFull(_) => false,
         },

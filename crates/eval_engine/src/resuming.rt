@@ -152,7 +152,7 @@ fn answered(
         callers: paused.callers,
     };
     match reply {
-        Reply::Found(rule, _) => {
+        Reply::Found(_, rule) => {
             let at = Position {
                 place: place_of(search, rule.id),
                 callers: paused.callers,

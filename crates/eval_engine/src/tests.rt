@@ -5,7 +5,7 @@ ghost use Rattle.fw_rule.specs.declared.addr_item.AddrItem.TheVariants as items;
 
 mod rows;
 
-use crate::{Judgement, Stage, begin, is_reply_to, resume};
+use crate::{DocketEntry, Judgement, Stage, begin, is_reply_to, resume};
 use counter_book::Tally;
 use dyn_states::{Op, Reply};
 use fw_base::{Direction, Link, Name, Port};
@@ -17,6 +17,7 @@ use ip6_headers::{AnyIp, AnyPacket, read_any};
 use rows::{COUNTED, Row, STATEFUL};
 use rule_chain::{Config, is_changing};
 use std::alloc::Global;
+use std::mem::size_of;
 use std::process::Abort;
 use std::sync::Arc;
 use std::test::Fail;
@@ -214,6 +215,7 @@ fn check(rt: &impl Abort, alloc: Global, row: &Row) -> Result<(), Fail> {
         cause: row.cause,
     };
     assert_eq!(rt; judgement, Some(wanted), "{}", row.name);
+    assert_eq!(rt; DocketEntry::judged(wanted).judgement(), judgement);
     for (place, rule) in edition.config().rules().iter().enumerate() {
         let count = tally.count(rule.counter);
         assert_eq!(rt;
@@ -232,6 +234,8 @@ fn check(rt: &impl Abort, alloc: Global, row: &Row) -> Result<(), Fail> {
 
 #[test]
 fn rows_without_states(rt: HostRuntime) -> Result<(), Fail> {
+    assert_eq!(rt; size_of::<DocketEntry>(), 32);
+    assert_eq!(rt; DocketEntry::Other.judgement(), None);
     for row in COUNTED {
         check(&rt, rt.alloc(), row)?;
     }

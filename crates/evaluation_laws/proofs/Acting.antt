@@ -38,7 +38,7 @@ itself n = grind arith
 
 -- the state's rule is known where the state was found among these replies
 abbrev IsKnown : List Reply → Reply → Type 0
-IsKnown every (Found maker way) = list_any (is_found maker.id) every ≡ true
+IsKnown every (Found way maker) = list_any (is_found maker.id) every ≡ true
 IsKnown every NotFound = ⊤
 IsKnown every Created = ⊤
 IsKnown every Exists = ⊤
@@ -46,7 +46,7 @@ IsKnown every (LimitReached count) = ⊤
 IsKnown every (TableFull count) = ⊤
 
 known_more : (first : Reply) (every : List Reply) (reply : Reply) → IsKnown every reply → IsKnown (first ∷ every) reply
-known_more first every (Found maker way) is = or_true (is_found maker.id first) (list_any (is_found maker.id) every) is
+known_more first every (Found way maker) is = or_true (is_found maker.id first) (list_any (is_found maker.id) every) is
 known_more first every NotFound is = tt
 known_more first every Created is = tt
 known_more first every Exists is = tt
@@ -58,7 +58,7 @@ all_more first every [] are = tt
 all_more first every (reply ∷ replies) are = (known_more first every reply are.0, all_more first every replies are.1)
 
 known_first : (every : List Reply) (reply : Reply) → IsKnown (reply ∷ every) reply
-known_first every (Found maker way) = let same : is_found maker.id (Found maker way) ≡ true = itself maker.id in rw same refl
+known_first every (Found way maker) = let same : is_found maker.id (Found way maker) ≡ true = itself maker.id in rw same refl
 known_first every NotFound = tt
 known_first every Created = tt
 known_first every Exists = tt

@@ -85,13 +85,13 @@ module _ (q : Question) (depth : ℕ) (seen : Seen) (place : ℕ) (rule : Rule) 
         here _ (record { runs = subst (λ (rs : List Reply). Runs q depth seen (Meets (rule ∷ rest)) rs (asked lookup (plainly Mistakes))) (sym is) (IsMistaken depth seen rule rest flow reply left enabled due unfit); fewer = omega arith })
 
     -- where a state is found the rule that made it acts, in its own place, and nothing more is looked up
-    pub found : (maker : RuleRef) (way : Way) (left : List Reply) (there : ℕ) (other : Rule) (told : Story) → replies ≡ Found maker way ∷ left → IsMaker q maker.id there other
+    pub found : (maker : RuleRef) (way : Way) (left : List Reply) (there : ℕ) (other : Rule) (told : Story) → replies ≡ Found way maker ∷ left → IsMaker q maker.id there other
         → IsRun q depth Done (Acts other (drop (there + 1) all)) left told → IsMet (asked lookup told)
     found maker way left there other told is made on =
         here (asked lookup told) (record {
           runs = subst (λ (rs : List Reply). Runs q depth seen (Meets (rule ∷ rest)) rs (asked lookup told)) (sym is)
               (IsFound depth seen rule rest flow maker way other (drop (there + 1) all) left told enabled due made.known made.suffix on.runs);
-          fewer = fewer_by_one told.ending left replies (Found maker way) is on.fewer;
+          fewer = fewer_by_one told.ending left replies (Found way maker) is on.fewer;
         })
 
     -- where no state is found the name is no more due, and the rule is tested

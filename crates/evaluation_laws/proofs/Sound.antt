@@ -170,7 +170,7 @@ module _ (q : Question) (ascends : AscendsFrom 1 q.edition.config.rules) where
   comes (IsUnanswered depth seen rule rest flow enabled due) = λ callers asks hits size few suffix.
       same asks hits [] _ _ (looks seen callers rule rest flow enabled due) ∙ opened q callers asks hits (lookup_by q rule flow) (pause_at seen callers (rule ∷ rest))
   comes (IsFound depth seen rule rest flow maker way found after replies story enabled due fits there on) = λ callers asks hits size few suffix.
-      goes_on callers asks hits (lookup_by q rule flow) (pause_at seen callers (rule ∷ rest)) (Found maker way) replies story _ (acts_before q Done callers found after)
+      goes_on callers asks hits (lookup_by q rule flow) (pause_at seen callers (rule ∷ rest)) (Found way maker) replies story _ (acts_before q Done callers found after)
       (looks seen callers rule rest flow enabled due) fits (ap (λ (rules : List Rule). acts_from q Done callers rules) there)
       (comes on callers (asks ++ lookup_by q rule flow ∷ []) hits size few (record { place = position_or_len (is_identity maker.id) all; is = there }))
   comes (IsNotFound depth seen rule rest flow replies story enabled due on) = λ callers asks hits size few suffix.

@@ -179,8 +179,8 @@ module _ (q : Question) (ascends : AscendsFrom 1 q.edition.config.rules) where
         → Reached q depth seen (Tests rule rest) replies
     installed seen state flow [] le plain held made is =
         record { story = asked (install_by q rule state flow) (plainly (OpensAt (install_by q rule state flow))); runs = IsWaiting depth seen rule rest state flow plain held made is; fewer = tt }
-    installed seen state flow (Found maker way ∷ replies) le plain held made is =
-        record { story = asked (install_by q rule state flow) (plainly Mistakes); runs = IsMisread depth seen rule rest state flow (Found maker way) replies plain held made is refl; fewer = tt }
+    installed seen state flow (Found way maker ∷ replies) le plain held made is =
+        record { story = asked (install_by q rule state flow) (plainly Mistakes); runs = IsMisread depth seen rule rest state flow (Found way maker) replies plain held made is refl; fewer = tt }
     installed seen state flow (NotFound ∷ replies) le plain held made is =
         record { story = asked (install_by q rule state flow) (plainly Mistakes); runs = IsMisread depth seen rule rest state flow NotFound replies plain held made is refl; fewer = tt }
     installed seen state flow (Created ∷ replies) le plain held made is =
@@ -221,14 +221,14 @@ module _ (q : Question) (ascends : AscendsFrom 1 q.edition.config.rules) where
     looked : Jumps → (seen : Seen) (flow : Flow) (replies : List Reply) → length replies ≤ fuel → is_disabled q rule ≡ false → lookup_flow q seen rule ≡ Some flow → Reached q depth seen (Meets (rule ∷ rest)) replies
     looked jump seen flow [] le enabled due =
         record { story = asked (lookup_by q rule flow) (plainly (OpensAt (lookup_by q rule flow))); runs = IsUnanswered depth seen rule rest flow enabled due; fewer = tt }
-    looked jump seen flow (Found maker way ∷ replies) le enabled due = go (has_identity all maker.id) refl
+    looked jump seen flow (Found way maker ∷ replies) le enabled due = go (has_identity all maker.id) refl
       where
-        go : (b : Bool) → has_identity all maker.id ≡ b → Reached q depth seen (Meets (rule ∷ rest)) (Found maker way ∷ replies)
+        go : (b : Bool) → has_identity all maker.id ≡ b → Reached q depth seen (Meets (rule ∷ rest)) (Found way maker ∷ replies)
         go true fits =
             let there = leads (is_identity maker.id) all fits in
             let later = jump there.first there.after (record { place = position_or_len (is_identity maker.id) all; is = there.is }) replies (omega arith) in
             record { story = asked (lookup_by q rule flow) later.story; runs = IsFound depth seen rule rest flow maker way there.first there.after replies later.story enabled due fits there.is later.runs; fewer = no_more later.story.ending (length replies) (suc (length replies)) (omega arith) later.fewer }
-        go false unfit = mistaken seen flow (Found maker way) replies enabled due unfit
+        go false unfit = mistaken seen flow (Found way maker) replies enabled due unfit
     looked jump seen flow (NotFound ∷ replies) le enabled due =
         let later = tested (with_seen seen (name_at q rule)) replies (omega arith) in
         record { story = asked (lookup_by q rule flow) later.story; runs = IsNotFound depth seen rule rest flow replies later.story enabled due later.runs; fewer = no_more later.story.ending (length replies) (suc (length replies)) (omega arith) later.fewer }

@@ -50,7 +50,7 @@ is_ref ref rule = rule.id == ref.id && rule.number == ref.number
 
 -- a state that the rule of this identity made was found
 abbrev pub is_found : ℕ → Reply → Bool
-is_found id (Found maker way) = maker.id == id
+is_found id (Found way maker) = maker.id == id
 is_found id NotFound = false
 is_found id Created = false
 is_found id Exists = false
@@ -63,8 +63,8 @@ may_act q replies rule = not (is_disabled q rule) || list_any (is_found rule.id)
 
 -- an install is by a rule of the edition whose set isn't disabled
 abbrev pub is_installed : Question → Op → Bool
-is_installed q (Lookup flow flags second name) = true
-is_installed q (Install flow flags second rule limit name) = list_any (λ r. is_ref rule r && not (is_disabled q r)) q.edition.config.rules
+is_installed q (Lookup flags flow second name) = true
+is_installed q (Install flags flow second rule limit name) = list_any (λ r. is_ref rule r && not (is_disabled q r)) q.edition.config.rules
 
 -- Every install names a rule of the edition, of a set that isn't disabled.
 abbrev pub InstallsAreOfRules : Type 0

@@ -66,9 +66,9 @@ pub data Runs (q : Question) : ℕ → Seen → Moment → List Reply → Story 
       → is_disabled q rule ≡ false → lookup_flow q seen rule ≡ Some flow → Runs q depth seen (Meets (rule ∷ rest)) [] (asked (lookup_by q rule flow) (plainly (OpensAt (lookup_by q rule flow))))
   -- If a state is found, the rule that made it acts, in its own place, and nothing more is looked up.
   IsFound : (depth : ℕ) (seen : Seen) (rule : Rule) (rest : List Rule) (flow : Flow) (maker : RuleRef) (way : Way) (found : Rule) (after : List Rule) (replies : List Reply) (story : Story)
-      → is_disabled q rule ≡ false → lookup_flow q seen rule ≡ Some flow → is_reply_to q.edition.config.rules (lookup_by q rule flow) (Found maker way) ≡ true
+      → is_disabled q rule ≡ false → lookup_flow q seen rule ≡ Some flow → is_reply_to q.edition.config.rules (lookup_by q rule flow) (Found way maker) ≡ true
       → suffix_of maker.id q.edition.config.rules ≡ found ∷ after → Runs q depth Done (Acts found after) replies story
-      → Runs q depth seen (Meets (rule ∷ rest)) (Found maker way ∷ replies) (asked (lookup_by q rule flow) story)
+      → Runs q depth seen (Meets (rule ∷ rest)) (Found way maker ∷ replies) (asked (lookup_by q rule flow) story)
   -- If none is found, the name is no more due, and the rule is tested.
   IsNotFound : (depth : ℕ) (seen : Seen) (rule : Rule) (rest : List Rule) (flow : Flow) (replies : List Reply) (story : Story)
       → is_disabled q rule ≡ false → lookup_flow q seen rule ≡ Some flow → Runs q depth (with_seen seen (name_at q rule)) (Tests rule rest) replies story

@@ -75,7 +75,7 @@ fn look<'r>(
         return open_at(question, op);
     };
     match reply {
-        Reply::Found(maker, _) => match place_of(question, maker.id) {
+        Reply::Found(_, maker) => match place_of(question, maker.id) {
             Some((at, found)) => {
                 let story = act(question, depth, &Looked::done(), at, found, left)?;
                 asked(op, story)

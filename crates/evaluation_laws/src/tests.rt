@@ -174,7 +174,7 @@ fn reply(edition: &Edition, numbers: &mut Numbers, op: &Op) -> Reply {
                     id: rule.id,
                     number: rule.number,
                 };
-                Reply::Found(maker, Way::Forward)
+                Reply::Found(Way::Forward, maker)
             }
             None => Reply::NotFound,
         },

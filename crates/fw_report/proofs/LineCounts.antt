@@ -4,6 +4,7 @@ use Rattle.std.proofs.lemmas.Bool.Decides.{nat_tests}
 use Rattle.std.specs.Fmt.{decimal, digits, digits_onto, digit_glyph}
 use Rattle.std.specs.List.{AllByRecursion}
 use Rattle.fw_rule.specs.Canonical.{five_digits, code_word, unreach_names}
+use Rattle.eval_engine.specs.Dockets.{judgement_of}
 use Rattle.eval_engine.specs.declared.docket_entry.DocketEntry.{DocketEntry}
 use Rattle.eval_engine.specs.declared.docket_entry.DocketEntry.TheVariants.{Other, Malformed, Judged}
 use Rattle.eval_engine.specs.declared.judgement.Cause.{Cause}
@@ -101,7 +102,7 @@ entry_line : (entry : DocketEntry) → lines_in (entry_text entry) ≡ 1
 unfolding entry_text lines_in
 entry_line Other = refl
 entry_line (Malformed kind) = behind (decimal kind) _ (number kind)
-entry_line (Judged j) = judged_line j
+entry_line (Judged verdict cause rule edition) = judged_line (judgement_of verdict cause rule edition)
 
 one_line : (capture at : ℕ) (entry : DocketEntry) → lines_in (record_line capture at entry) ≡ 1
 unfolding record_line lines_in

@@ -2,7 +2,7 @@
 use Rattle.std.specs.Prelude.{ℕ, ◌+◌, List, [], ◌∷◌, ◌++◌, codes, decimal}
 use Rattle.fw_rule.specs.Canonical.{code_word, five_digits}
 use Rattle.pcap_read.specs.Words.{word_of}
-use Rattle.eval_engine.specs.Dockets.{DocketValue}
+use Rattle.eval_engine.specs.Dockets.{DocketValue, judgement_of}
 use Rattle.eval_engine.specs.declared.docket_entry.DocketEntry.{DocketEntry}
 use Rattle.eval_engine.specs.declared.docket_entry.DocketEntry.TheVariants.{Other, Malformed, Judged}
 use Rattle.eval_engine.specs.declared.judgement.Cause.{Cause}
@@ -50,7 +50,7 @@ judged_text j =
 unfoldable pub entry_text : DocketEntry → List ℕ
 entry_text Other = codes " other\n"
 entry_text (Malformed kind) = codes " malformed " ++ (decimal kind ++ codes "\n")
-entry_text (Judged judgement) = judged_text judgement
+entry_text (Judged verdict cause rule edition) = judged_text (judgement_of verdict cause rule edition)
 
 -- the line of a record: the capture's number, the record's, and what is told of it
 unfoldable pub record_line : ℕ → ℕ → DocketEntry → List ℕ

@@ -68,7 +68,7 @@ way_word Reverse = codes "reverse"
 
 -- what was answered, and the line's end
 unfoldable pub reply_end : Reply → List ℕ
-reply_end (Found rule way) = codes "found " ++ (decimal rule.id ++ (codes " " ++ (way_word way ++ codes "\n")))
+reply_end (Found way rule) = codes "found " ++ (decimal rule.id ++ (codes " " ++ (way_word way ++ codes "\n")))
 reply_end NotFound = codes "notfound\n"
 reply_end Created = codes "created\n"
 reply_end Exists = codes "exists\n"
@@ -85,23 +85,23 @@ ask_end flags reply = codes " " ++ (flags_word flags ++ (codes " " ++ reply_end 
 
 -- the flow that is asked for
 abbrev pub flow_of : Op → Flow
-flow_of (Lookup flow flags second name) = flow
-flow_of (Install flow flags second rule limit name) = flow
+flow_of (Lookup flags flow second name) = flow
+flow_of (Install flags flow second rule limit name) = flow
 
 -- the flags that are asked with
 abbrev pub flags_of : Op → ℕ
-flags_of (Lookup flow flags second name) = flags
-flags_of (Install flow flags second rule limit name) = flags
+flags_of (Lookup flags flow second name) = flags
+flags_of (Install flags flow second rule limit name) = flags
 
 -- the second of the ask
 abbrev pub second_of : Op → ℕ
-second_of (Lookup flow flags second name) = second
-second_of (Install flow flags second rule limit name) = second
+second_of (Lookup flags flow second name) = second
+second_of (Install flags flow second rule limit name) = second
 
 -- what is asked
 abbrev pub op_text : List (List ℕ) → Op → List ℕ
-op_text names (Lookup flow flags second name) = lookup_text names name
-op_text names (Install flow flags second rule limit name) = install_text names rule.id limit name
+op_text names (Lookup flags flow second name) = lookup_text names name
+op_text names (Install flags flow second rule limit name) = install_text names rule.id limit name
 
 -- the line of an ask
 unfoldable pub ask_line : List (List ℕ) → ℕ → ℕ → Op → Reply → List ℕ
@@ -114,7 +114,7 @@ publish_line number = codes "publish " ++ (decimal number ++ codes "\n")
 -- what the states met
 abbrev pub entry_line : List (List ℕ) → Entry → List ℕ
 entry_line names (Publish number) = publish_line number
-entry_line names (Ask lane at op reply) = ask_line names lane at op reply
+entry_line names (Ask lane op reply at) = ask_line names lane at op reply
 
 -- how many entries into a section were refused to a lane, and its tracker's word
 unfoldable pub lane_line : ℕ → ℕ → ℕ → List ℕ

@@ -24,7 +24,7 @@ is_deny (Unreach code) = false
 abbrev pub is_judged : (Verdict → Bool) → DocketEntry → Bool
 is_judged is Other = false
 is_judged is (Malformed kind) = false
-is_judged is (Judged judgement) = is judgement.verdict
+is_judged is (Judged verdict cause rule edition) = is verdict
 
 -- how many records there are, and how many were judged so
 abbrev pub records_in : List DocketValue → ℕ

@@ -1,6 +1,7 @@
 ghost use Rattle.std.specs.Prelude.{◌≡◌, ◌++◌, codes};
 ghost use Rattle.std.specs.Bool.{OnTrue};
 ghost use Rattle.std.specs.Fmt.{decimal};
+ghost use Rattle.eval_engine.specs.Dockets.{judged_entry};
 ghost use Rattle.fw_base.specs.Texts.{WritesText};
 ghost use Rattle.fw_rule.specs.Canonical.{five_digits};
 ghost use Rattle.fw_report.specs.DocketText as text;
@@ -131,7 +132,7 @@ fn add_judged_line(
     judgement: Judgement,
 ) -> bool
     ensures { OnTrue result (line.new.items
-        ≡ line.old.items ++ text.record_line capture at (DocketEntry.Judged judgement)) }
+        ≡ line.old.items ++ text.record_line capture at (judged_entry judgement)) }
 {
     add_number(line, capture)
         && add_text(line, b".")
@@ -147,7 +148,7 @@ fn write_judged<K: Sink>(
     judgement: Judgement,
 ) -> Result<(), Failed>
     ensures { WritesText (K.written out.old) (K.written out.new) (K.faults out.old)
-        (K.faults out.new) (text.record_line capture at (DocketEntry.Judged judgement)) result }
+        (K.faults out.new) (text.record_line capture at (judged_entry judgement)) result }
 {
     let mut line = ArrayVec::new();
     if add_judged_line(&mut line, capture, at, judgement) {
@@ -167,7 +168,7 @@ fn write_long_judged<K: Sink>(
     judgement: Judgement,
 ) -> Result<(), Failed>
     ensures { WritesText (K.written out.old) (K.written out.new) (K.faults out.old)
-        (K.faults out.new) (text.record_line capture at (DocketEntry.Judged judgement)) result }
+        (K.faults out.new) (text.record_line capture at (judged_entry judgement)) result }
 {
     let verdict = verdict_part(judgement.verdict);
     let code = verdict_code_part(judgement.verdict);
@@ -225,7 +226,20 @@ fn write_record<K: Sink>(
                 ],
             )
         }
-        DocketEntry::Judged(judgement) => write_judged(out, capture, at, judgement),
+        DocketEntry::Judged {
+            verdict,
+            cause,
+            rule,
+            edition,
+        } => {
+            let judgement = Judgement {
+                edition,
+                verdict,
+                rule,
+                cause,
+            };
+            write_judged(out, capture, at, judgement)
+        }
     }
 }
 

@@ -196,7 +196,7 @@ fn reply_parts(reply: Reply) -> [Part<'static>; 5]
     let none = Part::Text(b"");
     let end = Part::Text(b"\n");
     match reply {
-        Reply::Found(rule, way) => {
+        Reply::Found(way, rule) => {
             let id = Part::Number(u64::from(rule.id));
             [
                 Part::Text(b"found "),
@@ -304,10 +304,10 @@ fn write_entry<K: Sink>(out: &mut K, names: &[Name], entry: &Entry) -> Result<()
         Entry::Publish(number) => write_publication(out, *number),
         Entry::Ask {
             lane,
-            at,
             op,
             reply,
-        } => write_ask(out, names, *lane, *at, op, *reply),
+            at,
+        } => write_ask(out, names, u32::from(*lane), *at, op, *reply),
     }
 }
 

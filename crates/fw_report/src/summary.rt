@@ -18,7 +18,7 @@ fn is_allowed(entry: &DocketEntry) -> bool
 {
     match entry {
         DocketEntry::Other | DocketEntry::Malformed(_) => false,
-        DocketEntry::Judged(judgement) => match judgement.verdict {
+        DocketEntry::Judged { verdict, .. } => match verdict {
             Verdict::Allow => true,
             Verdict::Deny | Verdict::Reset | Verdict::Unreach(_) => false,
         },
@@ -30,7 +30,7 @@ fn is_denied(entry: &DocketEntry) -> bool
 {
     match entry {
         DocketEntry::Other | DocketEntry::Malformed(_) => false,
-        DocketEntry::Judged(judgement) => match judgement.verdict {
+        DocketEntry::Judged { verdict, .. } => match verdict {
             Verdict::Deny => true,
             Verdict::Allow | Verdict::Reset | Verdict::Unreach(_) => false,
         },

@@ -175,7 +175,7 @@ fn assert_reported(
 }
 
 fn judged(verdict: Verdict, number: u16, edition: u64, cause: Cause) -> DocketEntry {
-    DocketEntry::Judged(Judgement {
+    DocketEntry::judged(Judgement {
         edition,
         verdict,
         rule: RuleRef { id: 0, number },

@@ -23,7 +23,7 @@ use Rattle.fw_world.specs.Steps.{with_asks}
 abbrev pub last_number : ℕ → List Entry → ℕ
 last_number after [] = after
 last_number after (Publish number ∷ entries) = last_number number entries
-last_number after (Ask lane at op reply ∷ entries) = last_number after entries
+last_number after (Ask lane op reply at ∷ entries) = last_number after entries
 
 -- the asks of one record, all behind the same publication
 abbrev pub record_asks : ℕ → ℕ → List Op → List Reply → List LaneAsk
@@ -45,48 +45,48 @@ replies-record_asks after at (op ∷ ops) [] same = absurd (omega arith)
 replies-record_asks after at (op ∷ ops) (reply ∷ replies) same = ap (λ rest. reply ∷ rest) (replies-record_asks after at ops replies (omega arith))
 
 -- an ask of the lane behind the entries is the last one of its asks
-own_ask : (lane after at : ℕ) (op : Op) (reply : Reply) (entries : List Entry) → asks_of lane after (entries ++ Ask lane at op reply ∷ []) ≡ asks_of lane after entries ++ Asked (last_number after entries) (Ask lane at op reply) ∷ []
+own_ask : (lane after at : ℕ) (op : Op) (reply : Reply) (entries : List Entry) → asks_of lane after (entries ++ Ask lane op reply at ∷ []) ≡ asks_of lane after entries ++ Asked (last_number after entries) (Ask lane op reply at) ∷ []
 own_ask lane after at op reply [] = decided (lane == lane) (eq-eqb lane lane refl)
   where
-    decided : (b : Bool) → b ≡ true → cond b (Asked after (Ask lane at op reply) ∷ []) [] ≡ Asked after (Ask lane at op reply) ∷ []
+    decided : (b : Bool) → b ≡ true → cond b (Asked after (Ask lane op reply at) ∷ []) [] ≡ Asked after (Ask lane op reply at) ∷ []
     decided true is = refl
     decided false is = cc
 own_ask lane after at op reply (Publish number ∷ entries) = own_ask lane number at op reply entries
-own_ask lane after at op reply (Ask by when asked told ∷ entries) = decided (by == lane) (own_ask lane after at op reply entries)
+own_ask lane after at op reply (Ask by asked told when ∷ entries) = decided (by == lane) (own_ask lane after at op reply entries)
   where
-    decided : (b : Bool) → asks_of lane after (entries ++ Ask lane at op reply ∷ []) ≡ asks_of lane after entries ++ Asked (last_number after entries) (Ask lane at op reply) ∷ []
-        → cond b (Asked after (Ask by when asked told) ∷ asks_of lane after (entries ++ Ask lane at op reply ∷ [])) (asks_of lane after (entries ++ Ask lane at op reply ∷ []))
-        ≡ cond b (Asked after (Ask by when asked told) ∷ asks_of lane after entries) (asks_of lane after entries) ++ Asked (last_number after entries) (Ask lane at op reply) ∷ []
-    decided true rest = ap (λ items. Asked after (Ask by when asked told) ∷ items) rest
+    decided : (b : Bool) → asks_of lane after (entries ++ Ask lane op reply at ∷ []) ≡ asks_of lane after entries ++ Asked (last_number after entries) (Ask lane op reply at) ∷ []
+        → cond b (Asked after (Ask by asked told when) ∷ asks_of lane after (entries ++ Ask lane op reply at ∷ [])) (asks_of lane after (entries ++ Ask lane op reply at ∷ []))
+        ≡ cond b (Asked after (Ask by asked told when) ∷ asks_of lane after entries) (asks_of lane after entries) ++ Asked (last_number after entries) (Ask lane op reply at) ∷ []
+    decided true rest = ap (λ items. Asked after (Ask by asked told when) ∷ items) rest
     decided false rest = rest
 
 -- an ask of another lane behind the entries is none of its asks
-other_ask : (k lane after at : ℕ) (op : Op) (reply : Reply) (entries : List Entry) → k ≢ lane → asks_of k after (entries ++ Ask lane at op reply ∷ []) ≡ asks_of k after entries
+other_ask : (k lane after at : ℕ) (op : Op) (reply : Reply) (entries : List Entry) → k ≢ lane → asks_of k after (entries ++ Ask lane op reply at ∷ []) ≡ asks_of k after entries
 other_ask k lane after at op reply [] other = decided (lane == k) refl
   where
-    decided : (b : Bool) → b ≡ (lane == k) → cond b (Asked after (Ask lane at op reply) ∷ []) [] ≡ []
+    decided : (b : Bool) → b ≡ (lane == k) → cond b (Asked after (Ask lane op reply at) ∷ []) [] ≡ []
     decided true is = absurd (other (sym (eqb_yes (subst T is tt))))
     decided false is = refl
 other_ask k lane after at op reply (Publish number ∷ entries) other = other_ask k lane number at op reply entries other
-other_ask k lane after at op reply (Ask by when asked told ∷ entries) other = rw (other_ask k lane after at op reply entries other) refl
+other_ask k lane after at op reply (Ask by asked told when ∷ entries) other = rw (other_ask k lane after at op reply entries other) refl
 
 -- a publication behind the entries is no ask
 pub publication_asks : (k after number : ℕ) (entries : List Entry) → asks_of k after (entries ++ Publish number ∷ []) ≡ asks_of k after entries
 publication_asks k after number [] = refl
 publication_asks k after number (Publish earlier ∷ entries) = publication_asks k earlier number entries
-publication_asks k after number (Ask by at op reply ∷ entries) = rw (publication_asks k after number entries) refl
+publication_asks k after number (Ask by op reply at ∷ entries) = rw (publication_asks k after number entries) refl
 
 asks_in-append : (xs ys : List Item) → asks_in (xs ++ ys) ≡ asks_in xs ++ asks_in ys
 asks_in-append [] ys = refl
 asks_in-append (Lanes count ∷ xs) ys = asks_in-append xs ys
 asks_in-append (Published facts ∷ xs) ys = asks_in-append xs ys
 asks_in-append (Asked after (Publish number) ∷ xs) ys = asks_in-append xs ys
-asks_in-append (Asked after (Ask lane at op reply) ∷ xs) ys = ap (λ rest. record { after = after; at = at; op = op; reply = reply } ∷ rest) (asks_in-append xs ys)
+asks_in-append (Asked after (Ask lane op reply at) ∷ xs) ys = ap (λ rest. record { after = after; at = at; op = op; reply = reply } ∷ rest) (asks_in-append xs ys)
 
-last_number-ask : (after lane at : ℕ) (op : Op) (reply : Reply) (entries : List Entry) → last_number after (entries ++ Ask lane at op reply ∷ []) ≡ last_number after entries
+last_number-ask : (after lane at : ℕ) (op : Op) (reply : Reply) (entries : List Entry) → last_number after (entries ++ Ask lane op reply at ∷ []) ≡ last_number after entries
 last_number-ask after lane at op reply [] = refl
 last_number-ask after lane at op reply (Publish number ∷ entries) = last_number-ask number lane at op reply entries
-last_number-ask after lane at op reply (Ask by when asked told ∷ entries) = last_number-ask after lane at op reply entries
+last_number-ask after lane at op reply (Ask by asked told when ∷ entries) = last_number-ask after lane at op reply entries
 
 -- a lane's asks after those of one record
 pub lane_asks-record : (j : Journal) (lane at : ℕ) (ops : List Op) (replies : List Reply)
@@ -107,27 +107,27 @@ asks_of-others j k lane at [] replies other = refl
 asks_of-others j k lane at (op ∷ ops) [] other = refl
 asks_of-others j k lane at (op ∷ ops) (reply ∷ replies) other = asks_of-others (with_ask j lane at op reply) k lane at ops replies other ∙ other_ask k lane 0 at op reply j.entries other
 
-publications-ask : (lane at : ℕ) (op : Op) (reply : Reply) (entries : List Entry) → publications (entries ++ Ask lane at op reply ∷ []) ≡ publications entries
+publications-ask : (lane at : ℕ) (op : Op) (reply : Reply) (entries : List Entry) → publications (entries ++ Ask lane op reply at ∷ []) ≡ publications entries
 publications-ask lane at op reply [] = refl
 publications-ask lane at op reply (Publish number ∷ entries) = ap (λ rest. number ∷ rest) (publications-ask lane at op reply entries)
-publications-ask lane at op reply (Ask by when asked told ∷ entries) = publications-ask lane at op reply entries
+publications-ask lane at op reply (Ask by asked told when ∷ entries) = publications-ask lane at op reply entries
 
 -- a publication behind the entries is the last one
 pub publications-publication : (number : ℕ) (entries : List Entry) → publications (entries ++ Publish number ∷ []) ≡ publications entries ++ number ∷ []
 publications-publication number [] = refl
 publications-publication number (Publish earlier ∷ entries) = ap (λ rest. earlier ∷ rest) (publications-publication number entries)
-publications-publication number (Ask by when asked told ∷ entries) = publications-publication number entries
+publications-publication number (Ask by asked told when ∷ entries) = publications-publication number entries
 
-AreOfLanes-ask : (lanes lane at : ℕ) (op : Op) (reply : Reply) (entries : List Entry) → 1 ≤ lane → lane ≤ lanes → AreOfLanes lanes entries → AreOfLanes lanes (entries ++ Ask lane at op reply ∷ [])
+AreOfLanes-ask : (lanes lane at : ℕ) (op : Op) (reply : Reply) (entries : List Entry) → 1 ≤ lane → lane ≤ lanes → AreOfLanes lanes entries → AreOfLanes lanes (entries ++ Ask lane op reply at ∷ [])
 AreOfLanes-ask lanes lane at op reply [] first last are = ((first, last), tt)
 AreOfLanes-ask lanes lane at op reply (Publish number ∷ entries) first last are = (tt, AreOfLanes-ask lanes lane at op reply entries first last are.1)
-AreOfLanes-ask lanes lane at op reply (Ask by when asked told ∷ entries) first last are = (are.0, AreOfLanes-ask lanes lane at op reply entries first last are.1)
+AreOfLanes-ask lanes lane at op reply (Ask by asked told when ∷ entries) first last are = (are.0, AreOfLanes-ask lanes lane at op reply entries first last are.1)
 
 -- a publication behind the entries leaves each ask one of a lane of the world
 pub AreOfLanes-publication : (lanes number : ℕ) (entries : List Entry) → AreOfLanes lanes entries → AreOfLanes lanes (entries ++ Publish number ∷ [])
 AreOfLanes-publication lanes number [] are = (tt, tt)
 AreOfLanes-publication lanes number (Publish earlier ∷ entries) are = (tt, AreOfLanes-publication lanes number entries are.1)
-AreOfLanes-publication lanes number (Ask by when asked told ∷ entries) are = (are.0, AreOfLanes-publication lanes number entries are.1)
+AreOfLanes-publication lanes number (Ask by asked told when ∷ entries) are = (are.0, AreOfLanes-publication lanes number entries are.1)
 
 -- Asks of one record leave all of a journal but its entries and its states.
 pub record KeepsAround (most : ℕ) (old new : Journal) : Type 0 where

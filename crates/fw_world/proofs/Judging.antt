@@ -12,7 +12,7 @@ use Rattle.counter_book.specs.declared.count.Count.{Count}
 use Rattle.dyn_states.specs.declared.op.Op.{Op}
 use Rattle.dyn_states.specs.declared.reply.Reply.{Reply}
 use Rattle.generation_store.specs.Published.{Published}
-use Rattle.eval_engine.specs.Dockets.{DocketValue}
+use Rattle.eval_engine.specs.Dockets.{DocketValue, judged_entry}
 use Rattle.eval_engine.specs.Evaluated.{Whole}
 use Rattle.eval_engine.specs.Evaluation.{evaluate}
 use Rattle.eval_engine.specs.declared.docket_entry.DocketEntry.{DocketEntry}
@@ -49,8 +49,8 @@ record_hits-asks editions asks more at Other entered same = refl
 record_hits-asks editions asks more at (Malformed kind) entered same = refl
 record_hits-asks editions asks more at (Packet packet port second) entry.Other same = refl
 record_hits-asks editions asks more at (Packet packet port second) (entry.Malformed kind) same = refl
-record_hits-asks editions asks more at (Packet packet port second) (entry.Judged judgement) same =
-    ap (λ (own : List LaneAsk). packet_hits (edition_numbered editions judgement.edition) packet port second own) same
+record_hits-asks editions asks more at (Packet packet port second) (entry.Judged verdict cause rule edition) same =
+    ap (λ (own : List LaneAsk). packet_hits (edition_numbered editions edition) packet port second own) same
 
 lane_hits-asks : (editions : List Published) (asks more : List LaneAsk) (at : ℕ) (inputs : List Input) (entries : List DocketEntry)
     → ((n : ℕ) → n < at + length entries → asks_of_record n more ≡ asks_of_record n asks) → lane_hits editions more at inputs entries ≡ lane_hits editions asks at inputs entries
@@ -119,14 +119,14 @@ module _ (editions : List Published) (asks : List LaneAsk) (docket : DocketValue
       → edition_numbered editions judgement.edition ≡ Some edition → length ops ≡ length replies
       → (evaluate (question_of edition packet port second) replies).outcome ≡ Whole judgement → (evaluate (question_of edition packet port second) replies).asks ≡ ops
       → RisesBy (total_of packet) (evaluate (question_of edition packet port second) replies).hits tally after
-      → (more : DocketValue) → more.entries ≡ docket.entries ++ entry.Judged judgement ∷ []
+      → (more : DocketValue) → more.entries ≡ docket.entries ++ judged_entry judgement ∷ []
       → StandFor editions (asks ++ record_asks judgement.edition (length docket.entries + 1) ops replies) more after (inputs ++ Packet packet port second ∷ [])
   StandFor-judged edition packet port second ops replies judgement after found same outcome asked rises more is =
       let n : ℕ = length docket.entries in
       let own : List LaneAsk = record_asks judgement.edition (n + 1) ops replies in
       let all : List LaneAsk = asks ++ own in
       let input : Input = Packet packet port second in
-      let entered : DocketEntry = entry.Judged judgement in
+      let entered : DocketEntry = judged_entry judgement in
       let within = asks_are_within docket.entries asks stands.asked in
       let earlier = (λ (k : ℕ) (below : k < 1 + n). asks_of_record-earlier k judgement.edition (n + 1) asks ops replies (λ (e : k ≡ n + 1). omega arith)) in
       let next : asks_of_record (1 + n) all ≡ own = subst (λ (k : ℕ). asks_of_record k all ≡ own) (omega arith) (asks_of_record-next n judgement.edition (n + 1) asks ops replies within (omega arith)) in

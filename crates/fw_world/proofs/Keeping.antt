@@ -9,6 +9,7 @@ use Rattle.fw_rule.specs.declared.command.Command.{Command}
 use Rattle.generation_store.specs.Published.{Published}
 use Rattle.state_journal.specs.Items.{asks_of}
 use Rattle.state_journal.specs.Journal.{Journal, with_publication}
+use Rattle.eval_engine.specs.Dockets.{judgement_of}
 use Rattle.eval_engine.specs.declared.docket_entry.DocketEntry.{DocketEntry}
 use Rattle.eval_engine.specs.declared.docket_entry.DocketEntry.TheVariants as entry
 use Rattle.fw_world.specs.Asks.{LaneAsk, asks_in, asks_of_record}
@@ -48,8 +49,8 @@ IsEvaluated-append editions more asks at Other entered is = is
 IsEvaluated-append editions more asks at (Malformed kind) entered is = is
 IsEvaluated-append editions more asks at (Packet packet port second) entry.Other is = is
 IsEvaluated-append editions more asks at (Packet packet port second) (entry.Malformed kind) is = is
-IsEvaluated-append editions more asks at (Packet packet port second) (entry.Judged judgement) is =
-    IsSomeAnd-append (λ edition. IsEvaluation edition packet port second (asks_of_record at asks) judgement) editions more (judgement.edition - 1) is
+IsEvaluated-append editions more asks at (Packet packet port second) (entry.Judged verdict cause rule number) is =
+    IsSomeAnd-append (λ edition. IsEvaluation edition packet port second (asks_of_record at asks) (judgement_of verdict cause rule number)) editions more (number - 1) is
 
 -- and its hits are the same
 record_hits-append : (editions more : List Published) (asks : List LaneAsk) (at : ℕ) (input : Input) (entered : DocketEntry) → IsEvaluated editions asks at input entered → record_hits (editions ++ more) asks at input entered ≡ record_hits editions asks at input entered
@@ -57,12 +58,12 @@ record_hits-append editions more asks at Other entered is = refl
 record_hits-append editions more asks at (Malformed kind) entered is = refl
 record_hits-append editions more asks at (Packet packet port second) entry.Other is = refl
 record_hits-append editions more asks at (Packet packet port second) (entry.Malformed kind) is = refl
-record_hits-append editions more asks at (Packet packet port second) (entry.Judged judgement) is = decided (edition_numbered editions judgement.edition) refl is
+record_hits-append editions more asks at (Packet packet port second) (entry.Judged verdict cause rule number) is = decided (edition_numbered editions number) refl is
   where
-    decided : (found : Option Published) → edition_numbered editions judgement.edition ≡ found → IsSomeAnd found (λ edition. IsEvaluation edition packet port second (asks_of_record at asks) judgement)
-        → packet_hits (edition_numbered (editions ++ more) judgement.edition) packet port second (asks_of_record at asks) ≡ packet_hits (edition_numbered editions judgement.edition) packet port second (asks_of_record at asks)
+    decided : (found : Option Published) → edition_numbered editions number ≡ found → IsSomeAnd found (λ edition. IsEvaluation edition packet port second (asks_of_record at asks) (judgement_of verdict cause rule number))
+        → packet_hits (edition_numbered (editions ++ more) number) packet port second (asks_of_record at asks) ≡ packet_hits (edition_numbered editions number) packet port second (asks_of_record at asks)
     decided None same is = absurd is
-    decided (Some edition) same is = ap (λ (o : Option Published). packet_hits o packet port second (asks_of_record at asks)) (slice_get-append editions more (judgement.edition - 1) edition same ∙ sym same)
+    decided (Some edition) same is = ap (λ (o : Option Published). packet_hits o packet port second (asks_of_record at asks)) (slice_get-append editions more (number - 1) edition same ∙ sym same)
 
 each-append : (editions more : List Published) (asks : List LaneAsk) (at : ℕ) (inputs : List Input) (entries : List DocketEntry) → EachRecord (IsEvaluated editions asks) at inputs entries → EachRecord (IsEvaluated (editions ++ more) asks) at inputs entries
 each-append editions more asks at [] [] each = tt

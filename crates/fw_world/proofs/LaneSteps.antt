@@ -4,6 +4,7 @@ use Rattle.std.proofs.lemmas.List.{append-nil, length-append}
 use Rattle.std.specs.Prelude.{◌==◌, All, IfSome, is_some, not, unwrap_or, get_or}
 use Rattle.std.specs.List.{AllByRecursion}
 use Rattle.counter_book.specs.declared.count.Count.{Count}
+use Rattle.eval_engine.specs.Dockets.{judged_entry}
 use Rattle.eval_engine.specs.declared.docket_entry.DocketEntry.{DocketEntry}
 use Rattle.eval_engine.specs.declared.docket_entry.DocketEntry.TheVariants.{Other, Malformed, Judged}
 use Rattle.eval_engine.specs.declared.judgement.Judgement.{Judgement}
@@ -17,7 +18,7 @@ pub judged_editions-append : (entries more : List DocketEntry) → judged_editio
 judged_editions-append [] more = refl
 judged_editions-append (Other ∷ entries) more = judged_editions-append entries more
 judged_editions-append (Malformed kind ∷ entries) more = judged_editions-append entries more
-judged_editions-append (Judged judgement ∷ entries) more = ap (λ (rest : List ℕ). judgement.edition ∷ rest) (judged_editions-append entries more)
+judged_editions-append (Judged verdict cause rule edition ∷ entries) more = ap (λ (rest : List ℕ). edition ∷ rest) (judged_editions-append entries more)
 
 pub AllByRecursion-from_All : (P : ℕ → Type 0) (xs : List ℕ) → All P xs → AllByRecursion P xs
 AllByRecursion-from_All P [] all = tt
@@ -98,9 +99,9 @@ IsLane-left inside is = record {
 
 -- where nothing pends after a judgement, its section is told
 pub IsLane-judged : (lane : LaneValue) (judgement : Judgement) (tally : List Count) → IsLane 1 lane → All (λ number. number ≤ judgement.edition) (judged_editions lane.docket.entries)
-    → IsLane 0 (record (with_entry (Judged judgement) lane) { tally = tally })
+    → IsLane 0 (record (with_entry (judged_entry judgement) lane) { tally = tally })
 IsLane-judged lane judgement tally is below =
-    let grown = judged_editions-append lane.docket.entries (Judged judgement ∷ []) in
+    let grown = judged_editions-append lane.docket.entries (judged_entry judgement ∷ []) in
     record {
       numbered = is.numbered;
       above = is.above;
@@ -108,7 +109,7 @@ IsLane-judged lane judgement tally is below =
       few = is.few;
       tracked = λ none.
           let longer = ap length grown ∙ length-append (judged_editions lane.docket.entries) (judgement.edition ∷ []) in
-          let same : length (judged_editions lane.docket.entries) + lane.docket.refused + 1 ≡ length (judged_editions (lane.docket.entries ++ Judged judgement ∷ [])) + lane.docket.refused + 0 = omega (arith, longer) in
+          let same : length (judged_editions lane.docket.entries) + lane.docket.refused + 1 ≡ length (judged_editions (lane.docket.entries ++ judged_entry judgement ∷ [])) + lane.docket.refused + 0 = omega (arith, longer) in
           is.tracked none ∙ ap tracker_after same;
     }
 

@@ -4,7 +4,7 @@ use Rattle.std.proofs.lemmas.List.Elements.{All-push}
 use Rattle.std.specs.Prelude.{All, IfSome, Result, Ok, Err, IfOk, OnErr, is_ok}
 use Rattle.counter_book.specs.declared.count.Count.{Count}
 use Rattle.fw_base.specs.declared.failure.OutOfMemory.{OutOfMemory}
-use Rattle.eval_engine.specs.declared.docket_entry.DocketEntry.TheVariants.{Judged}
+use Rattle.eval_engine.specs.Dockets.{judged_entry}
 use Rattle.eval_engine.specs.declared.judgement.Judgement.{Judgement}
 use Rattle.fw_world.specs.Lane.{LaneValue, with_entry, admitted}
 use Rattle.fw_world.specs.LaneKept.{IsLane, pending_of}
@@ -25,13 +25,13 @@ IsLaneOf-same old new lane lanes editions is =
     }
 
 -- so is a lane that judged under the last edition
-IsLaneOf-judged : (world : WorldValue) (lane : LaneValue) (judgement : Judgement) (tally : List Count) → judgement.edition ≡ published world → IsLaneOf world lane → IsLaneOf world (record (with_entry (Judged judgement) lane) { tally = tally })
+IsLaneOf-judged : (world : WorldValue) (lane : LaneValue) (judgement : Judgement) (tally : List Count) → judgement.edition ≡ published world → IsLaneOf world lane → IsLaneOf world (record (with_entry (judged_entry judgement) lane) { tally = tally })
 IsLaneOf-judged world lane judgement tally numbered is = record {
   first = is.first;
   last = is.last;
   held = is.held;
   heard = is.heard;
-  judged = rw (judged_editions-append lane.docket.entries (Judged judgement ∷ [])) (All-push (λ number. number ≤ published world) (judged_editions lane.docket.entries) judgement.edition is.judged (omega (arith, numbered)));
+  judged = rw (judged_editions-append lane.docket.entries (judged_entry judgement ∷ [])) (All-push (λ number. number ≤ published world) (judged_editions lane.docket.entries) judgement.edition is.judged (omega (arith, numbered)));
 }
 
 IsLaneOf-failed : (world : WorldValue) (lane : LaneValue) (tally : List Count) → IsLaneOf world lane → IsLaneOf world (record lane { tally = tally; failed = true })
@@ -43,7 +43,7 @@ IsLaneOf-admitted world lane is = record { first = is.first; last = is.last; hel
 
 -- a lane that judged, or that memory failed, is one of the world after
 pub IsLaneOf-after : (result : Result Judgement OutOfMemory) (old new : WorldValue) (before after : LaneValue) → new.journal.lanes ≡ old.journal.lanes → new.editions ≡ old.editions
-    → IfOk result (λ judgement. judgement.edition ≡ published old) → IfOk result (λ judgement. after ≡ record (with_entry (Judged judgement) before) { tally = after.tally })
+    → IfOk result (λ judgement. judgement.edition ≡ published old) → IfOk result (λ judgement. after ≡ record (with_entry (judged_entry judgement) before) { tally = after.tally })
     → OnErr result (after ≡ record before { tally = after.tally; failed = true }) → IsLaneOf old before → IsLaneOf new after
 IsLaneOf-after (Ok judgement) old new before after lanes editions numbered lane failed is =
     IsLaneOf-same old new after lanes editions (subst (λ (l : LaneValue). IsLaneOf old l) (sym lane) (IsLaneOf-judged old before judgement after.tally numbered is))
@@ -52,7 +52,7 @@ IsLaneOf-after (Err fault) old new before after lanes editions numbered lane fai
 
 -- what holds of every lane holds of it
 pub IsLane-after : (result : Result Judgement OutOfMemory) (old : WorldValue) (before after : LaneValue)
-    → IfOk result (λ judgement. judgement.edition ≡ published old) → IfOk result (λ judgement. after ≡ record (with_entry (Judged judgement) before) { tally = after.tally })
+    → IfOk result (λ judgement. judgement.edition ≡ published old) → IfOk result (λ judgement. after ≡ record (with_entry (judged_entry judgement) before) { tally = after.tally })
     → OnErr result (after ≡ record before { tally = after.tally; failed = true }) → IsLaneOf old before → IsLane 1 before → IsLane (pending_of (is_ok result)) after
 IsLane-after (Ok judgement) old before after numbered lane failed of_world is =
     let below = subst (λ (n : ℕ). All (λ number. number ≤ n) (judged_editions before.docket.entries)) (sym numbered) of_world.judged in

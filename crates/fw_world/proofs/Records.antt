@@ -15,6 +15,7 @@ use Rattle.ip6_headers.specs.declared.any_ip.AnyIp.{AnyIp}
 use Rattle.dyn_states.specs.declared.op.Op.{Op}
 use Rattle.dyn_states.specs.declared.reply.Reply.{Reply}
 use Rattle.generation_store.specs.Published.{Published}
+use Rattle.eval_engine.specs.Dockets.{judgement_of}
 use Rattle.eval_engine.specs.declared.docket_entry.DocketEntry.{DocketEntry}
 use Rattle.eval_engine.specs.declared.docket_entry.DocketEntry.TheVariants as entry
 use Rattle.fw_world.specs.Asks.{LaneAsk, asks_of_record, AreAsksOf, IsAskOfEntry, IsJudgedUnder}
@@ -60,8 +61,8 @@ IsEvaluated-asks editions asks more at Other entered same is = is
 IsEvaluated-asks editions asks more at (Malformed kind) entered same is = is
 IsEvaluated-asks editions asks more at (Packet packet port second) entry.Other same is = is
 IsEvaluated-asks editions asks more at (Packet packet port second) (entry.Malformed kind) same is = is
-IsEvaluated-asks editions asks more at (Packet packet port second) (entry.Judged judgement) same is =
-    subst (λ (own : List LaneAsk). IsSomeAnd (edition_numbered editions judgement.edition) (λ edition. IsEvaluation edition packet port second own judgement)) (sym same) is
+IsEvaluated-asks editions asks more at (Packet packet port second) (entry.Judged verdict cause rule number) same is =
+    subst (λ (own : List LaneAsk). IsSomeAnd (edition_numbered editions number) (λ edition. IsEvaluation edition packet port second own (judgement_of verdict cause rule number))) (sym same) is
 
 -- no ask of a record that none was asked for
 pub asks_of_record-none : (n at : ℕ) (asks : List LaneAsk) → AllByRecursion (λ ask. ask.at ≤ n) asks → n < at → asks_of_record at asks ≡ []

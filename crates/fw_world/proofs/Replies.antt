@@ -18,7 +18,7 @@ use Rattle.generation_store.specs.Published.{has_identity}
 use Rattle.state_journal.specs.Journal.{NamesRuleOf, IsFoundOf}
 use Rattle.fw_world.specs.AskRuns.{Answers}
 
-found_answers : (flow asked : Flow) (flags second : ℕ) (name : FlowName) (s : Option State) → Answers (Lookup asked flags second name) (found_reply flow s)
+found_answers : (flow asked : Flow) (flags second : ℕ) (name : FlowName) (s : Option State) → Answers (Lookup flags asked second name) (found_reply flow s)
 found_answers flow asked flags second name None = tt
 found_answers flow asked flags second name (Some s) = tt
 
@@ -37,13 +37,13 @@ exists_answers op false r exists other = other
 -- what the state object replies is a reply to the ask
 pub reply_answers : (o : StateObject) (op : Op) → Answers op (reply_of o op)
 unfolding lookup_reply install_reply
-reply_answers o (Lookup flow flags second name) = found_answers flow flow flags second name _
-reply_answers o (Install flow flags second rule None name) =
-    let op = Install flow flags second rule None name in
+reply_answers o (Lookup flags flow second name) = found_answers flow flow flags second name _
+reply_answers o (Install flags flow second rule None name) =
+    let op = Install flags flow second rule None name in
     let now = raised o second in
     exists_answers op (list_any (considers flow (Named name)) now.states) (full_reply now) tt (full_answers op now (nat_le now.settings.max (length now.states)) (length now.states) tt tt)
-reply_answers o (Install flow flags second rule (Some limit) name) =
-    let op = Install flow flags second rule (Some limit) name in
+reply_answers o (Install flags flow second rule (Some limit) name) =
+    let op = Install flags flow second rule (Some limit) name in
     let now = raised o second in
     let count = limit_count now rule limit.0 flow in
     exists_answers op (list_any (considers flow (Named name)) now.states) (or_full now (limit_reply now rule (Some limit) flow)) tt
@@ -51,20 +51,20 @@ reply_answers o (Install flow flags second rule (Some limit) name) =
 
 -- it fits an evaluation, where the state's rule is one of the list
 pub is_reply : (rules : List ℕ) (all : List Rule) (op : Op) (reply : Reply) → ((id : ℕ) → has_id rules id ≡ has_identity all id) → Answers op reply → IsFoundOf rules reply → is_reply_to all op reply ≡ true
-is_reply rules all (Lookup flow flags second name) (Found rule way) same answers found = sym (same rule.id) ∙ found
-is_reply rules all (Lookup flow flags second name) NotFound same answers found = refl
-is_reply rules all (Lookup flow flags second name) Created same answers found = absurd answers
-is_reply rules all (Lookup flow flags second name) Exists same answers found = absurd answers
-is_reply rules all (Lookup flow flags second name) (LimitReached count) same answers found = absurd answers
-is_reply rules all (Lookup flow flags second name) (TableFull count) same answers found = absurd answers
-is_reply rules all (Install flow flags second rule limit name) (Found other way) same answers found = absurd answers
-is_reply rules all (Install flow flags second rule limit name) NotFound same answers found = absurd answers
-is_reply rules all (Install flow flags second rule limit name) Created same answers found = refl
-is_reply rules all (Install flow flags second rule limit name) Exists same answers found = refl
-is_reply rules all (Install flow flags second rule limit name) (LimitReached count) same answers found = refl
-is_reply rules all (Install flow flags second rule limit name) (TableFull count) same answers found = refl
+is_reply rules all (Lookup flags flow second name) (Found way rule) same answers found = sym (same rule.id) ∙ found
+is_reply rules all (Lookup flags flow second name) NotFound same answers found = refl
+is_reply rules all (Lookup flags flow second name) Created same answers found = absurd answers
+is_reply rules all (Lookup flags flow second name) Exists same answers found = absurd answers
+is_reply rules all (Lookup flags flow second name) (LimitReached count) same answers found = absurd answers
+is_reply rules all (Lookup flags flow second name) (TableFull count) same answers found = absurd answers
+is_reply rules all (Install flags flow second rule limit name) (Found way other) same answers found = absurd answers
+is_reply rules all (Install flags flow second rule limit name) NotFound same answers found = absurd answers
+is_reply rules all (Install flags flow second rule limit name) Created same answers found = refl
+is_reply rules all (Install flags flow second rule limit name) Exists same answers found = refl
+is_reply rules all (Install flags flow second rule limit name) (LimitReached count) same answers found = refl
+is_reply rules all (Install flags flow second rule limit name) (TableFull count) same answers found = refl
 
 -- an install of an evaluation names a rule of the last publication
 pub names_rule : (rules : List ℕ) (all : List Rule) (op : Op) → ((id : ℕ) → has_id rules id ≡ has_identity all id) → InstallsRuleOf all op → NamesRuleOf rules op
-names_rule rules all (Lookup flow flags second name) same installs = tt
-names_rule rules all (Install flow flags second rule limit name) same installs = same rule.id ∙ installs
+names_rule rules all (Lookup flags flow second name) same installs = tt
+names_rule rules all (Install flags flow second rule limit name) same installs = same rule.id ∙ installs

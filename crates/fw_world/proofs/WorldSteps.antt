@@ -19,7 +19,7 @@ use Rattle.eval_engine.proofs.Hits.{judgement_names_edition}
 use Rattle.eval_engine.specs.Dockets.{DocketValue}
 use Rattle.eval_engine.specs.Evaluation.{evaluate}
 use Rattle.eval_engine.specs.Question.{Question}
-use Rattle.eval_engine.specs.declared.docket_entry.DocketEntry.TheVariants as entry
+use Rattle.eval_engine.specs.Dockets.{judged_entry}
 use Rattle.eval_engine.specs.declared.judgement.Judgement.{Judgement}
 use Rattle.fw_world.specs.AskRuns.{EntersEach, Evaluates, AsksSome}
 use Rattle.fw_world.specs.Asks.{LaneAsk, AreOfLanes}
@@ -68,7 +68,7 @@ last_number_is : (after : ℕ) (entries : List Entry) → last_number after entr
 unfolding last_or
 last_number_is after [] = refl
 last_number_is after (Publish number ∷ entries) = last_number_is number entries
-last_number_is after (Ask lane at op reply ∷ entries) = last_number_is after entries
+last_number_is after (Ask lane op reply at ∷ entries) = last_number_is after entries
 
 last_or_is : (before : ℕ) (editions : List Published) → AreNumbered (before + 1) editions → last_or before (map (λ (e : Published). e.number) editions) ≡ before + length editions
 unfolding last_or
@@ -137,7 +137,7 @@ Judges-run editions old new lane at edition packet port second counts after judg
 -- the lane that judged stands for the packet behind its inputs
 pub LaneStandsFor-judged : (old new : WorldValue) (before after : LaneValue) (packet : AnyIp) (port : Port) (second : ℕ) (judgement : Judgement) (inputs : List Input)
     → IsWorld old → Judges old new before.place (length before.docket.entries + 1) packet port second before.tally after.tally judgement
-    → after.place ≡ before.place → after.docket.entries ≡ before.docket.entries ++ entry.Judged judgement ∷ [] → LaneStandsFor old before inputs → LaneStandsFor new after (inputs ++ Packet packet port second ∷ [])
+    → after.place ≡ before.place → after.docket.entries ≡ before.docket.entries ++ judged_entry judgement ∷ [] → LaneStandsFor old before inputs → LaneStandsFor new after (inputs ++ Packet packet port second ∷ [])
 LaneStandsFor-judged old new before after packet port second judgement inputs is judges place entries stands =
     let at : ℕ = length before.docket.entries + 1 in
     let q : Question = question_of judges.edition packet port second in

@@ -14,18 +14,18 @@ use Rattle.ip6_headers.specs.Either.{total_of}
 
 -- a reply to a lookup, or one to an install
 abbrev pub Answers : Op → Reply → Type 0
-Answers (Lookup flow flags second name) (Found rule way) = ⊤
-Answers (Lookup flow flags second name) NotFound = ⊤
-Answers (Lookup flow flags second name) Created = ⊥
-Answers (Lookup flow flags second name) Exists = ⊥
-Answers (Lookup flow flags second name) (LimitReached count) = ⊥
-Answers (Lookup flow flags second name) (TableFull count) = ⊥
-Answers (Install flow flags second rule limit name) (Found found way) = ⊥
-Answers (Install flow flags second rule limit name) NotFound = ⊥
-Answers (Install flow flags second rule limit name) Created = ⊤
-Answers (Install flow flags second rule limit name) Exists = ⊤
-Answers (Install flow flags second rule limit name) (LimitReached count) = ⊤
-Answers (Install flow flags second rule limit name) (TableFull count) = ⊤
+Answers (Lookup flags flow second name) (Found way rule) = ⊤
+Answers (Lookup flags flow second name) NotFound = ⊤
+Answers (Lookup flags flow second name) Created = ⊥
+Answers (Lookup flags flow second name) Exists = ⊥
+Answers (Lookup flags flow second name) (LimitReached count) = ⊥
+Answers (Lookup flags flow second name) (TableFull count) = ⊥
+Answers (Install flags flow second rule limit name) (Found way found) = ⊥
+Answers (Install flags flow second rule limit name) NotFound = ⊥
+Answers (Install flags flow second rule limit name) Created = ⊤
+Answers (Install flags flow second rule limit name) Exists = ⊤
+Answers (Install flags flow second rule limit name) (LimitReached count) = ⊤
+Answers (Install flags flow second rule limit name) (TableFull count) = ⊤
 
 -- each of these asks was entered with its reply, in order, and nothing happened between them
 abbrev pub EntersEach : {B : Type 0} → (B → Op → Reply → B → Type 0) → B → List Op → List Reply → B → Type 0

@@ -24,7 +24,7 @@ asks_in [] = []
 asks_in (Lanes count ∷ items) = asks_in items
 asks_in (Published facts ∷ items) = asks_in items
 asks_in (Asked after (Publish number) ∷ items) = asks_in items
-asks_in (Asked after (Ask lane at op reply) ∷ items) = record { after = after; at = at; op = op; reply = reply } ∷ asks_in items
+asks_in (Asked after (Ask lane op reply at) ∷ items) = record { after = after; at = at; op = op; reply = reply } ∷ asks_in items
 
 -- those of one record
 abbrev pub asks_of_record : ℕ → List LaneAsk → List LaneAsk
@@ -42,7 +42,7 @@ replies_of asks = map (λ ask. ask.reply) asks
 abbrev pub IsJudgedUnder : ℕ → DocketEntry → Type 0
 IsJudgedUnder number Other = ⊥
 IsJudgedUnder number (Malformed kind) = ⊥
-IsJudgedUnder number (Judged judgement) = judgement.edition ≡ number
+IsJudgedUnder number (Judged verdict cause rule edition) = edition ≡ number
 
 -- the ask's record has a judged entry, whose edition is the one that was published last before the ask
 abbrev pub IsAskOfEntry : List DocketEntry → LaneAsk → Type 0
@@ -58,7 +58,7 @@ pub record AreAsksOf (entries : List DocketEntry) (asks : List LaneAsk) : Type 0
 -- each ask of the journal is of one of so many lanes
 abbrev pub IsOfLanes : ℕ → Entry → Type 0
 IsOfLanes lanes (Publish number) = ⊤
-IsOfLanes lanes (Ask lane at op reply) = (1 ≤ lane) × (lane ≤ lanes)
+IsOfLanes lanes (Ask lane op reply at) = (1 ≤ lane) × (lane ≤ lanes)
 
 -- each ask of the journal is of one of so many lanes
 abbrev pub AreOfLanes : ℕ → List Entry → Type 0

@@ -3,6 +3,7 @@ use Rattle.std.specs.Prelude.{◌≡◌, ℕ, ◌+◌, ⊤, IsSomeAnd, List, [],
 use Rattle.fw_base.specs.declared.port.Port.{Port}
 use Rattle.ip6_headers.specs.declared.any_ip.AnyIp.{AnyIp}
 use Rattle.generation_store.specs.Published.{Published}
+use Rattle.eval_engine.specs.Dockets.{judgement_of}
 use Rattle.eval_engine.specs.Evaluated.{Evaluated, Whole}
 use Rattle.eval_engine.specs.Evaluation.{evaluate}
 use Rattle.eval_engine.specs.Question.{Question}
@@ -25,13 +26,13 @@ EachRecord P at (input ∷ inputs) (entry ∷ entries) = P at input entry × Eac
 abbrev pub IsEntryFor : ℕ → Input → DocketEntry → Type 0
 IsEntryFor at Other entry.Other = ⊤
 IsEntryFor at Other (entry.Malformed kind) = ⊥
-IsEntryFor at Other (entry.Judged judgement) = ⊥
+IsEntryFor at Other (entry.Judged verdict cause rule edition) = ⊥
 IsEntryFor at (Malformed kind) entry.Other = ⊥
 IsEntryFor at (Malformed kind) (entry.Malformed entered) = entered ≡ kind
-IsEntryFor at (Malformed kind) (entry.Judged judgement) = ⊥
+IsEntryFor at (Malformed kind) (entry.Judged verdict cause rule edition) = ⊥
 IsEntryFor at (Packet packet port second) entry.Other = ⊥
 IsEntryFor at (Packet packet port second) (entry.Malformed kind) = ⊥
-IsEntryFor at (Packet packet port second) (entry.Judged judgement) = ⊤
+IsEntryFor at (Packet packet port second) (entry.Judged verdict cause rule edition) = ⊤
 
 -- the evaluation of a packet under an edition, with the replies to these asks
 abbrev pub evaluated : Published → AnyIp → Port → ℕ → List LaneAsk → Evaluated
@@ -46,8 +47,8 @@ pub record IsEvaluation (edition : Published) (packet : AnyIp) (port : Port) (se
 
 -- a judged packet was evaluated under the edition that its entry names
 abbrev pub IsEvaluated : List Published → List LaneAsk → ℕ → Input → DocketEntry → Type 0
-IsEvaluated editions asks at (Packet packet port second) (entry.Judged judgement) =
-    IsSomeAnd (edition_numbered editions judgement.edition) (λ edition. IsEvaluation edition packet port second (asks_of_record at asks) judgement)
+IsEvaluated editions asks at (Packet packet port second) (entry.Judged verdict cause rule number) =
+    IsSomeAnd (edition_numbered editions number) (λ edition. IsEvaluation edition packet port second (asks_of_record at asks) (judgement_of verdict cause rule number))
 IsEvaluated editions asks at (Packet packet port second) entry.Other = ⊤
 IsEvaluated editions asks at (Packet packet port second) (entry.Malformed kind) = ⊤
 IsEvaluated editions asks at Other entered = ⊤

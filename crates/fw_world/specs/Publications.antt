@@ -10,7 +10,7 @@ use Rattle.state_journal.specs.declared.entry.Entry.TheVariants.{Publish, Ask}
 abbrev pub publications : List Entry → List ℕ
 publications [] = []
 publications (Publish number ∷ entries) = number ∷ publications entries
-publications (Ask lane at op reply ∷ entries) = publications entries
+publications (Ask lane op reply at ∷ entries) = publications entries
 
 -- one publication for each edition, in order: 1, 2, ..
 abbrev pub PublishesEach : List Published → List Entry → Type 0

@@ -10,7 +10,7 @@ abbrev pub judged_editions : List DocketEntry → List ℕ
 judged_editions [] = []
 judged_editions (Other ∷ entries) = judged_editions entries
 judged_editions (Malformed kind ∷ entries) = judged_editions entries
-judged_editions (Judged judgement ∷ entries) = judgement.edition ∷ judged_editions entries
+judged_editions (Judged verdict cause rule edition ∷ entries) = edition ∷ judged_editions entries
 
 -- a tracker word after so many sections: each adds 2, modulo 2^64
 abbrev pub tracker_after : ℕ → ℕ

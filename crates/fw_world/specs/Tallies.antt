@@ -29,8 +29,8 @@ packet_hits (Some edition) packet port second asks = hits_under (total_of packet
 
 -- those of a record, under the edition that its entry names
 abbrev pub record_hits : List Published → List LaneAsk → ℕ → Input → DocketEntry → List Hit
-record_hits editions asks at (Packet packet port second) (entry.Judged judgement) =
-    packet_hits (edition_numbered editions judgement.edition) packet port second (asks_of_record at asks)
+record_hits editions asks at (Packet packet port second) (entry.Judged verdict cause rule edition) =
+    packet_hits (edition_numbered editions edition) packet port second (asks_of_record at asks)
 record_hits editions asks at (Packet packet port second) entry.Other = []
 record_hits editions asks at (Packet packet port second) (entry.Malformed kind) = []
 record_hits editions asks at Other entered = []

@@ -1,6 +1,6 @@
 ghost use Rattle.std.specs.Prelude.{◌≡◌, ◌+◌, ℕ, None, length, ◌∷◌, [], ◌++◌, ◌==◌, true, false, IfOk, OnOk, OnErr};
 ghost use Rattle.dyn_states.specs.RuleLists.{has_id};
-ghost use Rattle.eval_engine.specs.declared.docket_entry.DocketEntry.TheVariants.{Judged};
+ghost use Rattle.eval_engine.specs.Dockets.{judged_entry};
 ghost use Rattle.generation_store.specs.Published.{has_identity};
 ghost use Rattle.fw_world.specs.AskRuns.{Evaluates, AsksSome};
 ghost use Rattle.fw_world.specs.Lane as lanes;
@@ -138,7 +138,7 @@ impl LaneState {
             book.new
             (record { edition = edition.now; packet = packet.now; port = port.now; second = second }) self.old.tally self.new.tally) }
         ensures lane { IfOk result (λ judgement. self.new
-            ≡ record (with_entry (Judged judgement) self.old) { tally = self.new.tally }) }
+            ≡ record (with_entry (judged_entry judgement) self.old) { tally = self.new.tally }) }
         ensures working { OnOk result (self.old.failed ≡ false) }
         ensures asked { AsksSome (λ old op reply new.
             B.enters old self.old.place (length self.old.docket.entries + 1) op reply new) book.old

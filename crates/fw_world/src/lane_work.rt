@@ -1,6 +1,6 @@
 ghost use Rattle.std.specs.Prelude.{◌≡◌, ◌+◌, ◌<◌, ℕ, [], ◌∷◌, ◌++◌, length, true, false, IfOk, OnOk, OnErr};
 ghost use Rattle.dyn_states.specs.RuleLists.{has_id};
-ghost use Rattle.eval_engine.specs.declared.docket_entry.DocketEntry.TheVariants.{Judged};
+ghost use Rattle.eval_engine.specs.Dockets.{judged_entry};
 ghost use Rattle.generation_store.specs.Published.{has_identity};
 ghost use Rattle.fw_world.specs.AskRuns.{Evaluates, AsksSome};
 ghost use Rattle.fw_world.specs.Lane.{one_looser};
@@ -90,7 +90,7 @@ impl LaneWork {
             B.enters old lane (length self.old.docket.entries + 1) op reply new) book.old book.new
             (record { edition = edition.now; packet = packet.now; port = port.now; second = second }) self.old.tally self.new.tally) }
         ensures entered { IfOk result (λ judgement. self.new ≡ record self.old {
-          docket = record self.old.docket { entries = self.old.docket.entries ++ Judged judgement ∷ [] };
+          docket = record self.old.docket { entries = self.old.docket.entries ++ judged_entry judgement ∷ [] };
           tally = self.new.tally;
         }) }
         ensures working { OnOk result (self.old.failed ≡ false) }
@@ -127,7 +127,7 @@ impl LaneWork {
             B.enters old lane (length self.old.docket.entries + 1) op reply new) book.old book.new
             (record { edition = edition.now; packet = packet.now; port = port.now; second = second }) self.old.tally self.new.tally) }
         ensures entered { IfOk result (λ judgement. self.new ≡ record self.old {
-          docket = record self.old.docket { entries = self.old.docket.entries ++ Judged judgement ∷ [] };
+          docket = record self.old.docket { entries = self.old.docket.entries ++ judged_entry judgement ∷ [] };
           tally = self.new.tally;
         }) }
         ensures asked { AsksSome (λ old op reply new.
@@ -140,7 +140,7 @@ impl LaneWork {
         self.tally.fit(config.counters())?;
         let tally = &mut self.tally;
         let judgement = evaluate_packet(book, lane, at, edition, packet, port, second, tally)?;
-        self.docket.push(DocketEntry::Judged(judgement))?;
+        self.docket.push(DocketEntry::judged(judgement))?;
         Ok(judgement)
     }
 }

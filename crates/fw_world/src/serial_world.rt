@@ -5,7 +5,7 @@ ghost use Rattle.rule_chain.specs.Configuration.{Configuration};
 ghost use Rattle.fw_world.specs.Closing.{AreLanesFrom, by_place, EachStandsFor, record_of, IsLegalButSections};
 ghost use Rattle.fw_world.specs.Columns.{no_columns};
 ghost use Rattle.fw_world.specs.Legal.{IsLegal};
-ghost use Rattle.eval_engine.specs.declared.docket_entry.DocketEntry.TheVariants.{Judged};
+ghost use Rattle.eval_engine.specs.Dockets.{judged_entry};
 ghost use Rattle.fw_rule.specs.WellFormed.{IsWellFormed};
 ghost use Rattle.rule_chain.specs.Changing.{IsChanging};
 ghost use Rattle.fw_world.specs.Inputs.{Input, Packet};
@@ -129,7 +129,7 @@ impl SerialWorld {
             Judges self.old self.new lane.old.place (length lane.old.docket.entries + 1) packet.now
             port.now second lane.old.tally lane.new.tally judgement) }
         ensures lane { IfOk result (λ judgement. lane.new
-            ≡ record (with_entry (Judged judgement) lane.old) { tally = lane.new.tally }) }
+            ≡ record (with_entry (judged_entry judgement) lane.old) { tally = lane.new.tally }) }
         ensures working { OnOk result (lane.old.failed ≡ false) }
         ensures asks { ChangesAsksOf lane.old.place self.old self.new }
         ensures stands { OnOk result ((inputs : List Input) → LaneStandsFor self.old lane.old inputs
@@ -205,7 +205,7 @@ impl SerialWorld {
             Judges self.old self.new inside.lane.place (length inside.lane.docket.entries + 1)
             packet.now port.now second inside.lane.tally result.0.lane.tally judgement) }
         ensures lane { IfOk result.1 (λ judgement. result.0
-            ≡ record { lane = record (with_entry (Judged judgement) inside.lane) { tally = result.0.lane.tally }; judged = true }) }
+            ≡ record { lane = record (with_entry (judged_entry judgement) inside.lane) { tally = result.0.lane.tally }; judged = true }) }
         ensures working { OnOk result.1 (inside.lane.failed ≡ false) }
         ensures stands { OnOk result.1 ((inputs : List Input)
             → LaneStandsFor self.old inside.lane inputs
@@ -244,7 +244,7 @@ impl SerialWorld {
             Judges self.old self.new lane.old.place (length lane.old.docket.entries + 1) packet.now
             port.now second lane.old.tally lane.new.tally judgement) }
         ensures lane { IfOk result (λ judgement. lane.new
-            ≡ record (with_entry (Judged judgement) (admitted (published self.old)
+            ≡ record (with_entry (judged_entry judgement) (admitted (published self.old)
             lane.old)) { tally = lane.new.tally }) }
         ensures working { OnOk result (lane.old.failed ≡ false) }
         ensures stands { OnOk result ((inputs : List Input) → LaneStandsFor self.old lane.old inputs

@@ -9,7 +9,7 @@ use Rattle.ip6_headers.specs.declared.any_ip.AnyIp.{AnyIp}
 use Rattle.counter_book.specs.Counts.{count_of}
 use Rattle.counter_book.specs.declared.count.Count.{Count}
 use Rattle.generation_store.specs.Published.{Published}
-use Rattle.eval_engine.specs.Dockets.{DocketValue}
+use Rattle.eval_engine.specs.Dockets.{DocketValue, judgement_of}
 use Rattle.eval_engine.specs.Evaluated.{Outcome, Whole}
 use Rattle.eval_engine.specs.declared.docket_entry.DocketEntry.{DocketEntry}
 use Rattle.eval_engine.specs.declared.docket_entry.DocketEntry.TheVariants as entry
@@ -52,7 +52,7 @@ module _ (id : ℕ) (part : Count → ℕ) (of_hit : Hit → ℕ) (of_packet : J
   of_record editions asks at (Malformed kind) entered = refl
   of_record editions asks at (Packet packet port second) entry.Other = refl
   of_record editions asks at (Packet packet port second) (entry.Malformed kind) = refl
-  of_record editions asks at (Packet packet port second) (entry.Judged judgement) = under (edition_numbered editions judgement.edition) packet port second (asks_of_record at asks)
+  of_record editions asks at (Packet packet port second) (entry.Judged verdict cause rule edition) = under (edition_numbered editions edition) packet port second (asks_of_record at asks)
 
   of_records : (editions : List Published) (asks : List LaneAsk) (at : ℕ) (inputs : List Input) (entries : List DocketEntry)
       → sum_by of_hit (lane_hits editions asks at inputs entries) ≡ sum_by of_packet (judged_records editions asks at inputs entries)
@@ -129,15 +129,16 @@ judged_all editions asks at [] (entered ∷ entries) fits is = absurd fits
 judged_all editions asks at (input ∷ inputs) [] fits is = absurd fits
 judged_all editions asks at (Other ∷ inputs) (entry.Other ∷ entries) fits is = judged_all editions asks (at + 1) inputs entries fits.1 is.1
 judged_all editions asks at (Other ∷ inputs) (entry.Malformed kind ∷ entries) fits is = absurd fits.0
-judged_all editions asks at (Other ∷ inputs) (entry.Judged judgement ∷ entries) fits is = absurd fits.0
+judged_all editions asks at (Other ∷ inputs) (entry.Judged verdict cause rule edition ∷ entries) fits is = absurd fits.0
 judged_all editions asks at (Malformed kind ∷ inputs) (entry.Other ∷ entries) fits is = absurd fits.0
 judged_all editions asks at (Malformed kind ∷ inputs) (entry.Malformed entered ∷ entries) fits is = judged_all editions asks (at + 1) inputs entries fits.1 is.1
-judged_all editions asks at (Malformed kind ∷ inputs) (entry.Judged judgement ∷ entries) fits is = absurd fits.0
+judged_all editions asks at (Malformed kind ∷ inputs) (entry.Judged verdict cause rule edition ∷ entries) fits is = absurd fits.0
 judged_all editions asks at (Packet packet port second ∷ inputs) (entry.Other ∷ entries) fits is = absurd fits.0
 judged_all editions asks at (Packet packet port second ∷ inputs) (entry.Malformed kind ∷ entries) fits is = absurd fits.0
-judged_all editions asks at (Packet packet port second ∷ inputs) (entry.Judged judgement ∷ entries) fits is =
+judged_all editions asks at (Packet packet port second ∷ inputs) (entry.Judged verdict cause rule number ∷ entries) fits is =
     let own = asks_of_record at asks in
-    let edition = edition_numbered editions judgement.edition in
+    let edition = edition_numbered editions number in
+    let judgement = judgement_of verdict cause rule number in
     let others = judged_records editions asks (at + 1) inputs entries in
     map-append judged_outcome (judged_under edition packet port second own) others
     ∙ ap (λ (first : List Outcome). first ++ map judged_outcome others) (judged_one edition packet port second own judgement is.0)

@@ -129,7 +129,7 @@ published_entry [] number k within is = absurd (omega arith)
 published_entry (Publish first ∷ entries) number zero within is = (0, omega arith, ap Publish is)
 published_entry (Publish first ∷ entries) number (suc k) within is =
     let (place, inside, same) = published_entry entries number k (omega arith) is in (suc place, omega arith, same)
-published_entry (Ask lane at op reply ∷ entries) number k within is =
+published_entry (Ask lane op reply at ∷ entries) number k within is =
     let (place, inside, same) = published_entry entries number k within is in (suc place, omega arith, same)
 
 published_number : (first : Configuration) (commands : List Command) {inputs : _} (r : RecordValue) → IsLegal first commands inputs r → (number : ℕ) → 1 ≤ number → number ≤ length commands + 1 → IsPublished r number

@@ -10,7 +10,7 @@ use Rattle.fw_rule.specs.Canonical.{five_digits, code_word, unreach_names}
 use Rattle.pcap_read.specs.Words.{word_of}
 use Rattle.pcap_read.specs.declared.capture_fault.CaptureFault.{CaptureFault}
 use Rattle.pcap_read.specs.declared.capture_fault.CaptureFault.TheVariants.{ShortHeader, BadMagic, BadVersion, UnknownLink, ShortRecordHeader, RecordTooLong, ShortRecord, TooManyPackets, ReadFault, OutOfMemory}
-use Rattle.eval_engine.specs.Dockets.{DocketValue}
+use Rattle.eval_engine.specs.Dockets.{DocketValue, judgement_of}
 use Rattle.eval_engine.specs.declared.docket_entry.DocketEntry.{DocketEntry}
 use Rattle.eval_engine.specs.declared.docket_entry.DocketEntry.TheVariants.{Other, Malformed, Judged}
 use Rattle.eval_engine.specs.declared.judgement.Cause.{Cause}
@@ -177,7 +177,7 @@ entry_line : (entry : DocketEntry) → IsLine (entry_text entry)
 unfolding entry_text lines_in
 entry_line Other = record { body = codes " other"; ends = refl; silent = refl }
 entry_line (Malformed kind) = before (codes " malformed ") _ refl (before (decimal kind) _ (number kind) ended)
-entry_line (Judged j) = judged_line j
+entry_line (Judged verdict cause rule edition) = judged_line (judgement_of verdict cause rule edition)
 
 -- A line of a record begins with a digit.
 record IsVerdictLine (text : List ℕ) : Type 0 where

@@ -3,7 +3,7 @@ use Rattle.std.proofs.Common.{◌≡◌, ℕ, zero, suc, ◌+◌, ◌<◌, ◌�
 use Rattle.std.specs.Prelude.{Some, slice_get}
 use Rattle.std.specs.List.Sorted.{IsNonDecreasing}
 use Rattle.counter_book.specs.declared.count.Count.{Count}
-use Rattle.eval_engine.specs.Dockets.{DocketValue}
+use Rattle.eval_engine.specs.Dockets.{DocketValue, judged_entry}
 use Rattle.eval_engine.specs.declared.docket_entry.DocketEntry.{DocketEntry}
 use Rattle.eval_engine.specs.declared.docket_entry.DocketEntry.TheVariants.{Other, Malformed, Judged}
 use Rattle.eval_engine.specs.declared.judgement.Judgement.{Judgement}
@@ -13,30 +13,30 @@ use Rattle.fw_world.specs.Sections.{judged_editions}
 use Rattle.record_laws.specs.Dockets.{EditionsNeverFall}
 
 -- a bound of all judged editions is one of each
-above : (low : ℕ) (entries : List DocketEntry) (place : ℕ) (b : Judgement) → slice_get entries place ≡ Some (Judged b)
+above : (low : ℕ) (entries : List DocketEntry) (place : ℕ) (b : Judgement) → slice_get entries place ≡ Some (judged_entry b)
     → ((k d : ℕ) → k < length (judged_editions entries) → low ≤ get_or (judged_editions entries) k d) → low ≤ b.edition
 above low [] place b is all = cc
 above low (Other ∷ entries) zero b is all = cc
 above low (Other ∷ entries) (suc place) b is all = above low entries place b is all
 above low (Malformed kind ∷ entries) zero b is all = cc
 above low (Malformed kind ∷ entries) (suc place) b is all = above low entries place b is all
-above low (Judged judgement ∷ entries) zero b is all =
-    let same : judgement ≡ b = cc in subst (λ n. low ≤ n) (ap (λ (j : Judgement). j.edition) same) (all 0 0 (omega arith))
-above low (Judged judgement ∷ entries) (suc place) b is all = above low entries place b is (λ k d within. all (suc k) d (omega arith))
+above low (Judged verdict cause rule edition ∷ entries) zero b is all =
+    let same : edition ≡ b.edition = cc in subst (λ n. low ≤ n) same (all 0 0 (omega arith))
+above low (Judged verdict cause rule edition ∷ entries) (suc place) b is all = above low entries place b is (λ k d within. all (suc k) d (omega arith))
 
 never_falls : (entries : List DocketEntry) → IsNonDecreasing (judged_editions entries) → (earlier later : ℕ) (a b : Judgement) → earlier < later
-    → slice_get entries earlier ≡ Some (Judged a) → slice_get entries later ≡ Some (Judged b) → a.edition ≤ b.edition
+    → slice_get entries earlier ≡ Some (judged_entry a) → slice_get entries later ≡ Some (judged_entry b) → a.edition ≤ b.edition
 never_falls [] rising earlier later a b less first second = cc
 never_falls (entered ∷ entries) rising earlier zero a b less first second = absurd (omega arith)
 never_falls (Other ∷ entries) rising zero (suc later) a b less first second = cc
 never_falls (Other ∷ entries) rising (suc earlier) (suc later) a b less first second = never_falls entries rising earlier later a b (omega arith) first second
 never_falls (Malformed kind ∷ entries) rising zero (suc later) a b less first second = cc
 never_falls (Malformed kind ∷ entries) rising (suc earlier) (suc later) a b less first second = never_falls entries rising earlier later a b (omega arith) first second
-never_falls (Judged judgement ∷ entries) rising zero (suc later) a b less first second =
-    let same : judgement ≡ a = cc in
-    subst (λ n. n ≤ b.edition) (ap (λ (j : Judgement). j.edition) same)
-    (above judgement.edition entries later b second (λ k d within. rising 0 (suc k) d (omega arith) (omega arith)))
-never_falls (Judged judgement ∷ entries) rising (suc earlier) (suc later) a b less first second =
+never_falls (Judged verdict cause rule edition ∷ entries) rising zero (suc later) a b less first second =
+    let same : edition ≡ a.edition = cc in
+    subst (λ n. n ≤ b.edition) same
+    (above edition entries later b second (λ k d within. rising 0 (suc k) d (omega arith) (omega arith)))
+never_falls (Judged verdict cause rule edition ∷ entries) rising (suc earlier) (suc later) a b less first second =
     never_falls entries (λ i j d below within. rising (suc i) (suc j) d (omega arith) (omega arith)) earlier later a b (omega arith) first second
 
 -- what holds of each lane holds of that of a docket

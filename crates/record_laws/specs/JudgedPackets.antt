@@ -5,7 +5,7 @@ use Rattle.ip6_headers.specs.Either.{total_of}
 use Rattle.ip6_headers.specs.declared.any_ip.AnyIp.{AnyIp}
 use Rattle.dyn_states.specs.declared.reply.Reply.{Reply}
 use Rattle.generation_store.specs.Published.{Published}
-use Rattle.eval_engine.specs.Dockets.{DocketValue}
+use Rattle.eval_engine.specs.Dockets.{DocketValue, judgement_of}
 use Rattle.eval_engine.specs.Evaluated.{Evaluated}
 use Rattle.eval_engine.specs.Evaluation.{evaluate}
 use Rattle.eval_engine.specs.declared.docket_entry.DocketEntry.{DocketEntry}
@@ -46,7 +46,7 @@ judged_under (Some edition) packet port second asks = record { edition = edition
 
 -- the packet of a record, where its entry is a judgement
 abbrev pub judged_record : List Published → List LaneAsk → ℕ → Input → DocketEntry → List JudgedPacket
-judged_record editions asks at (Packet packet port second) (entry.Judged judgement) = judged_under (edition_numbered editions judgement.edition) packet port second (asks_of_record at asks)
+judged_record editions asks at (Packet packet port second) (entry.Judged verdict cause rule edition) = judged_under (edition_numbered editions edition) packet port second (asks_of_record at asks)
 judged_record editions asks at (Packet packet port second) entry.Other = []
 judged_record editions asks at (Packet packet port second) (entry.Malformed kind) = []
 judged_record editions asks at Other entered = []
@@ -74,7 +74,7 @@ abbrev pub judgements : List DocketEntry → List Judgement
 judgements [] = []
 judgements (entry.Other ∷ entries) = judgements entries
 judgements (entry.Malformed kind ∷ entries) = judgements entries
-judgements (entry.Judged judgement ∷ entries) = judgement ∷ judgements entries
+judgements (entry.Judged verdict cause rule edition ∷ entries) = judgement_of verdict cause rule edition ∷ judgements entries
 
 -- those of all dockets
 abbrev pub all_judgements : List DocketValue → List Judgement

@@ -2,6 +2,7 @@
 use Rattle.std.specs.Prelude.{◌≡◌, ℕ, ◌+◌, Option, Some, None, ◌⊎◌, List, [], ◌∷◌, length, slice_get, slice_set}
 use Rattle.fw_base.specs.declared.port.Port.{Port}
 use Rattle.counter_book.specs.declared.count.Count.{Count}
+use Rattle.eval_engine.specs.Dockets.{judged_entry}
 use Rattle.eval_engine.specs.declared.docket_entry.DocketEntry.{DocketEntry}
 use Rattle.eval_engine.specs.declared.docket_entry.DocketEntry.TheVariants as entry
 use Rattle.eval_engine.specs.declared.judgement.Judgement.{Judgement}
@@ -26,7 +27,7 @@ pub record RunState : Type 0 where
 -- The lane after a packet that was judged under the edition of this number, which leaves this tally. It is
 -- refused once, and regains, exactly where it held another edition.
 abbrev pub judged_lane : ℕ → Judgement → List Count → LaneValue → LaneValue
-judged_lane number judgement tally lane = record (with_entry (entry.Judged judgement) (admitted number lane)) { tally = tally }
+judged_lane number judgement tally lane = record (with_entry (judged_entry judgement) (admitted number lane)) { tally = tally }
 
 -- the lane at this place, from 0, became this one, and the others stay
 abbrev pub ChangesLane : ℕ → List LaneValue → List LaneValue → LaneValue → LaneValue → Type 0

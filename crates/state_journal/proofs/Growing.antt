@@ -11,23 +11,23 @@ use Rattle.state_journal.proofs.Ruled.{AreRuled, found_of_ask, AreRuled-after_as
 
 -- an ask behind lawful entries, with the state object's answer, leaves them lawful
 IsLawfulFrom-ask : (o : StateObject) (facts : List Facts) (entries : List Entry) (lane at : ℕ) (op : Op) (reply : Reply)
-    → IsLawfulFrom o facts entries → reply ≡ reply_of (object_from o facts entries) op → IsLawfulFrom o facts (entries ++ Ask lane at op reply ∷ [])
+    → IsLawfulFrom o facts entries → reply ≡ reply_of (object_from o facts entries) op → IsLawfulFrom o facts (entries ++ Ask lane op reply at ∷ [])
 IsLawfulFrom-ask o [] [] lane at op reply is same = (same, tt)
 IsLawfulFrom-ask o (next ∷ facts) [] lane at op reply is same = absurd is
 IsLawfulFrom-ask o [] (Publish number ∷ entries) lane at op reply is same = absurd is
 IsLawfulFrom-ask o (next ∷ facts) (Publish number ∷ entries) lane at op reply is same = (is.0, IsLawfulFrom-ask (published o next) facts entries lane at op reply is.1 same)
-IsLawfulFrom-ask o [] (Ask by when asked told ∷ entries) lane at op reply is same = (is.0, IsLawfulFrom-ask (after_ask o asked) [] entries lane at op reply is.1 same)
-IsLawfulFrom-ask o (next ∷ facts) (Ask by when asked told ∷ entries) lane at op reply is same = (is.0, IsLawfulFrom-ask (after_ask o asked) (next ∷ facts) entries lane at op reply is.1 same)
+IsLawfulFrom-ask o [] (Ask by asked told when ∷ entries) lane at op reply is same = (is.0, IsLawfulFrom-ask (after_ask o asked) [] entries lane at op reply is.1 same)
+IsLawfulFrom-ask o (next ∷ facts) (Ask by asked told when ∷ entries) lane at op reply is same = (is.0, IsLawfulFrom-ask (after_ask o asked) (next ∷ facts) entries lane at op reply is.1 same)
 
 -- the state object after one ask more
 object_from-ask : (o : StateObject) (facts : List Facts) (entries : List Entry) (lane at : ℕ) (op : Op) (reply : Reply)
-    → IsLawfulFrom o facts entries → object_from o facts (entries ++ Ask lane at op reply ∷ []) ≡ after_ask (object_from o facts entries) op
+    → IsLawfulFrom o facts entries → object_from o facts (entries ++ Ask lane op reply at ∷ []) ≡ after_ask (object_from o facts entries) op
 object_from-ask o [] [] lane at op reply is = refl
 object_from-ask o (next ∷ facts) [] lane at op reply is = absurd is
 object_from-ask o [] (Publish number ∷ entries) lane at op reply is = absurd is
 object_from-ask o (next ∷ facts) (Publish number ∷ entries) lane at op reply is = object_from-ask (published o next) facts entries lane at op reply is.1
-object_from-ask o [] (Ask by when asked told ∷ entries) lane at op reply is = object_from-ask (after_ask o asked) [] entries lane at op reply is.1
-object_from-ask o (next ∷ facts) (Ask by when asked told ∷ entries) lane at op reply is = object_from-ask (after_ask o asked) (next ∷ facts) entries lane at op reply is.1
+object_from-ask o [] (Ask by asked told when ∷ entries) lane at op reply is = object_from-ask (after_ask o asked) [] entries lane at op reply is.1
+object_from-ask o (next ∷ facts) (Ask by asked told when ∷ entries) lane at op reply is = object_from-ask (after_ask o asked) (next ∷ facts) entries lane at op reply is.1
 
 -- a publication behind lawful entries leaves them lawful
 IsLawfulFrom-publication : (o : StateObject) (facts : List Facts) (entries : List Entry) (more : Facts)
@@ -36,8 +36,8 @@ IsLawfulFrom-publication o [] [] more is = (refl, tt)
 IsLawfulFrom-publication o (next ∷ facts) [] more is = absurd is
 IsLawfulFrom-publication o [] (Publish number ∷ entries) more is = absurd is
 IsLawfulFrom-publication o (next ∷ facts) (Publish number ∷ entries) more is = (is.0, IsLawfulFrom-publication (published o next) facts entries more is.1)
-IsLawfulFrom-publication o [] (Ask by when asked told ∷ entries) more is = (is.0, IsLawfulFrom-publication (after_ask o asked) [] entries more is.1)
-IsLawfulFrom-publication o (next ∷ facts) (Ask by when asked told ∷ entries) more is = (is.0, IsLawfulFrom-publication (after_ask o asked) (next ∷ facts) entries more is.1)
+IsLawfulFrom-publication o [] (Ask by asked told when ∷ entries) more is = (is.0, IsLawfulFrom-publication (after_ask o asked) [] entries more is.1)
+IsLawfulFrom-publication o (next ∷ facts) (Ask by asked told when ∷ entries) more is = (is.0, IsLawfulFrom-publication (after_ask o asked) (next ∷ facts) entries more is.1)
 
 -- the state object after one publication more
 object_from-publication : (o : StateObject) (facts : List Facts) (entries : List Entry) (more : Facts)
@@ -46,8 +46,8 @@ object_from-publication o [] [] more is = refl
 object_from-publication o (next ∷ facts) [] more is = absurd is
 object_from-publication o [] (Publish number ∷ entries) more is = absurd is
 object_from-publication o (next ∷ facts) (Publish number ∷ entries) more is = object_from-publication (published o next) facts entries more is.1
-object_from-publication o [] (Ask by when asked told ∷ entries) more is = object_from-publication (after_ask o asked) [] entries more is.1
-object_from-publication o (next ∷ facts) (Ask by when asked told ∷ entries) more is = object_from-publication (after_ask o asked) (next ∷ facts) entries more is.1
+object_from-publication o [] (Ask by asked told when ∷ entries) more is = object_from-publication (after_ask o asked) [] entries more is.1
+object_from-publication o (next ∷ facts) (Ask by asked told when ∷ entries) more is = object_from-publication (after_ask o asked) (next ∷ facts) entries more is.1
 
 AreNumberedFrom-append : (n : ℕ) (facts : List Facts) (more : Facts) → AreNumberedFrom n facts → more.number ≡ n + length facts → AreNumberedFrom n (facts ++ more ∷ [])
 AreNumberedFrom-append n [] more are is = (omega arith, tt)
@@ -62,7 +62,7 @@ last_rules-append (first ∷ next ∷ facts) more = last_rules-append (next ∷ 
 BeginsWithOne-append : (entries : List Entry) (more : Entry) → BeginsWithOne entries → BeginsWithOne (entries ++ more ∷ [])
 BeginsWithOne-append [] more is = absurd is
 BeginsWithOne-append (Publish number ∷ entries) more is = is
-BeginsWithOne-append (Ask lane at op reply ∷ entries) more is = absurd is
+BeginsWithOne-append (Ask lane op reply at ∷ entries) more is = absurd is
 
 -- a book after an ask is one
 pub IsJournal-ask : (j : Journal) (lane at : ℕ) (op : Op) → IsJournal j → NamesRuleOf (last_rules j.facts) op → IsJournal (with_ask j lane at op (reply_of j.object op))

@@ -10,7 +10,7 @@ use Rattle.state_journal.specs.Journal.{Journal, with_publication}
 asks_of-publication : (lane after number : ℕ) (entries : List Entry) → asks_of lane after (entries ++ Publish number ∷ []) ≡ asks_of lane after entries
 asks_of-publication lane after number [] = refl
 asks_of-publication lane after number (Publish earlier ∷ entries) = asks_of-publication lane earlier number entries
-asks_of-publication lane after number (Ask by at op reply ∷ entries) = rw (asks_of-publication lane after number entries) refl
+asks_of-publication lane after number (Ask by op reply at ∷ entries) = rw (asks_of-publication lane after number entries) refl
 
 -- a publication leaves every list but list 0
 pub items_of-publication : (j : Journal) (facts : Facts) (k : ℕ) → k ≢ 0 → items_of (with_publication j facts) k ≡ items_of j k

@@ -78,8 +78,8 @@ AreRuled-raised rules o second all = AreRuled-filter rules (is_live (max o.clock
 -- what an ask finds has a rule of the list
 pub found_of_ask : (rules : List ℕ) (o : StateObject) (op : Op) → AreRuled rules o.states → IsFoundOf rules (reply_of o op)
 unfolding lookup_reply install_reply
-found_of_ask rules o (Lookup flow flags second name) all = found_is_ruled rules flow (considers flow name) (raised o second).states (AreRuled-raised rules o second all)
-found_of_ask rules o (Install flow flags second rule limit name) all =
+found_of_ask rules o (Lookup flags flow second name) all = found_is_ruled rules flow (considers flow name) (raised o second).states (AreRuled-raised rules o second all)
+found_of_ask rules o (Install flags flow second rule limit name) all =
     install_is_none rules _ _ (limit_is_none rules (raised o second) rule limit flow)
 
 same_rule : (rules : List ℕ) (o : StateObject) (flow : Flow) (flags : ℕ) (s : State) (way : Way) → IsTrue (has_rule rules s) → IsTrue (has_rule rules (renewed o.settings o.clock (with_flags way flags s)))
@@ -94,9 +94,9 @@ made_is_ruled rules false o s all one = all
 -- after an ask the states have rules of the list, if the ask's rule is one
 pub AreRuled-after_ask : (rules : List ℕ) (o : StateObject) (op : Op) → NamesRuleOf rules op → AreRuled rules o.states → AreRuled rules (after_ask o op).states
 unfolding after_lookup after_install
-AreRuled-after_ask rules o (Lookup flow flags second name) names all =
+AreRuled-after_ask rules o (Lookup flags flow second name) names all =
     AreRuled-with_first rules (considers flow name) (touched (raised o second) flow flags) (λ s is. same_rule rules (raised o second) flow flags s (way_of s.flow flow) is) (raised o second).states (AreRuled-raised rules o second all)
-AreRuled-after_ask rules o (Install flow flags second rule limit name) names all =
+AreRuled-after_ask rules o (Install flags flow second rule limit name) names all =
     made_is_ruled rules _ (raised o second) (new_state (raised o second) flow flags rule limit name) (AreRuled-raised rules o second all) names
 
 -- the states that a publication keeps or drops

@@ -13,8 +13,8 @@ use Rattle.state_journal.specs.Journal.{Journal}
 abbrev pub asks_of : ℕ → ℕ → List Entry → List Item
 asks_of lane after [] = []
 asks_of lane after (Publish number ∷ entries) = asks_of lane number entries
-asks_of lane after (Ask by at op reply ∷ entries) =
-    if by == lane then Asked after (Ask by at op reply) ∷ asks_of lane after entries else asks_of lane after entries
+asks_of lane after (Ask by op reply at ∷ entries) =
+    if by == lane then Asked after (Ask by op reply at) ∷ asks_of lane after entries else asks_of lane after entries
 
 -- list 0 has the number of lanes and the facts of the publications, list k the asks of lane k
 abbrev pub items_of : Journal → ℕ → List Item

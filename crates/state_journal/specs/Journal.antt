@@ -36,16 +36,16 @@ IsLawfulFrom o [] [] = ⊤
 IsLawfulFrom o (next ∷ facts) [] = ⊥
 IsLawfulFrom o [] (Publish number ∷ entries) = ⊥
 IsLawfulFrom o (next ∷ facts) (Publish number ∷ entries) = (number ≡ next.number) × IsLawfulFrom (published o next) facts entries
-IsLawfulFrom o [] (Ask lane at op reply ∷ entries) = (reply ≡ reply_of o op) × IsLawfulFrom (after_ask o op) [] entries
-IsLawfulFrom o (next ∷ facts) (Ask lane at op reply ∷ entries) = (reply ≡ reply_of o op) × IsLawfulFrom (after_ask o op) (next ∷ facts) entries
+IsLawfulFrom o [] (Ask lane op reply at ∷ entries) = (reply ≡ reply_of o op) × IsLawfulFrom (after_ask o op) [] entries
+IsLawfulFrom o (next ∷ facts) (Ask lane op reply at ∷ entries) = (reply ≡ reply_of o op) × IsLawfulFrom (after_ask o op) (next ∷ facts) entries
 
 -- the state object after the entries
 abbrev pub object_from : StateObject → List Facts → List Entry → StateObject
 object_from o facts [] = o
 object_from o [] (Publish number ∷ entries) = object_from o [] entries
 object_from o (next ∷ facts) (Publish number ∷ entries) = object_from (published o next) facts entries
-object_from o [] (Ask lane at op reply ∷ entries) = object_from (after_ask o op) [] entries
-object_from o (next ∷ facts) (Ask lane at op reply ∷ entries) = object_from (after_ask o op) (next ∷ facts) entries
+object_from o [] (Ask lane op reply at ∷ entries) = object_from (after_ask o op) [] entries
+object_from o (next ∷ facts) (Ask lane op reply at ∷ entries) = object_from (after_ask o op) (next ∷ facts) entries
 
 -- editions are numbered one after another
 abbrev pub AreNumberedFrom : ℕ → List Facts → Type 0
@@ -62,7 +62,7 @@ last_rules (first ∷ next ∷ facts) = last_rules (next ∷ facts)
 abbrev pub BeginsWithOne : List Entry → Type 0
 BeginsWithOne [] = ⊥
 BeginsWithOne (Publish number ∷ entries) = number ≡ 1
-BeginsWithOne (Ask lane at op reply ∷ entries) = ⊥
+BeginsWithOne (Ask lane op reply at ∷ entries) = ⊥
 
 -- The journal is lawful from no state and the clock at 0, its publications are those of the editions 1,
 -- 2, .. in order, and the rule of each state is one of the last publication.
@@ -75,12 +75,12 @@ pub record IsJournal (j : Journal) : Type 0 where
 
 -- an install names a rule of these
 abbrev pub NamesRuleOf : List ℕ → Op → Type 0
-NamesRuleOf rules (Lookup flow flags second name) = ⊤
-NamesRuleOf rules (Install flow flags second rule limit name) = IsTrue (has_id rules rule.id)
+NamesRuleOf rules (Lookup flags flow second name) = ⊤
+NamesRuleOf rules (Install flags flow second rule limit name) = IsTrue (has_id rules rule.id)
 
 -- a state that was found has a rule of these
 abbrev pub IsFoundOf : List ℕ → Reply → Type 0
-IsFoundOf rules (Found rule way) = IsTrue (has_id rules rule.id)
+IsFoundOf rules (Found way rule) = IsTrue (has_id rules rule.id)
 IsFoundOf rules NotFound = ⊤
 IsFoundOf rules Created = ⊤
 IsFoundOf rules Exists = ⊤
@@ -89,7 +89,7 @@ IsFoundOf rules (TableFull count) = ⊤
 
 -- the book after an ask and its answer
 abbrev pub with_ask : Journal → ℕ → ℕ → Op → Reply → Journal
-with_ask j lane at op reply = record j { entries = j.entries ++ Ask lane at op reply ∷ []; object = after_ask j.object op }
+with_ask j lane at op reply = record j { entries = j.entries ++ Ask lane op reply at ∷ []; object = after_ask j.object op }
 
 -- the book after a publication
 abbrev pub with_publication : Journal → Facts → Journal

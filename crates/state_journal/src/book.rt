@@ -47,7 +47,8 @@ impl Model for Book {
           ready = b.is_ready;
         })
         × (65536 ≤ b.states.room)
-        × (b.is_ready ≡ true → (vec_len b.facts < vec_capacity b.facts) × (vec_len b.entries < vec_capacity b.entries)) };
+        × (b.is_ready ≡ true → (vec_len b.facts < vec_capacity b.facts) × (vec_len b.entries < vec_capacity b.entries))
+        × (b.lanes ≤ 64) };
 }
 
 impl Book {
@@ -124,10 +125,10 @@ impl Book {
         self.entries.reserve(2)?;
         let reply = self.states.step(&op);
         self.entries.push_reserved(Entry::Ask {
-            lane,
-            at,
+            lane: lane as u16,
             op,
             reply,
+            at,
         });
         Ok(reply)
     }

@@ -5,11 +5,12 @@ use dyn_states::{Op, Reply};
 pub enum Entry {
     /// The publication of the edition of this number.
     Publish(u64),
-    /// An ask of a lane, 1 or higher, for its record of this number, and what was answered.
+    /// An ask of a lane, 1 to 64, for its record of this number, and what was answered. The fields stand in
+    /// this order so that an entry takes 64 bytes.
     Ask {
-        lane: u32,
-        at: u64,
+        lane: u16,
         op: Op,
         reply: Reply,
+        at: u64,
     },
 }

@@ -7,6 +7,7 @@ use dyn_states::{Facts, FlowName, Op, Reply, RuleRef, Way, is_ordered};
 use fw_base::{Addr, Kept};
 use fw_rule::{Items, Settings, USUAL_MOST_STATES};
 use packet_headers::Flow;
+use std::mem::size_of;
 use std::process::Abort;
 use std::test::Fail;
 
@@ -86,7 +87,7 @@ fn publication_drops_states(rt: HostRuntime) -> Result<(), Fail> {
     assert_eq!(rt; book.ask(1, 1, lookup(100))?, Reply::NotFound);
     assert_eq!(rt; book.ask(1, 1, install(100))?, Reply::Created);
     book.ready()?;
-    let found = Reply::Found(RULE, Way::Forward);
+    let found = Reply::Found(Way::Forward, RULE);
     assert_eq!(rt; book.ask(2, 1, lookup(101))?, found);
     assert_eq!(rt; book.states().count(), 1);
     publish(&rt, &mut book, 2, facts(&rt, 2, vec![in rt.alloc(); 0, 1]?));
@@ -94,11 +95,12 @@ fn publication_drops_states(rt: HostRuntime) -> Result<(), Fail> {
     assert!(rt; !book.has_rule(2));
     assert_eq!(rt; book.ask(1, 2, lookup(101))?, Reply::NotFound);
     assert_eq!(rt; book.states().clock(), 101);
+    assert_eq!(rt; size_of::<Entry>(), 64);
     let ask = |lane, at, op, reply| Entry::Ask {
         lane,
-        at,
         op,
         reply,
+        at,
     };
     assert_eq!(rt;
         book.entries(),

@@ -195,7 +195,7 @@ pub const STATEFUL: &[Row] = &[
                 second: 9,
                 name: FlowName::Named(1),
             },
-            reply: Reply::Found(RuleRef { id: 2, number: 200 }, Way::Reverse),
+            reply: Reply::Found(Way::Reverse, RuleRef { id: 2, number: 200 }),
         }],
         verdict: Verdict::Allow,
         rule: RuleRef { id: 2, number: 200 },
@@ -379,7 +379,7 @@ pub const STATEFUL: &[Row] = &[
                     second: 9,
                     name: FlowName::Named(2),
                 },
-                reply: Reply::Found(RuleRef { id: 4, number: 400 }, Way::Forward),
+                reply: Reply::Found(Way::Forward, RuleRef { id: 4, number: 400 }),
             },
             Turn {
                 op: Op::Install {

@@ -11,7 +11,7 @@ use Rattle.dyn_states.proofs.table_asks.install.Goals as goal
 
 -- whatever isn't `Created` makes no state
 not_created : (r : Reply) → (r ≡ Created → ⊥) → is_created r ≡ false
-not_created (Found rule way) other = refl
+not_created (Found way rule) other = refl
 not_created NotFound other = refl
 not_created Created other = absurd (other refl)
 not_created Exists other = refl

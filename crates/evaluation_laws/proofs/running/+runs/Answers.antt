@@ -238,7 +238,7 @@ look-returns-in_ok-story-in-Some-place_of t c =
     let found = c.in-Some-place_of.found.now in
     told_so story_of (told.asked op story) (Has q c.args.depth (seen_by c.args.looked.now) (Meets (drop c.args.place q.edition.config.rules)) c.args.replies.now) c.asked.result c.asked.ensures
     (subst (λ (o : Op). IsRun q c.args.depth (seen_by c.args.looked.now) (Meets (drop c.args.place q.edition.config.rules)) c.args.replies.now (told.asked o story)) (sym c.lookup_by-op.ensures)
-    (lift.found q c.args.depth (seen_by c.args.looked.now) c.args.place rule c.requires.there c.args.replies.now c.args.flow c.requires.enabled c.requires.due c.in-Found.maker c.in-Found.field-1 left c.in-Some-place_of.at found story
+    (lift.found q c.args.depth (seen_by c.args.looked.now) c.args.place rule c.requires.there c.args.replies.now c.args.flow c.requires.enabled c.requires.due c.in-Found.maker c.in-Found.field-0 left c.in-Some-place_of.at found story
     (c.in-Some.ensures.cases.0 ∙ ap (λ (reply : Reply). reply ∷ left) c.in-Found.is) c.in-Some-place_of.ensures
     (subst (λ (s : Seen). IsRun q c.args.depth s (Acts found (drop (c.in-Some-place_of.at + 1) q.edition.config.rules)) left story) c.done.ensures c.in_ok-story-in-Some-place_of.ensures)))
 
@@ -250,7 +250,7 @@ look-returns-in-None t c =
     let left = c.in-Some.left.now in
     told_so story_of (told.asked op (told.plainly told.Mistakes)) (Has q c.args.depth (seen_by c.args.looked.now) (Meets (drop c.args.place q.edition.config.rules)) c.args.replies.now) c.mistaken.result c.mistaken.ensures
     (subst (λ (o : Op). IsRun q c.args.depth (seen_by c.args.looked.now) (Meets (drop c.args.place q.edition.config.rules)) c.args.replies.now (told.asked o (told.plainly told.Mistakes))) (sym c.lookup_by-op.ensures)
-    (lift.mistaken q c.args.depth (seen_by c.args.looked.now) c.args.place rule c.requires.there c.args.replies.now c.args.flow c.requires.enabled c.requires.due (Found c.in-Found.maker c.in-Found.field-1) left
+    (lift.mistaken q c.args.depth (seen_by c.args.looked.now) c.args.place rule c.requires.there c.args.replies.now c.args.flow c.requires.enabled c.requires.due (Found c.in-Found.field-0 c.in-Found.maker) left
     (c.in-Some.ensures.cases.0 ∙ ap (λ (reply : Reply). reply ∷ left) c.in-Found.is) c.in-None.ensures))
 
 pub look-returns-in_ok-test-in-NotFound : goal.look-returns-in_ok-test-in-NotFound

@@ -1,8 +1,7 @@
 use Rattle.std.proofs.Common.{◌≡◌, ℕ, ◌+◌, ◌≤◌, List, length, ◌∙◌, sym, ap, subst, refl}
 use Rattle.dyn_states.specs.RuleLists.{has_id}
 use Rattle.dyn_states.specs.declared.facts.Facts.{Facts}
-use Rattle.eval_engine.specs.declared.docket_entry.DocketEntry.{DocketEntry}
-use Rattle.eval_engine.specs.declared.docket_entry.DocketEntry.TheVariants.{Judged}
+use Rattle.eval_engine.specs.Dockets.{judged_entry}
 use Rattle.eval_engine.specs.declared.judgement.Judgement.{Judgement}
 use Rattle.generation_store.specs.Published.{Published, has_identity}
 use Rattle.state_journal.specs.Journal.{last_rules}
@@ -77,7 +76,7 @@ returns-clause-stands c =
     let world : IsWorld c.args.self.now = subst (λ (w : WorldValue). IsWorld w) c.self.view_is c.self.invariant.0 in
     OnOk-both c.judge.result
     (λ judgement. Judges c.args.self.now (record { editions = editions; journal = new }) before.place at c.args.packet.now c.args.port.now c.args.second before.tally after.tally judgement)
-    (λ judgement. after ≡ record (with_entry (Judged judgement) before) { tally = after.tally })
+    (λ judgement. after ≡ record (with_entry (judged_entry judgement) before) { tally = after.tally })
     _
     (λ judgement judges lane. λ inputs stands.
     LaneStandsFor-judged c.args.self.now (record { editions = editions; journal = new }) before after c.args.packet.now c.args.port.now c.args.second judgement inputs world judges

@@ -16,6 +16,7 @@ invariant_of-self-2 c =
         (c.self.invariant.2 ready).0,
         omega (arith, c.in_ok-reserve.ensures.ok, c.push_reserved.ensures.len, c.push_reserved.ensures.capacity),
       ),
+      c.self.invariant.3,
     )
 
 pub returns-clause-found : goal.returns-clause-found

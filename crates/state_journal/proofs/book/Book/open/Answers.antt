@@ -7,4 +7,5 @@ invariant_of-result c = (
       (IsJournal-first c.args.lanes c.args.facts c.requires.number),
   c.in_ok-states.ensures.room,
   λ ready. cc,
+  c.requires.lanes.1,
 )

@@ -12,6 +12,7 @@ invariant_of-self c =
       rw (c.push_reserved-2.ensures.items, c.push_reserved.ensures.items, c.publish.ensures.after) (IsJournal-publication _ c.args.facts c.self.invariant.0 next),
       omega (arith, c.publish.ensures.room, c.self.invariant.1),
       λ ready. cc,
+      c.self.invariant.3,
     )
 
 pub returns-clause-tag : goal.returns-clause-tag
