@@ -6,8 +6,9 @@ use crate::Gate;
 
 /// Whether the two lists have the same gates, place by place: then both are gates of the same rules.
 pub fn are_same(gates: &[Gate], others: &[Gate]) -> bool
-    ensures { result ≡ true → (rules : List Rule) → AreGates rules others.now
+    ensures same { result ≡ true → (rules : List Rule) → AreGates rules others.now
         → AreGates rules gates.now }
+    ensures told { gates.now ≡ others.now → result ≡ true }
 {
     gates == others
 }

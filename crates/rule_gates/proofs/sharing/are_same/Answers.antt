@@ -71,5 +71,15 @@ same_lists (g ∷ gates) (h ∷ others) (rule ∷ rs) same are =
     let both = both_true (eq-value.it g h) (pointwise eq-value.it gates others) same in
     (same_gate rule g h (same_fields g h both.0) are.0, same_lists gates others rs both.1 are.1)
 
-pub returns : goal.returns
-returns c same rs are = same_lists c.args.gates.now c.args.others.now rs (sym c.eq.ensures ∙ same) are
+alike : (g : Gate) → eq-value.it g g ≡ true
+alike g = grind (arith, common_steps)
+
+all_alike : (gates : List Gate) → pointwise eq-value.it gates gates ≡ true
+all_alike [] = refl
+all_alike (g ∷ gates) = rw (alike g) (all_alike gates)
+
+pub returns-clause-same : goal.returns-clause-same
+returns-clause-same c same rs are = same_lists c.args.gates.now c.args.others.now rs (sym c.eq.ensures ∙ same) are
+
+pub returns-clause-told : goal.returns-clause-told
+returns-clause-told c is = c.eq.ensures ∙ rw (sym is) (all_alike c.args.gates.now)
