@@ -233,13 +233,12 @@ fn run_steps(
     Ok(live)
 }
 
-/// The report of a record.
+/// The report of a record, with its journal.
 fn printed(
     rt: &impl Abort,
     alloc: Global,
     record: &Record,
     ends: &Ends,
-    journal: bool,
 ) -> Result<MemorySink, Fail> {
     let mut out = MemorySink::new(alloc, 4096)?;
     assert!(rt; !record.editions().is_empty());
@@ -251,14 +250,14 @@ fn printed(
         record.trackers(),
         &[],
         ends,
-        journal,
+        true,
         &mut out,
     )
     .or(Err("not written"))?;
     Ok(out)
 }
 
-/// The report of the world, with its journal.
+/// The report of the world.
 fn report(rt: &impl Abort, alloc: Global, live: Live, records: usize) -> Result<MemorySink, Fail>
     requires { IsOneLane live.world live.desk live.lane }
 {
@@ -276,7 +275,7 @@ fn report(rt: &impl Abort, alloc: Global, live: Live, records: usize) -> Result<
         captures: Items::from_vec(vec![in alloc; end]?),
         answers: Items::from_vec(answers),
     };
-    printed(rt, alloc, &record, &ends, true)
+    printed(rt, alloc, &record, &ends)
 }
 
 /// Replays a row, and compares its report.

@@ -10,7 +10,7 @@ use fw_command::{Line, Pace, Script, parse_script};
 use fw_report::{CaptureEnd, Ends};
 use fw_rule::Items;
 use fw_world::{OpenSerial, SerialDesk, SerialLane, SerialWorld};
-use ip6_headers::{AnyPacket, read_any};
+use ip6_headers::{AnyIp, AnyPacket, read_any};
 use std::alloc::Global;
 use std::process::Abort;
 use std::test::Fail;
@@ -102,7 +102,7 @@ const SCRIPT: &str = "# workstation\nlocal 10.0.0.2\nadd 100 allow ip from any t
     add 1000 count ip from any to any frag\nadd 1100 unreach port udp from any to me\n\
     add 65000 deny log ip from any to any\n";
 
-/// The report, without its journal.
+/// The report, with its journal.
 const TEXT: &str = "1.1 allow 00700 at 1\n1.2 allow 00600 at 1\n1.3 allow 00600 at 1\n\
     1.4 allow 00800 at 1\n1.5 allow 00600 at 1\n1.6 deny 00500 at 1\nend 1 records 6\n\
     2.1 allow 00700 at 1\n2.2 allow 00600 at 1\n2.3 deny 00500 at 1\n2.4 allow 00900 at 1\n\
@@ -119,7 +119,32 @@ const TEXT: &str = "1.1 allow 00700 at 1\n1.2 allow 00600 at 1\n1.3 allow 00600 
     01000 1 28 count ip from any to any frag\n01100 2 56 unreach port udp from any to me\n\
     65000 1 40 deny log ip from any to any\n65535 0 0 set 31 deny ip from any to any\nclock 1019\n\
     states 2\n00900 tcp 198.51.100.7 4001 10.0.0.2 22 expires 1027\n\
-    00900 tcp 198.51.100.7 4003 10.0.0.2 22 expires 1039\n";
+    00900 tcp 198.51.100.7 4003 10.0.0.2 22 expires 1039\njournal 2 25\npublish 1\n\
+    ask 1.1 1000 lookup :default udp 10.0.0.2 5000 10.0.0.1 53 - notfound\n\
+    ask 1.1 1000 install 7 keep :default udp 10.0.0.2 5000 10.0.0.1 53 - created\n\
+    ask 2.1 1001 lookup :default udp 10.0.0.1 53 10.0.0.2 5000 - found 7 reverse\n\
+    ask 1.2 1002 lookup :default tcp 10.0.0.2 5001 192.0.2.1 443 S notfound\n\
+    ask 1.2 1002 install 6 keep :default tcp 10.0.0.2 5001 192.0.2.1 443 S created\n\
+    ask 2.2 1003 lookup :default tcp 192.0.2.1 443 10.0.0.2 5001 S found 6 reverse\n\
+    ask 1.3 1004 lookup :default tcp 10.0.0.2 5001 192.0.2.1 443 - found 6 forward\n\
+    ask 2.3 1005 lookup :default tcp 198.51.100.7 80 10.0.0.2 6000 - notfound\n\
+    ask 2.4 1006 lookup :default tcp 198.51.100.7 4000 10.0.0.2 22 S notfound\n\
+    ask 2.4 1006 install 9 limit src-addr 2 :default tcp 198.51.100.7 4000 10.0.0.2 22 S created\n\
+    ask 2.5 1007 lookup :default tcp 198.51.100.7 4001 10.0.0.2 22 S notfound\n\
+    ask 2.5 1007 install 9 limit src-addr 2 :default tcp 198.51.100.7 4001 10.0.0.2 22 S created\n\
+    ask 2.6 1008 lookup :default tcp 198.51.100.7 4002 10.0.0.2 22 S notfound\n\
+    ask 2.6 1008 install 9 limit src-addr 2 :default tcp 198.51.100.7 4002 10.0.0.2 22 S limit 2\n\
+    ask 2.7 1009 lookup :default icmp 198.51.100.7 0 10.0.0.2 0 - notfound\n\
+    ask 1.4 1010 lookup :default icmp 10.0.0.2 0 198.51.100.7 0 - notfound\n\
+    ask 2.8 1011 lookup :default udp 10.0.0.1 53 10.0.0.2 5000 - notfound\n\
+    ask 2.10 1013 lookup :default tcp 198.51.100.8 4000 10.0.0.2 23 S notfound\n\
+    ask 1.5 1015 lookup :default tcp 10.0.0.2 5001 192.0.2.1 443 F found 6 forward\n\
+    ask 2.12 1016 lookup :default tcp 192.0.2.1 443 10.0.0.2 5001 F found 6 reverse\n\
+    ask 1.6 1017 lookup :default tcp 10.0.0.2 5001 192.0.2.1 443 - notfound\n\
+    ask 2.13 1018 lookup :default tcp 198.51.100.7 4000 10.0.0.2 22 R found 9 forward\n\
+    ask 2.14 1019 lookup :default tcp 198.51.100.7 4003 10.0.0.2 22 S notfound\n\
+    ask 2.14 1019 install 9 limit src-addr 2 :default tcp 198.51.100.7 4003 10.0.0.2 22 S created\n\
+    lane 1 refused 0 tracker 12\nlane 2 refused 0 tracker 28\n";
 
 /// A world of two lanes.
 #[derive(Drop)]
@@ -151,6 +176,48 @@ fn opened(alloc: Global, lines: &[Line]) -> Result<Pair, Fail>
     })
 }
 
+/// Judges a packet with the first lane.
+fn judge_first(pair: Pair, packet: &AnyIp<'_>, port: &Port, at: u32) -> Result<Pair, Fail>
+    requires { AreTwoLanes pair.world pair.desk pair.first pair.second }
+    ensures { IfOk result (λ after.
+        AreTwoLanes after.world after.desk after.first after.second) }
+{
+    let Pair {
+        mut world,
+        first,
+        second,
+        desk,
+    } = pair;
+    let first = judge(&mut world, first, packet, port, at)?;
+    Ok(Pair {
+        world,
+        first,
+        second,
+        desk,
+    })
+}
+
+/// Judges a packet with the second lane.
+fn judge_second(pair: Pair, packet: &AnyIp<'_>, port: &Port, at: u32) -> Result<Pair, Fail>
+    requires { AreTwoLanes pair.world pair.desk pair.first pair.second }
+    ensures { IfOk result (λ after.
+        AreTwoLanes after.world after.desk after.first after.second) }
+{
+    let Pair {
+        mut world,
+        first,
+        second,
+        desk,
+    } = pair;
+    let second = judge(&mut world, second, packet, port, at)?;
+    Ok(Pair {
+        world,
+        first,
+        second,
+        desk,
+    })
+}
+
 /// Judges a record: the first lane judges what is sent, the second what is received.
 fn judge_record(rt: &impl Abort, alloc: Global, pair: Pair, passed: &Passed) -> Result<Pair, Fail>
     requires { AreTwoLanes pair.world pair.desk pair.first pair.second }
@@ -167,22 +234,10 @@ fn judge_record(rt: &impl Abort, alloc: Global, pair: Pair, passed: &Passed) -> 
         direction,
         interface: Name::new(alloc, b"em0")?,
     };
-    let Pair {
-        mut world,
-        mut first,
-        mut second,
-        desk,
-    } = pair;
     match direction {
-        Direction::Out => first = judge(&mut world, first, &packet, &port, at)?,
-        Direction::In => second = judge(&mut world, second, &packet, &port, at)?,
+        Direction::Out => judge_first(pair, &packet, &port, at),
+        Direction::In => judge_second(pair, &packet, &port, at),
     }
-    Ok(Pair {
-        world,
-        first,
-        second,
-        desk,
-    })
 }
 
 /// The report of the world.
@@ -202,7 +257,7 @@ fn report(rt: &impl Abort, alloc: Global, pair: Pair) -> Result<MemorySink, Fail
         captures: Items::from_vec(vec![in alloc; sent, received]?),
         answers: Items::from_vec(Vec::new(alloc)),
     };
-    printed(rt, alloc, &record, &ends, false)
+    printed(rt, alloc, &record, &ends)
 }
 
 /// Replays the captures of a workstation, and compares the report.
