@@ -20,6 +20,7 @@ use rule_chain::{Config, is_changing};
 use std::alloc::Global;
 use std::process::Abort;
 use std::test::Fail;
+use workstation::{RECORDS, SCRIPT, TEXT, replay};
 
 mod packets;
 mod rows;
@@ -336,7 +337,7 @@ fn rows_of_one_lane(rt: HostRuntime) -> Result<(), Fail> {
 
 #[test]
 fn a_workstation_has_two_lanes(rt: HostRuntime) -> Result<(), Fail> {
-    workstation::replay(&rt, rt.alloc())
+    replay(&rt, rt.alloc(), SCRIPT, RECORDS, TEXT)
 }
 
 /// The laws of replays, at sources over memory.

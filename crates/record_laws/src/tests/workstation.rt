@@ -40,10 +40,10 @@ const FIN_ACK: u8 = 17;
 const SYN_ACK: u8 = 18;
 
 /// A packet, which way it passed em0, and the second of its record.
-type Passed = (u32, Direction, Packet);
+pub type Passed = (u32, Direction, Packet);
 
 /// What the workstation sends and receives, in the order of the seconds.
-const RECORDS: &[Passed] = &[
+pub const RECORDS: &[Passed] = &[
     (1000, Direction::Out, Packet::Udp((M, 5000), (N, 53))),
     (1001, Direction::In, Packet::Udp((N, 53), (M, 5000))),
     (1002, Direction::Out, Packet::Tcp((M, 5001), (B, 443), SYN)),
@@ -92,7 +92,7 @@ const SENT: u64 = 6;
 /// How many are received.
 const RECEIVED: u64 = 14;
 
-const SCRIPT: &str = "# workstation\nlocal 10.0.0.2\nadd 100 allow ip from any to any via lo0\n\
+pub const SCRIPT: &str = "# workstation\nlocal 10.0.0.2\nadd 100 allow ip from any to any via lo0\n\
     add 200 deny ip from any to 127.0.0.0/8\nadd 300 deny ip from 127.0.0.0/8 to any\n\
     add 400 check-state\nadd 500 deny tcp from any to any established\n\
     add 600 allow tcp from me to any setup keep-state\n\
@@ -103,7 +103,7 @@ const SCRIPT: &str = "# workstation\nlocal 10.0.0.2\nadd 100 allow ip from any t
     add 65000 deny log ip from any to any\n";
 
 /// The report, with its journal.
-const TEXT: &str = "1.1 allow 00700 at 1\n1.2 allow 00600 at 1\n1.3 allow 00600 at 1\n\
+pub const TEXT: &str = "1.1 allow 00700 at 1\n1.2 allow 00600 at 1\n1.3 allow 00600 at 1\n\
     1.4 allow 00800 at 1\n1.5 allow 00600 at 1\n1.6 deny 00500 at 1\nend 1 records 6\n\
     2.1 allow 00700 at 1\n2.2 allow 00600 at 1\n2.3 deny 00500 at 1\n2.4 allow 00900 at 1\n\
     2.5 allow 00900 at 1\n2.6 deny 00900 at 1 limit 2\n2.7 allow 00800 at 1\n\
@@ -260,18 +260,24 @@ fn report(rt: &impl Abort, alloc: Global, pair: Pair) -> Result<MemorySink, Fail
     printed(rt, alloc, &record, &ends)
 }
 
-/// Replays the captures of a workstation, and compares the report.
-pub fn replay(rt: &impl Abort, alloc: Global) -> Result<(), Fail> {
-    let script = match parse_script(alloc, SCRIPT.as_bytes(), Pace::Serial) {
+/// Replays these records by a script, and compares the report.
+pub fn replay(
+    rt: &impl Abort,
+    alloc: Global,
+    script: &str,
+    records: &[Passed],
+    text: &str,
+) -> Result<(), Fail> {
+    let script = match parse_script(alloc, script.as_bytes(), Pace::Serial) {
         Ok(script) => script,
         Err(_) => return Err(Fail::from("no script")),
     };
     let Script { before, .. } = script;
     let mut pair = opened(alloc, before.as_slice())?;
-    for passed in RECORDS {
+    for passed in records {
         pair = judge_record(rt, alloc, pair, passed)?;
     }
     let out = report(rt, alloc, pair)?;
-    assert_eq!(rt; out.written(), TEXT.as_bytes());
+    assert_eq!(rt; out.written(), text.as_bytes());
     Ok(())
 }
