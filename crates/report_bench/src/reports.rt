@@ -36,14 +36,11 @@ fn time_report<R: Clock>(rt: &R, run: &Run, journal: bool, out: &mut MemorySink)
 
 /// Writes the text into a sink in pieces of so many bytes. Answers the nanoseconds.
 fn time_pieces<R: Clock>(rt: &R, text: &[u8], bytes: usize, out: &mut MemorySink) -> Result<u64> {
-    let mut rest = text;
     let start = Instant::now(rt)?;
-    while !rest.is_empty() {
-        let (piece, others) = rest.split_at(bytes.clamp(1, rest.len()));
+    for piece in text.chunks(bytes.max(1)) {
         if write_text(out, piece).is_err() {
             bail!("the text doesn't fit");
         }
-        rest = others;
     }
     Ok(nanoseconds(rt, start)?)
 }
