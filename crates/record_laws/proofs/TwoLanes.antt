@@ -1,10 +1,8 @@
 -- A world of two lanes goes on.
-use Rattle.std.proofs.Common.{◌≡◌, List, [], ◌∷◌, sym, ◌∙◌, subst}
-use Rattle.fw_world.specs.Closing.{AreLanesFrom, by_place}
+use Rattle.std.proofs.Common.{◌≡◌, List, sym, ◌∙◌}
 use Rattle.fw_world.specs.Lane.{LaneValue}
 use Rattle.fw_world.specs.Steps.{ChangesAsksOf}
 use Rattle.fw_world.specs.World.{WorldValue, IsLaneOf}
-use Rattle.fw_world.proofs.Arranging.{by_place-same}
 use Rattle.fw_world.proofs.Keeping.{is_lane_beside}
 use Rattle.generation_store.specs.Published.{Published}
 use Rattle.record_laws.specs.TwoLanes.{AreTwoLanes}
@@ -34,10 +32,3 @@ second_judged old new desk first second after two of_world place changes = recor
   );
   both = changes.lanes ∙ two.both;
 }
-
--- its lanes in the order of their places are its lanes
-pub in_order : (world : WorldValue) (desk : List Published) (first second : LaneValue) → AreTwoLanes world desk first second
-    → AreLanesFrom world 1 (by_place (first ∷ second ∷ []))
-in_order world desk first second two =
-    let pair : List LaneValue = first ∷ second ∷ [] in
-    subst (λ (lanes : List LaneValue). AreLanesFrom world 1 lanes) (sym (by_place-same world 1 pair two.lanes)) two.lanes

@@ -13,62 +13,59 @@ pub enum Packet {
     Fragment([u8; 4], [u8; 4]),
 }
 
-/// The first twelve bytes of an IPv4 header.
-fn header_start(total: u8, fragment: u8, protocol: u8) -> [u8; 12] {
-    [0x45, 0, 0, total, 0, 0, 0, fragment, 0x40, protocol, 0, 0]
-}
-
-/// These parts, one behind the other.
-fn joined(alloc: Global, parts: &[&[u8]]) -> Result<Vec<u8>, Fail> {
+/// An IPv4 header with these ends; `fields` are its total length, its second fragment byte and its protocol.
+fn begun(
+    alloc: Global,
+    fields: (u8, u8, u8),
+    source: [u8; 4],
+    destination: [u8; 4],
+) -> Result<Vec<u8>, Fail> {
+    let (total, fragment, protocol) = fields;
     let mut bytes = Vec::new(alloc);
-    for part in parts {
-        bytes.extend_from_slice(part)?;
-    }
+    bytes.extend_from_slice(&[0x45, 0, 0, total, 0, 0, 0, fragment, 0x40, protocol, 0, 0])?;
+    bytes.extend_from_slice(&source)?;
+    bytes.extend_from_slice(&destination)?;
     Ok(bytes)
 }
 
-/// A packet with ports, of this total length and protocol.
+/// The same with the ports of both ends.
 fn with_ports(
     alloc: Global,
-    total: u8,
-    protocol: u8,
-    source: &End,
-    destination: &End,
-    rest: &[u8],
+    fields: (u8, u8, u8),
+    source: End,
+    destination: End,
 ) -> Result<Vec<u8>, Fail> {
-    let start = header_start(total, 0, protocol);
-    let from = source.1.to_be_bytes();
-    let to = destination.1.to_be_bytes();
-    joined(
-        alloc,
-        &[&start, &source.0, &destination.0, &from, &to, rest],
-    )
+    let mut bytes = begun(alloc, fields, source.0, destination.0)?;
+    bytes.extend_from_slice(&source.1.to_be_bytes())?;
+    bytes.extend_from_slice(&destination.1.to_be_bytes())?;
+    Ok(bytes)
 }
 
 impl Packet {
     /// Its bytes, from its IPv4 header on.
-    pub fn bytes(&self, alloc: Global) -> Result<Vec<u8>, Fail> {
+    pub fn bytes(self, alloc: Global) -> Result<Vec<u8>, Fail> {
         match self {
             Packet::Tcp(source, destination, flags) => {
-                let rest = [0, 0, 0, 0, 0, 0, 0, 0, 0x50, *flags, 0xff, 0xff, 0, 0, 0, 0];
-                with_ports(alloc, 40, 6, source, destination, &rest)
+                let mut bytes = with_ports(alloc, (40, 0, 6), source, destination)?;
+                bytes.extend_from_slice(&[
+                    0, 0, 0, 0, 0, 0, 0, 0, 0x50, flags, 0xff, 0xff, 0, 0, 0, 0,
+                ])?;
+                Ok(bytes)
             }
             Packet::Udp(source, destination) => {
-                with_ports(alloc, 28, 17, source, destination, &[0, 8, 0, 0])
+                let mut bytes = with_ports(alloc, (28, 0, 17), source, destination)?;
+                bytes.extend_from_slice(&[0, 8, 0, 0])?;
+                Ok(bytes)
             }
             Packet::Icmp(source, destination, kind) => {
-                let start = header_start(28, 0, 1);
-                joined(
-                    alloc,
-                    &[&start, source, destination, &[*kind, 0, 0, 0, 0, 0, 0, 0]],
-                )
+                let mut bytes = begun(alloc, (28, 0, 1), source, destination)?;
+                bytes.extend_from_slice(&[kind, 0, 0, 0, 0, 0, 0, 0])?;
+                Ok(bytes)
             }
             Packet::Fragment(source, destination) => {
-                let start = header_start(28, 0xb9, 17);
-                joined(
-                    alloc,
-                    &[&start, source, destination, &[0, 0, 0, 0, 0, 8, 0, 0]],
-                )
+                let mut bytes = begun(alloc, (28, 0xb9, 17), source, destination)?;
+                bytes.extend_from_slice(&[0, 0, 0, 0, 0, 8, 0, 0])?;
+                Ok(bytes)
             }
         }
     }
