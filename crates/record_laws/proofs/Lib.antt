@@ -9,3 +9,4 @@ pub mod PrintedLines
 pub mod KeptOrder
 -- what the tests go through
 pub mod OneLane
+pub mod TwoLanes

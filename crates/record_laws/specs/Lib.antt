@@ -10,3 +10,4 @@ pub mod Dockets
 pub mod CaptureOrder
 -- what the tests go through
 pub mod OneLane
+pub mod TwoLanes

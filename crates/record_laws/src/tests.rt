@@ -11,8 +11,8 @@ use fw_command::{Line, Pace, Script, Step, parse_script};
 use fw_report::{Answer, CaptureEnd, Ends, LineAnswer, write_report};
 use fw_rule::Items;
 use fw_world::{
-    CommitFault, OpenSerial, SerialDesk, SerialEntry, SerialInside, SerialLane, SerialWorld,
-    Skipped,
+    CommitFault, OpenSerial, Record, SerialDesk, SerialEntry, SerialInside, SerialLane,
+    SerialWorld, Skipped,
 };
 use ip6_headers::{AnyIp, AnyPacket, read_any};
 use rows::{ROWS, Row, Timed};
@@ -20,8 +20,11 @@ use rule_chain::{Config, is_changing};
 use std::alloc::Global;
 use std::process::Abort;
 use std::test::Fail;
+use workstation::{RECORDS, SCRIPT, TEXT, replay};
 
+mod packets;
 mod rows;
+mod workstation;
 
 /// A world of one lane, and the answers so far.
 #[derive(Drop)]
@@ -231,7 +234,31 @@ fn run_steps(
     Ok(live)
 }
 
-/// The report of the world, with its journal.
+/// The report of a record, with its journal.
+fn printed(
+    rt: &impl Abort,
+    alloc: Global,
+    record: &Record,
+    ends: &Ends,
+) -> Result<MemorySink, Fail> {
+    let mut out = MemorySink::new(alloc, 4096)?;
+    assert!(rt; !record.editions().is_empty());
+    write_report(
+        record.editions(),
+        record.book(),
+        record.dockets(),
+        record.tallies(),
+        record.trackers(),
+        &[],
+        ends,
+        true,
+        &mut out,
+    )
+    .or(Err("not written"))?;
+    Ok(out)
+}
+
+/// The report of the world.
 fn report(rt: &impl Abort, alloc: Global, live: Live, records: usize) -> Result<MemorySink, Fail>
     requires { IsOneLane live.world live.desk live.lane }
 {
@@ -249,21 +276,7 @@ fn report(rt: &impl Abort, alloc: Global, live: Live, records: usize) -> Result<
         captures: Items::from_vec(vec![in alloc; end]?),
         answers: Items::from_vec(answers),
     };
-    let mut out = MemorySink::new(alloc, 4096)?;
-    assert!(rt; !record.editions().is_empty());
-    write_report(
-        record.editions(),
-        record.book(),
-        record.dockets(),
-        record.tallies(),
-        record.trackers(),
-        &[],
-        &ends,
-        true,
-        &mut out,
-    )
-    .or(Err("not written"))?;
-    Ok(out)
+    printed(rt, alloc, &record, &ends)
 }
 
 /// Replays a row, and compares its report.
@@ -320,6 +333,11 @@ fn rows_of_one_lane(rt: HostRuntime) -> Result<(), Fail> {
         assert_eq!(rt; entered_by_two(rt.alloc(), turned)?, (0, 1));
     }
     Ok(())
+}
+
+#[test]
+fn a_workstation_has_two_lanes(rt: HostRuntime) -> Result<(), Fail> {
+    replay(&rt, rt.alloc(), SCRIPT, RECORDS, TEXT)
 }
 
 /// The laws of replays, at sources over memory.

@@ -1,0 +1,34 @@
+-- A world of two lanes goes on.
+use Rattle.std.proofs.Common.{◌≡◌, List, sym, ◌∙◌}
+use Rattle.fw_world.specs.Lane.{LaneValue}
+use Rattle.fw_world.specs.Steps.{ChangesAsksOf}
+use Rattle.fw_world.specs.World.{WorldValue, IsLaneOf}
+use Rattle.fw_world.proofs.Keeping.{is_lane_beside}
+use Rattle.generation_store.specs.Published.{Published}
+use Rattle.record_laws.specs.TwoLanes.{AreTwoLanes}
+
+-- its first lane judged
+pub first_judged : (old new : WorldValue) (desk : List Published) (first second after : LaneValue) → AreTwoLanes old desk first second
+    → IsLaneOf new after → after.place ≡ first.place → ChangesAsksOf first.place old new → AreTwoLanes new desk after second
+first_judged old new desk first second after two of_world place changes = record {
+  shows = two.shows ∙ sym changes.editions;
+  lanes = (
+    place ∙ two.lanes.0,
+    of_world,
+    (two.lanes.2.0, is_lane_beside first.place old new second changes two.lanes.2.1, tt),
+  );
+  both = changes.lanes ∙ two.both;
+}
+
+-- its second lane judged
+pub second_judged : (old new : WorldValue) (desk : List Published) (first second after : LaneValue) → AreTwoLanes old desk first second
+    → IsLaneOf new after → after.place ≡ second.place → ChangesAsksOf second.place old new → AreTwoLanes new desk first after
+second_judged old new desk first second after two of_world place changes = record {
+  shows = two.shows ∙ sym changes.editions;
+  lanes = (
+    two.lanes.0,
+    is_lane_beside second.place old new first changes two.lanes.1,
+    (place ∙ two.lanes.2.0, of_world, tt),
+  );
+  both = changes.lanes ∙ two.both;
+}
