@@ -3,6 +3,7 @@ use Rattle.std.proofs.Common.{◌≡◌, ◌+◌, ◌≤◌, Bool, true, false, 
 use Rattle.std.specs.Option.{option_map}
 use Rattle.std.proofs.lemmas.Str.{IsUtf8-string_bytes}
 use Rattle.std.proofs.lemmas.List.{append-nil, append_assoc, length-map}
+use Rattle.std.proofs.lemmas.Bool.{cases_Bool}
 use Rattle.clap.specs.Lexer.{usize_max}
 use Rattle.clap.specs.Walk.{Text, Walk, all_of, one_of, finished, settled}
 use Rattle.clap.specs.Kinds.{Kinds, IsAmong, or_else}
@@ -11,7 +12,7 @@ use Rattle.clap.specs.Faults.{fault_of, walk_fault, entered_fault, settle_fault,
 use Rattle.clap.specs.declared.error.kind.ErrorKind.{ErrorKind}
 use Rattle.command_words.specs.CommandLine.{journal_app}
 use Rattle.command_words.specs.Words.{is_divider, is_option, words_before, words_behind, Arguments, arguments_of, options_of, positional_of, journal_of}
-use Rattle.command_words.proofs.Sorts.{IsFaulty, whichever, divider, journal_word, long, short, operand, faulty_front, rules, shape, sort_of}
+use Rattle.command_words.proofs.Sorts.{IsFaulty, divider, journal_word, long, short, operand, faulty_front, rules, shape, sort_of}
 use Rattle.command_words.proofs.Walks.{Lands, Phase, unseen, seen, is_seen, all_words, refused, landed, walk_at, onward, halted, ended, use_ok, fault_journal, fault_second, fault_long, fault_short, fault_operand, walked_journal, walked_operand, asked_first, asked_other, options_other, options_operand, positional_divider, positional_option, positional_operand, asked}
 
 -- ---- all the words
@@ -127,9 +128,9 @@ few_positional [] = omega arith
 few_positional (word ∷ words) =
     let later = few_positional words in
     let one : length (word ∷ words) ≡ length words + 1 = omega arith in
-    elim (whichever (is_divider word)) [
+    elim (cases_Bool (is_divider word)) [
       | inl here ↦ let all = ap length (positional_divider word words here) in omega (arith, all, one)
-      | inr other ↦ elim (whichever (is_option word)) [
+      | inr other ↦ elim (cases_Bool (is_option word)) [
         | inl option ↦ let all = ap length (positional_option word words other option) in omega (arith, all, one, later)
         | inr plain ↦ let all = ap length (positional_operand word words other plain) in let more : length (word ∷ positional_of words) ≡ length (positional_of words) + 1 = omega arith in omega (arith, all, more, one, later)
       ]

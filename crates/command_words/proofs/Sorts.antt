@@ -5,6 +5,7 @@ use Rattle.std.specs.Cmp.Lexicographic.{pointwise}
 use Rattle.std.specs.Str.{bytes_eq}
 use Rattle.std.proofs.lemmas.Bool.Decides.{eqb_tells}
 use Rattle.std.proofs.lemmas.Slice.Eq.{bytes_eq-Decides}
+use Rattle.std.proofs.lemmas.Bool.{cases_Bool}
 use Rattle.clap.specs.Lexer.{long_of, long_of_rest, name_and_value, has_byte, short_of, short_of_rest, strip_byte}
 use Rattle.clap.specs.Walk.{Held, Rule, Text, arg_by_long}
 use Rattle.clap.specs.Simple.{Shape, built, filled, with_index}
@@ -41,15 +42,10 @@ pub faulty_back : (front back : Kinds) → IsFaulty back → IsFaulty (or_else f
 faulty_back [] back fault = fault
 faulty_back (k ∷ ks) back fault = (k, ks, refl)
 
--- a truth value is one of the two
-pub whichever : (b : Bool) → (b ≡ true) ⊎ (b ≡ false)
-whichever true = inl refl
-whichever false = inr refl
-
-pub same_text : (x y : Text) → is_same x y ≡ true → x ≡ y
+same_text : (x y : Text) → is_same x y ≡ true → x ≡ y
 same_text x y e = (bytes_eq-Decides x y).0 e
 
-pub same_itself : (x y : Text) → x ≡ y → is_same x y ≡ true
+same_itself : (x y : Text) → x ≡ y → is_same x y ≡ true
 same_itself x y e = (bytes_eq-Decides x y).1 e
 
 -- bytes without a `=` are all before the first one
@@ -66,9 +62,9 @@ all_before (x ∷ xs) none = step (x == 61) x xs (all_before xs) none
 
 -- A long option that isn't `--journal` is unknown, or has a value.
 strange : (text : Text) → is_same text (codes "journal") ≡ false → (h : Held) → IsFaulty (long_fault rules shape.args_override_self (arg_by_long rules (name_and_value text).0) (name_and_value text).1 h)
-strange text other h = elim (whichever (bytes_eq (codes "journal") (name_and_value text).0)) [
+strange text other h = elim (cases_Bool (bytes_eq (codes "journal") (name_and_value text).0)) [
   | inr different ↦ (UnknownArgument, [], ap (λ b. long_fault rules false (cond (b || false) (Some journal) None) (name_and_value text).1 h) different)
-  | inl alike ↦ elim (whichever (has_byte 61 text)) [
+  | inl alike ↦ elim (cases_Bool (has_byte 61 text)) [
     | inl has ↦ (
       TooManyValues,
       [],
@@ -96,7 +92,7 @@ pub data Sort (word : Text) : Type 0 where
 dashes : (more : Text) → Sort (45 ∷ 45 ∷ more)
 unfolding is_option
 dashes [] = divider refl
-dashes (x ∷ xs) = elim (whichever (is_same (x ∷ xs) (codes "journal"))) [
+dashes (x ∷ xs) = elim (cases_Bool (is_same (x ∷ xs) (codes "journal"))) [
   | inl alike ↦ journal_word (ap (λ (l : Text). 45 ∷ 45 ∷ l) (same_text (x ∷ xs) (codes "journal") alike))
   | inr different ↦ long (name_and_value (x ∷ xs)) refl refl different refl (strange (x ∷ xs) different)
 ]

@@ -36,6 +36,7 @@ abbrev pending_at : List Text → Option (Text × List Text)
 pending_at [] = None
 pending_at (v ∷ vs) = Some (codes "positional", v ∷ vs)
 
+-- the rows that the walk has filled by this phase
 abbrev pub rows_at : Phase → List Row
 rows_at unseen = []
 rows_at (seen us) = used journal [] (settled_rows rules (pending_at us) [])
@@ -139,12 +140,12 @@ fault_operand phase vs word other no_long no_short =
     (ap (λ met. step_fault shape 1 met.0 met.1) (met_operand phase vs word other no_long no_short) ∙ no_step_fault phase vs)
 
 -- the positional words are one use of the argument, which takes any number of any texts
-pub range_ok : (n : ℕ) → n ≤ usize_max → range_kinds 0 usize_max n ≡ []
+range_ok : (n : ℕ) → n ≤ usize_max → range_kinds 0 usize_max n ≡ []
 range_ok n small =
     ap (λ t. let k : Kinds = if t then TooFewValues ∷ [] else (if nat_lt usize_max n then TooManyValues ∷ [] else []) in k) (le-ltb n 0 (omega arith))
     ∙ ap (λ t. let k : Kinds = if t then TooManyValues ∷ [] else [] in k) (le-ltb usize_max n small)
 
-pub values_ok : (vs : List Text) → values_kinds false String_parser vs ≡ []
+values_ok : (vs : List Text) → values_kinds false String_parser vs ≡ []
 values_ok [] = refl
 values_ok (v ∷ vs) = values_ok vs
 

@@ -20,11 +20,11 @@ abbrev pub capture_names : CaptureWord → words.CaptureNames
 capture_names c = record { direction = c.direction; interface = c.interface.now; name = c.name.now }
 
 -- a command
-abbrev pub named : Invocation → words.CommandWords
-named (invocation.Replay mode journal script captures) = words.Replay mode journal script.now (map capture_names captures.items)
-named (invocation.Load records) = words.Load records
+abbrev pub command_named : Invocation → words.CommandWords
+command_named (invocation.Replay mode journal script captures) = words.Replay mode journal script.now (map capture_names captures.items)
+command_named (invocation.Load records) = words.Load records
 
 -- a replay has a script's name that isn't empty and 1 to 16 captures, a load 1 to 1,000,000 records
-abbrev pub IsWithin : Invocation → Type 0
-IsWithin (invocation.Replay mode journal script captures) = (0 < length script.now) × (1 ≤ length captures.items) × (length captures.items ≤ 16)
-IsWithin (invocation.Load records) = (1 ≤ records) × (records ≤ 1000000)
+abbrev pub IsWithinLimits : Invocation → Type 0
+IsWithinLimits (invocation.Replay mode journal script captures) = (0 < length script.now) × (1 ≤ length captures.items) × (length captures.items ≤ 16)
+IsWithinLimits (invocation.Load records) = (1 ≤ records) × (records ≤ 1000000)

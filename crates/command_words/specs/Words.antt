@@ -12,12 +12,13 @@
 use Rattle.std.specs.Prelude.{ℕ, Bool, ◌&&◌, ◌||◌, not, true, false, List, [], ◌∷◌, ◌++◌, length, filter, codes, Option, None, Some, ◌==◌, nat_le, if◌then◌else◌}
 use Rattle.std.specs.List.{list_all}
 use Rattle.std.specs.Option.{option_map}
-use Rattle.std.specs.Char.{is_ascii_alphanumeric}
+use Rattle.std.specs.Char.{is_ascii_digit}
+use Rattle.fw_base.specs.Name.{is_name_byte}
 use Rattle.std.specs.Str.Parse.{digits_value}
 use Rattle.fw_base.specs.declared.port.Direction.{Direction}
 use Rattle.fw_base.specs.declared.port.Direction.TheVariants.{In, Out}
-use Rattle.command_words.specs.declared.mode.Mode.{Mode}
-use Rattle.command_words.specs.declared.mode.Mode.TheVariants.{Serial, Live}
+use Rattle.command_words.specs.declared.invocation.Mode.{Mode}
+use Rattle.command_words.specs.declared.invocation.Mode.TheVariants.{Serial, Live}
 use Rattle.command_words.specs.Chain.{◌>>=◌}
 use Rattle.command_words.specs.Bytes.{is_same, is_empty, cut_at}
 
@@ -36,11 +37,7 @@ pub data CommandWords : Type 0 where
 
 -- ---- a capture's word
 
--- a byte of an interface's name: a letter, a digit, `_`, `.` or `-`
-abbrev pub is_name_byte : ℕ → Bool
-is_name_byte b = is_ascii_alphanumeric b || (b == 95 || (b == 46 || b == 45))
-
--- an interface's name has one to fifteen such bytes
+-- an interface's name has one to fifteen bytes: letters, digits, `_`, `.` and `-`
 unfoldable pub is_interface : List ℕ → Bool
 is_interface name = (nat_le 1 (length name) && nat_le (length name) 15) && list_all is_name_byte name
 
@@ -69,14 +66,10 @@ captures_of (word ∷ words) = capture_of word >>= λ capture. option_map (λ re
 
 -- ---- a load's word
 
--- a decimal digit
-abbrev pub is_digit : ℕ → Bool
-is_digit b = nat_le 48 b && nat_le b 57
-
 -- one to seven decimal digits, 1 to 1,000,000
 unfoldable pub load_number : List ℕ → Option ℕ
 load_number word =
-    if (nat_le 1 (length word) && nat_le (length word) 7) && list_all is_digit word
+    if (nat_le 1 (length word) && nat_le (length word) 7) && list_all is_ascii_digit word
     then (if nat_le 1 (digits_value 10 word) && nat_le (digits_value 10 word) 1000000 then Some (digits_value 10 word) else None)
     else None
 

@@ -1,11 +1,10 @@
 ghost use Rattle.std.specs.Prelude.{◌≡◌};
 ghost use Rattle.std.specs.Option.{option_map};
-ghost use Rattle.std.specs.List.{list_all};
 ghost use Rattle.command_words.specs.Invocation.{capture_names};
 ghost use Rattle.command_words.specs.Words as spec;
 
 use crate::bytes::cut_at;
-use fw_base::Direction;
+use fw_base::{Direction, are_name_bytes};
 
 /// What a capture's word names.
 #[derive(Clone, Copy, Debug)]
@@ -16,12 +15,6 @@ pub struct CaptureWord<'a> {
     pub interface: &'a [u8],
     /// The capture's name, which isn't empty.
     pub name: &'a [u8],
-}
-
-fn are_name_bytes(name: &[u8]) -> bool
-    ensures { result ≡ list_all spec.is_name_byte name.now }
-{
-    name.iter().all(|b| b.is_ascii_alphanumeric() || *b == b'_' || *b == b'.' || *b == b'-')
 }
 
 #[tactic(auto, unfolding(crate::specs::Words::is_interface))]

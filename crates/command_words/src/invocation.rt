@@ -1,5 +1,4 @@
 use crate::capture_word::CaptureWord;
-use crate::mode::Mode;
 
 /// What the words of a command name. The names are lent from the words.
 #[derive(Debug, Drop)]
@@ -16,4 +15,13 @@ pub enum Invocation<'a> {
     },
     /// `load`: the load of so many records, 1 to 1,000,000.
     Load(u32),
+}
+
+/// How captures are replayed beside a script.
+#[derive(Clone, Copy, Debug, PartialEq, Eq, Hash)]
+pub enum Mode {
+    /// One record after another, in one thread.
+    Serial,
+    /// Each capture by a thread of its own, while the script's live lines are carried out.
+    Live,
 }

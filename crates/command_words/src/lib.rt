@@ -4,8 +4,7 @@
 #![tactic(auto)]
 
 pub use capture_word::CaptureWord;
-pub use invocation::Invocation;
-pub use mode::Mode;
+pub use invocation::{Invocation, Mode};
 pub use words::read_words;
 
 mod arguments;
@@ -14,7 +13,6 @@ mod capture_word;
 mod captures;
 mod invocation;
 mod load_word;
-mod mode;
 #[cfg(test)]
 mod tests;
 mod words;

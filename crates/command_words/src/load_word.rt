@@ -1,4 +1,5 @@
 ghost use Rattle.std.specs.Prelude.{◌≡◌, ◌≤◌, IfSome};
+ghost use Rattle.std.specs.Char.{is_ascii_digit};
 ghost use Rattle.std.specs.List.{list_all};
 ghost use Rattle.command_words.specs.Words as spec;
 
@@ -9,7 +10,7 @@ const MOST_DIGITS: usize = 7;
 const MOST_RECORDS: u32 = 1_000_000;
 
 fn are_digits(text: &[u8]) -> bool
-    ensures { result ≡ list_all spec.is_digit text.now }
+    ensures { result ≡ list_all is_ascii_digit text.now }
 {
     text.iter().all(|b| b.is_ascii_digit())
 }

@@ -1,13 +1,12 @@
 ghost use Rattle.std.specs.Prelude.{◌≡◌, IfOk, IfSome, map, string_bytes};
 ghost use Rattle.std.specs.Option.{option_map};
-ghost use Rattle.command_words.specs.Invocation.{IsWithin, named, word_texts};
+ghost use Rattle.command_words.specs.Invocation.{IsWithinLimits, command_named, word_texts};
 ghost use Rattle.command_words.specs.Words as spec;
 
 use crate::arguments::arguments_in;
 use crate::captures::captures_of;
-use crate::invocation::Invocation;
+use crate::invocation::{Invocation, Mode};
 use crate::load_word::load_number;
-use crate::mode::Mode;
 use fw_base::OutOfMemory;
 use std::alloc::Global;
 
@@ -23,8 +22,8 @@ fn replay_of<'a>(
     positional: &[&'a str],
 ) -> Result<Option<Invocation<'a>>, OutOfMemory>
     ensures named { IfOk result (λ found.
-        option_map named found ≡ spec.replay_of mode journal (word_texts positional.now)) }
-    ensures within { IfOk result (λ found. IfSome found IsWithin) }
+        option_map command_named found ≡ spec.replay_of mode journal (word_texts positional.now)) }
+    ensures within { IfOk result (λ found. IfSome found IsWithinLimits) }
 {
     let [script, captures @ ..] = positional else {
         return Ok(None);
@@ -46,8 +45,8 @@ fn replay_of<'a>(
 /// What the positional words of a load name.
 #[tactic(auto, unfolding(crate::specs::Words::load_of))]
 fn load_of<'a>(positional: &[&'a str]) -> Option<Invocation<'a>>
-    ensures named { option_map named result ≡ spec.load_of (word_texts positional.now) }
-    ensures within { IfSome result IsWithin }
+    ensures named { option_map command_named result ≡ spec.load_of (word_texts positional.now) }
+    ensures within { IfSome result IsWithinLimits }
 {
     match positional {
         [number] => match load_number(number) {
@@ -67,8 +66,8 @@ fn command_by<'a>(
     positional: &[&'a str],
 ) -> Result<Option<Invocation<'a>>, OutOfMemory>
     ensures named { IfOk result (λ found.
-        option_map named found ≡ spec.command_by mode.now journal (word_texts positional.now)) }
-    ensures within { IfOk result (λ found. IfSome found IsWithin) }
+        option_map command_named found ≡ spec.command_by mode.now journal (word_texts positional.now)) }
+    ensures within { IfOk result (λ found. IfSome found IsWithinLimits) }
 {
     if mode == b"serial".as_slice() {
         replay_of(alloc, Mode::Serial, journal, positional)
@@ -89,8 +88,8 @@ fn command_by<'a>(
 #[tactic(auto, unfolding(crate::specs::Words::command_of))]
 pub fn read_words(alloc: Global, words: &[String]) -> Result<Option<Invocation<'_>>, OutOfMemory>
     ensures named { IfOk result (λ found.
-        option_map named found ≡ spec.command_of (map string_bytes words.now)) }
-    ensures within { IfOk result (λ found. IfSome found IsWithin) }
+        option_map command_named found ≡ spec.command_of (map string_bytes words.now)) }
+    ensures within { IfOk result (λ found. IfSome found IsWithinLimits) }
 {
     let Some(mode) = words.first() else {
         return Ok(None);

@@ -3,7 +3,7 @@ use Rattle.std.proofs.Common.{◌≡◌, ℕ, ◌+◌, ◌-◌, ◌<◌, ◌≤�
 use Rattle.std.specs.Prelude.{count_by}
 use Rattle.std.proofs.Math.ListN.{set, length-set}
 use Rattle.std.proofs.lemmas.List.Sums.{sum_by_push, sum_by-set}
-use Rattle.fw_rule.specs.declared.limit_mask.LimitMask.{LimitMask}
+use Rattle.fw_rule.specs.declared.state_opt.LimitMask.{LimitMask}
 use Rattle.dyn_states.specs.declared.state.State.{State}
 use Rattle.dyn_states.specs.declared.limit_counts.LimitCounts.{LimitCounts}
 use Rattle.dyn_states.specs.LimitCounts.{Counts, amount_of, same_pair, pair_of, pair_count, is_counted_for}

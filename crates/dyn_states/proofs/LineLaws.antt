@@ -1,8 +1,9 @@
 -- Two flows have one line just where one matches the other.
 use Rattle.std.proofs.Common.{◌≡◌, ℕ, Bool, true, false, refl, ap, sym, ◌∙◌, arith, cond}
-use Rattle.std.specs.Prelude.{◌&&◌, ◌||◌}
+use Rattle.std.specs.Prelude.{◌||◌}
 use Rattle.std.proofs.lemmas.Bool.Decides.{nat_tests}
 use Rattle.std.proofs.lemmas.Map.Views.{exact_unsigned_eq}
+use Rattle.std.proofs.lemmas.Bool.{and_parts, or_right}
 use Rattle.packet_headers.specs.declared.flows.Flow.{Flow}
 use Rattle.dyn_states.specs.declared.flow_name.FlowName.TheVariants.{Named}
 use Rattle.dyn_states.specs.declared.lines.Line.{Line}
@@ -10,14 +11,6 @@ use Rattle.dyn_states.specs.declared.state.State.{State}
 use Rattle.dyn_states.specs.Flows.{same_flow, reversed, matches_flow}
 use Rattle.dyn_states.specs.Lines.{is_upward, upward, flow_eq, same_line, line_of, line_at}
 use Rattle.dyn_states.specs.StateObject.{considers}
-
-both : (x y : Bool) → (x && y) ≡ true → (x ≡ true) × (y ≡ true)
-both true y h = (refl, h)
-both false y h = cc
-
-or_true : (x : Bool) → (x || true) ≡ true
-or_true true = refl
-or_true false = refl
 
 -- the same parts make the same flow
 flow_of : ℕ → ℕ → ℕ → ℕ → ℕ → Flow
@@ -32,24 +25,24 @@ flow_is a b e1 e2 e3 e4 e5 =
 -- flows of the same parts are equal
 pub same_flow_is : (a b : Flow) → same_flow a b ≡ true → a ≡ b
 same_flow_is a b same =
-    let h1 = both _ _ same in
-    let h2 = both _ _ h1.1 in
-    let h3 = both _ _ h2.1 in
-    let h4 = both _ _ h3.1 in
+    let h1 = and_parts _ _ same in
+    let h2 = and_parts _ _ h1.1 in
+    let h3 = and_parts _ _ h2.1 in
+    let h4 = and_parts _ _ h3.1 in
     flow_is a b (exact_unsigned_eq _ _ h2.0) (exact_unsigned_eq _ _ h4.0) (exact_unsigned_eq _ _ h3.0) (exact_unsigned_eq _ _ h4.1) (exact_unsigned_eq _ _ h1.0)
 
 flow_eq_is : (a b : Flow) → flow_eq a b ≡ true → a ≡ b
 flow_eq_is a b same =
-    let h1 = both _ _ same in
-    let h2 = both _ _ h1.1 in
-    let h3 = both _ _ h2.1 in
-    let h4 = both _ _ h3.1 in
+    let h1 = and_parts _ _ same in
+    let h2 = and_parts _ _ h1.1 in
+    let h3 = and_parts _ _ h2.1 in
+    let h4 = and_parts _ _ h3.1 in
     flow_is a b (exact_unsigned_eq _ _ h1.0) (exact_unsigned_eq _ _ h2.0) (exact_unsigned_eq _ _ h3.0) (exact_unsigned_eq _ _ h4.0) (exact_unsigned_eq _ _ h4.1)
 
 same_flow_self : (a : Flow) → same_flow a a ≡ true
 same_flow_self a = grind (arith, nat_tests)
 
--- both directions of a flow go upward in one way
+-- and_parts directions of a flow go upward in one way
 both_upward : (b : Flow) → is_upward b ≡ true → is_upward (reversed b) ≡ true → reversed b ≡ b
 both_upward b up down = flow_is (reversed b) b (grind (arith, nat_tests)) (grind (arith, nat_tests)) (grind (arith, nat_tests)) (grind (arith, nat_tests)) refl
 
@@ -83,14 +76,14 @@ matching_upward own asked same = decided (is_upward own) (is_upward asked) same
   where
     decided : (x y : Bool) → cond x own (reversed own) ≡ cond y asked (reversed asked) → matches_flow own asked ≡ true
     decided true true e = rw e (rw (same_flow_self asked) refl)
-    decided true false e = rw e (rw (same_flow_self (reversed asked)) (or_true _))
-    decided false true e = let e' = ap reversed e in rw e' (rw (same_flow_self (reversed asked)) (or_true _))
+    decided true false e = rw e (rw (same_flow_self (reversed asked)) (or_right _ true refl))
+    decided false true e = let e' = ap reversed e in rw e' (rw (same_flow_self (reversed asked)) (or_right _ true refl))
     decided false false e = let e' = ap reversed e in rw e' (rw (same_flow_self asked) refl)
 
 -- a state that a lookup of one name considers has the lookup's line
 pub line_considered : (flow : Flow) (name : ℕ) (s : State) → considers flow (Named name) s ≡ true → line_at s ≡ line_of flow name
 line_considered flow name s considered =
-    let h = both _ _ considered in
+    let h = and_parts _ _ considered in
     let name_is : name ≡ s.name = exact_unsigned_eq _ _ h.0 in
     let flow_is = upward_matching s.flow flow h.1 in
     rw (name_is, flow_is) refl
@@ -99,7 +92,7 @@ line_considered flow name s considered =
 pub considered_line : (flow : Flow) (name : ℕ) (s : State) → same_line (line_of flow name) (line_at s) ≡ true → considers flow (Named name) s ≡ true
 unfolding same_line
 considered_line flow name s same =
-    let h = both _ _ same in
+    let h = and_parts _ _ same in
     let name_is : name ≡ s.name = exact_unsigned_eq _ _ h.1 in
     let flow_is = matching_upward s.flow flow (sym (flow_eq_is _ _ h.0)) in
     rw (flow_is, name_is) (grind (arith, nat_tests))

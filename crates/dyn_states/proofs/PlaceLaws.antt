@@ -2,6 +2,8 @@
 use Rattle.std.proofs.Common.{◌≡◌, ℕ, ◌+◌, ◌<◌, ◌≤◌, Bool, true, false, List, Option, Some, None, length, refl, ap, sym, ◌∙◌, cond, arith}
 use Rattle.std.specs.Prelude.{◌||◌, ◌&&◌, ◌==◌, nat_lt}
 use Rattle.std.proofs.lemmas.Bool.Decides.{nat_tests}
+use Rattle.std.proofs.lemmas.Bool.{and_parts, or_from, or_right}
+use Rattle.fw_base.proofs.Logic.{clash}
 use Rattle.packet_headers.specs.declared.flows.Flow.{Flow}
 use Rattle.dyn_states.specs.declared.flow_name.FlowName.TheVariants.{Any, Named}
 use Rattle.dyn_states.specs.declared.lines.Lines.{Lines}
@@ -12,18 +14,10 @@ use Rattle.dyn_states.specs.Slots.{is_held, slot, holds_one, IsFirstPlace, earli
 use Rattle.dyn_states.specs.StateObject.{considers}
 use Rattle.dyn_states.proofs.LineLaws.{line_considered}
 
--- both of two tests pass
-pub both : (x y : Bool) → (x && y) ≡ true → (x ≡ true) × (y ≡ true)
-both true y h = (refl, h)
-both false y h = cc
-
-not_both : (b : Bool) → b ≡ true → b ≡ false → ⊥
-not_both b here there = cc
-
 -- a line leads to the only place of a state that its lookup considers
 pub only_place : (slots : List State) (lines : Lines) (flow : Flow) (number k : ℕ) → Leads slots lines → k < length slots → holds_one (considers flow (Named number)) (slot slots k) ≡ true → place_of lines (line_of flow number) ≡ Some k
 only_place slots lines flow number k was inside holds =
-    let h = both (is_held (slot slots k)) (considers flow (Named number) (slot slots k)) holds in
+    let h = and_parts (is_held (slot slots k)) (considers flow (Named number) (slot slots k)) holds in
     ap (place_of lines) (sym (line_considered flow number (slot slots k) h.1)) ∙ was.here k inside h.0
 
 none_or : (b : Bool) → (b ≡ true → ⊥) → b ≡ false
@@ -45,7 +39,7 @@ stale slots lines flow number place was leads out = λ k inside. none_or (holds_
     same k e = cc
 
     wrong : (k : ℕ) → k < length slots → holds_one (considers flow (Named number)) (slot slots k) ≡ true → place ≡ k → ⊥
-    wrong k inside holds e = not_both (holds_one (considers flow (Named number)) (slot slots k)) holds (rw e at out inside)
+    wrong k inside holds e = clash (holds_one (considers flow (Named number)) (slot slots k)) holds (rw e at out inside)
 
 -- where it leads to one, it is the first
 pub at_place : (slots : List State) (lines : Lines) (flow : Flow) (number place : ℕ) → Leads slots lines → place_of lines (line_of flow number) ≡ Some place → place < length slots → holds_one (considers flow (Named number)) (slot slots place) ≡ true → IsFirstPlace (considers flow (Named number)) slots (Some place)
@@ -62,15 +56,8 @@ either_test : (held p q : Bool) → (held && (p || q)) ≡ ((held && p) || (held
 either_test true p q = refl
 either_test false p q = refl
 
-joined_false : (x y : Bool) → x ≡ false → y ≡ false → (x || y) ≡ false
-joined_false x y a b = rw (a, b) refl
-
 joined_left : (x y : Bool) → x ≡ true → (x || y) ≡ true
 joined_left x y a = rw a refl
-
-joined_right : (x y : Bool) → y ≡ true → (x || y) ≡ true
-joined_right true y b = refl
-joined_right false y b = b
 
 -- the earlier of the first places of two tests is the first of either
 pub IsFirstPlace-either : (p q r : State → Bool) (slots : List State) (a b : Option ℕ) → ((s : State) → r s ≡ (p s || q s)) → IsFirstPlace p slots a → IsFirstPlace q slots b → IsFirstPlace r slots (earlier a b)
@@ -80,13 +67,13 @@ IsFirstPlace-either p q r slots a b is first other = cases a b first other
     parted s = rw (is s) (either_test (is_held s) (p s) (q s))
 
     neither : (s : State) → holds_one p s ≡ false → holds_one q s ≡ false → holds_one r s ≡ false
-    neither s x y = parted s ∙ joined_false (holds_one p s) (holds_one q s) x y
+    neither s x y = parted s ∙ or_from (holds_one p s) (holds_one q s) x y
 
     left : (s : State) → holds_one p s ≡ true → holds_one r s ≡ true
     left s x = parted s ∙ joined_left (holds_one p s) (holds_one q s) x
 
     right : (s : State) → holds_one q s ≡ true → holds_one r s ≡ true
-    right s y = parted s ∙ joined_right (holds_one p s) (holds_one q s) y
+    right s y = parted s ∙ or_right (holds_one p s) (holds_one q s) y
 
     cases : (a b : Option ℕ) → IsFirstPlace p slots a → IsFirstPlace q slots b → IsFirstPlace r slots (earlier a b)
     cases None None x y = λ k inside. neither (slot slots k) (x k inside) (y k inside)

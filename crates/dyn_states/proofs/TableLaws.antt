@@ -7,7 +7,7 @@ use Rattle.std.proofs.lemmas.Bool.Decides.{nat_tests}
 use Rattle.std.proofs.lemmas.Bool.{cases_eq}
 use Rattle.std.proofs.lemmas.List.Elements.{All-head, All-tail}
 use Rattle.std.proofs.lemmas.List.Sorted.{list_any-IsPermutation, sum_by_popped, sum_by_pushed}
-use Rattle.fw_rule.specs.declared.limit_mask.LimitMask.TheVariants.{SrcAddr, SrcPort, DstAddr, DstPort}
+use Rattle.fw_rule.specs.declared.state_opt.LimitMask.TheVariants.{SrcAddr, SrcPort, DstAddr, DstPort}
 use Rattle.dyn_states.specs.declared.tallies.Tallies.{Tallies}
 use Rattle.dyn_states.specs.StateTable.{IsTouched}
 use Rattle.dyn_states.specs.Tallies.{IsTallied}

@@ -1,7 +1,7 @@
 -- How many states a limit counts (ipfw(8), `limit`): by a rule's identity and a parameter's value.
 use Rattle.std.specs.Prelude.{◌≡◌, ℕ, ◌+◌, ◌≤◌, Bool, ◌==◌, ◌&&◌, List, length, count_by, unwrap_or}
 use Rattle.std.specs.HashMap.{get, hash_map_len, spare}
-use Rattle.fw_rule.specs.declared.limit_mask.LimitMask.{LimitMask}
+use Rattle.fw_rule.specs.declared.state_opt.LimitMask.{LimitMask}
 use Rattle.dyn_states.specs.declared.state.State.{State}
 use Rattle.dyn_states.specs.declared.limit_counts.LimitCounts.{LimitCounts}
 use Rattle.dyn_states.specs.StateObject.{parameter}

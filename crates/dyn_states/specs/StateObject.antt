@@ -3,8 +3,8 @@
 use Rattle.std.specs.Prelude.{ℕ, ◌+◌, Bool, true, false, ◌==◌, ◌&&◌, nat_lt, nat_le, max, bit_or, if◌then◌else◌, Option, Some, None, List, [], ◌∷◌, ◌++◌, length, map, filter, find, count_by}
 use Rattle.std.specs.List.{list_any}
 use Rattle.packet_headers.specs.declared.flows.Flow.{Flow}
-use Rattle.fw_rule.specs.declared.limit_mask.LimitMask.{LimitMask}
-use Rattle.fw_rule.specs.declared.limit_mask.LimitMask.TheVariants.{SrcAddr, SrcPort, DstAddr, DstPort}
+use Rattle.fw_rule.specs.declared.state_opt.LimitMask.{LimitMask}
+use Rattle.fw_rule.specs.declared.state_opt.LimitMask.TheVariants.{SrcAddr, SrcPort, DstAddr, DstPort}
 use Rattle.fw_rule.specs.Values.{Values}
 use Rattle.dyn_states.specs.declared.flow_name.FlowName.{FlowName}
 use Rattle.dyn_states.specs.declared.flow_name.FlowName.TheVariants.{Any, Named}

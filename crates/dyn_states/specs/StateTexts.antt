@@ -3,7 +3,7 @@ use Rattle.std.specs.Prelude.{ℕ, ◌==◌, if◌then◌else◌, List, [], ◌�
 use Rattle.std.specs.List.{flat_map}
 use Rattle.std.specs.Fmt.{decimal}
 use Rattle.fw_base.specs.Addr.{address_text}
-use Rattle.fw_rule.specs.Canonical.{five_digits, spaced, protocol_word}
+use Rattle.fw_rule.specs.Canonical.{five_digits, spaced_text, protocol_word}
 use Rattle.packet_headers.specs.declared.flows.Flow.{Flow}
 use Rattle.dyn_states.specs.declared.state.State.{State}
 use Rattle.dyn_states.specs.Slots.{is_held}
@@ -12,7 +12,7 @@ use Rattle.dyn_states.specs.StateObject.{StateObject}
 -- protocol, source and its port, destination and its port, each behind a space
 abbrev pub flow_text : Flow → List ℕ
 flow_text flow =
-    spaced (protocol_word flow.protocol
+    spaced_text (protocol_word flow.protocol
     ∷ address_text flow.source.0 ∷ decimal flow.source_port
     ∷ address_text flow.destination.0 ∷ decimal flow.destination_port ∷ [])
 

@@ -1,6 +1,6 @@
 -- The tallies: how many states there are, and how many a limit counts.
 use Rattle.std.specs.Prelude.{◌≡◌, ℕ, ◌≤◌, List, count_by}
-use Rattle.fw_rule.specs.declared.limit_mask.LimitMask.TheVariants.{SrcAddr, SrcPort, DstAddr, DstPort}
+use Rattle.fw_rule.specs.declared.state_opt.LimitMask.TheVariants.{SrcAddr, SrcPort, DstAddr, DstPort}
 use Rattle.dyn_states.specs.declared.state.State.{State}
 use Rattle.dyn_states.specs.declared.tallies.Tallies.{Tallies}
 use Rattle.dyn_states.specs.LimitCounts.{Counts, pair_room}

@@ -2,9 +2,9 @@ ghost use Rattle.std.specs.Prelude.{◌≡◌, IsTrue, IfOk};
 ghost use Rattle.dyn_states.specs.Facts as facts;
 ghost use Rattle.dyn_states.specs.Facts.{is_rule_list};
 
+use crate::Identities;
 use fw_base::OutOfMemory;
-use fw_rule::{Items, Settings};
-use std::alloc::Global;
+use fw_rule::Settings;
 
 /// What a publication tells the states.
 #[derive(Debug, Drop)]
@@ -12,20 +12,20 @@ pub struct Facts {
     /// The number of the edition.
     pub number: u64,
     /// The identities of its rules: they ascend strictly and begin with 0, that of rule 65535.
-    pub rules: Items<u32>,
+    pub rules: Identities,
     /// Its settings.
     pub settings: Settings,
     ghost ordered: { IsTrue (is_rule_list rules) },
 }
 
 impl Facts {
-    /// The same facts, a second time.
-    pub fn copy(&self, alloc: Global) -> Result<Facts, OutOfMemory>
+    /// The same facts, a second time: no list is copied.
+    pub fn share(&self) -> Result<Facts, OutOfMemory>
         ensures { IfOk result (λ facts. facts ≡ self.now) }
     {
         Ok(Facts {
             number: self.number,
-            rules: Items::from_vec(Vec::from_slice(alloc, self.rules.as_slice())?),
+            rules: self.rules.share()?,
             settings: self.settings,
         })
     }

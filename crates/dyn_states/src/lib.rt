@@ -5,6 +5,7 @@
 pub use facts::{Facts, is_ordered};
 pub use flow_name::FlowName;
 pub use hashed_states::HashedStates;
+pub use identities::Identities;
 pub use op::Op;
 pub use reply::Reply;
 pub use rule_ref::RuleRef;
@@ -21,6 +22,7 @@ mod facts;
 mod flow_name;
 mod flows;
 mod hashed_states;
+mod identities;
 mod lifetimes;
 mod limit_counts;
 mod lines;

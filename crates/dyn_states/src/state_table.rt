@@ -17,6 +17,10 @@ use fw_rule::LimitMask;
 use packet_headers::Flow;
 use std::alloc::Global;
 
+/// So many slots and four for each state there are before the table is compacted, though there be room: so
+/// the slots of few states stay in a processor's cache, and each is compacted away once for many installs.
+const SPARE_SLOTS: usize = 8_192;
+
 /// The states in slots, in the order of making, with a way from a line to a slot, the expiries in order,
 /// and the tallies. A state that is given up leaves its slot, which stands until the table is compacted.
 #[derive(Drop)]
@@ -202,6 +206,9 @@ impl StateTable {
         ensures table { IsTable self.new }
         ensures most { self.new.most ≡ self.old.most }
     {
+        if self.slots.is_empty() {
+            return;
+        }
         take_over(&mut self.slots, facts);
         self.compact();
     }
@@ -221,7 +228,8 @@ impl StateTable {
         self.tallies.clear();
     }
 
-    /// Makes room for one more slot. It takes no memory.
+    /// Makes room for one more slot: where there is none, or few slots hold a state, it compacts. It takes
+    /// no memory.
     pub fn make_room(&mut self)
         requires table { IsTable self.old }
         requires few { length (states_of self.old) < self.old.most }
@@ -230,7 +238,8 @@ impl StateTable {
         ensures room { HasRoomForOne self.new }
         ensures most { self.new.most ≡ self.old.most }
     {
-        if self.slots.len() < self.most && !self.queue.is_full() {
+        let has_room = self.slots.len() < self.most && !self.queue.is_full();
+        if has_room && self.slots.len() < SPARE_SLOTS + 4 * self.tallies.live() as usize {
             return;
         }
         self.compact();

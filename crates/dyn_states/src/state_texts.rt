@@ -1,7 +1,7 @@
 ghost use Rattle.std.specs.Prelude.{◌≡◌, ◌∷◌, [], flat_map, slice_index_or};
 ghost use Rattle.std.specs.Fmt.{decimal};
 ghost use Rattle.fw_base.specs.Addr.{address_text};
-ghost use Rattle.fw_rule.specs.Canonical.{spaced};
+ghost use Rattle.fw_rule.specs.Canonical.{spaced_text};
 ghost use Rattle.fw_base.specs.Texts.{WritesText};
 ghost use Rattle.dyn_states.specs.StateTexts as text;
 
@@ -14,7 +14,7 @@ use packet_headers::Flow;
 /// Writes an address and a port, each behind a space.
 fn write_end<K: Sink>(out: &mut K, address: Addr, port: u16) -> Result<(), Failed>
     ensures { WritesText (K.written out.old) (K.written out.new) (K.faults out.old)
-        (K.faults out.new) (spaced (address_text address.0 ∷ decimal port ∷ [])) result }
+        (K.faults out.new) (spaced_text (address_text address.0 ∷ decimal port ∷ [])) result }
 {
     let mut digits = Buffer::new();
     write_text(out, b" ")?;

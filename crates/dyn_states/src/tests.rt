@@ -2,10 +2,11 @@ ghost use Rattle.std.specs.Prelude.{◌≡◌, ◌+◌, ◌<◌, ◌≤◌, ◌^
 ghost use Rattle.fw_rule.specs.Settings.{IsLifetime, IsMostStates};
 
 use crate::{
-    Facts, FlowName, Op, Reply, RuleRef, ScannedStates, States, Way, is_ordered, write_states,
+    Facts, FlowName, Identities, Op, Reply, RuleRef, ScannedStates, States, Way, is_ordered,
+    write_states,
 };
 use fw_base::{Addr, MemorySink, Name};
-use fw_rule::{Items, LimitMask, Settings, USUAL_MOST_STATES};
+use fw_rule::{LimitMask, Settings, USUAL_MOST_STATES};
 use packet_headers::Flow;
 use std::alloc::Global;
 use std::process::Abort;
@@ -113,11 +114,11 @@ fn assert_answers(rt: &impl Abort, states: &mut States, rows: &[(Op, Reply)]) {
     }
 }
 
-fn facts(rt: &impl Abort, number: u64, rules: Vec<u32>, keep: bool) -> Facts {
-    assert!(rt; is_ordered(&rules));
+fn facts(rt: &impl Abort, number: u64, rules: Identities, keep: bool) -> Facts {
+    assert!(rt; is_ordered(rules.as_slice()));
     Facts {
         number,
-        rules: Items::from_vec(rules),
+        rules,
         settings: settings(1, 1, USUAL_MOST_STATES, keep),
     }
 }
@@ -250,7 +251,8 @@ fn names_and_publications(rt: HostRuntime) -> Result<(), Fail> {
         00300 udp 10.0.0.1 5 192.0.2.1 6 expires 111 :web\n",
     )?;
 
-    let publication_drops_states = facts(&rt, 2, vec![in rt.alloc(); 0, 1, 3]?, false);
+    let left = Identities::new(rt.alloc(), vec![in rt.alloc(); 0, 1, 3]?)?;
+    let publication_drops_states = facts(&rt, 2, left, false);
     publish(&rt, &mut states, &publication_drops_states);
     assert_printed(
         &rt,
@@ -260,7 +262,8 @@ fn names_and_publications(rt: HostRuntime) -> Result<(), Fail> {
         "clock 101\nstates 1\n00300 udp 10.0.0.1 5 192.0.2.1 6 expires 111 :web\n",
     )?;
 
-    let kept_state_gets_the_last_rule = facts(&rt, 3, vec![in rt.alloc(); 0]?, true);
+    let last = Identities::new(rt.alloc(), vec![in rt.alloc(); 0]?)?;
+    let kept_state_gets_the_last_rule = facts(&rt, 3, last, true);
     publish(&rt, &mut states, &kept_state_gets_the_last_rule);
     let found = Reply::Found(Way::Forward, LAST_RULE);
     assert_answers(
@@ -393,7 +396,7 @@ fn drawn_facts(rt: &impl Abort, alloc: Global, seed: &mut u64) -> Result<Facts, 
     };
     Ok(Facts {
         number: 2,
-        rules: Items::from_vec(rules),
+        rules: Identities::new(alloc, rules)?,
         settings,
     })
 }

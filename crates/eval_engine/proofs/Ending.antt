@@ -15,12 +15,12 @@ unfolding progress_from
 progress_in_two q progress [] more = refl
 progress_in_two q progress (reply ∷ replies) more = progress_in_two q (replied q progress.asks progress.hits reply progress.stop) replies more
 
--- a mismatch stays one
-stays : (q : Question) (progress : Progress) (more : List Reply) → progress.stop ≡ Mismatch → (progress_from q progress more).stop ≡ Mismatch
+-- a mismatch mismatch_stays one
+pub mismatch_stays : (q : Question) (progress : Progress) (more : List Reply) → progress.stop ≡ Mismatch → (progress_from q progress more).stop ≡ Mismatch
 unfolding progress_from
-stays q progress [] is = is
-stays q progress (reply ∷ more) is =
-    stays q (replied q progress.asks progress.hits reply progress.stop) more (ap (λ (s : Stop). (replied q progress.asks progress.hits reply s).stop) is)
+mismatch_stays q progress [] is = is
+mismatch_stays q progress (reply ∷ more) is =
+    mismatch_stays q (replied q progress.asks progress.hits reply progress.stop) more (ap (λ (s : Stop). (replied q progress.asks progress.hits reply s).stop) is)
 
 after_end : (q : Question) (progress : Progress) (reply : Reply) (stop : Stop) (judgement : Judgement) → outcome_of stop ≡ Whole judgement → (replied q progress.asks progress.hits reply stop).stop ≡ Mismatch
 after_end q progress reply (EndsWith judged) judgement is = refl
@@ -33,4 +33,4 @@ unfolding evaluate progress_from
 ends_once q judgement replies reply more is =
     let so_far : Progress = progress_of q replies in
     ap (λ (p : Progress). outcome_of p.stop) (progress_in_two q (progress_by [] [] (begun q)) replies (reply ∷ more))
-    ∙ ap (λ (s : Stop). outcome_of s) (stays q (replied q so_far.asks so_far.hits reply so_far.stop) more (after_end q so_far reply so_far.stop judgement is))
+    ∙ ap (λ (s : Stop). outcome_of s) (mismatch_stays q (replied q so_far.asks so_far.hits reply so_far.stop) more (after_end q so_far reply so_far.stop judgement is))

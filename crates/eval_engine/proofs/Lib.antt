@@ -3,6 +3,7 @@ pub mod Names
 -- calls that are open
 pub mod Calls
 -- places of rules in number order, and the rule in a place
+pub mod FirstPlaces
 pub mod Places
 pub mod Configured
 -- where an evaluation goes on

@@ -1,5 +1,5 @@
 -- A list without jumps, calls and states.
-use Rattle.std.proofs.Common.{◌≡◌, ℕ, Bool, true, false, cond, nat_lt, is_some, Option, Some, find, List, [], ◌∷◌, refl, ap, arith}
+use Rattle.std.proofs.Common.{◌≡◌, ℕ, Bool, true, false, cond, is_some, Option, Some, find, List, [], ◌∷◌, refl, ap}
 use Rattle.std.specs.List.{AllByRecursion}
 use Rattle.fw_rule.specs.declared.action.Action.{Action}
 use Rattle.fw_rule.specs.declared.action.Action.TheVariants.{Allow, Deny, Reset, Unreach, Count, SkipTo, Call, Return, CheckState}
@@ -10,6 +10,7 @@ use Rattle.eval_engine.specs.Laws.{verdict_of, decides, judgement_by, IsPlainAct
 use Rattle.eval_engine.specs.Question.{Question}
 use Rattle.eval_engine.specs.Trace.{Seen, Trace, Stop, EndsWith, stop_of}
 use Rattle.eval_engine.specs.Walk.{Walk, walk, follows}
+use Rattle.eval_engine.proofs.Walks.{none_below}
 
 never_check : (action : Action) → IsPlainAction action → is_check_state action ≡ false
 never_check Allow plain = refl
@@ -36,9 +37,6 @@ ends_by q deeper rule next callers back (SkipTo number) plain rest on is = absur
 ends_by q deeper rule next callers back (Call number) plain rest on is = absurd plain
 ends_by q deeper rule next callers back Return plain rest on is = absurd plain
 ends_by q deeper rule next callers back (CheckState name) plain rest on is = absurd plain
-
-none_below : (n : ℕ) → nat_lt n 0 ≡ false
-none_below n = grind arith
 
 first_match : (deeper : Option Walk) (q : Question) (seen : Seen) (suffix : List Rule) (callers : List ℕ) (back : Option Trace) → AllByRecursion IsPlain suffix
     → stop_of (walk deeper q seen 0 suffix callers back) ≡ EndsWith (judgement_by q (find (decides q) suffix))

@@ -15,7 +15,8 @@ use Rattle.eval_engine.specs.Question.{Question}
 use Rattle.eval_engine.specs.Trace.{Seen, WaitsFor, Trace, PassesOver, Stops}
 use Rattle.eval_engine.specs.Walk.{Walk, walk, deeper_walk, way_back, walk_from, calls_left, call_from, meets, pause_at, follows, return_to, acts_before, looks, lookup_flow, denied_at_end, installs, installs_before, tests_before}
 
-none_below : (n : ℕ) → nat_lt n 0 ≡ false
+-- no number is below 0
+pub none_below : (n : ℕ) → nat_lt n 0 ≡ false
 none_below n = grind arith
 
 -- leading rules numbered below are left out

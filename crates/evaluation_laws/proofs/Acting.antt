@@ -1,9 +1,10 @@
 -- Which rules act: those of a disabled set never do but where a state that they made was found.
-use Rattle.std.proofs.Common.{◌≡◌, ℕ, ◌+◌, Bool, true, false, not, ◌&&◌, ◌||◌, ◌==◌, List, [], ◌∷◌, ◌++◌, refl, ap, sym, ◌∙◌, subst, arith}
+use Rattle.std.proofs.Common.{◌≡◌, ℕ, ◌+◌, Bool, true, false, not, ◌&&◌, ◌==◌, List, [], ◌∷◌, ◌++◌, refl, ap, sym, ◌∙◌, subst, arith}
 use Rattle.std.specs.Prelude.{⊤}
 use Rattle.std.specs.List.{AllByRecursion, list_any, position_or_len}
 use Rattle.std.proofs.lemmas.List.Folds.{list_any_at}
 use Rattle.std.proofs.lemmas.List.Sums.{passes_at_first}
+use Rattle.std.proofs.lemmas.Bool.{or_right, and_from}
 use Rattle.dyn_states.specs.declared.reply.Reply.{Reply}
 use Rattle.dyn_states.specs.declared.reply.Reply.TheVariants.{Found, NotFound, Created, Exists, LimitReached, TableFull}
 use Rattle.fw_rule.specs.declared.rule.Rule.{Rule}
@@ -26,13 +27,6 @@ use Rattle.evaluation_laws.specs.Runs.{Moment, Meets, Tests, Acts, Runs, BehindA
 use Rattle.evaluation_laws.proofs.Sound.{IsSuffix, rest_suffix, from_suffix, rules_at, within, runs_are_evaluations}
 use Rattle.evaluation_laws.proofs.Total.{each_reaches}
 
-or_true : (a b : Bool) → b ≡ true → (a || b) ≡ true
-or_true true b is = refl
-or_true false b is = is
-
-and_true : (a b : Bool) → a ≡ true → b ≡ true → (a && b) ≡ true
-and_true a b is also = rw (is, also) refl
-
 itself : (n : ℕ) → (n == n) ≡ true
 itself n = grind arith
 
@@ -46,7 +40,7 @@ IsKnown every (LimitReached count) = ⊤
 IsKnown every (TableFull count) = ⊤
 
 known_more : (first : Reply) (every : List Reply) (reply : Reply) → IsKnown every reply → IsKnown (first ∷ every) reply
-known_more first every (Found way maker) is = or_true (is_found maker.id first) (list_any (is_found maker.id) every) is
+known_more first every (Found way maker) is = or_right (is_found maker.id first) (list_any (is_found maker.id) every) is
 known_more first every NotFound is = tt
 known_more first every Created is = tt
 known_more first every Exists is = tt
@@ -103,22 +97,22 @@ module _ (q : Question) (every : List Reply) where
       let passes = passes_at_first (is_identity id) all found (within all place found after there) in
       let own : is_identity id found ≡ true = ap (is_identity id) (sym (rule_read all place found after there)) ∙ passes in
       let same : id ≡ found.id = grind arith in
-      or_true (not (is_disabled q found)) (list_any (is_found found.id) every) (subst (λ (n : ℕ). list_any (is_found n) every ≡ true) same known)
+      or_right (not (is_disabled q found)) (list_any (is_found found.id) every) (subst (λ (n : ℕ). list_any (is_found n) every ≡ true) same known)
 
   hit_of : (rule : Rule) (rest : List Rule) → IsSuffix all (rule ∷ rest) → may_act q every rule ≡ true → is_hit q every rule.counter ≡ true
-  hit_of rule rest suffix may = listed (λ r. r.counter == rule.counter && may_act q every r) rule rest suffix (and_true (rule.counter == rule.counter) (may_act q every rule) (itself rule.counter) may)
+  hit_of rule rest suffix may = listed (λ r. r.counter == rule.counter && may_act q every r) rule rest suffix (and_from (rule.counter == rule.counter) (may_act q every rule) (itself rule.counter) may)
 
   own_ref : (rule : Rule) → is_ref (rule_ref rule) rule ≡ true
-  own_ref rule = and_true (rule.id == rule.id) (rule.number == rule.number) (itself rule.id) (itself rule.number)
+  own_ref rule = and_from (rule.id == rule.id) (rule.number == rule.number) (itself rule.id) (itself rule.number)
 
   judge_of : (rule : Rule) (rest : List Rule) → IsSuffix all (rule ∷ rest) → may_act q every rule ≡ true → is_judge q every (rule_ref rule) ≡ true
   judge_of rule rest suffix may =
-      or_true _ _ (listed (λ r. is_ref (rule_ref rule) r && may_act q every r) rule rest suffix (and_true (is_ref (rule_ref rule) rule) (may_act q every rule) (own_ref rule) may))
+      or_right _ _ (listed (λ r. is_ref (rule_ref rule) r && may_act q every r) rule rest suffix (and_from (is_ref (rule_ref rule) rule) (may_act q every rule) (own_ref rule) may))
 
   install_of : (rule : Rule) (rest : List Rule) (state : StateOpt) (flow : Flow) → IsSuffix all (rule ∷ rest) → is_disabled q rule ≡ false → is_installed q (install_by q rule state flow) ≡ true
   install_of rule rest state flow suffix enabled =
       let on : not (is_disabled q rule) ≡ true = ap not enabled in
-      listed (λ r. is_ref (rule_ref rule) r && not (is_disabled q r)) rule rest suffix (and_true (is_ref (rule_ref rule) rule) (not (is_disabled q rule)) (own_ref rule) on)
+      listed (λ r. is_ref (rule_ref rule) r && not (is_disabled q r)) rule rest suffix (and_from (is_ref (rule_ref rule) rule) (not (is_disabled q rule)) (own_ref rule) on)
 
   both : {X : Type 0} (P : X → Type 0) (xs ys : List X) → AllByRecursion P xs → AllByRecursion P ys → AllByRecursion P (xs ++ ys)
   both P [] ys h k = k

@@ -10,7 +10,7 @@ use Rattle.eval_engine.specs.Question.{Question}
 use Rattle.eval_engine.specs.Trace.{Pause, Stop, EndsWith, WaitsFor, Mismatch, Trace, stop_of}
 use Rattle.eval_engine.specs.Walk.{begun, resumed}
 use Rattle.eval_engine.specs.declared.judgement.Judgement.{Judgement}
-use Rattle.eval_engine.proofs.Ending.{progress_in_two, ends_once}
+use Rattle.eval_engine.proofs.Ending.{progress_in_two, ends_once, mismatch_stays}
 use Rattle.evaluation_laws.specs.Laws.{IsAnswered, AsksAreAnswered, RepliesAreAsked, IsOpenFor, OpensBeforeItEnds, HasOneOutcome}
 
 -- with so many replies used
@@ -69,15 +69,9 @@ too_many Neither asks replies is less = refl
 pub replies_are_asked : RepliesAreAsked
 replies_are_asked q replies less = too_many (evaluate q replies).outcome (length (evaluate q replies).asks) (length replies) (asks_are_answered q replies) less
 
-stays : (q : Question) (progress : Progress) (more : List Reply) → progress.stop ≡ Mismatch → (progress_from q progress more).stop ≡ Mismatch
-unfolding progress_from
-stays q progress [] is = is
-stays q progress (reply ∷ more) is =
-    stays q (replied q progress.asks progress.hits reply progress.stop) more (ap (λ (s : Stop). (replied q progress.asks progress.hits reply s).stop) is)
-
 -- a mismatch is never whole
 unwhole : (q : Question) (progress : Progress) (more : List Reply) (judgement : Judgement) → progress.stop ≡ Mismatch → outcome_of (progress_from q progress more).stop ≡ Whole judgement → ⊥
-unwhole q progress more judgement is whole = let none : Neither ≡ Whole judgement = sym (ap (λ (s : Stop). outcome_of s) (stays q progress more is)) ∙ whole in grind arith
+unwhole q progress more judgement is whole = let none : Neither ≡ Whole judgement = sym (ap (λ (s : Stop). outcome_of s) (mismatch_stays q progress more is)) ∙ whole in grind arith
 
 unfit : (q : Question) (asks : List Op) (hits : List ℕ) (reply : Reply) (op : Op) (pause : Pause) → is_reply_to q.edition.config.rules op reply ≡ false → (replied q asks hits reply (WaitsFor op pause)).stop ≡ Mismatch
 unfit q asks hits reply op pause is = rw is refl

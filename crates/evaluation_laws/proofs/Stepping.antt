@@ -1,5 +1,5 @@
 -- Where a run goes on, by places.
-use Rattle.std.proofs.Common.{◌≡◌, ℕ, suc, ◌+◌, ◌<◌, ◌≤◌, max, Bool, true, false, cond, nat_lt, Some, None, position, length-drop, List, [], ◌∷◌, length, get_or, drop, refl, ap, sym, ◌∙◌, arith}
+use Rattle.std.proofs.Common.{◌≡◌, ℕ, ◌+◌, ◌<◌, ◌≤◌, max, Bool, true, false, cond, nat_lt, Some, None, position, length-drop, List, [], length, get_or, drop, refl, ap, sym, ◌∙◌, arith}
 use Rattle.std.specs.List.{position_or_len, list_any}
 use Rattle.std.proofs.lemmas.List.{drop-drop}
 use Rattle.fw_rule.specs.declared.rule.Rule.{Rule}
@@ -9,6 +9,7 @@ use Rattle.eval_engine.proofs.Configured.{rule_read}
 use Rattle.eval_engine.proofs.Places.{behind, first_behind_place}
 use Rattle.eval_engine.specs.Place.{IsRuleAt}
 use Rattle.eval_engine.specs.Question.{Question}
+use Rattle.eval_engine.proofs.FirstPlaces.{some_place}
 use Rattle.evaluation_laws.specs.Runs.{from}
 
 -- behind a place the first rule numbered so or higher
@@ -24,18 +25,6 @@ later_than q place rule at =
     let same : first_from ((get_or rules place rule).number + 1) rules ≡ first_from (rule.number + 1) rules = ap (λ (r : Rule). first_from (r.number + 1) rules) read in
     let less : place < first_from ((get_or rules place rule).number + 1) rules = behind 1 rules place rule at.ordered at.within in
     omega arith
-
-one_more : (a b : ℕ) → nat_lt (1 + a) (suc b) ≡ nat_lt a b
-one_more a b = grind arith
-
--- a place is found exactly where an element passes
-some_place : {X : Type 0} (p : X → Bool) (xs : List X) → nat_lt (position_or_len p xs) (length xs) ≡ list_any p xs
-some_place p [] = refl
-some_place p (x ∷ xs) = go (p x) refl (some_place p xs)
-  where
-    go : (b : Bool) → p x ≡ b → nat_lt (position_or_len p xs) (length xs) ≡ list_any p xs → nat_lt (position_or_len p (x ∷ xs)) (suc (length xs)) ≡ list_any p (x ∷ xs)
-    go true is rest = rw is (grind arith)
-    go false is rest = rw is (one_more (position_or_len p xs) (length xs) ∙ rest)
 
 by_test : (b : Bool) (n place : ℕ) → cond b (Some n) None ≡ Some place → (b ≡ true) × (n ≡ place)
 by_test true n place is = (refl, grind arith)

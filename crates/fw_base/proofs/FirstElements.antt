@@ -2,7 +2,7 @@
 use Rattle.std.proofs.Common.{◌≡◌, ℕ, zero, suc, ◌<◌, Bool, true, false, List, [], ◌∷◌, Option, None, Some, length, get_or, map, refl, ap, arith, cond, IsSomeAnd, MatchOption, nat_eq}
 use Rattle.std.specs.List.{remove}
 use Rattle.std.specs.Option.{option_map}
-use Rattle.fw_base.specs.Memory.{MemoryBytes, MemoryShelf, Named, Gives, pairs_of, take_source}
+use Rattle.fw_base.specs.Memory.{MemoryBytes, MemoryShelf, NamedSource, OpensFirst, pairs_of, take_source}
 use Rattle.fw_base.specs.Pairs.{Pair, take_first, TakesOut}
 use Rattle.std.specs.Cmp.Lexicographic.{pointwise}
 
@@ -48,19 +48,19 @@ take_first-map {X = X} {Y = Y} f test (x ∷ xs) =
     cases false = elim (take_first (λ y. test (f y)) xs) as (λ r. option_map kept-mapped (option_map mapped r) ≡ option_map mapped (option_map kept r)) [ None ↦ refl | Some r ↦ refl ]
 
 -- what a library over memory hands out, in the words of every library
-pub takes_out : (old new : MemoryShelf) (name : List ℕ) (reader : MemoryBytes) → Gives old new name reader
+pub takes_out : (old new : MemoryShelf) (name : List ℕ) (reader : MemoryBytes) → OpensFirst old new name reader
     → TakesOut (Some (pairs_of old.sources)) (Some (pairs_of new.sources)) name (Some reader.left)
 takes_out old new name reader gives =
-    rw (take_first-map (λ (source : Named). let p : Pair = (source.0, source.1.left) in p) (λ (p : Pair). pointwise nat_eq p.0 name) old.sources)
+    rw (take_first-map (λ (source : NamedSource). let p : Pair = (source.0, source.1.left) in p) (λ (p : Pair). pointwise nat_eq p.0 name) old.sources)
     (given (take_source name old.sources) gives.1)
   where
-    as_pair : Named → Pair
+    as_pair : NamedSource → Pair
     as_pair source = (source.0, source.1.left)
 
-    as_pairs : Named × List Named → Pair × List Pair
+    as_pairs : NamedSource × List NamedSource → Pair × List Pair
     as_pairs found = (as_pair found.0, map as_pair found.1)
 
-    given : (taken : Option (Named × List Named)) → IsSomeAnd taken (λ found. (reader ≡ found.0.1) × (new ≡ record old { sources = found.1 }))
+    given : (taken : Option (NamedSource × List NamedSource)) → IsSomeAnd taken (λ found. (reader ≡ found.0.1) × (new ≡ record old { sources = found.1 }))
         → MatchOption (option_map as_pairs taken) ⊥ (λ found. (◌≡◌ {A = Option (List ℕ)} (Some reader.left) (Some found.0.1)) × (◌≡◌ {A = Option (List Pair)} (Some (pairs_of new.sources)) (Some found.1)))
     given None h = absurd h
     given (Some found) h = (ap (λ (m : MemoryBytes). Some m.left) h.0, ap (λ (l : MemoryShelf). Some (pairs_of l.sources)) h.1)

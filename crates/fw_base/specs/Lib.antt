@@ -1,9 +1,12 @@
-pub mod Addr
-pub mod Buffered
+-- what comes from outside
 pub mod Faults
 pub mod Memory
 pub mod Pairs
-pub mod PortRange
+pub mod Buffered
+pub mod Texts
+-- addresses, prefixes, ports, names
+pub mod Addr
 pub mod Prefix
 pub mod Prefix6
-pub mod Texts
+pub mod PortRange
+pub mod Name

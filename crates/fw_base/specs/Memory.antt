@@ -68,44 +68,44 @@ abbrev pub after_refused : MemoryText → MemoryText
 after_refused m = record m { failures = one_more m.failures }
 
 -- a source under a name
-abbrev pub Named : Type 0
-Named = List ℕ × MemoryBytes
+abbrev pub NamedSource : Type 0
+NamedSource = List ℕ × MemoryBytes
 
 -- a library over memory: its sources, the names that it refuses, how many openings failed, and the last name that failed
 pub record MemoryShelf : Type 0 where
-  pub sources : List Named
+  pub sources : List NamedSource
   pub refusing : List (List ℕ)
   pub failures : ℕ
   pub last_refused : Option (List ℕ)
 
 -- no read of the source has failed
-abbrev pub IsFresh : Named → Type 0
+abbrev pub IsFresh : NamedSource → Type 0
 IsFresh source = source.1.failures ≡ 0
 
 -- the pairs that a library over memory tells
-abbrev pub pairs_of : List Named → List Pair
+abbrev pub pairs_of : List NamedSource → List Pair
 pairs_of = map (λ source. (source.0, source.1.left))
 
 -- the first source of that name that is still there, and the others
-abbrev pub take_source : List ℕ → List Named → Option (Named × List Named)
+abbrev pub take_source : List ℕ → List NamedSource → Option (NamedSource × List NamedSource)
 take_source name = take_first (λ source. pointwise nat_eq source.0 name)
 
 -- the name is refused
-abbrev pub is_refused : List ℕ → List (List ℕ) → Bool
-is_refused name = list_any (λ other. pointwise nat_eq other name)
+abbrev pub is_refused_name : List ℕ → List (List ℕ) → Bool
+is_refused_name name = list_any (λ other. pointwise nat_eq other name)
 
 -- the first source of the name is the one at this place
-abbrev pub IsFirstAt : List ℕ → List Named → ℕ → Type 0
-IsFirstAt name sources place = (place < length sources) × ((d : Named) → take_source name sources ≡ Some (slice_index_or sources place d, remove sources place))
+abbrev pub IsFirstAt : List ℕ → List NamedSource → ℕ → Type 0
+IsFirstAt name sources place = (place < length sources) × ((d : NamedSource) → take_source name sources ≡ Some (slice_index_or sources place d, remove sources place))
 
 -- an opening handed out the first source of the name, which isn't refused
-abbrev pub Gives : MemoryShelf → MemoryShelf → List ℕ → MemoryBytes → Type 0
-Gives old new name reader = (is_refused name old.refusing ≡ false) × IsSomeAnd (take_source name old.sources) (λ found. (reader ≡ found.0.1) × (new ≡ record old { sources = found.1 }))
+abbrev pub OpensFirst : MemoryShelf → MemoryShelf → List ℕ → MemoryBytes → Type 0
+OpensFirst old new name reader = (is_refused_name name old.refusing ≡ false) × IsSomeAnd (take_source name old.sources) (λ found. (reader ≡ found.0.1) × (new ≡ record old { sources = found.1 }))
 
 -- the name is refused, or no source of it is left
 abbrev pub IsMissing : MemoryShelf → List ℕ → Type 0
-IsMissing shelf name = (is_refused name shelf.refusing ≡ true) ⊎ (take_source name shelf.sources ≡ None)
+IsMissing shelf name = (is_refused_name name shelf.refusing ≡ true) ⊎ (take_source name shelf.sources ≡ None)
 
 -- an opening failed
-abbrev pub Refuses : MemoryShelf → MemoryShelf → List ℕ → Type 0
-Refuses old new name = IsMissing old name × (new ≡ record old { failures = one_more old.failures; last_refused = Some name })
+abbrev pub RefusesName : MemoryShelf → MemoryShelf → List ℕ → Type 0
+RefusesName old new name = IsMissing old name × (new ≡ record old { failures = one_more old.failures; last_refused = Some name })

@@ -13,7 +13,7 @@ pub use link::Link;
 pub use memory_library::MemoryLibrary;
 pub use memory_sink::MemorySink;
 pub use memory_source::MemorySource;
-pub use name::Name;
+pub use name::{Name, are_name_bytes};
 pub use numbered::Numbered;
 pub use port::{Direction, Port};
 pub use port_range::PortRange;

@@ -3,7 +3,7 @@ ghost use Rattle.std.specs.Option.{option_map};
 ghost use Rattle.std.specs.Cmp.Lexicographic.{pointwise};
 ghost use Rattle.fw_base.specs.Faults.{HasCause, one_more};
 ghost use Rattle.fw_base.specs.Pairs.{TakesOut};
-ghost use Rattle.fw_base.specs.Memory.{MemoryShelf, Named, pairs_of, take_source, is_refused, IsFirstAt, Gives, IsMissing, Refuses};
+ghost use Rattle.fw_base.specs.Memory.{MemoryShelf, NamedSource, pairs_of, take_source, is_refused_name, IsFirstAt, OpensFirst, IsMissing, RefusesName};
 
 use crate::{Failed, Library, MemorySource, Name, OutOfMemory, Source};
 use std::alloc::Global;
@@ -20,7 +20,7 @@ pub struct MemoryLibrary {
 
 impl Model for MemoryLibrary {
     ghost use Rattle.std.specs.Prelude.{◌≡◌, All};
-    ghost use Rattle.fw_base.specs.Memory.{MemoryShelf, Named, IsFresh};
+    ghost use Rattle.fw_base.specs.Memory.{MemoryShelf, NamedSource, IsFresh};
 
     ghost Value = { MemoryShelf };
 
@@ -65,7 +65,7 @@ impl MemoryLibrary {
 
     /// Takes out the first source of the name, unless the name is refused.
     fn take(&mut self, name: &Name) -> Option<MemorySource>
-        ensures given { IfSome result (Gives self.old self.new name.now) }
+        ensures given { IfSome result (OpensFirst self.old self.new name.now) }
         ensures fresh { IfSome result (λ source. source.failures ≡ 0) }
         ensures none { IfNone result (IsMissing self.old name.now × (self.new ≡ self.old)) }
     {
@@ -104,7 +104,7 @@ impl MemoryLibrary {
 
 /// Whether the name is among those that are refused.
 fn is_refusing(refusing: &[Name], name: &Name) -> bool
-    ensures { result ≡ is_refused name.now refusing.now }
+    ensures { result ≡ is_refused_name name.now refusing.now }
 {
     refusing.iter().any(|other| other == name)
 }
@@ -145,8 +145,8 @@ impl Library for MemoryLibrary {
         ensures steady { OnOk result (self.new.failures ≡ self.old.failures) }
 
         // Which it is, the first source of the name, and what is left.
-        ensures given { IfOk result (λ reader. Gives self.old self.new name reader) }
-        ensures failed { OnErr result (Refuses self.old self.new name) }
+        ensures given { IfOk result (λ reader. OpensFirst self.old self.new name reader) }
+        ensures failed { OnErr result (RefusesName self.old self.new name) }
     {
         match self.take(&name) {
             Some(source) => Ok(source),

@@ -13,26 +13,26 @@ use Rattle.fw_rule.specs.WellFormed.{IsFromTo, IsNumber, IsSet, IsValue, IsKey, 
 use Rattle.ipfw_parser.specs.Reading.{Word, Fault, ◌>>=◌, first, expected, same}
 use Rattle.ipfw_parser.specs.Numbers.{number, set_number}
 use Rattle.ipfw_parser.specs.Names.{table_name}
-use Rattle.ipfw_parser.specs.Addresses.{prefix, before, behind}
+use Rattle.ipfw_parser.specs.Addresses.{prefix, part_before, part_behind}
 use Rattle.ipfw_parser.specs.Rules.{set_behind}
-use Rattle.fw_command.specs.Ends.{number_behind}
-use Rattle.fw_command.specs.SetCommands.{set_bit, ends_sets, more_sets, sets, enable, disable_end, disable, move_rule, move_set, move_words, swap_sets, set_command}
-use Rattle.fw_command.specs.TableCommands.{has_dot, key, table_type, typed, create, value, add_entry, remove_entry, swap_with, table_command, table}
+use Rattle.fw_command.specs.Ends.{first_number}
+use Rattle.fw_command.specs.SetCommands.{set_bit, ends_sets, more_sets, sets, enable, disable_end, disable, move_rule_command, move_set_command, move_words, swap_sets_command, set_command}
+use Rattle.fw_command.specs.TableCommands.{has_dot, key, table_type, type_behind, create, value, add_entry_command, remove_entry, swap_with, table_command, table}
 use Rattle.fw_command.specs.SettingCommands.{setting, least, most, without_prefix, set_to, assignment, sysctl}
-use Rattle.fw_command.specs.Commands.{numbers, delete_set, delete, zero_counters, addresses, local, command}
+use Rattle.fw_command.specs.Commands.{numbers, delete_set_command, delete, zero_command, addresses, local, command}
 use Rattle.fw_command.proofs.OnResults.{any, on_if, finished_on, each_on}
-use Rattle.ipfw_parser.proofs.NumbersRead.{number_on, set_on}
-use Rattle.ipfw_parser.proofs.ItemsRead.{prefix_on}
-use Rattle.ipfw_parser.proofs.Following.{on_bind}
+use Rattle.ipfw_parser.proofs.Forms.Numbers.{number_on, set_on}
+use Rattle.ipfw_parser.proofs.Forms.Items.{prefix_on}
+use Rattle.ipfw_parser.proofs.Forms.Following.{on_bind}
 
 -- the first word, whatever it is
 after_first : {Y : Type 0} (end : ℕ) (words : List Word) (f : Word × List Word → Result Y Fault) (Q : Y → Type 0) → ((next : Word × List Word) → IfOk (f next) Q) → IfOk (first end words >>= f) Q
 after_first end words f Q each = on_bind (first end words) f (λ _. Unit {0}) Q (any (first end words)) (λ next u. each next)
 
 -- a number that is read of the next word is in its range
-pub number_behind_on : (least most end : ℕ) (words : List Word) → IfOk (number_behind least most end words) (λ r. IsFromTo least most r.0)
-unfolding number_behind
-number_behind_on least most end words =
+pub first_number_on : (least most end : ℕ) (words : List Word) → IfOk (first_number least most end words) (λ r. IsFromTo least most r.0)
+unfolding first_number
+first_number_on least most end words =
     after_first end words _ (λ r. IsFromTo least most r.0) (λ next.
     on_bind (number least most next.0) _ (IsFromTo least most) (λ r. IsFromTo least most r.0) (number_on least most next.0) (λ n p. p))
 
@@ -79,16 +79,16 @@ disable_on : (end : ℕ) (words : List Word) → IfOk (disable end words) IsWell
 unfolding disable
 disable_on end words = on_bind (sets true end words) _ (λ r. IsMask r.0) IsWellFormed (sets_on true end words) (λ disabled p. disable_end_on disabled.0 end disabled.1 p)
 
-move_rule_on : (end : ℕ) (words : List Word) → IfOk (move_rule end words) IsWellFormed
-unfolding move_rule
-move_rule_on end words =
-    on_bind (number_behind 1 65535 end words) _ (λ r. IsNumber r.0) IsWellFormed (number_behind_on 1 65535 end words) (λ which p.
+move_rule_command_on : (end : ℕ) (words : List Word) → IfOk (move_rule_command end words) IsWellFormed
+unfolding move_rule_command
+move_rule_command_on end words =
+    on_bind (first_number 1 65535 end words) _ (λ r. IsNumber r.0) IsWellFormed (first_number_on 1 65535 end words) (λ which p.
     after_word (codes "to") end which.1 _ IsWellFormed (λ rest.
     on_bind (set_behind end rest) _ (λ r. IsSet r.0) IsWellFormed (set_behind_on end rest) (λ target q. finished_on _ target.1 IsWellFormed (p, q))))
 
-move_set_on : (end : ℕ) (words : List Word) → IfOk (move_set end words) IsWellFormed
-unfolding move_set
-move_set_on end words =
+move_set_command_on : (end : ℕ) (words : List Word) → IfOk (move_set_command end words) IsWellFormed
+unfolding move_set_command
+move_set_command_on end words =
     on_bind (set_behind end words) _ (λ r. IsSet r.0) IsWellFormed (set_behind_on end words) (λ which p.
     after_word (codes "to") end which.1 _ IsWellFormed (λ rest.
     on_bind (set_behind end rest) _ (λ r. IsSet r.0) IsWellFormed (set_behind_on end rest) (λ target q. finished_on _ target.1 IsWellFormed (p, q))))
@@ -96,22 +96,22 @@ move_set_on end words =
 move_words_on : (end : ℕ) (words : List Word) → IfOk (move_words end words) IsWellFormed
 unfolding move_words
 move_words_on end words =
-    after_first end words _ IsWellFormed (λ next. on_if (same next.0.text (codes "rule")) _ _ IsWellFormed (move_rule_on end next.1) (move_set_on end words))
+    after_first end words _ IsWellFormed (λ next. on_if (same next.0.text (codes "rule")) _ _ IsWellFormed (move_rule_command_on end next.1) (move_set_command_on end words))
 
-swap_sets_on : (end : ℕ) (words : List Word) → IfOk (swap_sets end words) IsWellFormed
-unfolding swap_sets
-swap_sets_on end words =
+swap_sets_command_on : (end : ℕ) (words : List Word) → IfOk (swap_sets_command end words) IsWellFormed
+unfolding swap_sets_command
+swap_sets_command_on end words =
     on_bind (set_behind end words) _ (λ r. IsSet r.0) IsWellFormed (set_behind_on end words) (λ one p.
     on_bind (set_behind end one.1) _ (λ r. IsSet r.0) IsWellFormed (set_behind_on end one.1) (λ other q. finished_on _ other.1 IsWellFormed (p, q)))
 
-pub set_command_on : (end : ℕ) (words : List Word) → IfOk (set_command end words) IsWellFormed
+set_command_on : (end : ℕ) (words : List Word) → IfOk (set_command end words) IsWellFormed
 unfolding set_command
 set_command_on end words =
     after_first end words _ IsWellFormed (λ next.
     on_if (same next.0.text (codes "disable")) _ _ IsWellFormed (disable_on end next.1)
     (on_if (same next.0.text (codes "enable")) _ _ IsWellFormed (enable_on 0 end next.1 (omega arith))
     (on_if (same next.0.text (codes "move")) _ _ IsWellFormed (move_words_on end next.1)
-    (on_if (same next.0.text (codes "swap")) _ _ IsWellFormed (swap_sets_on end next.1) tt))))
+    (on_if (same next.0.text (codes "swap")) _ _ IsWellFormed (swap_sets_command_on end next.1) tt))))
 
 key_on : (word : Word) → IfOk (key word) IsKey
 unfolding key
@@ -124,24 +124,24 @@ key_on word =
 abbrev IsMade : TableCommand × List Word → Type 0
 IsMade made = IsTableCommand made.0
 
-typed_on : (end : ℕ) (words : List Word) → IfOk (typed end words) IsMade
-unfolding typed
-typed_on end words =
+type_behind_on : (end : ℕ) (words : List Word) → IfOk (type_behind end words) IsMade
+unfolding type_behind
+type_behind_on end words =
     after_first end words _ IsMade (λ next. on_bind (table_type next.0) _ (λ _. Unit {0}) IsMade (any (table_type next.0)) (λ kind u. tt))
 
 create_on : (end : ℕ) (words : List Word) → IfOk (create end words) IsMade
 unfolding create
 create_on end [] = tt
-create_on end (word ∷ words) = on_if (same word.text (codes "type")) _ _ IsMade (typed_on end words) tt
+create_on end (word ∷ words) = on_if (same word.text (codes "type")) _ _ IsMade (type_behind_on end words) tt
 
 value_on : (words : List Word) → IfOk (value words) (λ r. IsValue r.0)
 unfolding value
 value_on [] = omega arith
 value_on (word ∷ words) = on_bind (number 0 4294967295 word) _ (IsFromTo 0 4294967295) (λ r. IsValue r.0) (number_on 0 4294967295 word) (λ n p. p.most_ge)
 
-add_entry_on : (end : ℕ) (words : List Word) → IfOk (add_entry end words) IsMade
-unfolding add_entry
-add_entry_on end words =
+add_entry_command_on : (end : ℕ) (words : List Word) → IfOk (add_entry_command end words) IsMade
+unfolding add_entry_command
+add_entry_command_on end words =
     after_first end words _ IsMade (λ next.
     on_bind (key next.0) _ IsKey IsMade (key_on next.0) (λ at p.
     on_bind (value next.1) _ (λ r. IsValue r.0) IsMade (value_on next.1) (λ found q. (p, q))))
@@ -163,11 +163,11 @@ table_command_on end words =
     (on_if (same next.0.text (codes "destroy")) _ _ IsMade tt
     (on_if (same next.0.text (codes "flush")) _ _ IsMade tt
     (on_if (same next.0.text (codes "list")) _ _ IsMade tt
-    (on_if (same next.0.text (codes "add")) _ _ IsMade (add_entry_on end next.1)
+    (on_if (same next.0.text (codes "add")) _ _ IsMade (add_entry_command_on end next.1)
     (on_if (same next.0.text (codes "delete")) _ _ IsMade (remove_entry_on end next.1)
     (on_if (same next.0.text (codes "swap")) _ _ IsMade (swap_with_on end next.1) tt)))))))
 
-pub table_on : (end : ℕ) (words : List Word) → IfOk (table end words) IsWellFormed
+table_on : (end : ℕ) (words : List Word) → IfOk (table end words) IsWellFormed
 unfolding table
 table_on end words =
     after_first end words _ IsWellFormed (λ named.
@@ -194,29 +194,29 @@ set_to_on column (Some which) None = tt
 set_to_on column (Some which) (Some text) =
     on_bind (number (least which) (most which) (record { column = column; text = text })) _ (IsFromTo (least which) (most which)) IsAssigned (number_on (least which) (most which) (record { column = column; text = text })) (λ n p. in_range which n p)
 
-pub sysctl_on : (end : ℕ) (words : List Word) → IfOk (sysctl end words) IsWellFormed
+sysctl_on : (end : ℕ) (words : List Word) → IfOk (sysctl end words) IsWellFormed
 unfolding sysctl assignment
 sysctl_on end words =
     after_first end words _ IsWellFormed (λ next.
-    on_bind (assignment next.0) _ IsAssigned IsWellFormed (set_to_on next.0.column (setting (before 61 (without_prefix next.0.text))) (behind 61 (without_prefix next.0.text))) (λ found p. finished_on _ next.1 IsWellFormed p))
+    on_bind (assignment next.0) _ IsAssigned IsWellFormed (set_to_on next.0.column (setting (part_before 61 (without_prefix next.0.text))) (part_behind 61 (without_prefix next.0.text))) (λ found p. finished_on _ next.1 IsWellFormed p))
 
 numbers_on : (words : List Word) → IfOk (numbers words) (AllByRecursion IsNumber)
 unfolding numbers
 numbers_on words = each_on (number 1 65535) IsNumber (λ word. number_on 1 65535 word) words
 
-delete_set_on : (end : ℕ) (words : List Word) → IfOk (delete_set end words) IsWellFormed
-unfolding delete_set
-delete_set_on end words = on_bind (set_behind end words) _ (λ r. IsSet r.0) IsWellFormed (set_behind_on end words) (λ which p. finished_on _ which.1 IsWellFormed p)
+delete_set_command_on : (end : ℕ) (words : List Word) → IfOk (delete_set_command end words) IsWellFormed
+unfolding delete_set_command
+delete_set_command_on end words = on_bind (set_behind end words) _ (λ r. IsSet r.0) IsWellFormed (set_behind_on end words) (λ which p. finished_on _ which.1 IsWellFormed p)
 
 delete_on : (end : ℕ) (words : List Word) → IfOk (delete end words) IsWellFormed
 unfolding delete
 delete_on end words =
     after_first end words _ IsWellFormed (λ next.
-    on_if (same next.0.text (codes "set")) _ _ IsWellFormed (delete_set_on end next.1)
+    on_if (same next.0.text (codes "set")) _ _ IsWellFormed (delete_set_command_on end next.1)
     (on_bind (numbers words) _ (AllByRecursion IsNumber) IsWellFormed (numbers_on words) (λ found p. p)))
 
-zero_on : (words : List Word) → IfOk (zero_counters words) IsWellFormed
-unfolding zero_counters
+zero_on : (words : List Word) → IfOk (zero_command words) IsWellFormed
+unfolding zero_command
 zero_on words = on_bind (numbers words) _ (AllByRecursion IsNumber) IsWellFormed (numbers_on words) (λ found p. p)
 
 local_on : (end : ℕ) (words : List Word) → IfOk (local end words) IsWellFormed

@@ -1,11 +1,15 @@
+-- lines, words and results
 pub mod LineEnds
+pub mod Pieces
 pub mod WordLists
+pub mod OnResults
+-- what the loops of the code keep from step to step
 pub mod SetSteps
 pub mod ScriptSteps
-pub mod OnResults
+-- each number is in its range
 pub mod InRange
 pub mod ScriptInRange
-pub mod Pieces
+-- commands and faults stand on their lines
 pub mod Standing
 pub mod CommandPlaces
 pub mod AddLines

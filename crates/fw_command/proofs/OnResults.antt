@@ -3,7 +3,7 @@ use Rattle.std.proofs.Common.{Bool, true, false, if◌then◌else◌, List, [], 
 use Rattle.std.specs.Prelude.{IfOk}
 use Rattle.std.specs.List.{AllByRecursion}
 use Rattle.ipfw_parser.specs.Reading.{Word, Fault}
-use Rattle.ipfw_parser.proofs.Following.{on_bind}
+use Rattle.ipfw_parser.proofs.Forms.Following.{on_bind}
 use Rattle.fw_command.specs.Ends.{each_word, finished}
 
 -- a claim that says nothing holds of whatever is read

@@ -1,29 +1,29 @@
 -- A script is its lines: what it has stands on them, and it has what they say.
 use Rattle.std.proofs.Common.{◌≡◌, ℕ, zero, suc, ◌+◌, ◌<◌, Bool, true, false, ◌&&◌, nat_le, nat_lt, Option, Some, None, List, [], ◌∷◌, Result, Ok, Err, length, map, codes, refl, sym, ap, ◌∙◌, subst, arith}
 use Rattle.std.specs.Prelude.{IfOk, IfSome, is_some, slice_get}
-use Rattle.std.specs.List.{AllByRecursion}
 use Rattle.std.proofs.lemmas.Bool.{lt-ltb, le-ltb}
-use Rattle.fw_lex.specs.Words.{before_comment, first_bad, words_of}
-use Rattle.ipfw_parser.specs.Reading.{Word, Fault, same, word_of}
+use Rattle.fw_base.proofs.Lists.{all_weaker}
+use Rattle.fw_lex.specs.Words.{before_comment, first_bad, tokens_of}
+use Rattle.ipfw_parser.specs.Reading.{Word, Fault, same, word_at}
 use Rattle.ipfw_parser.specs.Rules.{rule_in, end_column}
-use Rattle.fw_command.specs.Ends.{number_behind}
+use Rattle.fw_command.specs.Ends.{first_number}
 use Rattle.fw_command.specs.Commands.{command}
 use Rattle.fw_command.specs.Lines.{lines_of}
-use Rattle.fw_command.specs.Statements.{live_line, after_count, after_line, statement, addition, words_say, says_unless, says}
+use Rattle.fw_command.specs.Statements.{live_statement, after_count, after_statement, statement, addition, words_say, says_unless, says}
 use Rattle.fw_command.specs.Scripts as scripts
-use Rattle.fw_command.specs.Scripts.{on_line, allowed, line_at, next_place, ordered, joined, script_from, script_of, first_place}
+use Rattle.fw_command.specs.Scripts.{with_line_number, allowed_statement, statement_at, next_place, with_command, with_statement, script_from, script_of, first_place}
 use Rattle.fw_command.specs.Laws.{Says, Stands, StepStands, LiveStands, AreOnTheirLines, is_behind, HasOrder, IsHeld, Holds, IsOfItsLines, CommandsStandOnTheirLines}
-use Rattle.fw_command.specs.declared.pace.Pace.{Pace}
-use Rattle.fw_command.specs.declared.pace.Pace.TheVariants.{Serial, Live as LivePace}
-use Rattle.fw_command.specs.declared.place.Place.{Place}
-use Rattle.fw_command.specs.declared.line.Line.{Line}
-use Rattle.fw_command.specs.declared.step.Step.{Step}
-use Rattle.fw_command.specs.declared.step.Step.TheVariants.{Run, After as Wait}
+use Rattle.fw_command.specs.declared.script.Pace.{Pace}
+use Rattle.fw_command.specs.declared.script.Pace.TheVariants.{Serial, Live as LivePace}
+use Rattle.fw_command.specs.declared.statement.Place.{Place}
+use Rattle.fw_command.specs.declared.script.Line.{Line}
+use Rattle.fw_command.specs.declared.script.Step.{Step}
+use Rattle.fw_command.specs.declared.script.Step.TheVariants.{Run, After as Wait}
 use Rattle.fw_command.specs.declared.statement.Statement.{Statement}
 use Rattle.fw_command.specs.declared.statement.Statement.TheVariants.{Nothing, Order, Live, After}
 use Rattle.fw_command.specs.declared.script.Script.{Script}
 use Rattle.fw_command.specs.declared.script_fault.ScriptFault.{ScriptFault}
-use Rattle.ipfw_parser.proofs.Following.{on_bind}
+use Rattle.ipfw_parser.proofs.Forms.Following.{on_bind}
 use Rattle.fw_command.proofs.OnResults.{any, on_if, finished_on}
 use Rattle.fw_command.proofs.ScriptSteps.{next_line}
 use Rattle.fw_command.proofs.ScriptInRange.{on_then}
@@ -35,16 +35,16 @@ IsPlaced live (Order found) = Unit {0}
 IsPlaced live Live = live ≡ false
 IsPlaced live (After column count) = live ≡ true
 
-live_placed : (live : Bool) (word : Word) (words : List Word) → IfOk (live_line live word words) (IsPlaced live)
-unfolding live_line
+live_placed : (live : Bool) (word : Word) (words : List Word) → IfOk (live_statement live word words) (IsPlaced live)
+unfolding live_statement
 live_placed true word words = tt
 live_placed false word words = finished_on Live words (IsPlaced false) refl
 
-after_placed : (live : Bool) (end : ℕ) (word : Word) (words : List Word) → IfOk (after_line live end word words) (IsPlaced live)
-unfolding after_line after_count
+after_placed : (live : Bool) (end : ℕ) (word : Word) (words : List Word) → IfOk (after_statement live end word words) (IsPlaced live)
+unfolding after_statement after_count
 after_placed false end word words = tt
 after_placed true end word words =
-    on_bind (number_behind 0 33554432 end words) _ (λ _. Unit {0}) (IsPlaced true) (any (number_behind 0 33554432 end words)) (λ count u. finished_on _ count.1 (IsPlaced true) refl)
+    on_bind (first_number 0 33554432 end words) _ (λ _. Unit {0}) (IsPlaced true) (any (first_number 0 33554432 end words)) (λ count u. finished_on _ count.1 (IsPlaced true) refl)
 
 statement_placed : (live : Bool) (end : ℕ) (word : Word) (words : List Word) → IfOk (statement live end word words) (IsPlaced live)
 unfolding statement
@@ -55,17 +55,17 @@ statement_placed live end word words =
 
 addition_placed : (live : Bool) (line : List ℕ) → IfOk (addition line) (IsPlaced live)
 unfolding addition
-addition_placed live line = on_bind (rule_in line (words_of line) 1) _ (λ _. Unit {0}) (IsPlaced live) (any (rule_in line (words_of line) 1)) (λ draft u. tt)
+addition_placed live line = on_bind (rule_in line (tokens_of line) 1) _ (λ _. Unit {0}) (IsPlaced live) (any (rule_in line (tokens_of line) 1)) (λ draft u. tt)
 
 words_placed : (live : Bool) (line : List ℕ) (words : List Word) → IfOk (words_say live line words) (IsPlaced live)
 unfolding words_say
 words_placed live line [] = tt
 words_placed live line (word ∷ words) =
-    on_if (same word.text (codes "add")) _ _ (IsPlaced live) (addition_placed live line) (statement_placed live (end_column (length (before_comment line)) (words_of line)) word words)
+    on_if (same word.text (codes "add")) _ _ (IsPlaced live) (addition_placed live line) (statement_placed live (end_column (length (before_comment line)) (tokens_of line)) word words)
 
 unless_placed : (live : Bool) (line : List ℕ) (bad : Option ℕ) → IfOk (says_unless live line bad) (IsPlaced live)
 unless_placed live line (Some at) = tt
-unless_placed live line None = words_placed live line (map (word_of line) (words_of line))
+unless_placed live line None = words_placed live line (map (word_at line) (tokens_of line))
 
 says_placed : (live : Bool) (line : List ℕ) → IfOk (says live line) (IsPlaced live)
 unfolding says
@@ -74,10 +74,6 @@ says_placed live line = unless_placed live line (first_bad (before_comment line)
 of_said : (live : Bool) (r : Result Statement Fault) (s : Statement) → IfOk r (IsPlaced live) → r ≡ Ok s → IsPlaced live s
 of_said live (Ok t) s placed e = let is : t ≡ s = cc in subst (IsPlaced live) is placed
 of_said live (Err f) s placed e = cc
-
-each_weaker : {X : Type 0} (P Q : X → Type 0) → ((x : X) → P x → Q x) → (xs : List X) → AllByRecursion P xs → AllByRecursion Q xs
-each_weaker P Q on [] all = tt
-each_weaker P Q on (x ∷ xs) all = (on x all.0, each_weaker P Q on xs all.1)
 
 -- one line more in front
 says_behind : (live : Bool) (from next : ℕ) (first : List ℕ) (lines : List (List ℕ)) (number : ℕ) (s : Statement) → next ≡ from + 1 → Says live next lines number s → Says live from (first ∷ lines) number s
@@ -91,47 +87,47 @@ step_behind from next first lines (Wait count) is told =
 
 all_behind : (from next : ℕ) (first : List ℕ) (lines : List (List ℕ)) (script : Script) → next ≡ from + 1 → AreOnTheirLines next lines script → AreOnTheirLines from (first ∷ lines) script
 all_behind from next first lines script is all = record {
-  before = each_weaker (Stands false next lines) (Stands false from (first ∷ lines)) (λ line told. says_behind false from next first lines line.line (Order line.command) is told) script.before all.before;
-  live = each_weaker (StepStands next lines) (StepStands from (first ∷ lines)) (λ step told. step_behind from next first lines step is told) script.live all.live;
+  before = all_weaker (Stands false next lines) (Stands false from (first ∷ lines)) (λ line told. says_behind false from next first lines line.line (Order line.command) is told) script.before all.before;
+  live = all_weaker (StepStands next lines) (StepStands from (first ∷ lines)) (λ step told. step_behind from next first lines step is told) script.live all.live;
 }
 
-allowed_same : (pace : Pace) (place : Place) (s : Statement) → IfOk (allowed pace place s) (λ t. s ≡ t)
-allowed_same Serial place Nothing = refl
-allowed_same Serial place (Order found) = on_if (is_some place.live && nat_le 4096 place.ran) _ _ (λ t. Order found ≡ t) tt refl
-allowed_same Serial place Live = refl
-allowed_same Serial place (After column count) = refl
-allowed_same LivePace place Nothing = refl
-allowed_same LivePace place (Order found) = on_if (is_some place.live && nat_le 4096 place.ran) _ _ (λ t. Order found ≡ t) tt refl
-allowed_same LivePace place Live = refl
-allowed_same LivePace place (After column count) = tt
+allowed_statement_same : (pace : Pace) (place : Place) (s : Statement) → IfOk (allowed_statement pace place s) (λ t. s ≡ t)
+allowed_statement_same Serial place Nothing = refl
+allowed_statement_same Serial place (Order found) = on_if (is_some place.live && nat_le 4096 place.ran) _ _ (λ t. Order found ≡ t) tt refl
+allowed_statement_same Serial place Live = refl
+allowed_statement_same Serial place (After column count) = refl
+allowed_statement_same LivePace place Nothing = refl
+allowed_statement_same LivePace place (Order found) = on_if (is_some place.live && nat_le 4096 place.ran) _ _ (λ t. Order found ≡ t) tt refl
+allowed_statement_same LivePace place Live = refl
+allowed_statement_same LivePace place (After column count) = tt
 
 ok_same : {E : Type 0} (r : Result Statement E) (s : Statement) → IfOk r (λ t. s ≡ t) → IfOk r (λ t. let a : Result Statement Fault = Ok s in let b : Result Statement Fault = Ok t in a ≡ b)
 ok_same (Ok t) s same_one = ap Ok same_one
 ok_same (Err e) s same_one = tt
 
-placed_says : (pace : Pace) (place : Place) (said : Result Statement Fault) → IfOk (scripts.◌>>=◌ (on_line place.line said) (allowed pace place)) (λ s. said ≡ Ok s)
-placed_says pace place (Ok s) = ok_same (allowed pace place s) s (allowed_same pace place s)
+placed_says : (pace : Pace) (place : Place) (said : Result Statement Fault) → IfOk (scripts.◌>>=◌ (with_line_number place.line said) (allowed_statement pace place)) (λ s. said ≡ Ok s)
+placed_says pace place (Ok s) = ok_same (allowed_statement pace place s) s (allowed_statement_same pace place s)
 placed_says pace place (Err fault) = tt
 
-line_at_says : (pace : Pace) (place : Place) (line : List ℕ) → IfOk (line_at pace place line) (λ s. says (is_some place.live) line ≡ Ok s)
-unfolding line_at
-line_at_says pace place line = placed_says pace place (says (is_some place.live) line)
+statement_at_says : (pace : Pace) (place : Place) (line : List ℕ) → IfOk (statement_at pace place line) (λ s. says (is_some place.live) line ≡ Ok s)
+unfolding statement_at
+statement_at_says pace place line = placed_says pace place (says (is_some place.live) line)
 
 -- what the line in front says
 first_says : (live : Bool) (from : ℕ) (text : List ℕ) (lines : List (List ℕ)) (s : Statement) → says live text ≡ Ok s → Says live from (text ∷ lines) from s
 first_says live from text lines s said = record { place = 0; text = text; number_is = omega arith; there = refl; statement_is = said }
 
-ordered_stands : (live : Bool) (from : ℕ) (lines : List (List ℕ)) (line : Line) (script : Script) → Stands live from lines line → AreOnTheirLines from lines script → AreOnTheirLines from lines (ordered live line script)
-ordered_stands false from lines line script told all = record { before = (told, all.before); live = all.live }
-ordered_stands true from lines line script told all = record { before = all.before; live = (told, all.live) }
+with_command_stands : (live : Bool) (from : ℕ) (lines : List (List ℕ)) (line : Line) (script : Script) → Stands live from lines line → AreOnTheirLines from lines script → AreOnTheirLines from lines (with_command live line script)
+with_command_stands false from lines line script told all = record { before = (told, all.before); live = all.live }
+with_command_stands true from lines line script told all = record { before = all.before; live = (told, all.live) }
 
-joined_stands : (place : Place) (s : Statement) (text : List ℕ) (lines : List (List ℕ)) (script : Script) → says (is_some place.live) text ≡ Ok s → IsPlaced (is_some place.live) s → AreOnTheirLines place.line (text ∷ lines) script
-    → AreOnTheirLines place.line (text ∷ lines) (joined place s script)
-joined_stands place Nothing text lines script said placed all = all
-joined_stands place (Order found) text lines script said placed all =
-    ordered_stands (is_some place.live) place.line (text ∷ lines) (record { line = place.line; command = found }) script (first_says (is_some place.live) place.line text lines (Order found) said) all
-joined_stands place Live text lines script said placed all = all
-joined_stands place (After column count) text lines script said placed all = record {
+with_statement_stands : (place : Place) (s : Statement) (text : List ℕ) (lines : List (List ℕ)) (script : Script) → says (is_some place.live) text ≡ Ok s → IsPlaced (is_some place.live) s → AreOnTheirLines place.line (text ∷ lines) script
+    → AreOnTheirLines place.line (text ∷ lines) (with_statement place s script)
+with_statement_stands place Nothing text lines script said placed all = all
+with_statement_stands place (Order found) text lines script said placed all =
+    with_command_stands (is_some place.live) place.line (text ∷ lines) (record { line = place.line; command = found }) script (first_says (is_some place.live) place.line text lines (Order found) said) all
+with_statement_stands place Live text lines script said placed all = all
+with_statement_stands place (After column count) text lines script said placed all = record {
   before = all.before;
   live = (record { number = place.line; column = column; line = first_says true place.line text lines (After column count) (ap (λ live. says live text) (sym placed) ∙ said) }, all.live);
 }
@@ -176,15 +172,15 @@ record Extends (old new : Script) : Type 0 where
 same_script : (script : Script) → Extends script script
 same_script script = record { live_at = refl; before = λ line k e. (k, e); live = λ step k e. (k, e) }
 
-ordered_extends : (live : Bool) (line : Line) (script : Script) → Extends script (ordered live line script)
-ordered_extends false line script = record { live_at = refl; before = λ other k e. (suc k, e); live = λ step k e. (k, e) }
-ordered_extends true line script = record { live_at = refl; before = λ other k e. (k, e); live = λ step k e. (suc k, e) }
+with_command_extends : (live : Bool) (line : Line) (script : Script) → Extends script (with_command live line script)
+with_command_extends false line script = record { live_at = refl; before = λ other k e. (suc k, e); live = λ step k e. (k, e) }
+with_command_extends true line script = record { live_at = refl; before = λ other k e. (k, e); live = λ step k e. (suc k, e) }
 
-joined_extends : (place : Place) (s : Statement) (script : Script) → Extends script (joined place s script)
-joined_extends place Nothing script = same_script script
-joined_extends place (Order found) script = ordered_extends (is_some place.live) (record { line = place.line; command = found }) script
-joined_extends place Live script = same_script script
-joined_extends place (After column count) script = record { live_at = refl; before = λ line k e. (k, e); live = λ step k e. (suc k, e) }
+with_statement_extends : (place : Place) (s : Statement) (script : Script) → Extends script (with_statement place s script)
+with_statement_extends place Nothing script = same_script script
+with_statement_extends place (Order found) script = with_command_extends (is_some place.live) (record { line = place.line; command = found }) script
+with_statement_extends place Live script = same_script script
+with_statement_extends place (After column count) script = record { live_at = refl; before = λ line k e. (k, e); live = λ step k e. (suc k, e) }
 
 order_more : (live : Bool) (old new : Script) (line : Line) → Extends old new → HasOrder live old line → HasOrder live new line
 order_more false old new line more has = more.before line has.0 has.1
@@ -205,15 +201,15 @@ holds_more old new number text more told = record {
 }
 
 -- what the line in front says is in the script
-order_here : (live : Bool) (line : Line) (script : Script) → HasOrder live (ordered live line script) line
+order_here : (live : Bool) (line : Line) (script : Script) → HasOrder live (with_command live line script) line
 order_here false line script = (0, refl)
 order_here true line script = (0, refl)
 
-held_here : (place : Place) (s : Statement) (script : Script) → is_behind script.live_at place.line ≡ is_some place.live → (s ≡ Live → script.live_at ≡ Some place.line) → IsHeld (joined place s script) place.line s
+held_here : (place : Place) (s : Statement) (script : Script) → is_behind script.live_at place.line ≡ is_some place.live → (s ≡ Live → script.live_at ≡ Some place.line) → IsHeld (with_statement place s script) place.line s
 held_here place Nothing script behind live = tt
 held_here place (Order found) script behind live =
     let line : Line = record { line = place.line; command = found } in
-    subst (λ b. HasOrder b (joined place (Order found) script) line) (sym (ap (λ at. is_behind at place.line) (joined_extends place (Order found) script).live_at ∙ behind)) (order_here (is_some place.live) line script)
+    subst (λ b. HasOrder b (with_statement place (Order found) script) line) (sym (ap (λ at. is_behind at place.line) (with_statement_extends place (Order found) script).live_at ∙ behind)) (order_here (is_some place.live) line script)
 held_here place Live script behind live = live refl
 held_here place (After column count) script behind live = (0, refl)
 
@@ -230,12 +226,12 @@ record IsRead (place : Place) (lines : List (List ℕ)) (script : Script) : Type
   holds : (k : ℕ) (text : List ℕ) → slice_get lines k ≡ Some text → Holds script (place.line + k) text
 
 holds_first : (place : Place) (s : Statement) (text : List ℕ) (lines : List (List ℕ)) (script : Script) → IfSome place.live (λ at. at < place.line) → says (is_some place.live) text ≡ Ok s → IsPlaced (is_some place.live) s
-    → IsRead (next_place place s) lines script → Holds (joined place s script) (place.line + 0) text
+    → IsRead (next_place place s) lines script → Holds (with_statement place s script) (place.line + 0) text
 holds_first place s text lines script less said placed read =
     let behind = behind_is place.live place.line (text ∷ lines) script.live_at less (next_live place s text lines script.live_at said placed read.live) in
-    let same_live = (joined_extends place s script).live_at in
+    let same_live = (with_statement_extends place s script).live_at in
     let number : place.line ≡ place.line + 0 = omega arith in
-    subst (λ n. Holds (joined place s script) n text) number (record {
+    subst (λ n. Holds (with_statement place s script) n text) number (record {
       statement = s;
       statement_is = ap (λ at. says (is_behind at place.line) text) same_live ∙ ap (λ b. says b text) behind ∙ said;
       held = held_here place s script behind (live_next place s lines script.live_at read.live);
@@ -245,12 +241,12 @@ some_text : {P : Type 0} (text other : List ℕ) → Some text ≡ Some other �
 some_text text other e then_so = then_so cc
 
 holds_each : (place : Place) (s : Statement) (first : List ℕ) (lines : List (List ℕ)) (script : Script) → IfSome place.live (λ at. at < place.line) → says (is_some place.live) first ≡ Ok s → IsPlaced (is_some place.live) s
-    → IsRead (next_place place s) lines script → (k : ℕ) (text : List ℕ) → slice_get (first ∷ lines) k ≡ Some text → Holds (joined place s script) (place.line + k) text
+    → IsRead (next_place place s) lines script → (k : ℕ) (text : List ℕ) → slice_get (first ∷ lines) k ≡ Some text → Holds (with_statement place s script) (place.line + k) text
 holds_each place s first lines script less said placed read zero text e =
-    some_text first text e (λ is. subst (λ t. Holds (joined place s script) (place.line + 0) t) is (holds_first place s first lines script less said placed read))
+    some_text first text e (λ is. subst (λ t. Holds (with_statement place s script) (place.line + 0) t) is (holds_first place s first lines script less said placed read))
 holds_each place s first lines script less said placed read (suc k) text e =
     let number : (next_place place s).line + k ≡ place.line + suc k = omega (arith, next_line place s) in
-    subst (λ n. Holds (joined place s script) n text) number (holds_more script (joined place s script) ((next_place place s).line + k) text (joined_extends place s script) (read.holds k text e))
+    subst (λ n. Holds (with_statement place s script) n text) number (holds_more script (with_statement place s script) ((next_place place s).line + k) text (with_statement_extends place s script) (read.holds k text e))
 
 later : (live : Option ℕ) (line : ℕ) → IfSome live (λ at. at < line) → IfSome live (λ at. at < line + 1)
 later None line less = tt
@@ -273,12 +269,12 @@ from_read : (pace : Pace) (place : Place) (lines : List (List ℕ)) → IfSome p
 unfolding script_from
 from_read pace place [] less = record { stands = record { before = tt; live = tt }; live = none_left place.live place.line; holds = λ k text e. no_line _ (place.line + k) k text e }
 from_read pace place (line ∷ lines) less =
-    on_then (line_at pace place line) _ (λ s. says (is_some place.live) line ≡ Ok s) (IsRead place (line ∷ lines)) (line_at_says pace place line) (λ s said.
+    on_then (statement_at pace place line) _ (λ s. says (is_some place.live) line ≡ Ok s) (IsRead place (line ∷ lines)) (statement_at_says pace place line) (λ s said.
     let placed = of_said (is_some place.live) (says (is_some place.live) line) s (says_placed (is_some place.live) line) said in
     on_then (script_from pace (next_place place s) lines) _ (IsRead (next_place place s) lines) (IsRead place (line ∷ lines)) (from_read pace (next_place place s) lines (next_less place s less)) (λ script read.
     record {
-      stands = joined_stands place s line lines script said placed (all_behind place.line (next_place place s).line line lines script (next_line place s) read.stands);
-      live = subst (LiveFrom place.live place.line (line ∷ lines)) (sym (joined_extends place s script).live_at) (next_live place s line lines script.live_at said placed read.live);
+      stands = with_statement_stands place s line lines script said placed (all_behind place.line (next_place place s).line line lines script (next_line place s) read.stands);
+      live = subst (LiveFrom place.live place.line (line ∷ lines)) (sym (with_statement_extends place s script).live_at) (next_live place s line lines script.live_at said placed read.live);
       holds = holds_each place s line lines script less said placed read;
     }))
 

@@ -2,14 +2,15 @@
 use Rattle.std.proofs.Common.{◌≡◌, ◌<◌, List, [], ◌∷◌, ◌++◌, Result, Ok, Err, Some, length, sym, ap, ◌∙◌, subst, arith}
 use Rattle.std.proofs.lemmas.List.{append-nil}
 use Rattle.ipfw_parser.specs.Reading.{Word, Fault, ◌>>=◌, some_words}
-use Rattle.ipfw_parser.proofs.Listing.{with_front, with_front-nil, with_front-step}
-use Rattle.ipfw_parser.proofs.Placing.{some_words_is}
+use Rattle.ipfw_parser.proofs.Steps.Lists.{with_front, with_front-nil, with_front-step}
+use Rattle.ipfw_parser.proofs.Steps.Options.{some_words_is}
 use Rattle.fw_command.specs.Ends.{each_word}
 
 -- so far these were read, and those words are left
 pub record IsRead {X : Type 0} (read : Word → Result X Fault) (all : List Word) (front : List X) (left : List Word) : Type 0 where
   pub same : with_front front (each_word read left) ≡ each_word read all
 
+-- before the first word nothing was read
 pub starts : {X : Type 0} (read : Word → Result X Fault) (all : List Word) → IsRead read all [] all
 starts read all = record { same = with_front-nil (each_word read all) }
 

@@ -18,8 +18,8 @@ unfoldable pub numbers : List Word → Result (List ℕ) Fault
 numbers words = each_word (number 1 65535) words
 
 -- behind `delete set`
-unfoldable pub delete_set : ℕ → List Word → Result Command Fault
-delete_set end words = do
+unfoldable pub delete_set_command : ℕ → List Word → Result Command Fault
+delete_set_command end words = do
   which ← set_behind end words
   finished (DeleteSet which.0) which.1
 
@@ -27,19 +27,19 @@ delete_set end words = do
 unfoldable pub delete : ℕ → List Word → Result Command Fault
 delete end words = do
   next ← first end words
-  if same next.0.text (codes "set") then delete_set end next.1 else (numbers words >>= λ found. Ok (Delete found))
+  if same next.0.text (codes "set") then delete_set_command end next.1 else (numbers words >>= λ found. Ok (Delete found))
 
 -- behind `zero`: numbers of rules
-unfoldable pub zero_counters : List Word → Result Command Fault
-zero_counters words = numbers words >>= λ found. Ok (Zero found)
+unfoldable pub zero_command : List Word → Result Command Fault
+zero_command words = numbers words >>= λ found. Ok (Zero found)
 
 -- one address of `local`: four numbers, without a prefix's length
-unfoldable pub address : Word → Result Addr Fault
-address word = address_number word >>= λ a. Ok (record { 0 = a })
+unfoldable pub local_address : Word → Result Addr Fault
+local_address word = address_number word >>= λ a. Ok (record { 0 = a })
 
 -- addresses up to the line's end
 unfoldable pub addresses : List Word → Result (List Addr) Fault
-addresses words = each_word address words
+addresses words = each_word local_address words
 
 -- behind `local`: addresses, at least one
 unfoldable pub local : ℕ → List Word → Result Command Fault
@@ -53,7 +53,7 @@ unfoldable pub command : ℕ → Word → List Word → Result Command Fault
 command end word words =
     if same word.text (codes "delete") then delete end words
     else if same word.text (codes "flush") then finished Flush words
-    else if same word.text (codes "zero") then zero_counters words
+    else if same word.text (codes "zero") then zero_command words
     else if same word.text (codes "list") then finished ListRules words
     else if same word.text (codes "set") then set_command end words
     else if same word.text (codes "table") then table end words

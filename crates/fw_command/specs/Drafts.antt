@@ -2,10 +2,10 @@
 use Rattle.std.specs.Prelude.{Bool, true, false, is_some, Result, Ok, Err, List, [], ◌∷◌, ◌++◌}
 use Rattle.fw_command.specs.declared.statement.Statement.{Statement}
 use Rattle.fw_command.specs.declared.statement.Statement.TheVariants.{Nothing, Order, Live, After}
-use Rattle.fw_command.specs.declared.place.Place.{Place}
-use Rattle.fw_command.specs.declared.line.Line.{Line}
-use Rattle.fw_command.specs.declared.step.Step.{Step}
-use Rattle.fw_command.specs.declared.step.Step.TheVariants.{Run, After as AfterPackets}
+use Rattle.fw_command.specs.declared.statement.Place.{Place}
+use Rattle.fw_command.specs.declared.script.Line.{Line}
+use Rattle.fw_command.specs.declared.script.Step.{Step}
+use Rattle.fw_command.specs.declared.script.Step.TheVariants.{Run, After as AfterPackets}
 use Rattle.fw_command.specs.declared.script.Script.{Script}
 use Rattle.fw_command.specs.declared.script_fault.ScriptFault.{ScriptFault}
 
@@ -15,22 +15,22 @@ pub record Draft : Type 0 where
   pub live : List Step
 
 -- a command behind the lines before it, among the first ones or, behind `live`, among the steps
-abbrev pub taken_order : Bool → Line → Draft → Draft
-taken_order false line draft = record { before = draft.before ++ line ∷ []; live = draft.live }
-taken_order true line draft = record { before = draft.before; live = draft.live ++ Run line ∷ [] }
+abbrev pub draft_with_order : Bool → Line → Draft → Draft
+draft_with_order false line draft = record { before = draft.before ++ line ∷ []; live = draft.live }
+draft_with_order true line draft = record { before = draft.before; live = draft.live ++ Run line ∷ [] }
 
 -- what the line at this place says, behind what was read
-abbrev pub taken : Place → Statement → Draft → Draft
-taken place Nothing draft = draft
-taken place (Order command) draft = taken_order (is_some place.live) (record { line = place.line; command = command }) draft
-taken place Live draft = draft
-taken place (After column count) draft = record { before = draft.before; live = draft.live ++ AfterPackets count ∷ [] }
+abbrev pub draft_with : Place → Statement → Draft → Draft
+draft_with place Nothing draft = draft
+draft_with place (Order command) draft = draft_with_order (is_some place.live) (record { line = place.line; command = command }) draft
+draft_with place Live draft = draft
+draft_with place (After column count) draft = record { before = draft.before; live = draft.live ++ AfterPackets count ∷ [] }
 
 -- what was read, before the script behind it
-abbrev pub appended : Draft → Script → Script
-appended draft script = record { before = draft.before ++ script.before; live_at = script.live_at; live = draft.live ++ script.live }
+abbrev pub behind_draft : Draft → Script → Script
+behind_draft draft script = record { before = draft.before ++ script.before; live_at = script.live_at; live = draft.live ++ script.live }
 
 -- the script of the lines behind, with what was read before them, or its fault
 abbrev pub with_draft : Draft → Result Script ScriptFault → Result Script ScriptFault
-with_draft draft (Ok script) = Ok (appended draft script)
+with_draft draft (Ok script) = Ok (behind_draft draft script)
 with_draft draft (Err fault) = Err fault

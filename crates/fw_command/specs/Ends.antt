@@ -1,7 +1,7 @@
 -- The end of a command, and words that the productions share.
 use Rattle.std.specs.Prelude.{ℕ, Result, Ok, List, [], ◌∷◌}
 use Rattle.ipfw_parser.specs.declared.kind.Kind.TheVariants.{ExtraWord}
-use Rattle.ipfw_parser.specs.Reading.{Word, Fault, Reading, fault_at, ◌>>=◌, first}
+use Rattle.ipfw_parser.specs.Reading.{Word, Fault, WordReading, fault_at, ◌>>=◌, first}
 use Rattle.ipfw_parser.specs.Numbers.{number}
 
 -- nothing stands behind what was read
@@ -10,8 +10,8 @@ finished x [] = Ok x
 finished x (word ∷ words) = fault_at word.column ExtraWord
 
 -- the next word is a number from least to most
-unfoldable pub number_behind : ℕ → ℕ → ℕ → List Word → Reading ℕ
-number_behind least most end words = do
+unfoldable pub first_number : ℕ → ℕ → ℕ → List Word → WordReading ℕ
+first_number least most end words = do
   next ← first end words
   n ← number least most next.0
   Ok (n, next.1)

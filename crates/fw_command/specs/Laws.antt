@@ -1,20 +1,24 @@
 -- What a script's lines and commands are, in other words.
 use Rattle.std.specs.Prelude.{◌≡◌, ℕ, ◌+◌, Bool, true, false, nat_lt, Option, Some, None, Ok, IfOk, IfErr, IfSome, ⊤, List, [], ◌∷◌, ◌==◌, length, map, slice_get}
 use Rattle.std.specs.List.{slice_split, AllByRecursion}
-use Rattle.fw_lex.specs.Words.{before_comment, first_bad, words_of}
+use Rattle.fw_rule.specs.declared.command.Command.TheVariants.{Add}
+use Rattle.fw_rule.specs.declared.rule.Rule.{Rule}
+use Rattle.fw_lex.specs.Words.{before_comment, first_bad, tokens_of}
 use Rattle.ipfw_parser.specs.declared.kind.Kind.TheVariants.{BadByte}
-use Rattle.ipfw_parser.specs.Reading.{Fault, word_of}
+use Rattle.ipfw_parser.specs.Reading.{Fault, word_at}
 use Rattle.ipfw_parser.specs.Rules.{end_column}
 use Rattle.ipfw_parser.specs.Places.{IsColumn}
+use Rattle.ipfw_parser.specs.Forms.{IsRuleForm}
+use Rattle.rule_round_trip.specs.Laws.{add_line, draft_of}
 use Rattle.fw_command.specs.Lines.{lines_of}
 use Rattle.fw_command.specs.Statements.{says}
 use Rattle.fw_command.specs.Scripts.{script_of}
-use Rattle.fw_command.specs.declared.pace.Pace.{Pace}
-use Rattle.fw_command.specs.declared.line.Line.{Line}
+use Rattle.fw_command.specs.declared.script.Pace.{Pace}
+use Rattle.fw_command.specs.declared.script.Line.{Line}
 use Rattle.fw_command.specs.declared.statement.Statement.{Statement}
 use Rattle.fw_command.specs.declared.statement.Statement.TheVariants.{Nothing, Order, Live, After}
-use Rattle.fw_command.specs.declared.step.Step.{Step}
-use Rattle.fw_command.specs.declared.step.Step.TheVariants.{Run, After as Wait}
+use Rattle.fw_command.specs.declared.script.Step.{Step}
+use Rattle.fw_command.specs.declared.script.Step.TheVariants.{Run, After as Wait}
 use Rattle.fw_command.specs.declared.script.Script.{Script}
 
 -- all pieces but a last one that is empty
@@ -96,8 +100,12 @@ CommandsStandOnTheirLines = (pace : Pace) (bytes : List ℕ) → IfOk (script_of
 -- of its words begins, or one past its last word.
 abbrev pub IsFaultColumn : List ℕ → Fault → Option ℕ → Type 0
 IsFaultColumn line fault (Some at) = (fault.kind ≡ BadByte) × (fault.column ≡ at + 1)
-IsFaultColumn line fault None = IsColumn (end_column (length (before_comment line)) (words_of line)) (map (word_of line) (words_of line)) fault.column
+IsFaultColumn line fault None = IsColumn (end_column (length (before_comment line)) (tokens_of line)) (map (word_at line) (tokens_of line)) fault.column
 
 -- each fault of a line has its column
 abbrev pub FaultsHaveTheirColumns : Type 0
 FaultsHaveTheirColumns = (live : Bool) (line : List ℕ) → IfErr (says live line) (λ fault. IsFaultColumn line fault (first_bad (before_comment line)))
+
+-- wherever the line `add` with a rule's canonical text stands in a script, it is the command that adds this rule
+abbrev pub AddLinesAreReadAgain : Type 0
+AddLinesAreReadAgain = (live : Bool) (rule : Rule) → IsRuleForm rule → says live (add_line rule) ≡ Ok (Order (Add (draft_of rule)))

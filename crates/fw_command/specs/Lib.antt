@@ -1,14 +1,18 @@
+-- the lines of a script, and their ends
 pub mod Lines
 pub mod Ends
+-- the commands by their words
 pub mod SetCommands
 pub mod TableCommands
 pub mod SettingCommands
 pub mod Commands
+-- what a line says, and the script of all lines
 pub mod Statements
 pub mod Scripts
 pub mod Drafts
 pub mod DraftViews
+-- what is promised of each script
 pub mod WellFormed
-pub mod Texts
 pub mod Laws
-pub mod AddLines
+-- what is printed of a fault
+pub mod FaultText

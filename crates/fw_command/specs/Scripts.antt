@@ -7,11 +7,11 @@ use Rattle.fw_command.specs.Lines.{lines_of}
 use Rattle.fw_command.specs.Statements.{says}
 use Rattle.fw_command.specs.declared.statement.Statement.{Statement}
 use Rattle.fw_command.specs.declared.statement.Statement.TheVariants.{Nothing, Order, Live, After}
-use Rattle.fw_command.specs.declared.pace.Pace.{Pace}
-use Rattle.fw_command.specs.declared.pace.Pace.TheVariants.{Serial, Live as LivePace}
-use Rattle.fw_command.specs.declared.place.Place.{Place}
-use Rattle.fw_command.specs.declared.line.Line.{Line}
-use Rattle.fw_command.specs.declared.step.Step.TheVariants.{Run, After as AfterPackets}
+use Rattle.fw_command.specs.declared.script.Pace.{Pace}
+use Rattle.fw_command.specs.declared.script.Pace.TheVariants.{Serial, Live as LivePace}
+use Rattle.fw_command.specs.declared.statement.Place.{Place}
+use Rattle.fw_command.specs.declared.script.Line.{Line}
+use Rattle.fw_command.specs.declared.script.Step.TheVariants.{Run, After as AfterPackets}
 use Rattle.fw_command.specs.declared.script.Script.{Script}
 use Rattle.fw_command.specs.declared.script_fault.ScriptFault.{ScriptFault}
 use Rattle.fw_command.specs.declared.script_fault.ScriptFault.TheVariants.{TooLong, TooManyLines, Parse, PaceInLive, TooManyLive, OutOfMemory}
@@ -23,21 +23,21 @@ abbrev pub ◌>>=◌ : {X Y : Type 0} → Result X ScriptFault → (X → Result
 (Err e) >>= f = Err e
 
 -- a line's fault, with the line's number
-abbrev pub on_line : ℕ → Result Statement Fault → Result Statement ScriptFault
-on_line number (Ok statement) = Ok statement
-on_line number (Err fault) = Err (Parse number fault.column fault.kind)
+abbrev pub with_line_number : ℕ → Result Statement Fault → Result Statement ScriptFault
+with_line_number number (Ok statement) = Ok statement
+with_line_number number (Err fault) = Err (Parse number fault.column fault.kind)
 
 -- behind `live` no `after` stands at pace Live, and there are at most 4,096 commands
-abbrev pub allowed : Pace → Place → Statement → Result Statement ScriptFault
-allowed LivePace place (After column count) = Err (PaceInLive place.line column)
-allowed Serial place (After column count) = Ok (After column count)
-allowed pace place (Order command) = if is_some place.live && nat_le 4096 place.ran then Err TooManyLive else Ok (Order command)
-allowed pace place Nothing = Ok Nothing
-allowed pace place Live = Ok Live
+abbrev pub allowed_statement : Pace → Place → Statement → Result Statement ScriptFault
+allowed_statement LivePace place (After column count) = Err (PaceInLive place.line column)
+allowed_statement Serial place (After column count) = Ok (After column count)
+allowed_statement pace place (Order command) = if is_some place.live && nat_le 4096 place.ran then Err TooManyLive else Ok (Order command)
+allowed_statement pace place Nothing = Ok Nothing
+allowed_statement pace place Live = Ok Live
 
 -- what a line at this place says, or its fault
-unfoldable pub line_at : Pace → Place → List ℕ → Result Statement ScriptFault
-line_at pace place line = on_line place.line (says (is_some place.live) line) >>= allowed pace place
+unfoldable pub statement_at : Pace → Place → List ℕ → Result Statement ScriptFault
+statement_at pace place line = with_line_number place.line (says (is_some place.live) line) >>= allowed_statement pace place
 
 -- the place of the line behind one that says this
 abbrev pub next_place : Place → Statement → Place
@@ -47,24 +47,24 @@ next_place place Live = record { line = place.line + 1; live = Some place.line; 
 next_place place (After column count) = record { line = place.line + 1; live = place.live; ran = place.ran }
 
 -- the command, before those of the script behind it
-abbrev pub ordered : Bool → Line → Script → Script
-ordered false line script = record { before = line ∷ script.before; live_at = script.live_at; live = script.live }
-ordered true line script = record { before = script.before; live_at = script.live_at; live = Run line ∷ script.live }
+abbrev pub with_command : Bool → Line → Script → Script
+with_command false line script = record { before = line ∷ script.before; live_at = script.live_at; live = script.live }
+with_command true line script = record { before = script.before; live_at = script.live_at; live = Run line ∷ script.live }
 
 -- what the line at this place says, before the script behind it
-abbrev pub joined : Place → Statement → Script → Script
-joined place Nothing script = script
-joined place (Order command) script = ordered (is_some place.live) (record { line = place.line; command = command }) script
-joined place Live script = script
-joined place (After column count) script = record { before = script.before; live_at = script.live_at; live = AfterPackets count ∷ script.live }
+abbrev pub with_statement : Place → Statement → Script → Script
+with_statement place Nothing script = script
+with_statement place (Order command) script = with_command (is_some place.live) (record { line = place.line; command = command }) script
+with_statement place Live script = script
+with_statement place (After column count) script = record { before = script.before; live_at = script.live_at; live = AfterPackets count ∷ script.live }
 
 -- the script of the lines from this place on
 unfoldable pub script_from : Pace → Place → List (List ℕ) → Result Script ScriptFault
 script_from pace place [] = Ok (record { before = []; live_at = place.live; live = [] })
 script_from pace place (line ∷ lines) = do
-  statement ← line_at pace place line
+  statement ← statement_at pace place line
   script ← script_from pace (next_place place statement) lines
-  Ok (joined place statement script)
+  Ok (with_statement place statement script)
 
 -- the place of a script's first line
 abbrev pub first_place : Place

@@ -3,10 +3,10 @@ use Rattle.std.specs.Prelude.{ℕ, ◌^◌, Bool, true, false, ◌&&◌, if◌th
 use Rattle.fw_rule.specs.declared.command.Command.{Command}
 use Rattle.fw_rule.specs.declared.command.Command.TheVariants.{SetMask, MoveSet, MoveRule, SwapSets}
 use Rattle.ipfw_parser.specs.declared.kind.Kind.TheVariants.{UnknownWord}
-use Rattle.ipfw_parser.specs.Reading.{Word, Fault, Reading, fault_at, ◌>>=◌, same, first, expected}
+use Rattle.ipfw_parser.specs.Reading.{Word, Fault, WordReading, fault_at, ◌>>=◌, same, first, expected}
 use Rattle.ipfw_parser.specs.Numbers.{set_number}
 use Rattle.ipfw_parser.specs.Rules.{set_behind}
-use Rattle.fw_command.specs.Ends.{finished, number_behind}
+use Rattle.fw_command.specs.Ends.{finished, first_number}
 
 -- a set as the bit of a mask
 unfoldable pub set_bit : Word → Result ℕ Fault
@@ -17,7 +17,7 @@ unfoldable pub ends_sets : Bool → List ℕ → Bool
 ends_sets to_enable text = to_enable && same text (codes "enable")
 
 -- Sets up to the line's end, or up to `enable` where it may follow, as bits beside those of the mask.
-unfoldable pub more_sets : Bool → ℕ → List Word → Reading ℕ
+unfoldable pub more_sets : Bool → ℕ → List Word → WordReading ℕ
 more_sets to_enable mask [] = Ok (mask, [])
 more_sets to_enable mask (word ∷ words) =
     if ends_sets to_enable word.text then Ok (mask, word ∷ words)
@@ -26,7 +26,7 @@ more_sets to_enable mask (word ∷ words) =
       more_sets to_enable (bit_or mask bit) words)
 
 -- the same, with one set at least
-unfoldable pub sets : Bool → ℕ → List Word → Reading ℕ
+unfoldable pub sets : Bool → ℕ → List Word → WordReading ℕ
 sets to_enable end words = do
   next ← first end words
   bit ← set_bit next.0
@@ -50,16 +50,16 @@ disable end words = do
   disable_end disabled.0 end disabled.1
 
 -- behind `move rule`: a number of rules, `to` and a set
-unfoldable pub move_rule : ℕ → List Word → Result Command Fault
-move_rule end words = do
-  which ← number_behind 1 65535 end words
+unfoldable pub move_rule_command : ℕ → List Word → Result Command Fault
+move_rule_command end words = do
+  which ← first_number 1 65535 end words
   to_end ← expected (codes "to") end which.1
   target ← set_behind end to_end
   finished (MoveRule which.0 target.0) target.1
 
 -- behind `move`: a set, `to` and a set
-unfoldable pub move_set : ℕ → List Word → Result Command Fault
-move_set end words = do
+unfoldable pub move_set_command : ℕ → List Word → Result Command Fault
+move_set_command end words = do
   which ← set_behind end words
   to_end ← expected (codes "to") end which.1
   target ← set_behind end to_end
@@ -69,11 +69,11 @@ move_set end words = do
 unfoldable pub move_words : ℕ → List Word → Result Command Fault
 move_words end words = do
   next ← first end words
-  if same next.0.text (codes "rule") then move_rule end next.1 else move_set end words
+  if same next.0.text (codes "rule") then move_rule_command end next.1 else move_set_command end words
 
 -- behind `swap`
-unfoldable pub swap_sets : ℕ → List Word → Result Command Fault
-swap_sets end words = do
+unfoldable pub swap_sets_command : ℕ → List Word → Result Command Fault
+swap_sets_command end words = do
   one ← set_behind end words
   other ← set_behind end one.1
   finished (SwapSets one.0 other.0) other.1
@@ -85,5 +85,5 @@ set_command end words = do
   (if same next.0.text (codes "disable") then disable end next.1
       else if same next.0.text (codes "enable") then enable 0 end next.1
       else if same next.0.text (codes "move") then move_words end next.1
-      else if same next.0.text (codes "swap") then swap_sets end next.1
+      else if same next.0.text (codes "swap") then swap_sets_command end next.1
       else fault_at next.0.column UnknownWord)

@@ -8,7 +8,7 @@ use Rattle.fw_rule.specs.declared.setting.Setting.TheVariants.{Ack, Syn, Fin, Rs
 use Rattle.ipfw_parser.specs.declared.kind.Kind.TheVariants.{UnknownWord}
 use Rattle.ipfw_parser.specs.Reading.{Word, Fault, fault_at, ◌>>=◌, same, first}
 use Rattle.ipfw_parser.specs.Numbers.{number}
-use Rattle.ipfw_parser.specs.Addresses.{before, behind}
+use Rattle.ipfw_parser.specs.Addresses.{part_before, part_behind}
 use Rattle.fw_command.specs.Ends.{finished}
 
 -- a setting by its name
@@ -57,7 +57,7 @@ set_to column other more = fault_at column UnknownWord
 
 -- NAME=VALUE
 unfoldable pub assignment : Word → Result (Setting × ℕ) Fault
-assignment word = set_to word.column (setting (before 61 (without_prefix word.text))) (behind 61 (without_prefix word.text))
+assignment word = set_to word.column (setting (part_before 61 (without_prefix word.text))) (part_behind 61 (without_prefix word.text))
 
 -- behind `sysctl`
 unfoldable pub sysctl : ℕ → List Word → Result Command Fault

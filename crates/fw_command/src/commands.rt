@@ -1,4 +1,4 @@
-ghost use Rattle.ipfw_parser.specs.Reading.{Gives};
+ghost use Rattle.ipfw_parser.specs.Reading.{ReadsAs};
 ghost use Rattle.ipfw_parser.specs.Views.{view, list_of};
 ghost use Rattle.fw_command.specs.Commands as spec;
 
@@ -10,9 +10,9 @@ use fw_rule::Command;
 use ipfw_parser::{Kind, ParseFault, Word, Words, set_behind};
 use std::alloc::Global;
 
-#[tactic(auto, unfolding(crate::specs::Commands::delete_set))]
-fn delete_set(end: u32, words: Words<'_>) -> Result<Command, ParseFault>
-    ensures { Gives (λ c. c) result (spec.delete_set end (list_of words.entry)) }
+#[tactic(auto, unfolding(crate::specs::Commands::delete_set_command))]
+fn delete_set_command(end: u32, words: Words<'_>) -> Result<Command, ParseFault>
+    ensures { ReadsAs (λ c. c) result (spec.delete_set_command end (list_of words.entry)) }
 {
     let (set, words) = set_behind(end, words)?;
     finished(Command::DeleteSet(set), words)
@@ -20,26 +20,26 @@ fn delete_set(end: u32, words: Words<'_>) -> Result<Command, ParseFault>
 
 #[tactic(auto, unfolding(crate::specs::Commands::delete))]
 fn delete(alloc: Global, end: u32, words: Words<'_>) -> Result<Command, ParseFault>
-    ensures { Gives (λ c. c) result (spec.delete end (list_of words.entry)) }
+    ensures { ReadsAs (λ c. c) result (spec.delete end (list_of words.entry)) }
 {
     let (next, rest) = words.first(end)?;
     if next.is(b"set") {
-        delete_set(end, rest)
+        delete_set_command(end, rest)
     } else {
         Ok(Command::Delete(numbers(alloc, words)?))
     }
 }
 
-#[tactic(auto, unfolding(crate::specs::Commands::zero_counters))]
-fn zero_counters(alloc: Global, words: Words<'_>) -> Result<Command, ParseFault>
-    ensures { Gives (λ c. c) result (spec.zero_counters (list_of words.entry)) }
+#[tactic(auto, unfolding(crate::specs::Commands::zero_command))]
+fn zero_command(alloc: Global, words: Words<'_>) -> Result<Command, ParseFault>
+    ensures { ReadsAs (λ c. c) result (spec.zero_command (list_of words.entry)) }
 {
     Ok(Command::Zero(numbers(alloc, words)?))
 }
 
 #[tactic(auto, unfolding(crate::specs::Commands::local))]
 fn local(alloc: Global, end: u32, words: Words<'_>) -> Result<Command, ParseFault>
-    ensures { Gives (λ c. c) result (spec.local end (list_of words.entry)) }
+    ensures { ReadsAs (λ c. c) result (spec.local end (list_of words.entry)) }
 {
     let (_first, _rest) = words.first(end)?;
     Ok(Command::Local(addresses(alloc, words)?))
@@ -53,14 +53,14 @@ pub(crate) fn command<'a>(
     word: Word<'a>,
     words: Words<'a>,
 ) -> Result<Command, ParseFault>
-    ensures { Gives (λ c. c) result (spec.command end (view word.entry) (list_of words.entry)) }
+    ensures { ReadsAs (λ c. c) result (spec.command end (view word.entry) (list_of words.entry)) }
 {
     if word.is(b"delete") {
         delete(alloc, end, words)
     } else if word.is(b"flush") {
         finished(Command::Flush, words)
     } else if word.is(b"zero") {
-        zero_counters(alloc, words)
+        zero_command(alloc, words)
     } else if word.is(b"list") {
         finished(Command::ListRules, words)
     } else if word.is(b"set") {

@@ -1,13 +1,13 @@
 ghost use Rattle.std.specs.Prelude.{◌≡◌};
 ghost use Rattle.fw_base.specs.Texts.{WritesText};
-ghost use Rattle.fw_command.specs.Texts as spec;
+ghost use Rattle.fw_command.specs.FaultText as spec;
 
 use crate::ScriptFault;
 use fw_base::{Failed, Sink, write_pieces, write_text};
 use ipfw_parser::Kind;
 use itoa::Buffer;
 
-#[tactic(auto, unfolding(crate::specs::Texts::kind_text))]
+#[tactic(auto, unfolding(crate::specs::FaultText::kind_text))]
 fn kind_text(kind: Kind) -> &'static [u8]
     ensures { result.now ≡ spec.kind_text kind }
 {
@@ -29,7 +29,7 @@ fn kind_text(kind: Kind) -> &'static [u8]
     }
 }
 
-#[tactic(auto, unfolding(crate::specs::Texts::placed_text))]
+#[tactic(auto, unfolding(crate::specs::FaultText::placed_text))]
 fn write_placed<K: Sink>(out: &mut K, line: u32, column: u32, kind: &[u8]) -> Result<(), Failed>
     ensures { WritesText (K.written out.old) (K.written out.new) (K.faults out.old)
         (K.faults out.new) (spec.placed_text line column kind.now) result }
@@ -54,10 +54,10 @@ fn write_placed<K: Sink>(out: &mut K, line: u32, column: u32, kind: &[u8]) -> Re
 
 impl ScriptFault {
     ghost use Rattle.fw_base.specs.Texts.{WritesText};
-    ghost use Rattle.fw_command.specs.Texts as spec;
+    ghost use Rattle.fw_command.specs.FaultText as spec;
 
     /// Writes the one line that the program prints of the fault; nothing where memory ran out.
-    #[tactic(auto, unfolding(crate::specs::Texts::fault_text))]
+    #[tactic(auto, unfolding(crate::specs::FaultText::fault_text))]
     pub fn write<K: Sink>(&self, out: &mut K) -> Result<(), Failed>
         ensures { WritesText (K.written out.old) (K.written out.new) (K.faults out.old)
             (K.faults out.new) (spec.fault_text self.now) result }

@@ -1,4 +1,4 @@
-ghost use Rattle.fw_command.specs.Laws.{CommandsStandOnTheirLines, FaultsHaveTheirColumns, LinesArePieces};
+ghost use Rattle.fw_command.specs.Laws.{AddLinesAreReadAgain, CommandsStandOnTheirLines, FaultsHaveTheirColumns, LinesArePieces};
 
 /// The lines of a script are the pieces between its bytes 10, the last one only where it isn't empty.
 pub fn lines_are_pieces()
@@ -15,4 +15,10 @@ pub fn commands_stand_on_their_lines()
 /// or one past its last word.
 pub fn faults_have_their_columns()
     ensures { FaultsHaveTheirColumns }
+{}
+
+/// The line `add` with the canonical text of a rule that the grammar yields, wherever it stands in a
+/// script, is the command that adds this rule.
+pub fn add_lines_are_read_again()
+    ensures { AddLinesAreReadAgain }
 {}

@@ -1,5 +1,4 @@
-use crate::place::Place;
-use crate::statement::Statement;
+use crate::statement::{Place, Statement};
 use crate::{Line, Script, ScriptFault, Step};
 use fw_rule::Items;
 use std::alloc::Global;
@@ -13,7 +12,7 @@ pub(crate) struct ScriptDraft {
 
 impl ScriptDraft {
     ghost use Rattle.std.specs.Prelude.{◌≡◌, [], OnOk, IfErr};
-    ghost use Rattle.fw_command.specs.Drafts.{taken, taken_order, appended};
+    ghost use Rattle.fw_command.specs.Drafts.{draft_with, draft_with_order, behind_draft};
     ghost use Rattle.fw_command.specs.DraftViews.{draft_view};
 
     /// Those of no lines.
@@ -28,7 +27,7 @@ impl ScriptDraft {
 
     fn order(&mut self, live: bool, line: Line) -> Result<(), ScriptFault>
         ensures taken { OnOk result (draft_view self.new
-            ≡ taken_order live line (draft_view self.old)) }
+            ≡ draft_with_order live line (draft_view self.old)) }
         ensures memory { IfErr result (λ e. e ≡ ScriptFault.OutOfMemory) }
     {
         if live {
@@ -42,7 +41,7 @@ impl ScriptDraft {
     /// Takes what the line at this place says.
     pub(crate) fn take(&mut self, place: Place, statement: Statement) -> Result<(), ScriptFault>
         ensures taken { OnOk result (draft_view self.new
-            ≡ taken place statement (draft_view self.old)) }
+            ≡ draft_with place statement (draft_view self.old)) }
         ensures memory { IfErr result (λ e. e ≡ ScriptFault.OutOfMemory) }
     {
         match statement {

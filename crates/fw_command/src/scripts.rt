@@ -5,9 +5,8 @@ ghost use Rattle.fw_command.specs.Lines.{lines_of};
 ghost use Rattle.fw_command.specs.WellFormed.{IsScript};
 
 use crate::lines::{count_lines, first_line};
-use crate::place::Place;
 use crate::script_draft::ScriptDraft;
-use crate::statement::Statement;
+use crate::statement::{Place, Statement};
 use crate::statements::says;
 use crate::{Pace, Script, ScriptFault};
 use ipfw_parser::ParseFault;
@@ -22,7 +21,10 @@ pub const SCRIPT_LINES: usize = 65_536;
 /// How many commands stand behind `live` at most.
 pub const LIVE_COMMANDS: u32 = 4_096;
 
-fn on_line(line: u32, said: Result<Statement, ParseFault>) -> Result<Statement, ScriptFault>
+fn with_line_number(
+    line: u32,
+    said: Result<Statement, ParseFault>,
+) -> Result<Statement, ScriptFault>
     ensures { IsOnLine line said result }
 {
     match said {
@@ -33,8 +35,12 @@ fn on_line(line: u32, said: Result<Statement, ParseFault>) -> Result<Statement, 
 }
 
 /// The statement, where it may stand at this place.
-fn allowed(pace: Pace, place: Place, statement: Statement) -> Result<Statement, ScriptFault>
-    ensures { result ≡ spec.allowed pace place statement }
+fn allowed_statement(
+    pace: Pace,
+    place: Place,
+    statement: Statement,
+) -> Result<Statement, ScriptFault>
+    ensures { result ≡ spec.allowed_statement pace place statement }
 {
     match (pace, &statement) {
         (Pace::Live, Statement::After { column, .. }) => Err(ScriptFault::PaceInLive {
@@ -50,13 +56,18 @@ fn allowed(pace: Pace, place: Place, statement: Statement) -> Result<Statement, 
 }
 
 /// What the line at this place says, or its fault.
-#[tactic(auto, unfolding(crate::specs::Scripts::line_at))]
-fn line_at(alloc: Global, pace: Pace, place: Place, line: &[u8]) -> Result<Statement, ScriptFault>
+#[tactic(auto, unfolding(crate::specs::Scripts::statement_at))]
+fn statement_at(
+    alloc: Global,
+    pace: Pace,
+    place: Place,
+    line: &[u8],
+) -> Result<Statement, ScriptFault>
     requires { length line.now ≤ 1048576 }
-    ensures { Reads result (spec.line_at pace place line.now) }
+    ensures { Reads result (spec.statement_at pace place line.now) }
 {
-    let statement = on_line(place.line, says(alloc, place.live.is_some(), line))?;
-    allowed(pace, place, statement)
+    let statement = with_line_number(place.line, says(alloc, place.live.is_some(), line))?;
+    allowed_statement(pace, place, statement)
 }
 
 /// The place of the line behind one that says this.
@@ -99,7 +110,7 @@ fn read_lines(alloc: Global, pace: Pace, bytes: &[u8]) -> Result<Script, ScriptF
     let mut rest = bytes;
     while !rest.is_empty() {
         let (line, behind) = first_line(rest);
-        let statement = line_at(alloc, pace, place, line)?;
+        let statement = statement_at(alloc, pace, place, line)?;
         let next = next_place(place, &statement);
         draft.take(place, statement)?;
         place = next;

@@ -1,16 +1,16 @@
 ghost use Rattle.std.specs.Prelude.{◌≡◌, ◌≤◌, ◌^◌, ◌<◌, IfOk, false, true};
-ghost use Rattle.ipfw_parser.specs.Reading.{Gives};
+ghost use Rattle.ipfw_parser.specs.Reading.{ReadsAs};
 ghost use Rattle.ipfw_parser.specs.Views.{view, list_of};
 ghost use Rattle.fw_command.specs.SetCommands as spec;
 
-use crate::ends::{finished, number_behind};
+use crate::ends::{finished, first_number};
 use fw_rule::Command;
 use ipfw_parser::{Kind, ParseFault, Word, Words, expected, set_behind, set_number};
 
 /// A set as the bit of a mask.
 #[tactic(auto, unfolding(crate::specs::SetCommands::set_bit))]
 fn set_bit(word: Word<'_>) -> Result<u32, ParseFault>
-    ensures { Gives (λ b. b) result (spec.set_bit (view word.entry)) }
+    ensures { ReadsAs (λ b. b) result (spec.set_bit (view word.entry)) }
 {
     let set = set_number(word)?;
     Ok(1 << set)
@@ -26,7 +26,7 @@ fn ends_sets(to_enable: bool, word: Word<'_>) -> bool
 
 /// Sets up to the line's end, or up to `enable` where it may follow, as bits beside those before.
 fn more_sets(to_enable: bool, before: u32, words: Words<'_>) -> Result<(u32, Words<'_>), ParseFault>
-    ensures { Gives (λ r. (r.0, list_of r.1)) result
+    ensures { ReadsAs (λ r. (r.0, list_of r.1)) result
         (spec.more_sets to_enable before (list_of words.entry)) }
 {
     let mut mask = before;
@@ -44,7 +44,7 @@ fn more_sets(to_enable: bool, before: u32, words: Words<'_>) -> Result<(u32, Wor
 /// The same, with one set at least.
 #[tactic(auto, unfolding(crate::specs::SetCommands::sets))]
 fn sets(to_enable: bool, end: u32, words: Words<'_>) -> Result<(u32, Words<'_>), ParseFault>
-    ensures { Gives (λ r. (r.0, list_of r.1)) result
+    ensures { ReadsAs (λ r. (r.0, list_of r.1)) result
         (spec.sets to_enable end (list_of words.entry)) }
 {
     let (next, words) = words.first(end)?;
@@ -54,7 +54,7 @@ fn sets(to_enable: bool, end: u32, words: Words<'_>) -> Result<(u32, Words<'_>),
 
 #[tactic(auto, unfolding(crate::specs::SetCommands::enable))]
 fn enable(disabled: u32, end: u32, words: Words<'_>) -> Result<Command, ParseFault>
-    ensures { Gives (λ c. c) result (spec.enable disabled end (list_of words.entry)) }
+    ensures { ReadsAs (λ c. c) result (spec.enable disabled end (list_of words.entry)) }
 {
     let (enabled, _words) = sets(false, end, words)?;
     Ok(Command::SetMask {
@@ -65,7 +65,7 @@ fn enable(disabled: u32, end: u32, words: Words<'_>) -> Result<Command, ParseFau
 
 #[tactic(auto, unfolding(crate::specs::SetCommands::disable_end))]
 fn disable_end(disabled: u32, end: u32, words: Words<'_>) -> Result<Command, ParseFault>
-    ensures { Gives (λ c. c) result (spec.disable_end disabled end (list_of words.entry)) }
+    ensures { ReadsAs (λ c. c) result (spec.disable_end disabled end (list_of words.entry)) }
 {
     match words.next() {
         None => Ok(Command::SetMask {
@@ -78,26 +78,26 @@ fn disable_end(disabled: u32, end: u32, words: Words<'_>) -> Result<Command, Par
 
 #[tactic(auto, unfolding(crate::specs::SetCommands::disable))]
 fn disable(end: u32, words: Words<'_>) -> Result<Command, ParseFault>
-    ensures { Gives (λ c. c) result (spec.disable end (list_of words.entry)) }
+    ensures { ReadsAs (λ c. c) result (spec.disable end (list_of words.entry)) }
 {
     let (disabled, words) = sets(true, end, words)?;
     disable_end(disabled, end, words)
 }
 
-#[tactic(auto, unfolding(crate::specs::SetCommands::move_rule))]
-fn move_rule(end: u32, words: Words<'_>) -> Result<Command, ParseFault>
-    ensures { Gives (λ c. c) result (spec.move_rule end (list_of words.entry)) }
+#[tactic(auto, unfolding(crate::specs::SetCommands::move_rule_command))]
+fn move_rule_command(end: u32, words: Words<'_>) -> Result<Command, ParseFault>
+    ensures { ReadsAs (λ c. c) result (spec.move_rule_command end (list_of words.entry)) }
 {
-    let (number, words) = number_behind(1, 65535, end, words)?;
+    let (number, words) = first_number(1, 65535, end, words)?;
     let words = expected(b"to", end, words)?;
     let (to, words) = set_behind(end, words)?;
     let number = number as u16;
     finished(Command::MoveRule { number, to }, words)
 }
 
-#[tactic(auto, unfolding(crate::specs::SetCommands::move_set))]
-fn move_set(end: u32, words: Words<'_>) -> Result<Command, ParseFault>
-    ensures { Gives (λ c. c) result (spec.move_set end (list_of words.entry)) }
+#[tactic(auto, unfolding(crate::specs::SetCommands::move_set_command))]
+fn move_set_command(end: u32, words: Words<'_>) -> Result<Command, ParseFault>
+    ensures { ReadsAs (λ c. c) result (spec.move_set_command end (list_of words.entry)) }
 {
     let (from, words) = set_behind(end, words)?;
     let words = expected(b"to", end, words)?;
@@ -107,19 +107,19 @@ fn move_set(end: u32, words: Words<'_>) -> Result<Command, ParseFault>
 
 #[tactic(auto, unfolding(crate::specs::SetCommands::move_words))]
 fn move_words(end: u32, words: Words<'_>) -> Result<Command, ParseFault>
-    ensures { Gives (λ c. c) result (spec.move_words end (list_of words.entry)) }
+    ensures { ReadsAs (λ c. c) result (spec.move_words end (list_of words.entry)) }
 {
     let (next, rest) = words.first(end)?;
     if next.is(b"rule") {
-        move_rule(end, rest)
+        move_rule_command(end, rest)
     } else {
-        move_set(end, words)
+        move_set_command(end, words)
     }
 }
 
-#[tactic(auto, unfolding(crate::specs::SetCommands::swap_sets))]
-fn swap_sets(end: u32, words: Words<'_>) -> Result<Command, ParseFault>
-    ensures { Gives (λ c. c) result (spec.swap_sets end (list_of words.entry)) }
+#[tactic(auto, unfolding(crate::specs::SetCommands::swap_sets_command))]
+fn swap_sets_command(end: u32, words: Words<'_>) -> Result<Command, ParseFault>
+    ensures { ReadsAs (λ c. c) result (spec.swap_sets_command end (list_of words.entry)) }
 {
     let (first, words) = set_behind(end, words)?;
     let (second, words) = set_behind(end, words)?;
@@ -129,7 +129,7 @@ fn swap_sets(end: u32, words: Words<'_>) -> Result<Command, ParseFault>
 /// A command on sets, by the words behind `set`.
 #[tactic(auto, unfolding(crate::specs::SetCommands::set_command))]
 pub(crate) fn set_command(end: u32, words: Words<'_>) -> Result<Command, ParseFault>
-    ensures { Gives (λ c. c) result (spec.set_command end (list_of words.entry)) }
+    ensures { ReadsAs (λ c. c) result (spec.set_command end (list_of words.entry)) }
 {
     let (next, words) = words.first(end)?;
     if next.is(b"disable") {
@@ -139,7 +139,7 @@ pub(crate) fn set_command(end: u32, words: Words<'_>) -> Result<Command, ParseFa
     } else if next.is(b"move") {
         move_words(end, words)
     } else if next.is(b"swap") {
-        swap_sets(end, words)
+        swap_sets_command(end, words)
     } else {
         Err(next.fault(Kind::UnknownWord))
     }

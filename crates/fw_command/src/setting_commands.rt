@@ -1,7 +1,7 @@
 ghost use Rattle.std.specs.Prelude.{◌≡◌, ◌≤◌, IfOk, nat_eq, codes, length};
 ghost use Rattle.std.specs.Bool.{OnTrue};
 ghost use Rattle.std.specs.List.{starts_with};
-ghost use Rattle.ipfw_parser.specs.Reading.{Gives};
+ghost use Rattle.ipfw_parser.specs.Reading.{ReadsAs};
 ghost use Rattle.ipfw_parser.specs.Views.{view, list_of};
 ghost use Rattle.fw_command.specs.SettingCommands as spec;
 
@@ -81,7 +81,7 @@ fn without_prefix(text: &[u8]) -> &[u8]
 /// A setting and its value, from NAME=VALUE.
 #[tactic(auto, unfolding(crate::specs::SettingCommands::assignment))]
 fn assignment(word: Word<'_>) -> Result<(Setting, u32), ParseFault>
-    ensures { Gives (λ r. r) result (spec.assignment (view word.entry)) }
+    ensures { ReadsAs (λ r. r) result (spec.assignment (view word.entry)) }
 {
     let (text, value) = cut_at(without_prefix(word.text), b'=');
     let name = Word {
@@ -103,7 +103,7 @@ fn assignment(word: Word<'_>) -> Result<(Setting, u32), ParseFault>
 /// A change of a setting, by the words behind `sysctl`.
 #[tactic(auto, unfolding(crate::specs::SettingCommands::sysctl))]
 pub(crate) fn sysctl(end: u32, words: Words<'_>) -> Result<Command, ParseFault>
-    ensures { Gives (λ c. c) result (spec.sysctl end (list_of words.entry)) }
+    ensures { ReadsAs (λ c. c) result (spec.sysctl end (list_of words.entry)) }
 {
     let (next, words) = words.first(end)?;
     let (setting, value) = assignment(next)?;

@@ -1,20 +1,20 @@
 ghost use Rattle.std.specs.Prelude.{◌≡◌, ◌≤◌, length, map};
 ghost use Rattle.fw_lex.specs.Words as lex;
-ghost use Rattle.ipfw_parser.specs.Reading.{Gives, word_of};
+ghost use Rattle.ipfw_parser.specs.Reading.{ReadsAs, word_at};
 ghost use Rattle.ipfw_parser.specs.Views.{view, list_of};
 ghost use Rattle.fw_command.specs.Statements as spec;
 
 use crate::commands::command;
-use crate::ends::{finished, number_behind};
+use crate::ends::{finished, first_number};
 use crate::statement::Statement;
 use fw_lex::{LexFault, Token, tokens};
 use fw_rule::Command;
 use ipfw_parser::{Kind, ParseFault, Word, Words, line_end, parse_rule, words_of};
 use std::alloc::Global;
 
-#[tactic(auto, unfolding(crate::specs::Statements::live_line))]
-fn live_line<'a>(live: bool, word: Word<'a>, words: Words<'a>) -> Result<Statement, ParseFault>
-    ensures { Gives (λ s. s) result (spec.live_line live (view word.entry) (list_of words.entry)) }
+#[tactic(auto, unfolding(crate::specs::Statements::live_statement))]
+fn live_statement<'a>(live: bool, word: Word<'a>, words: Words<'a>) -> Result<Statement, ParseFault>
+    ensures { ReadsAs (λ s. s) result (spec.live_statement live (view word.entry) (list_of words.entry)) }
 {
     if live {
         Err(word.fault(Kind::Misplaced))
@@ -25,21 +25,21 @@ fn live_line<'a>(live: bool, word: Word<'a>, words: Words<'a>) -> Result<Stateme
 
 #[tactic(auto, unfolding(crate::specs::Statements::after_count))]
 fn after_count(column: u32, end: u32, words: Words<'_>) -> Result<Statement, ParseFault>
-    ensures { Gives (λ s. s) result (spec.after_count column end (list_of words.entry)) }
+    ensures { ReadsAs (λ s. s) result (spec.after_count column end (list_of words.entry)) }
 {
-    let (count, words) = number_behind(0, 33_554_432, end, words)?;
+    let (count, words) = first_number(0, 33_554_432, end, words)?;
     finished(Statement::After { column, count }, words)
 }
 
-#[tactic(auto, unfolding(crate::specs::Statements::after_line))]
-fn after_line<'a>(
+#[tactic(auto, unfolding(crate::specs::Statements::after_statement))]
+fn after_statement<'a>(
     live: bool,
     end: u32,
     word: Word<'a>,
     words: Words<'a>,
 ) -> Result<Statement, ParseFault>
-    ensures { Gives (λ s. s) result
-        (spec.after_line live end (view word.entry) (list_of words.entry)) }
+    ensures { ReadsAs (λ s. s) result
+        (spec.after_statement live end (view word.entry) (list_of words.entry)) }
 {
     if live {
         after_count(word.column, end, words)
@@ -57,13 +57,13 @@ fn statement<'a>(
     word: Word<'a>,
     words: Words<'a>,
 ) -> Result<Statement, ParseFault>
-    ensures { Gives (λ s. s) result
+    ensures { ReadsAs (λ s. s) result
         (spec.statement live end (view word.entry) (list_of words.entry)) }
 {
     if word.is(b"live") {
-        live_line(live, word, words)
+        live_statement(live, word, words)
     } else if word.is(b"after") {
-        after_line(live, end, word, words)
+        after_statement(live, end, word, words)
     } else {
         Ok(Statement::Order(command(alloc, end, word, words)?))
     }
@@ -72,9 +72,9 @@ fn statement<'a>(
 #[tactic(auto, unfolding(crate::specs::Statements::addition))]
 fn addition(alloc: Global, line: &[u8], tokens: &[Token]) -> Result<Statement, ParseFault>
     requires short { length line.now ≤ 1048576 }
-    requires tokens { tokens.now ≡ lex.words_of line.now }
+    requires tokens { tokens.now ≡ lex.tokens_of line.now }
     requires some { 1 ≤ length tokens.now }
-    ensures { Gives (λ s. s) result (spec.addition line.now) }
+    ensures { ReadsAs (λ s. s) result (spec.addition line.now) }
 {
     Ok(Statement::Order(Command::Add(parse_rule(alloc, line, tokens, 1)?)))
 }
@@ -87,9 +87,9 @@ fn words_say(
     tokens: &[Token],
 ) -> Result<Statement, ParseFault>
     requires short { length line.now ≤ 1048576 }
-    requires tokens { tokens.now ≡ lex.words_of line.now }
-    ensures { Gives (λ s. s) result
-        (spec.words_say live line.now (map (word_of line.now) (lex.words_of line.now))) }
+    requires tokens { tokens.now ≡ lex.tokens_of line.now }
+    ensures { ReadsAs (λ s. s) result
+        (spec.words_say live line.now (map (word_at line.now) (lex.tokens_of line.now))) }
 {
     let words = words_of(line, tokens);
     match words.next() {
@@ -103,7 +103,7 @@ fn words_say(
 #[tactic(auto, unfolding(crate::specs::Statements::says))]
 pub(crate) fn says(alloc: Global, live: bool, line: &[u8]) -> Result<Statement, ParseFault>
     requires { length line.now ≤ 1048576 }
-    ensures { Gives (λ s. s) result (spec.says live line.now) }
+    ensures { ReadsAs (λ s. s) result (spec.says live line.now) }
 {
     match tokens(alloc, line) {
         Ok(tokens) => words_say(alloc, live, line, &tokens),

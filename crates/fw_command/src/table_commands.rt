@@ -1,6 +1,6 @@
 ghost use Rattle.std.specs.Prelude.{◌≡◌, ◌==◌};
 ghost use Rattle.std.specs.List.{list_any};
-ghost use Rattle.ipfw_parser.specs.Reading.{Gives};
+ghost use Rattle.ipfw_parser.specs.Reading.{ReadsAs};
 ghost use Rattle.ipfw_parser.specs.Views.{view, list_of};
 ghost use Rattle.fw_command.specs.TableCommands as spec;
 
@@ -19,7 +19,7 @@ fn has_dot(text: &[u8]) -> bool
 /// A key: a prefix or an address where the word has a dot, else a number.
 #[tactic(auto, unfolding(crate::specs::TableCommands::key))]
 fn key(word: Word<'_>) -> Result<Key, ParseFault>
-    ensures { Gives (λ k. k) result (spec.key (view word.entry)) }
+    ensures { ReadsAs (λ k. k) result (spec.key (view word.entry)) }
 {
     if has_dot(word.text) {
         Ok(Key::Net(prefix(word)?))
@@ -30,7 +30,7 @@ fn key(word: Word<'_>) -> Result<Key, ParseFault>
 
 #[tactic(auto, unfolding(crate::specs::TableCommands::table_type))]
 fn table_type(word: Word<'_>) -> Result<TableType, ParseFault>
-    ensures { Gives (λ t. t) result (spec.table_type (view word.entry)) }
+    ensures { ReadsAs (λ t. t) result (spec.table_type (view word.entry)) }
 {
     if word.is(b"addr") {
         Ok(TableType::Addresses)
@@ -41,9 +41,9 @@ fn table_type(word: Word<'_>) -> Result<TableType, ParseFault>
     }
 }
 
-#[tactic(auto, unfolding(crate::specs::TableCommands::typed))]
-fn typed(end: u32, words: Words<'_>) -> Result<(TableCommand, Words<'_>), ParseFault>
-    ensures { Gives (λ r. (r.0, list_of r.1)) result (spec.typed end (list_of words.entry)) }
+#[tactic(auto, unfolding(crate::specs::TableCommands::type_behind))]
+fn type_behind(end: u32, words: Words<'_>) -> Result<(TableCommand, Words<'_>), ParseFault>
+    ensures { ReadsAs (λ r. (r.0, list_of r.1)) result (spec.type_behind end (list_of words.entry)) }
 {
     let (next, words) = words.first(end)?;
     Ok((TableCommand::Create(table_type(next)?), words))
@@ -51,10 +51,10 @@ fn typed(end: u32, words: Words<'_>) -> Result<(TableCommand, Words<'_>), ParseF
 
 #[tactic(auto, unfolding(crate::specs::TableCommands::create))]
 fn create(end: u32, words: Words<'_>) -> Result<(TableCommand, Words<'_>), ParseFault>
-    ensures { Gives (λ r. (r.0, list_of r.1)) result (spec.create end (list_of words.entry)) }
+    ensures { ReadsAs (λ r. (r.0, list_of r.1)) result (spec.create end (list_of words.entry)) }
 {
     match words.next() {
-        Some((word, rest)) if word.is(b"type") => typed(end, rest),
+        Some((word, rest)) if word.is(b"type") => type_behind(end, rest),
         _ => Ok((TableCommand::Create(TableType::Addresses), words)),
     }
 }
@@ -62,7 +62,7 @@ fn create(end: u32, words: Words<'_>) -> Result<(TableCommand, Words<'_>), Parse
 /// The value behind a key, 0 where none is given.
 #[tactic(auto, unfolding(crate::specs::TableCommands::value))]
 fn value(words: Words<'_>) -> Result<(u32, Words<'_>), ParseFault>
-    ensures { Gives (λ r. (r.0, list_of r.1)) result (spec.value (list_of words.entry)) }
+    ensures { ReadsAs (λ r. (r.0, list_of r.1)) result (spec.value (list_of words.entry)) }
 {
     match words.next() {
         None => Ok((0, words)),
@@ -70,9 +70,9 @@ fn value(words: Words<'_>) -> Result<(u32, Words<'_>), ParseFault>
     }
 }
 
-#[tactic(auto, unfolding(crate::specs::TableCommands::add_entry))]
-fn add_entry(end: u32, words: Words<'_>) -> Result<(TableCommand, Words<'_>), ParseFault>
-    ensures { Gives (λ r. (r.0, list_of r.1)) result (spec.add_entry end (list_of words.entry)) }
+#[tactic(auto, unfolding(crate::specs::TableCommands::add_entry_command))]
+fn add_entry_command(end: u32, words: Words<'_>) -> Result<(TableCommand, Words<'_>), ParseFault>
+    ensures { ReadsAs (λ r. (r.0, list_of r.1)) result (spec.add_entry_command end (list_of words.entry)) }
 {
     let (next, words) = words.first(end)?;
     let key = key(next)?;
@@ -82,7 +82,7 @@ fn add_entry(end: u32, words: Words<'_>) -> Result<(TableCommand, Words<'_>), Pa
 
 #[tactic(auto, unfolding(crate::specs::TableCommands::remove_entry))]
 fn remove_entry(end: u32, words: Words<'_>) -> Result<(TableCommand, Words<'_>), ParseFault>
-    ensures { Gives (λ r. (r.0, list_of r.1)) result (spec.remove_entry end (list_of words.entry)) }
+    ensures { ReadsAs (λ r. (r.0, list_of r.1)) result (spec.remove_entry end (list_of words.entry)) }
 {
     let (next, words) = words.first(end)?;
     Ok((TableCommand::Remove(key(next)?), words))
@@ -94,7 +94,7 @@ fn swap_with(
     end: u32,
     words: Words<'_>,
 ) -> Result<(TableCommand, Words<'_>), ParseFault>
-    ensures { Gives (λ r. (r.0, list_of r.1)) result (spec.swap_with end (list_of words.entry)) }
+    ensures { ReadsAs (λ r. (r.0, list_of r.1)) result (spec.swap_with end (list_of words.entry)) }
 {
     let (next, words) = words.first(end)?;
     Ok((TableCommand::SwapWith(table_name(alloc, next)?), words))
@@ -106,7 +106,7 @@ fn table_command(
     end: u32,
     words: Words<'_>,
 ) -> Result<(TableCommand, Words<'_>), ParseFault>
-    ensures { Gives (λ r. (r.0, list_of r.1)) result
+    ensures { ReadsAs (λ r. (r.0, list_of r.1)) result
         (spec.table_command end (list_of words.entry)) }
 {
     let (next, words) = words.first(end)?;
@@ -119,7 +119,7 @@ fn table_command(
     } else if next.is(b"list") {
         Ok((TableCommand::ListEntries, words))
     } else if next.is(b"add") {
-        add_entry(end, words)
+        add_entry_command(end, words)
     } else if next.is(b"delete") {
         remove_entry(end, words)
     } else if next.is(b"swap") {
@@ -132,7 +132,7 @@ fn table_command(
 /// A command on a table, by the words behind `table`.
 #[tactic(auto, unfolding(crate::specs::TableCommands::table))]
 pub(crate) fn table(alloc: Global, end: u32, words: Words<'_>) -> Result<Command, ParseFault>
-    ensures { Gives (λ c. c) result (spec.table end (list_of words.entry)) }
+    ensures { ReadsAs (λ c. c) result (spec.table end (list_of words.entry)) }
 {
     let (next, words) = words.first(end)?;
     let name = table_name(alloc, next)?;

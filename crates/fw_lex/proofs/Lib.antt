@@ -1,2 +1,4 @@
+-- what the loop over a line keeps from byte to byte
 pub mod Steps
+-- the words are the longest runs of bytes that aren't blank
 pub mod Longest

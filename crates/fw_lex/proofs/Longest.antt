@@ -4,7 +4,7 @@ use Rattle.std.proofs.Math.Seq.{drop-length}
 use Rattle.std.proofs.lemmas.Bool.{cases_order}
 use Rattle.std.specs.List.{AllByRecursion}
 use Rattle.fw_lex.specs.declared.token.Token.{Token}
-use Rattle.fw_lex.specs.Words.{words_from, words_in, is_blank, IsLongestRun, AreInOrder, IsInSome, AreLongestRuns}
+use Rattle.fw_lex.specs.Words.{tokens_from, tokens_in, is_blank, IsLongestRun, AreInOrder, IsInSome, AreLongestRuns}
 use Rattle.fw_lex.proofs.Steps.{closed-blank, closed-solid, open-blank, open-solid}
 
 -- the same as AreLongestRuns, from a byte on
@@ -87,11 +87,11 @@ begins part i solid before = record {
 
 -- what is known before the byte at i, with and without an open word
 record AreRunsAt (part : List ℕ) (i : ℕ) : Type 0 where
-  closed : (0 < i → is_blank (get_or part (i - 1) 0) ≡ true) → AreRunsFrom part i (words_from None i (drop i part))
-  opened : (start : ℕ) → IsOpen part start i → AreRunsFrom part start (words_from (Some start) i (drop i part))
+  closed : (0 < i → is_blank (get_or part (i - 1) 0) ≡ true) → AreRunsFrom part i (tokens_from None i (drop i part))
+  opened : (start : ℕ) → IsOpen part start i → AreRunsFrom part start (tokens_from (Some start) i (drop i part))
 
 at_end : (part : List ℕ) (i : ℕ) → i ≡ length part → AreRunsAt part i
-unfolding words_from
+unfolding tokens_from
 at_end part i done = record {
   closed = λ _. rw (done, drop-length part) (nothing part (length part) refl);
   opened = λ start open_run. rw (done, drop-length part) (finished part start (length part) refl (rw done at open_run));
@@ -112,8 +112,8 @@ runs_at zero part i e = at_end part i (omega (arith, e))
 runs_at (suc n) part i e = step part i (is_blank (get_or part i 0)) (omega (arith, e)) refl (runs_at n part (i + 1) (omega (arith, e)))
 
 -- the words of a line are its longest runs of bytes that aren't blank, all of them in order
-pub words_are_longest : (part : List ℕ) → AreLongestRuns part (words_in part)
-unfolding words_in
+pub words_are_longest : (part : List ℕ) → AreLongestRuns part (tokens_in part)
+unfolding tokens_in
 words_are_longest part =
-    let runs : AreRunsFrom part 0 (words_from None 0 part) = (runs_at (length part) part 0 (omega arith)).closed (λ h. absurd (omega arith)) in
+    let runs : AreRunsFrom part 0 (tokens_from None 0 part) = (runs_at (length part) part 0 (omega arith)).closed (λ h. absurd (omega arith)) in
     record { each = runs.each; in_order = runs.in_order; whole = λ k high solid. runs.whole k (omega arith) high solid }

@@ -1,2 +1,4 @@
-pub mod Sentences
+-- the words of a line
 pub mod Words
+-- what a fault prints
+pub mod Sentences

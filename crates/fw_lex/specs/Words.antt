@@ -21,21 +21,21 @@ unfoldable pub first_bad : List ℕ → Option ℕ
 first_bad part = position (λ byte. not (is_readable byte)) part
 
 -- The words from the byte at `at` on, where `begun` says where a word began that is still open.
-unfoldable pub words_from : Option ℕ → ℕ → List ℕ → List Token
-words_from None at [] = []
-words_from (Some start) at [] = record { start = start; end = at } ∷ []
-words_from None at (byte ∷ bytes) =
-    if is_blank byte then words_from None (at + 1) bytes else words_from (Some at) (at + 1) bytes
-words_from (Some start) at (byte ∷ bytes) =
-    if is_blank byte then record { start = start; end = at } ∷ words_from None (at + 1) bytes else words_from (Some start) (at + 1) bytes
+unfoldable pub tokens_from : Option ℕ → ℕ → List ℕ → List Token
+tokens_from None at [] = []
+tokens_from (Some start) at [] = record { start = start; end = at } ∷ []
+tokens_from None at (byte ∷ bytes) =
+    if is_blank byte then tokens_from None (at + 1) bytes else tokens_from (Some at) (at + 1) bytes
+tokens_from (Some start) at (byte ∷ bytes) =
+    if is_blank byte then record { start = start; end = at } ∷ tokens_from None (at + 1) bytes else tokens_from (Some start) (at + 1) bytes
 
 -- the words of a line's part before the comment, each as the span from its first byte to past its last
-unfoldable pub words_in : List ℕ → List Token
-words_in part = words_from None 0 part
+unfoldable pub tokens_in : List ℕ → List Token
+tokens_in part = tokens_from None 0 part
 
 -- the words of a line
-unfoldable pub words_of : List ℕ → List Token
-words_of line = words_in (before_comment line)
+unfoldable pub tokens_of : List ℕ → List Token
+tokens_of line = tokens_in (before_comment line)
 
 -- the span is a longest run of bytes that aren't blank
 pub record IsLongestRun (part : List ℕ) (token : Token) : Type 0 where

@@ -1,6 +1,6 @@
 ghost use Rattle.std.specs.Prelude.{◌≡◌, ◌==◌, ◌+◌, ◌-◌, ◌*◌, ◌<◌, ◌≤◌, ◌^◌, length, IfOk, IfSome, IfNone, IsOkUnless, Err, slice_index, position};
 ghost use Rattle.fw_lex.specs.Words as words;
-ghost use Rattle.fw_lex.specs.Words.{first_bad, words_in, words_of, AreLongestRuns};
+ghost use Rattle.fw_lex.specs.Words.{first_bad, tokens_in, tokens_of, AreLongestRuns};
 
 use crate::{LexFault, Token};
 use fw_base::OutOfMemory;
@@ -46,10 +46,10 @@ fn first_unreadable(part: &[u8]) -> Option<usize>
     part.iter().position(|byte| !is_readable(*byte))
 }
 
-#[tactic(auto, unfolding(crate::specs::Words::words_in))]
+#[tactic(auto, unfolding(crate::specs::Words::tokens_in))]
 fn words(alloc: Global, part: &[u8]) -> Result<Vec<Token>, OutOfMemory>
     requires { length part.now ≤ 1048576 }
-    ensures { IfOk result (λ tokens. tokens.items ≡ words_in part.now) }
+    ensures { IfOk result (λ tokens. tokens.items ≡ tokens_in part.now) }
 {
     let mut found = Vec::new(alloc);
     let mut begun: Option<u32> = None;
@@ -75,12 +75,12 @@ fn words(alloc: Global, part: &[u8]) -> Result<Vec<Token>, OutOfMemory>
 
 /// The words of a line of at most 1,048,576 bytes, or the first byte before its comment that may not
 /// stand there.
-#[tactic(auto, unfolding(crate::specs::Words::words_of))]
+#[tactic(auto, unfolding(crate::specs::Words::tokens_of))]
 pub fn tokens(alloc: Global, line: &[u8]) -> Result<Vec<Token>, LexFault>
     requires { length line.now ≤ 1048576 }
 
     // The words, in order.
-    ensures words { IfOk result (λ tokens. tokens.items ≡ words_of line.now) }
+    ensures words { IfOk result (λ tokens. tokens.items ≡ tokens_of line.now) }
     ensures longest { IfOk result (λ tokens.
         AreLongestRuns (words.before_comment line.now) tokens.items) }
 

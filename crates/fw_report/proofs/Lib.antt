@@ -1,2 +1,4 @@
+-- lines of a text, and words without an end of a line
+pub mod SilentWords
 pub mod LineCounts
 pub mod Sections

@@ -8,7 +8,7 @@ pub mod RulesText
 pub mod JournalText
 -- the summary
 pub mod Summary
--- what lines are made of
-pub mod Parts
+-- what an ask's line has before its flow
+pub mod AskText
 -- how many lines a text has
 pub mod Lines

@@ -1,5 +1,5 @@
 -- The text of the report: its sections one after another.
-use Rattle.std.specs.Prelude.{ℕ, ◌<◌, Bool, Option, None, Some, IsSomeAnd, List, [], ◌∷◌, ◌++◌, length, All}
+use Rattle.std.specs.Prelude.{ℕ, Bool, Option, None, Some, List, [], ◌∷◌, ◌++◌, length}
 use Rattle.counter_book.specs.declared.count.Count.{Count}
 use Rattle.dyn_states.specs.StateObject.{StateObject}
 use Rattle.dyn_states.specs.StateTexts.{states_text}

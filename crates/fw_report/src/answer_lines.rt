@@ -1,4 +1,4 @@
-ghost use Rattle.std.specs.Prelude.{◌≡◌, IsSomeAnd, map};
+ghost use Rattle.std.specs.Prelude.{◌≡◌, ◌+◌, ◌≤◌, ◌++◌, IsSomeAnd, decimal, length, map};
 ghost use Rattle.std.specs.Arc.{arc_value};
 ghost use Rattle.std.specs.List.{flat_map};
 ghost use Rattle.std.specs.Option.{option_copied, option_map};
@@ -7,10 +7,8 @@ ghost use Rattle.fw_rule.specs.Canonical.{rule_text};
 ghost use Rattle.lookup_tables.specs.Tables.{table_named};
 ghost use Rattle.rule_chain.specs.Words.{word_of};
 ghost use Rattle.fw_report.specs.AnswerText as text;
-ghost use Rattle.fw_report.specs.Parts.{part_text};
 
-use crate::line::write_line;
-use crate::part::Part;
+use crate::line::{LINE_BYTES, Line};
 use crate::{Answer, LineAnswer};
 use fw_base::{Failed, Name, Prefix, Sink, write_text};
 use fw_rule::{Rule, write_address, write_rule};
@@ -25,10 +23,13 @@ fn write_origin<K: Sink>(out: &mut K, line: u32, edition: u64) -> Result<(), Fai
     ensures { WritesText (K.written out.old) (K.written out.new) (K.faults out.old)
         (K.faults out.new) (text.origin line edition) result }
 {
-    let line = Part::Number(u64::from(line));
-    let edition = Part::Number(edition);
-    let (word, end) = (Part::Text(b" edition "), Part::Text(b"\n"));
-    write_line(out, &[Part::Text(b" line "), line, word, edition, end])
+    let mut origin = Line::new();
+    origin.put_text(b"\n");
+    origin.put_number(edition);
+    origin.put_text(b" edition ");
+    origin.put_number(u64::from(line));
+    origin.put_text(b" line ");
+    origin.write(out)
 }
 
 fn write_canonical<K: Sink>(out: &mut K, rule: &Rule) -> Result<(), Failed>
@@ -64,8 +65,11 @@ pub(crate) fn write_count<K: Sink>(out: &mut K, count: usize) -> Result<(), Fail
     ensures { WritesText (K.written out.old) (K.written out.new) (K.faults out.old)
         (K.faults out.new) (text.count_line count) result }
 {
-    let count = Part::Number(count as u64);
-    write_line(out, &[Part::Text(b"rules "), count, Part::Text(b"\n")])
+    let mut line = Line::new();
+    line.put_text(b"\n");
+    line.put_number(count as u64);
+    line.put_text(b"rules ");
+    line.write(out)
 }
 
 /// Writes the rules of an edition.
@@ -87,10 +91,13 @@ fn write_length<K: Sink>(out: &mut K, bits: u8, value: u32) -> Result<(), Failed
     ensures { WritesText (K.written out.old) (K.written out.new) (K.faults out.old)
         (K.faults out.new) (text.length_text bits value) result }
 {
-    let bits = Part::Number(u64::from(bits));
-    let value = Part::Number(u64::from(value));
-    let (space, end) = (Part::Text(b" "), Part::Text(b"\n"));
-    write_line(out, &[Part::Text(b"/"), bits, space, value, end])
+    let mut line = Line::new();
+    line.put_text(b"\n");
+    line.put_number(u64::from(value));
+    line.put_text(b" ");
+    line.put_number(u64::from(bits));
+    line.put_text(b"/");
+    line.write(out)
 }
 
 /// Writes the line of a prefix and its value.
@@ -108,9 +115,12 @@ fn write_number_line<K: Sink>(out: &mut K, entry: &(u32, u32)) -> Result<(), Fai
     ensures { WritesText (K.written out.old) (K.written out.new) (K.faults out.old)
         (K.faults out.new) (text.number_line entry.now) result }
 {
-    let key = Part::Number(u64::from(entry.0));
-    let value = Part::Number(u64::from(entry.1));
-    write_line(out, &[key, Part::Text(b" "), value, Part::Text(b"\n")])
+    let mut line = Line::new();
+    line.put_text(b"\n");
+    line.put_number(u64::from(entry.1));
+    line.put_text(b" ");
+    line.put_number(u64::from(entry.0));
+    line.write(out)
 }
 
 fn write_address_lines<K: Sink>(out: &mut K, entries: &[(Prefix, u32)]) -> Result<(), Failed>
@@ -143,6 +153,18 @@ fn write_table_lines<K: Sink>(out: &mut K, table: &Table) -> Result<(), Failed>
     }
 }
 
+/// Writes the word of a type and how many entries there are.
+fn write_size<K: Sink>(out: &mut K, word: &[u8], size: usize) -> Result<(), Failed>
+    requires { length word.now ≤ 100 }
+    ensures { WritesText (K.written out.old) (K.written out.new) (K.faults out.old)
+        (K.faults out.new) (word.now ++ decimal size) result }
+{
+    let mut line = Line::new();
+    line.put_number(size as u64);
+    line.put_text(word);
+    line.write(out)
+}
+
 /// Writes a table's type and how many entries it has.
 #[tactic(auto, unfolding(crate::specs::AnswerText::table_size))]
 fn write_table_size<K: Sink>(out: &mut K, table: &Table) -> Result<(), Failed>
@@ -150,14 +172,8 @@ fn write_table_size<K: Sink>(out: &mut K, table: &Table) -> Result<(), Failed>
         (K.faults out.new) (text.table_size table.now) result }
 {
     match table {
-        Table::Addresses(entries) => {
-            let size = Part::Number(entries.entries().len() as u64);
-            write_line(out, &[Part::Text(b" addr "), size])
-        }
-        Table::Numbers(entries) => {
-            let size = Part::Number(entries.entries().len() as u64);
-            write_line(out, &[Part::Text(b" number "), size])
-        }
+        Table::Addresses(entries) => write_size(out, b" addr ", entries.entries().len()),
+        Table::Numbers(entries) => write_size(out, b" number ", entries.entries().len()),
     }
 }
 
@@ -228,10 +244,12 @@ fn edition_of(editions: &[Arc<Edition>], number: u64) -> Option<&Arc<Edition>>
     None
 }
 
-fn refusal_part(fault: ApplyFault) -> Part<'static>
-    ensures { part_text result ≡ word_of fault }
+fn put_refusal(line: &mut Line, fault: ApplyFault)
+    requires { length line.old + 20 ≤ LINE_BYTES }
+    ensures items { line.new ≡ word_of fault ++ line.old }
+    ensures room { length line.new ≤ length line.old + 20 }
 {
-    Part::Text(fault.word().as_bytes())
+    line.put_text(fault.word().as_bytes());
 }
 
 /// Writes that a command was refused.
@@ -240,13 +258,13 @@ fn write_refused<K: Sink>(out: &mut K, line: u32, fault: ApplyFault) -> Result<(
     ensures { WritesText (K.written out.old) (K.written out.new) (K.faults out.old)
         (K.faults out.new) (text.refused_line line fault) result }
 {
-    let line = Part::Number(u64::from(line));
-    let fault = refusal_part(fault);
-    let (space, end) = (Part::Text(b" "), Part::Text(b"\n"));
-    write_line(
-        out,
-        &[Part::Text(b"refused line "), line, space, fault, end],
-    )
+    let mut refused = Line::new();
+    refused.put_text(b"\n");
+    put_refusal(&mut refused, fault);
+    refused.put_text(b" ");
+    refused.put_number(u64::from(line));
+    refused.put_text(b"refused line ");
+    refused.write(out)
 }
 
 fn write_answer<K: Sink>(

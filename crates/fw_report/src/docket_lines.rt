@@ -1,251 +1,121 @@
-ghost use Rattle.std.specs.Prelude.{◌≡◌, ◌++◌, ℕ, codes};
-ghost use Rattle.std.specs.Bool.{OnTrue};
-ghost use Rattle.std.specs.Fmt.{decimal};
-ghost use Rattle.eval_engine.specs.Dockets.{judged_entry};
+ghost use Rattle.std.specs.Prelude.{◌≡◌, ◌+◌, ◌<◌, ◌≤◌, ◌++◌, Some, length, map, slice_get};
 ghost use Rattle.fw_base.specs.Texts.{WritesText};
-ghost use Rattle.fw_rule.specs.Canonical.{five_digits};
+ghost use Rattle.fw_rule.specs.Canonical.{code_word};
 ghost use Rattle.fw_report.specs.DocketText as text;
-ghost use Rattle.fw_report.specs.Parts.{part_text};
 ghost use Rattle.pcap_read.specs.Words.{word_of};
 
 use crate::CaptureEnd;
-use crate::line::{LINE_BYTES, add_five_digits, add_number, add_part, add_text, write_line};
-use crate::part::{Part, code_part};
-use arrayvec::ArrayVec;
+use crate::line::{LINE_BYTES, Line};
 use eval_engine::{Cause, Docket, DocketEntry, Judgement, Verdict};
-use fw_base::{Failed, Sink, write_text};
-use itoa::Buffer;
+use fw_base::{Failed, Sink};
+use fw_rule::UNREACH_NAMES;
 use pcap_read::CaptureFault;
 
-fn verdict_part(verdict: Verdict) -> Part<'static>
-    ensures { part_text result ≡ text.verdict_word verdict }
+fn name_at<'x>(names: &'x [&'x [u8]], place: usize) -> &'x [u8]
+    requires { place < length names.now }
+    ensures { slice_get (map (λ name. name.now) names.now) place ≡ Some result.now }
+{
+    names[place]
+}
+
+/// Puts a code of `unreach`, by name where it has one.
+fn put_code(line: &mut Line, code: u8)
+    requires { length line.old + 20 ≤ LINE_BYTES }
+    ensures items { line.new ≡ code_word code ++ line.old }
+    ensures room { length line.new ≤ length line.old + 20 }
+{
+    let place = usize::from(code);
+    if place < UNREACH_NAMES.len() {
+        line.put_text(name_at(&UNREACH_NAMES, place));
+    } else {
+        line.put_number(u64::from(code));
+    }
+}
+
+/// Puts the verdict.
+#[inline(always)]
+fn put_verdict(line: &mut Line, verdict: Verdict)
+    requires { length line.old + 28 ≤ LINE_BYTES }
+    ensures items { line.new ≡ text.verdict_word verdict ++ (text.verdict_code verdict ++ line.old) }
+    ensures room { length line.new ≤ length line.old + 28 }
 {
     match verdict {
-        Verdict::Allow => Part::Text(b"allow"),
-        Verdict::Deny => Part::Text(b"deny"),
-        Verdict::Reset => Part::Text(b"reset"),
-        Verdict::Unreach(_) => Part::Text(b"unreach "),
+        Verdict::Allow => line.put_text(b"allow"),
+        Verdict::Deny => line.put_text(b"deny"),
+        Verdict::Reset => line.put_text(b"reset"),
+        Verdict::Unreach(code) => {
+            put_code(line, code);
+            line.put_text(b"unreach ");
+        }
     }
 }
 
-fn verdict_code_part(verdict: Verdict) -> Part<'static>
-    ensures { part_text result ≡ text.verdict_code verdict }
-{
-    match verdict {
-        Verdict::Allow | Verdict::Deny | Verdict::Reset => Part::Text(b""),
-        Verdict::Unreach(code) => code_part(code),
-    }
-}
-
-fn cause_part(cause: Cause) -> Part<'static>
-    ensures { part_text result ≡ text.cause_word cause }
+/// Puts the cause.
+#[inline(always)]
+fn put_cause(line: &mut Line, cause: Cause)
+    requires { length line.old + 27 ≤ LINE_BYTES }
+    ensures items { line.new ≡ text.cause_word cause ++ (text.cause_count cause ++ line.old) }
+    ensures room { length line.new ≤ length line.old + 27 }
 {
     match cause {
-        Cause::Rule => Part::Text(b""),
-        Cause::Limit(_) => Part::Text(b" limit "),
-        Cause::Full(_) => Part::Text(b" full "),
+        Cause::Rule => {}
+        Cause::Limit(count) => line.put_counted(b" limit ", count),
+        Cause::Full(count) => line.put_counted(b" full ", count),
     }
 }
 
-fn count_part(cause: Cause) -> Part<'static>
-    ensures { part_text result ≡ text.cause_count cause }
-{
-    match cause {
-        Cause::Rule => Part::Text(b""),
-        Cause::Limit(count) | Cause::Full(count) => Part::Number(u64::from(count)),
-    }
-}
-
-/// Appends the verdict where there is room for it, and says whether there was.
-#[inline(always)]
-fn add_verdict(line: &mut ArrayVec<u8, LINE_BYTES>, verdict: Verdict) -> bool
-    ensures { OnTrue result (line.new.items
-        ≡ line.old.items ++ (text.verdict_word verdict ++ text.verdict_code verdict)) }
-{
-    match verdict {
-        Verdict::Allow => add_text(line, b"allow"),
-        Verdict::Deny => add_text(line, b"deny"),
-        Verdict::Reset => add_text(line, b"reset"),
-        Verdict::Unreach(code) => add_text(line, b"unreach ") && add_part(line, code_part(code)),
-    }
-}
-
-/// Appends the cause where there is room for it, and says whether there was.
-#[inline(always)]
-fn add_cause(line: &mut ArrayVec<u8, LINE_BYTES>, cause: Cause) -> bool
-    ensures { OnTrue result (line.new.items
-        ≡ line.old.items ++ (text.cause_word cause ++ text.cause_count cause)) }
-{
-    match cause {
-        Cause::Rule => true,
-        Cause::Limit(count) => add_text(line, b" limit ") && add_number(line, u64::from(count)),
-        Cause::Full(count) => add_text(line, b" full ") && add_number(line, u64::from(count)),
-    }
-}
-
-/// Appends the verdict and the deciding rule where there is room for them, and says whether there was.
-#[inline(always)]
-fn add_decision(line: &mut ArrayVec<u8, LINE_BYTES>, verdict: Verdict, number: u16) -> bool
-    ensures { OnTrue result (line.new.items
-        ≡ line.old.items
-        ++ (codes " "
-        ++ (text.verdict_word verdict
-        ++ (text.verdict_code verdict ++ (codes " " ++ five_digits number))))) }
-{
-    add_text(line, b" ")
-        && add_verdict(line, verdict)
-        && add_text(line, b" ")
-        && add_five_digits(line, number)
-}
-
-/// Appends the edition and the cause where there is room for them, and says whether there was.
-#[inline(always)]
-fn add_edition(line: &mut ArrayVec<u8, LINE_BYTES>, edition: u64, cause: Cause) -> bool
-    ensures { OnTrue result (line.new.items
-        ≡ line.old.items
-        ++ (codes " at "
-        ++ (decimal edition
-        ++ (text.cause_word cause ++ (text.cause_count cause ++ codes "\n"))))) }
-{
-    add_text(line, b" at ")
-        && add_number(line, edition)
-        && add_cause(line, cause)
-        && add_text(line, b"\n")
-}
-
-/// Appends what is told of a packet that was judged, where there is room for it, and says whether there was.
+/// Puts what is told of a packet that was judged.
 #[tactic(auto, unfolding(crate::specs::DocketText::judged_text))]
 #[inline(always)]
-fn add_judged(line: &mut ArrayVec<u8, LINE_BYTES>, judgement: Judgement) -> bool
-    ensures { OnTrue result (line.new.items ≡ line.old.items ++ text.judged_text judgement) }
+fn put_judged(line: &mut Line, judgement: Judgement)
+    ensures items { line.new ≡ text.judged_text judgement }
+    ensures room { length line.new ≤ 87 }
 {
-    add_decision(line, judgement.verdict, judgement.rule.number)
-        && add_edition(line, judgement.edition, judgement.cause)
+    line.clear();
+    line.put_text(b"\n");
+    put_cause(line, judgement.cause);
+    line.put_number(judgement.edition);
+    line.put_text(b" at ");
+    line.put_five_digits(judgement.rule.number);
+    line.put_text(b" ");
+    put_verdict(line, judgement.verdict);
+    line.put_text(b" ");
 }
 
-/// Appends the line of a packet that was judged, where there is room for it, and says whether there was.
-/// `digits` are those of the capture's number.
-#[tactic(auto, unfolding(crate::specs::DocketText::record_line, crate::specs::DocketText::entry_text))]
+/// Puts that a record is no packet of IP.
+#[tactic(auto, unfolding(crate::specs::DocketText::entry_text))]
+#[inline(never)]
+fn put_other(line: &mut Line)
+    ensures items { line.new ≡ text.entry_text DocketEntry.Other }
+    ensures room { length line.new ≤ 87 }
+{
+    line.clear();
+    line.put_text(b" other\n");
+}
+
+/// Puts that a packet's header can't be read.
+#[tactic(auto, unfolding(crate::specs::DocketText::entry_text))]
+#[inline(never)]
+fn put_malformed(line: &mut Line, kind: u8)
+    ensures items { line.new ≡ text.entry_text (DocketEntry.Malformed kind) }
+    ensures room { length line.new ≤ 87 }
+{
+    line.clear();
+    line.put_text(b"\n");
+    line.put_number(u64::from(kind));
+    line.put_text(b" malformed ");
+}
+
+/// Puts what is told of a record.
+#[tactic(auto, unfolding(crate::specs::DocketText::entry_text))]
 #[inline(always)]
-fn add_judged_line(
-    line: &mut ArrayVec<u8, LINE_BYTES>,
-    digits: &[u8],
-    at: u64,
-    judgement: Judgement,
-) -> bool
-    ensures { (capture : ℕ) → digits.now ≡ decimal capture → OnTrue result (line.new.items
-        ≡ line.old.items ++ text.record_line capture at (judged_entry judgement)) }
-{
-    add_text(line, digits)
-        && add_text(line, b".")
-        && add_number(line, at)
-        && add_judged(line, judgement)
-}
-
-/// Writes the line of a packet that was judged: at once, unless it is long.
-fn write_judged<K: Sink>(
-    out: &mut K,
-    capture: u64,
-    digits: &[u8],
-    at: u64,
-    judgement: Judgement,
-) -> Result<(), Failed>
-    requires { digits.now ≡ decimal capture }
-    ensures { WritesText (K.written out.old) (K.written out.new) (K.faults out.old)
-        (K.faults out.new) (text.record_line capture at (judged_entry judgement)) result }
-{
-    let mut line = ArrayVec::new();
-    if add_judged_line(&mut line, digits, at, judgement) {
-        write_text(out, line.as_slice())
-    } else {
-        write_long_judged(out, capture, at, judgement)
-    }
-}
-
-/// Writes the line of a packet that was judged, part by part.
-#[tactic(auto, unfolding(crate::specs::DocketText::record_line, crate::specs::DocketText::entry_text, crate::specs::DocketText::judged_text))]
-#[inline(never)]
-fn write_long_judged<K: Sink>(
-    out: &mut K,
-    capture: u64,
-    at: u64,
-    judgement: Judgement,
-) -> Result<(), Failed>
-    ensures { WritesText (K.written out.old) (K.written out.new) (K.faults out.old)
-        (K.faults out.new) (text.record_line capture at (judged_entry judgement)) result }
-{
-    let verdict = verdict_part(judgement.verdict);
-    let code = verdict_code_part(judgement.verdict);
-    let cause = cause_part(judgement.cause);
-    let count = count_part(judgement.cause);
-    let line = [
-        Part::Number(capture),
-        Part::Text(b"."),
-        Part::Number(at),
-        Part::Text(b" "),
-        verdict,
-        code,
-        Part::Text(b" "),
-        Part::RuleNumber(judgement.rule.number),
-        Part::Text(b" at "),
-        Part::Number(judgement.edition),
-        cause,
-        count,
-        Part::Text(b"\n"),
-    ];
-    write_line(out, &line)
-}
-
-/// Writes the line of a record that is no packet of IP.
-#[tactic(auto, unfolding(crate::specs::DocketText::record_line, crate::specs::DocketText::entry_text))]
-#[inline(never)]
-fn write_other<K: Sink>(out: &mut K, capture: u64, at: u64) -> Result<(), Failed>
-    ensures { WritesText (K.written out.old) (K.written out.new) (K.faults out.old)
-        (K.faults out.new) (text.record_line capture at DocketEntry.Other) result }
-{
-    let line = [
-        Part::Number(capture),
-        Part::Text(b"."),
-        Part::Number(at),
-        Part::Text(b" other\n"),
-    ];
-    write_line(out, &line)
-}
-
-/// Writes the line of a packet whose header can't be read.
-#[tactic(auto, unfolding(crate::specs::DocketText::record_line, crate::specs::DocketText::entry_text))]
-#[inline(never)]
-fn write_malformed<K: Sink>(out: &mut K, capture: u64, at: u64, kind: u8) -> Result<(), Failed>
-    ensures { WritesText (K.written out.old) (K.written out.new) (K.faults out.old)
-        (K.faults out.new) (text.record_line capture at (DocketEntry.Malformed kind)) result }
-{
-    let line = [
-        Part::Number(capture),
-        Part::Text(b"."),
-        Part::Number(at),
-        Part::Text(b" malformed "),
-        Part::Number(u64::from(kind)),
-        Part::Text(b"\n"),
-    ];
-    write_line(out, &line)
-}
-
-/// Writes the line of a record; `digits` are those of the capture's number.
-#[tactic(auto, unfolding(crate::specs::DocketText::record_line, crate::specs::DocketText::entry_text))]
-fn write_record<K: Sink>(
-    out: &mut K,
-    capture: u64,
-    digits: &[u8],
-    at: u64,
-    entry: DocketEntry,
-) -> Result<(), Failed>
-    requires { digits.now ≡ decimal capture }
-    ensures { WritesText (K.written out.old) (K.written out.new) (K.faults out.old)
-        (K.faults out.new) (text.record_line capture at entry) result }
+fn put_entry(line: &mut Line, entry: DocketEntry)
+    ensures items { line.new ≡ text.entry_text entry }
+    ensures room { length line.new ≤ 87 }
 {
     match entry {
-        DocketEntry::Other => write_other(out, capture, at),
-        DocketEntry::Malformed(kind) => write_malformed(out, capture, at, kind),
+        DocketEntry::Other => put_other(line),
+        DocketEntry::Malformed(kind) => put_malformed(line, kind),
         DocketEntry::Judged {
             verdict,
             cause,
@@ -258,48 +128,75 @@ fn write_record<K: Sink>(
                 rule,
                 cause,
             };
-            write_judged(out, capture, digits, at, judgement)
+            put_judged(line, judgement)
         }
     }
 }
 
-fn fault_part(fault: CaptureFault) -> Part<'static>
-    ensures { part_text result ≡ word_of fault }
+/// Writes the line of a record.
+#[tactic(auto, unfolding(crate::specs::DocketText::record_line))]
+fn write_record<K: Sink>(
+    out: &mut K,
+    line: &mut Line,
+    capture: u64,
+    at: u64,
+    entry: DocketEntry,
+) -> Result<(), Failed>
+    ensures { WritesText (K.written out.old) (K.written out.new) (K.faults out.old)
+        (K.faults out.new) (text.record_line capture at entry) result }
 {
-    Part::Text(fault.word().as_bytes())
+    put_entry(line, entry);
+    line.put_number(at);
+    line.put_text(b".");
+    line.put_number(capture);
+    line.write(out)
+}
+
+fn put_fault(line: &mut Line, fault: CaptureFault)
+    requires { length line.old + 20 ≤ LINE_BYTES }
+    ensures items { line.new ≡ word_of fault ++ line.old }
+    ensures room { length line.new ≤ length line.old + 20 }
+{
+    line.put_text(fault.word().as_bytes());
+}
+
+/// Puts the line of a capture's end.
+#[tactic(auto, unfolding(crate::specs::DocketText::end_line))]
+fn put_end(line: &mut Line, capture: u64, end: CaptureEnd)
+    ensures { line.new ≡ text.end_line capture end }
+{
+    line.clear();
+    line.put_text(b"\n");
+    match end {
+        CaptureEnd::Read { records } => {
+            line.put_number(records);
+            line.put_text(b" records ");
+            line.put_number(capture);
+            line.put_text(b"end ");
+        }
+        CaptureEnd::Stopped { at, fault, .. } => {
+            put_fault(line, fault);
+            line.put_text(b" ");
+            line.put_number(at);
+            line.put_text(b" record ");
+            line.put_number(capture);
+            line.put_text(b"fault ");
+        }
+    }
 }
 
 /// Writes the line of a capture's end.
-#[tactic(auto, unfolding(crate::specs::DocketText::end_line))]
-fn write_end<K: Sink>(out: &mut K, capture: u64, end: CaptureEnd) -> Result<(), Failed>
+fn write_end<K: Sink>(
+    out: &mut K,
+    line: &mut Line,
+    capture: u64,
+    end: CaptureEnd,
+) -> Result<(), Failed>
     ensures { WritesText (K.written out.old) (K.written out.new) (K.faults out.old)
         (K.faults out.new) (text.end_line capture end) result }
 {
-    let capture = Part::Number(capture);
-    match end {
-        CaptureEnd::Read { records } => {
-            let line = [
-                Part::Text(b"end "),
-                capture,
-                Part::Text(b" records "),
-                Part::Number(records),
-                Part::Text(b"\n"),
-            ];
-            write_line(out, &line)
-        }
-        CaptureEnd::Stopped { at, fault, .. } => {
-            let line = [
-                Part::Text(b"fault "),
-                capture,
-                Part::Text(b" record "),
-                Part::Number(at),
-                Part::Text(b" "),
-                fault_part(fault),
-                Part::Text(b"\n"),
-            ];
-            write_line(out, &line)
-        }
-    }
+    put_end(line, capture, end);
+    line.write(out)
 }
 
 /// Writes the lines of a capture: one for each record, and one for its end.
@@ -312,14 +209,13 @@ fn write_capture<K: Sink>(
     ensures { WritesText (K.written out.old) (K.written out.new) (K.faults out.old)
         (K.faults out.new) (text.capture_text capture entries.now end) result }
 {
-    let mut buffer = Buffer::new();
-    let digits = buffer.format(capture).as_bytes();
+    let mut line = Line::new();
     let mut at = 1u64;
     for entry in entries {
-        write_record(out, capture, digits, at, *entry)?;
+        write_record(out, &mut line, capture, at, *entry)?;
         at += 1;
     }
-    write_end(out, capture, end)
+    write_end(out, &mut line, capture, end)
 }
 
 /// Writes the lines of the captures, in their order.

@@ -1,13 +1,12 @@
-ghost use Rattle.std.specs.Prelude.{◌≡◌, ◌<◌, ◌≤◌, ◌++◌, ◌∷◌, [], All, length, map};
+ghost use Rattle.std.specs.Prelude.{◌≡◌, ◌+◌, ◌≤◌, ◌++◌, ◌∷◌, [], length, codes, decimal};
 ghost use Rattle.std.specs.List.{flat_map};
 ghost use Rattle.fw_base.specs.Texts.{WritesText};
-ghost use Rattle.fw_rule.specs.Canonical.{mask_word, protocol_word, spaced};
+ghost use Rattle.fw_rule.specs.Canonical.{mask_word, protocol_word, spaced_text};
 ghost use Rattle.dyn_states.specs.StateTexts.{flow_text};
+ghost use Rattle.fw_report.specs.AskText as ask;
 ghost use Rattle.fw_report.specs.JournalText as text;
-ghost use Rattle.fw_report.specs.Parts.{part_text, parts_text};
 
-use crate::line::{write_four, write_line};
-use crate::part::Part;
+use crate::line::{LINE_BYTES, Line, write_around};
 use dyn_states::{FlowName, Op, Reply, Way};
 use eval_engine::Docket;
 use fw_base::{Failed, Name, Sink};
@@ -15,15 +14,22 @@ use fw_rule::{LimitMask, has_bit};
 use packet_headers::Flow;
 use state_journal::Entry;
 
+/// The longest name that stands in an ask's line that is composed whole.
+const LONGEST_NAME: usize = 100;
+
 /// Writes the hits of a lane's cache.
 #[tactic(auto, unfolding(crate::specs::JournalText::hits_line))]
 fn write_lane_hits<K: Sink>(out: &mut K, lane: u64, hits: u64) -> Result<(), Failed>
     ensures { WritesText (K.written out.old) (K.written out.new) (K.faults out.old)
         (K.faults out.new) (text.hits_line lane hits) result }
 {
-    let (lane, hits) = (Part::Number(lane), Part::Number(hits));
-    let (word, end) = (Part::Text(b" hits "), Part::Text(b"\n"));
-    write_line(out, &[Part::Text(b"cache "), lane, word, hits, end])
+    let mut line = Line::new();
+    line.put_text(b"\n");
+    line.put_number(hits);
+    line.put_text(b" hits ");
+    line.put_number(lane);
+    line.put_text(b"cache ");
+    line.write(out)
 }
 
 /// Writes the hits of the lanes' caches, in the order of the lanes.
@@ -40,206 +46,211 @@ pub(crate) fn write_hits<K: Sink>(out: &mut K, hits: &[u64]) -> Result<(), Faile
 }
 
 /// A flow name by its number; nothing where none has it.
-fn name_at(names: &[Name], name: u8) -> Part<'_>
-    ensures { part_text result ≡ text.name_at names.now name }
+fn name_at(names: &[Name], name: u8) -> &[u8]
+    ensures { result.now ≡ text.name_at names.now name }
 {
     match names.get(usize::from(name)) {
-        Some(named) => Part::Text(named.bytes()),
-        None => Part::Text(b""),
+        Some(named) => named.bytes(),
+        None => b"",
     }
 }
 
-fn name_part(names: &[Name], name: FlowName) -> Part<'_>
-    ensures { part_text result ≡ text.name_word names.now name }
-{
-    match name {
-        FlowName::Any => Part::Text(b"any"),
-        FlowName::Named(number) => name_at(names, number),
-    }
-}
-
-fn mask_part(mask: LimitMask) -> Part<'static>
-    ensures { part_text result ≡ mask_word mask }
-{
-    match mask {
-        LimitMask::SrcAddr => Part::Text(b"src-addr"),
-        LimitMask::SrcPort => Part::Text(b"src-port"),
-        LimitMask::DstAddr => Part::Text(b"dst-addr"),
-        LimitMask::DstPort => Part::Text(b"dst-port"),
-    }
-}
-
-/// What is asked: whether there is a state of this name.
-#[tactic(auto, unfolding(crate::specs::JournalText::lookup_text))]
-fn lookup_parts(names: &[Name], name: FlowName) -> [Part<'_>; 8]
-    ensures { parts_text result ≡ text.lookup_text names.now name }
-{
-    let none = Part::Text(b"");
-    let word = Part::Text(b" lookup :");
-    let name = name_part(names, name);
-    [word, name, none, none, none, none, none, none]
-}
-
-/// What is asked: that the rule of this identity makes a state.
-#[tactic(auto, unfolding(crate::specs::JournalText::install_text))]
-fn install_parts(
-    names: &[Name],
-    id: u32,
-    limit: Option<(LimitMask, u16)>,
-    name: u8,
-) -> [Part<'_>; 8]
-    ensures { parts_text result ≡ text.install_text names.now id limit name }
-{
-    let start = Part::Text(b" install ");
-    let id = Part::Number(u64::from(id));
-    let name = name_at(names, name);
-    match limit {
-        None => {
-            let none = Part::Text(b"");
-            let keep = Part::Text(b" keep :");
-            [start, id, keep, name, none, none, none, none]
-        }
-        Some((mask, most)) => {
-            let mask = mask_part(mask);
-            let most = Part::Number(u64::from(most));
-            let (word, space, colon) = (b" limit ", b" ", b" :");
-            let (word, space) = (Part::Text(word), Part::Text(space));
-            [start, id, word, mask, space, most, Part::Text(colon), name]
-        }
-    }
-}
-
-fn op_parts<'a>(names: &'a [Name], op: &Op) -> [Part<'a>; 8]
-    ensures { parts_text result ≡ text.op_text names.now op.now }
+/// The name of the flow that is asked for.
+fn asked_name<'x>(names: &'x [Name], op: &Op) -> &'x [u8]
+    ensures { result.now ≡ ask.asked_name names.now op.now }
 {
     match op {
-        Op::Lookup { name, .. } => lookup_parts(names, *name),
-        Op::Install {
-            rule,
-            limit,
-            name,
-            ..
-        } => install_parts(names, rule.id, *limit, *name),
+        Op::Lookup { name, .. } => match name {
+            FlowName::Any => b"any",
+            FlowName::Named(number) => name_at(names, *number),
+        },
+        Op::Install { name, .. } => name_at(names, *name),
     }
 }
 
-/// The protocol behind a space.
+#[inline(always)]
+fn put_mask(line: &mut Line, mask: LimitMask)
+    requires { length line.old + 8 ≤ LINE_BYTES }
+    ensures items { line.new ≡ mask_word mask ++ line.old }
+    ensures room { length line.new ≤ length line.old + 8 }
+{
+    match mask {
+        LimitMask::SrcAddr => line.put_text(b"src-addr"),
+        LimitMask::SrcPort => line.put_text(b"src-port"),
+        LimitMask::DstAddr => line.put_text(b"dst-addr"),
+        LimitMask::DstPort => line.put_text(b"dst-port"),
+    }
+}
+
+/// Puts what an install asks for, as far as the name.
+#[tactic(auto, unfolding(crate::specs::AskText::install_start))]
+fn put_install(line: &mut Line, id: u32, limit: Option<(LimitMask, u16)>)
+    requires { length line.old + 67 ≤ LINE_BYTES }
+    ensures items { line.new ≡ ask.install_start id limit ++ line.old }
+    ensures room { length line.new ≤ length line.old + 67 }
+{
+    match limit {
+        None => {
+            line.put_text(b" keep :");
+            line.put_number(u64::from(id));
+            line.put_text(b" install ");
+        }
+        Some((mask, most)) => {
+            line.put_text(b" :");
+            line.put_number(u64::from(most));
+            line.put_text(b" ");
+            put_mask(line, mask);
+            line.put_text(b" limit ");
+            line.put_number(u64::from(id));
+            line.put_text(b" install ");
+        }
+    }
+}
+
+/// Puts what is asked, as far as the name.
+fn put_question(line: &mut Line, op: &Op)
+    requires { length line.old + 67 ≤ LINE_BYTES }
+    ensures items { line.new ≡ ask.question_start op.now ++ line.old }
+    ensures room { length line.new ≤ length line.old + 67 }
+{
+    match op {
+        Op::Lookup { .. } => line.put_text(b" lookup :"),
+        Op::Install { rule, limit, .. } => put_install(line, rule.id, *limit),
+    }
+}
+
+/// Puts the protocol behind a space.
 #[tactic(auto, unfolding(fw_rule::specs::Canonical::protocol_word))]
-fn protocol_parts(protocol: u8) -> [Part<'static>; 2]
-    ensures { parts_text result ≡ spaced (protocol_word protocol ∷ []) }
+fn put_protocol(line: &mut Line, protocol: u8)
+    requires { length line.old + 21 ≤ LINE_BYTES }
+    ensures items { line.new ≡ spaced_text (protocol_word protocol ∷ []) ++ line.old }
+    ensures room { length line.new ≤ length line.old + 21 }
 {
-    let none = Part::Text(b"");
     match protocol {
-        0 => [Part::Text(b" ip"), none],
-        1 => [Part::Text(b" icmp"), none],
-        6 => [Part::Text(b" tcp"), none],
-        17 => [Part::Text(b" udp"), none],
-        _ => [Part::Text(b" "), Part::Number(u64::from(protocol))],
+        0 => line.put_text(b" ip"),
+        1 => line.put_text(b" icmp"),
+        6 => line.put_text(b" tcp"),
+        17 => line.put_text(b" udp"),
+        _ => {
+            line.put_number(u64::from(protocol));
+            line.put_text(b" ");
+        }
     }
 }
 
-/// A flow, each part behind a space.
-fn flow_parts(flow: &Flow) -> [Part<'static>; 10]
-    ensures { parts_text result ≡ flow_text flow.now }
+/// Puts a flow, each part behind a space.
+fn put_flow(line: &mut Line, flow: &Flow)
+    requires { length line.old + 95 ≤ LINE_BYTES }
+    ensures items { line.new ≡ flow_text flow.now ++ line.old }
+    ensures room { length line.new ≤ length line.old + 95 }
 {
-    let space = Part::Text(b" ");
-    let [protocol, number] = protocol_parts(flow.protocol);
-    let source = Part::Address(flow.source);
-    let source_port = Part::Number(u64::from(flow.source_port));
-    let destination = Part::Address(flow.destination);
-    let destination_port = Part::Number(u64::from(flow.destination_port));
-    [
-        protocol,
-        number,
-        space,
-        source,
-        space,
-        source_port,
-        space,
-        destination,
-        space,
-        destination_port,
-    ]
+    line.put_number(u64::from(flow.destination_port));
+    line.put_text(b" ");
+    line.put_address(flow.destination);
+    line.put_text(b" ");
+    line.put_number(u64::from(flow.source_port));
+    line.put_text(b" ");
+    line.put_address(flow.source);
+    line.put_text(b" ");
+    put_protocol(line, flow.protocol);
 }
 
-/// The letters of the TCP flags FIN, SYN and RST that are set.
-fn flags_part(flags: u8) -> Part<'static>
-    ensures { part_text result ≡ text.flags_word flags }
+/// Puts the letters of the TCP flags FIN, SYN and RST that are set.
+#[inline(always)]
+fn put_flags(line: &mut Line, flags: u8)
+    requires { length line.old + 3 ≤ LINE_BYTES }
+    ensures items { line.new ≡ text.flags_word flags ++ line.old }
+    ensures room { length line.new ≤ length line.old + 3 }
 {
     let flags = u32::from(flags);
     match (has_bit(flags, 0), has_bit(flags, 1), has_bit(flags, 2)) {
-        (false, false, false) => Part::Text(b"-"),
-        (true, false, false) => Part::Text(b"F"),
-        (false, true, false) => Part::Text(b"S"),
-        (true, true, false) => Part::Text(b"FS"),
-        (false, false, true) => Part::Text(b"R"),
-        (true, false, true) => Part::Text(b"FR"),
-        (false, true, true) => Part::Text(b"SR"),
-        (true, true, true) => Part::Text(b"FSR"),
+        (false, false, false) => line.put_text(b"-"),
+        (true, false, false) => line.put_text(b"F"),
+        (false, true, false) => line.put_text(b"S"),
+        (true, true, false) => line.put_text(b"FS"),
+        (false, false, true) => line.put_text(b"R"),
+        (true, false, true) => line.put_text(b"FR"),
+        (false, true, true) => line.put_text(b"SR"),
+        (true, true, true) => line.put_text(b"FSR"),
     }
 }
 
-fn way_part(way: Way) -> Part<'static>
-    ensures { part_text result ≡ text.way_word way }
+#[inline(always)]
+fn put_way(line: &mut Line, way: Way)
+    requires { length line.old + 7 ≤ LINE_BYTES }
+    ensures items { line.new ≡ text.way_word way ++ line.old }
+    ensures room { length line.new ≤ length line.old + 7 }
 {
     match way {
-        Way::Forward => Part::Text(b"forward"),
-        Way::Reverse => Part::Text(b"reverse"),
+        Way::Forward => line.put_text(b"forward"),
+        Way::Reverse => line.put_text(b"reverse"),
     }
 }
 
-/// The reply and the line's end.
-#[tactic(auto, unfolding(crate::specs::JournalText::reply_end))]
-fn reply_parts(reply: Reply) -> [Part<'static>; 5]
-    ensures { parts_text result ≡ text.reply_end reply }
+/// Puts in which direction a state was found, and the rule that made it.
+#[inline(always)]
+fn put_found(line: &mut Line, way: Way, id: u32)
+    requires { line.old ≡ [] }
+    ensures items { line.new
+        ≡ codes "found " ++ (decimal id ++ (codes " " ++ (text.way_word way ++ codes "\n"))) }
+    ensures room { length line.new ≤ 35 }
 {
-    let none = Part::Text(b"");
-    let end = Part::Text(b"\n");
+    line.put_text(b"\n");
+    put_way(line, way);
+    line.put_text(b" ");
+    line.put_number(u64::from(id));
+    line.put_text(b"found ");
+}
+
+/// Puts the reply and the line's end.
+#[tactic(auto, unfolding(crate::specs::JournalText::reply_end))]
+fn put_reply(line: &mut Line, reply: Reply)
+    requires { line.old ≡ [] }
+    ensures items { line.new ≡ text.reply_end reply }
+    ensures room { length line.new ≤ 35 }
+{
     match reply {
-        Reply::Found(way, rule) => {
-            let id = Part::Number(u64::from(rule.id));
-            [
-                Part::Text(b"found "),
-                id,
-                Part::Text(b" "),
-                way_part(way),
-                end,
-            ]
-        }
-        Reply::NotFound => [Part::Text(b"notfound\n"), none, none, none, none],
-        Reply::Created => [Part::Text(b"created\n"), none, none, none, none],
-        Reply::Exists => [Part::Text(b"exists\n"), none, none, none, none],
+        Reply::Found(way, rule) => put_found(line, way, rule.id),
+        Reply::NotFound => line.put_text(b"notfound\n"),
+        Reply::Created => line.put_text(b"created\n"),
+        Reply::Exists => line.put_text(b"exists\n"),
         Reply::LimitReached(count) => {
-            let count = Part::Number(u64::from(count));
-            [Part::Text(b"limit "), count, end, none, none]
+            line.put_text(b"\n");
+            line.put_counted(b"limit ", count);
         }
         Reply::TableFull(count) => {
-            let count = Part::Number(u64::from(count));
-            [Part::Text(b"full "), count, end, none, none]
+            line.put_text(b"\n");
+            line.put_counted(b"full ", count);
         }
     }
 }
 
-/// For which record of a lane was asked, and its second.
+/// Puts for which record of a lane was asked, and its second.
 #[tactic(auto, unfolding(crate::specs::JournalText::ask_start))]
-fn ask_start_parts(lane: u32, at: u64, second: u32) -> [Part<'static>; 6]
-    ensures { parts_text result ≡ text.ask_start lane at second }
+fn put_ask_start(line: &mut Line, lane: u32, at: u64, second: u32)
+    requires { length line.old + 66 ≤ LINE_BYTES }
+    ensures items { line.new ≡ text.ask_start lane at second ++ line.old }
+    ensures room { length line.new ≤ length line.old + 66 }
 {
-    let lane = Part::Number(u64::from(lane));
-    let second = Part::Number(u64::from(second));
-    let (dot, at, space) = (Part::Text(b"."), Part::Number(at), Part::Text(b" "));
-    [Part::Text(b"ask "), lane, dot, at, space, second]
+    line.put_number(u64::from(second));
+    line.put_text(b" ");
+    line.put_number(at);
+    line.put_text(b".");
+    line.put_number(u64::from(lane));
+    line.put_text(b"ask ");
 }
 
-/// The flags, the reply and the line's end.
+/// Puts the flags, the reply and the line's end.
 #[tactic(auto, unfolding(crate::specs::JournalText::ask_end))]
-fn ask_end_parts(flags: u8, reply: Reply) -> [Part<'static>; 8]
-    ensures { parts_text result ≡ text.ask_end flags reply }
+fn put_ask_end(line: &mut Line, flags: u8, reply: Reply)
+    requires { line.old ≡ [] }
+    ensures items { line.new ≡ text.ask_end flags reply }
+    ensures room { length line.new ≤ 40 }
 {
-    let space = Part::Text(b" ");
-    let flags = flags_part(flags);
-    let [word, first, second, third, fourth] = reply_parts(reply);
-    [space, flags, space, word, first, second, third, fourth]
+    put_reply(line, reply);
+    line.put_text(b" ");
+    put_flags(line, flags);
+    line.put_text(b" ");
 }
 
 fn second_of(op: &Op) -> u32
@@ -266,10 +277,50 @@ fn flow_of(op: &Op) -> &Flow
     }
 }
 
-/// Writes the line of an ask.
+/// Puts the line of an ask as far as the name.
+#[tactic(auto, unfolding(crate::specs::AskText::ask_front))]
+fn put_ask_front(line: &mut Line, lane: u32, at: u64, op: &Op)
+    requires { length line.old + 133 ≤ LINE_BYTES }
+    ensures items { line.new ≡ ask.ask_front lane at op.now ++ line.old }
+{
+    put_question(line, op);
+    put_ask_start(line, lane, at, second_of(op));
+}
+
+/// Puts the line of an ask behind the name.
+#[tactic(auto, unfolding(crate::specs::AskText::ask_rest))]
+fn put_ask_rest(line: &mut Line, op: &Op, reply: Reply)
+    ensures items { line.new ≡ ask.ask_rest op.now reply }
+    ensures room { length line.new ≤ 135 }
+{
+    line.clear();
+    put_ask_end(line, flags_of(op), reply);
+    put_flow(line, flow_of(op));
+}
+
+/// Writes the line of an ask whose name is long, before and behind which the line is composed.
+#[inline(never)]
+fn write_long_ask<K: Sink>(
+    out: &mut K,
+    lane: u32,
+    at: u64,
+    op: &Op,
+    name: &[u8],
+    rest: &Line,
+) -> Result<(), Failed>
+    ensures { WritesText (K.written out.old) (K.written out.new) (K.faults out.old)
+        (K.faults out.new) (ask.ask_front lane at op.now ++ (name.now ++ rest.now)) result }
+{
+    let mut front = Line::new();
+    put_ask_front(&mut front, lane, at, op);
+    write_around(out, &front, name, rest)
+}
+
+/// Writes the line of an ask: at once, unless the name is long.
 #[tactic(auto, unfolding(crate::specs::JournalText::ask_line))]
 fn write_ask<K: Sink>(
     out: &mut K,
+    line: &mut Line,
     names: &[Name],
     lane: u32,
     at: u64,
@@ -279,35 +330,47 @@ fn write_ask<K: Sink>(
     ensures { WritesText (K.written out.old) (K.written out.new) (K.faults out.old)
         (K.faults out.new) (text.ask_line names.now lane at op.now reply) result }
 {
-    let start = ask_start_parts(lane, at, second_of(op));
-    let asked = op_parts(names, op);
-    let flow = flow_parts(flow_of(op));
-    let end = ask_end_parts(flags_of(op), reply);
-    write_four(out, &start, &asked, &flow, &end)
+    put_ask_rest(line, op, reply);
+    let name = asked_name(names, op);
+    if name.len() <= LONGEST_NAME {
+        line.put_text(name);
+        put_ask_front(line, lane, at, op);
+        line.write(out)
+    } else {
+        write_long_ask(out, lane, at, op, name, line)
+    }
 }
 
 /// Writes the line of a publication.
 #[tactic(auto, unfolding(crate::specs::JournalText::publish_line))]
-fn write_publication<K: Sink>(out: &mut K, number: u64) -> Result<(), Failed>
+fn write_publication<K: Sink>(out: &mut K, line: &mut Line, number: u64) -> Result<(), Failed>
     ensures { WritesText (K.written out.old) (K.written out.new) (K.faults out.old)
         (K.faults out.new) (text.publish_line number) result }
 {
-    let number = Part::Number(number);
-    write_line(out, &[Part::Text(b"publish "), number, Part::Text(b"\n")])
+    line.clear();
+    line.put_text(b"\n");
+    line.put_number(number);
+    line.put_text(b"publish ");
+    line.write(out)
 }
 
-fn write_entry<K: Sink>(out: &mut K, names: &[Name], entry: &Entry) -> Result<(), Failed>
+fn write_entry<K: Sink>(
+    out: &mut K,
+    line: &mut Line,
+    names: &[Name],
+    entry: &Entry,
+) -> Result<(), Failed>
     ensures { WritesText (K.written out.old) (K.written out.new) (K.faults out.old)
         (K.faults out.new) (text.entry_line names.now entry.now) result }
 {
     match entry {
-        Entry::Publish(number) => write_publication(out, *number),
+        Entry::Publish(number) => write_publication(out, line, *number),
         Entry::Ask {
             lane,
             op,
             reply,
             at,
-        } => write_ask(out, names, u32::from(*lane), *at, op, *reply),
+        } => write_ask(out, line, names, u32::from(*lane), *at, op, *reply),
     }
 }
 
@@ -315,8 +378,9 @@ fn write_entries<K: Sink>(out: &mut K, names: &[Name], entries: &[Entry]) -> Res
     ensures { WritesText (K.written out.old) (K.written out.new) (K.faults out.old)
         (K.faults out.new) (flat_map (text.entry_line names.now) entries.now) result }
 {
+    let mut line = Line::new();
     for entry in entries {
-        write_entry(out, names, entry)?;
+        write_entry(out, &mut line, names, entry)?;
     }
     Ok(())
 }
@@ -327,16 +391,15 @@ fn write_lane<K: Sink>(out: &mut K, lane: u64, refused: u64, tracker: u64) -> Re
     ensures { WritesText (K.written out.old) (K.written out.new) (K.faults out.old)
         (K.faults out.new) (text.lane_line lane refused tracker) result }
 {
-    let line = [
-        Part::Text(b"lane "),
-        Part::Number(lane),
-        Part::Text(b" refused "),
-        Part::Number(refused),
-        Part::Text(b" tracker "),
-        Part::Number(tracker),
-        Part::Text(b"\n"),
-    ];
-    write_line(out, &line)
+    let mut line = Line::new();
+    line.put_text(b"\n");
+    line.put_number(tracker);
+    line.put_text(b" tracker ");
+    line.put_number(refused);
+    line.put_text(b" refused ");
+    line.put_number(lane);
+    line.put_text(b"lane ");
+    line.write(out)
 }
 
 fn write_lanes<K: Sink>(out: &mut K, dockets: &[Docket], trackers: &[u64]) -> Result<(), Failed>
@@ -361,11 +424,11 @@ fn write_heading<K: Sink>(out: &mut K, entries: usize) -> Result<(), Failed>
     ensures { WritesText (K.written out.old) (K.written out.new) (K.faults out.old)
         (K.faults out.new) (text.journal_heading entries) result }
 {
-    let entries = Part::Number(entries as u64);
-    write_line(
-        out,
-        &[Part::Text(b"journal 2 "), entries, Part::Text(b"\n")],
-    )
+    let mut line = Line::new();
+    line.put_text(b"\n");
+    line.put_number(entries as u64);
+    line.put_text(b"journal 2 ");
+    line.write(out)
 }
 
 /// Writes the journal, and what the lanes leave.

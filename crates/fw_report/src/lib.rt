@@ -18,7 +18,6 @@ mod journal_lines;
 mod laws;
 mod line;
 mod line_answer;
-mod part;
 mod report;
 mod rule_lines;
 mod summary;

@@ -6,8 +6,7 @@ ghost use Rattle.fw_rule.specs.Canonical.{rest_text};
 ghost use Rattle.fw_report.specs.RulesText as text;
 
 use crate::answer_lines::write_count;
-use crate::line::write_line;
-use crate::part::Part;
+use crate::line::Line;
 use counter_book::{Tally, total};
 use fw_base::{Failed, Sink, write_text};
 use fw_rule::{Rule, has_bit, write_rule_rest};
@@ -19,8 +18,11 @@ pub(crate) fn write_editions<K: Sink>(out: &mut K, count: usize) -> Result<(), F
     ensures { WritesText (K.written out.old) (K.written out.new) (K.faults out.old)
         (K.faults out.new) (text.editions_line count) result }
 {
-    let count = Part::Number(count as u64);
-    write_line(out, &[Part::Text(b"editions "), count, Part::Text(b"\n")])
+    let mut line = Line::new();
+    line.put_text(b"\n");
+    line.put_number(count as u64);
+    line.put_text(b"editions ");
+    line.write(out)
 }
 
 /// Writes the set where the mask has its bit.
@@ -30,7 +32,10 @@ fn write_set<K: Sink>(out: &mut K, mask: u32, set: u32) -> Result<(), Failed>
         (K.faults out.new) (text.set_text mask set) result }
 {
     if has_bit(mask, set) {
-        write_line(out, &[Part::Text(b" "), Part::Number(u64::from(set))])
+        let mut line = Line::new();
+        line.put_number(u64::from(set));
+        line.put_text(b" ");
+        line.write(out)
     } else {
         Ok(())
     }
@@ -75,10 +80,13 @@ fn write_counts<K: Sink>(out: &mut K, tallies: &[Tally], rule: &Rule) -> Result<
         (K.faults out.new) (text.counts_text tallies.now rule.now) result }
 {
     let counted = total(tallies, rule.counter);
-    let packets = Part::Number(counted.packets);
-    let bytes = Part::Number(counted.bytes);
-    let (number, space) = (Part::RuleNumber(rule.number), Part::Text(b" "));
-    write_line(out, &[number, space, packets, space, bytes])
+    let mut line = Line::new();
+    line.put_number(counted.bytes);
+    line.put_text(b" ");
+    line.put_number(counted.packets);
+    line.put_text(b" ");
+    line.put_five_digits(rule.number);
+    line.write(out)
 }
 
 /// Writes a rule's line with its counts.

@@ -1,9 +1,8 @@
-ghost use Rattle.std.specs.Prelude.{◌≡◌, length, count_by};
+ghost use Rattle.std.specs.Prelude.{◌≡◌, ◌+◌, ◌≤◌, ◌++◌, count_by, decimal, length};
 ghost use Rattle.fw_base.specs.Texts.{WritesText};
 ghost use Rattle.fw_report.specs.Summary as text;
 
-use crate::line::write_line;
-use crate::part::Part;
+use crate::line::{LINE_BYTES, Line};
 use counter_book::Tally;
 use eval_engine::{Docket, DocketEntry, Verdict};
 use fw_base::{Failed, Sink};
@@ -80,6 +79,16 @@ fn add_up(dockets: &[Docket]) -> Totals
     }
 }
 
+/// Puts a count of records, which has at most 39 digits.
+fn put_count(line: &mut Line, count: u128)
+    requires { length line.old + 40 ≤ LINE_BYTES }
+    ensures items { line.new ≡ decimal count ++ line.old }
+    ensures room { length line.new ≤ length line.old + 40 }
+{
+    let mut digits = Buffer::new();
+    line.put_text(digits.format(count).as_bytes());
+}
+
 #[tactic(auto, unfolding(crate::specs::Summary::summary_text))]
 fn write_totals<K: Sink>(
     out: &mut K,
@@ -92,25 +101,21 @@ fn write_totals<K: Sink>(
         (K.faults out.new) (text.summary_text dockets.now editions entries states) result }
 {
     let counted = add_up(dockets);
-    let mut records = Buffer::new();
-    let mut allowed = Buffer::new();
-    let mut denied = Buffer::new();
-    let line = [
-        Part::Text(b"records "),
-        Part::Text(records.format(counted.records).as_bytes()),
-        Part::Text(b"\nallow "),
-        Part::Text(allowed.format(counted.allowed).as_bytes()),
-        Part::Text(b"\ndeny "),
-        Part::Text(denied.format(counted.denied).as_bytes()),
-        Part::Text(b"\neditions "),
-        Part::Number(editions as u64),
-        Part::Text(b"\nentries "),
-        Part::Number(entries as u64),
-        Part::Text(b"\nstates "),
-        Part::Number(states as u64),
-        Part::Text(b"\n"),
-    ];
-    write_line(out, &line)
+    let mut line = Line::new();
+    line.put_text(b"\n");
+    line.put_number(states as u64);
+    line.put_text(b"\nstates ");
+    line.put_number(entries as u64);
+    line.put_text(b"\nentries ");
+    line.put_number(editions as u64);
+    line.put_text(b"\neditions ");
+    put_count(&mut line, counted.denied);
+    line.put_text(b"\ndeny ");
+    put_count(&mut line, counted.allowed);
+    line.put_text(b"\nallow ");
+    put_count(&mut line, counted.records);
+    line.put_text(b"records ");
+    line.write(out)
 }
 
 /// Writes the summary of a run: six lines, of its records, those that were let through, those of the

@@ -24,16 +24,35 @@ use std::process::Abort;
 use std::sync::Arc;
 use std::test::Fail;
 
-/// What a test reports.
-#[derive(Drop)]
-struct Run {
-    editions: Vec<Arc<Edition>>,
-    book: Book,
-    dockets: Vec<Docket>,
-    tallies: Vec<Tally>,
-    trackers: Vec<u64>,
-    hits: Vec<u64>,
-    ends: Ends,
+/// A report, and what it is of.
+#[derive(Clone, Copy)]
+struct Row<'a> {
+    /// For each edition what changes the empty configuration.
+    editions: &'a [&'a [Change]],
+    captures: &'a [Captured<'a>],
+    /// Whether the connection's asks stand in the journal.
+    is_asked: bool,
+    /// Whether lines of the script are answered.
+    is_answered: bool,
+    hits: &'a [u64],
+    text: &'a str,
+}
+
+/// What was entered for a capture's records, what was counted for them, and the capture's end.
+#[derive(Clone, Copy)]
+struct Captured<'a> {
+    entries: &'a [DocketEntry],
+    counted: &'a [(u32, u32)],
+    end: CaptureEnd,
+}
+
+/// What makes a configuration of the one before.
+#[derive(Clone, Copy)]
+enum Change {
+    CheckState,
+    AllowSetup,
+    TableEntry,
+    Disable,
 }
 
 fn any(alloc: Global) -> Result<AddrSpec, Fail>
@@ -127,60 +146,49 @@ fn disable() -> Command
     }
 }
 
-/// The configuration after the command.
-fn applied(
-    rt: &impl Abort,
-    alloc: Global,
-    config: Config,
-    command: &Command,
-) -> Result<Config, Fail>
-    requires { IsWellFormed command.now }
+fn command_of(alloc: Global, change: Change) -> Result<Command, Fail>
+    ensures { IfOk result (λ command. IsWellFormed command) }
 {
-    assert!(rt; is_changing(command));
-    Ok(config.apply_owned(alloc, command)?)
+    match change {
+        Change::CheckState => check_state(alloc),
+        Change::AllowSetup => allow_setup(alloc),
+        Change::TableEntry => table_entry(alloc),
+        Change::Disable => Ok(disable()),
+    }
 }
 
-/// The report, and then the summary, compared with the text.
-fn assert_reported(
+fn changed(
     rt: &impl Abort,
     alloc: Global,
-    run: &Run,
-    journal: bool,
-    text: &str,
-) -> Result<(), Fail> {
-    assert!(rt; !run.editions.is_empty());
-    let mut out = MemorySink::new(alloc, 4096)?;
-    write_report(
-        &run.editions,
-        &run.book,
-        &run.dockets,
-        &run.tallies,
-        &run.trackers,
-        &run.hits,
-        &run.ends,
-        journal,
-        &mut out,
-    )
-    .or(Err("not written"))?;
-    write_summary(
-        &run.editions,
-        &run.book,
-        &run.dockets,
-        &run.tallies,
-        &mut out,
-    )
-    .or(Err("not written"))?;
-    assert_eq!(rt; out.written(), text.as_bytes());
-    Ok(())
+    config: &Config,
+    change: Change,
+) -> Result<Config, Fail> {
+    let command = command_of(alloc, change)?;
+    assert!(rt; is_changing(&command));
+    Ok(config.apply(alloc, &command)?)
 }
 
-fn judged(verdict: Verdict, number: u16, edition: u64, cause: Cause) -> DocketEntry {
-    DocketEntry::judged(Judgement {
-        edition,
-        verdict,
-        rule: RuleRef { id: 0, number },
-        cause,
-    })
+/// The empty configuration after the changes.
+fn config_of(rt: &impl Abort, alloc: Global, changes: &[Change]) -> Result<Config, Fail> {
+    let mut config = Config::new(alloc)?;
+    for change in changes {
+        config = changed(rt, alloc, &config, *change)?;
+    }
+    Ok(config)
+}
+
+/// The editions of these configurations, numbered from 1.
+fn editions_of(
+    rt: &impl Abort,
+    alloc: Global,
+    configs: &[&[Change]],
+) -> Result<Vec<Arc<Edition>>, Fail> {
+    let mut editions = Vec::new(alloc);
+    for changes in configs {
+        let number = editions.len() as u64 + 1;
+        editions.push(Edition::build(alloc, number, config_of(rt, alloc, changes)?)?)?;
+    }
+    Ok(editions)
 }
 
 fn docket_of(alloc: Global, entries: &[DocketEntry]) -> Result<Docket, Fail> {
@@ -191,10 +199,18 @@ fn docket_of(alloc: Global, entries: &[DocketEntry]) -> Result<Docket, Fail> {
     Ok(docket)
 }
 
-fn tally_of(rt: &impl Abort, alloc: Global, hits: &[(u32, u32)]) -> Result<Tally, Fail> {
+fn dockets_of(alloc: Global, captures: &[Captured<'_>]) -> Result<Vec<Docket>, Fail> {
+    let mut dockets = Vec::new(alloc);
+    for capture in captures {
+        dockets.push(docket_of(alloc, capture.entries)?)?;
+    }
+    Ok(dockets)
+}
+
+fn tally_of(rt: &impl Abort, alloc: Global, counted: &[(u32, u32)]) -> Result<Tally, Fail> {
     let mut tally = Tally::new(alloc);
     tally.fit(3)?;
-    for (id, bytes) in hits {
+    for (id, bytes) in counted {
         assert!(rt; *id < 3);
         tally.fit(3)?;
         tally.hit(*id, *bytes);
@@ -202,59 +218,44 @@ fn tally_of(rt: &impl Abort, alloc: Global, hits: &[(u32, u32)]) -> Result<Tally
     Ok(tally)
 }
 
-/// The editions of these configurations, numbered from 1.
-fn editions_of(alloc: Global, configs: Vec<Config>) -> Result<Vec<Arc<Edition>>, Fail> {
-    let mut editions = Vec::new(alloc);
-    for config in configs {
-        let number = editions.len() as u64 + 1;
-        editions.push(Edition::build(alloc, number, config)?)?;
-    }
-    Ok(editions)
-}
-
-fn book_of(rt: &impl Abort, alloc: Global, editions: &[Arc<Edition>]) -> Result<Book, Fail> {
-    assert!(rt; !editions.is_empty());
-    let facts = editions[0].facts().copy(alloc)?;
-    assert!(rt; facts.number == 1);
-    Ok(Book::open(alloc, 2, facts)?)
-}
-
-/// A run of these editions with one docket and one tally.
-fn run_of(
+fn tallies_of(
     rt: &impl Abort,
     alloc: Global,
-    editions: Vec<Arc<Edition>>,
-    docket: Docket,
-    tally: Tally,
-    end: CaptureEnd,
-) -> Result<Run, Fail> {
-    let book = book_of(rt, alloc, &editions)?;
-    Ok(Run {
-        editions,
-        book,
-        dockets: vec![in alloc; docket]?,
-        tallies: vec![in alloc; tally]?,
-        trackers: vec![in alloc; 10]?,
-        hits: Vec::new(alloc),
-        ends: Ends {
-            captures: Items::from_vec(vec![in alloc; end]?),
-            answers: Items::from_vec(Vec::new(alloc)),
-        },
-    })
+    captures: &[Captured<'_>],
+) -> Result<Vec<Tally>, Fail> {
+    let mut tallies = Vec::new(alloc);
+    for capture in captures {
+        tallies.push(tally_of(rt, alloc, capture.counted)?)?;
+    }
+    Ok(tallies)
 }
 
-#[test]
-fn empty_script_denies_one_syn(rt: HostRuntime) -> Result<(), Fail> {
-    let alloc = rt.alloc();
-    let editions = editions_of(alloc, vec![in alloc; Config::new(alloc)?]?)?;
-    let docket = docket_of(alloc, &[judged(Verdict::Deny, 65535, 1, Cause::Rule)])?;
-    let tally = tally_of(&rt, alloc, &[(0, 40)])?;
-    let end = CaptureEnd::Read { records: 1 };
-    let run = run_of(&rt, alloc, editions, docket, tally, end)?;
-    let text = "1.1 deny 65535 at 1\nend 1 records 1\neditions 1\nrules 1\n\
-        65535 1 40 set 31 deny ip from any to any\nclock 0\nstates 0\n\
-        records 1\nallow 0\ndeny 1\neditions 1\nentries 1\nstates 0\n";
-    assert_reported(&rt, alloc, &run, false, text)
+fn captures_of(alloc: Global, captures: &[Captured<'_>]) -> Result<Items<CaptureEnd>, Fail> {
+    let mut ends = Vec::new(alloc);
+    for capture in captures {
+        ends.push(capture.end)?;
+    }
+    Ok(Items::from_vec(ends))
+}
+
+/// Line 7 is refused, line 9 lists edition 1, and line 10 a table of edition 2.
+fn answers_of(alloc: Global, is_answered: bool) -> Result<Items<LineAnswer>, Fail> {
+    let mut answers = Vec::new(alloc);
+    if is_answered {
+        let refused = Answer::Refused(ApplyFault::ReservedSet);
+        let rules = Answer::Listed {
+            edition: 1,
+            table: None,
+        };
+        let table = Answer::Listed {
+            edition: 2,
+            table: Some(Name::new(alloc, b"nets")?),
+        };
+        for (line, answer) in vec![in alloc; (7, refused), (9, rules), (10, table)]? {
+            answers.push(LineAnswer { line, answer })?;
+        }
+    }
+    Ok(Items::from_vec(answers))
 }
 
 const FORTH: Flow = Flow {
@@ -322,65 +323,117 @@ fn ask_all(rt: &impl Abort, book: &mut Book) -> Result<(), Fail> {
     Ok(())
 }
 
-#[test]
-fn tcp_state_lives_and_dies(rt: HostRuntime) -> Result<(), Fail> {
-    let alloc = rt.alloc();
-    let config = applied(&rt, alloc, Config::new(alloc)?, &check_state(alloc)?)?;
-    let config = applied(&rt, alloc, config, &allow_setup(alloc)?)?;
-    let editions = editions_of(alloc, vec![in alloc; config]?)?;
-    let allow = judged(Verdict::Allow, 200, 1, Cause::Rule);
-    let deny = judged(Verdict::Deny, 65535, 1, Cause::Rule);
-    let docket = docket_of(alloc, &[allow, allow, allow, allow, deny])?;
-    let hits = [(2, 40), (2, 40), (2, 40), (2, 40), (0, 40)];
-    let tally = tally_of(&rt, alloc, &hits)?;
-    let end = CaptureEnd::Read { records: 5 };
-    let mut run = run_of(&rt, alloc, editions, docket, tally, end)?;
-    ask_all(&rt, &mut run.book)?;
-    let text = "1.1 allow 00200 at 1\n1.2 allow 00200 at 1\n1.3 allow 00200 at 1\n\
-        1.4 allow 00200 at 1\n1.5 deny 65535 at 1\nend 1 records 5\neditions 1\nrules 3\n\
-        00100 0 0 check-state\n00200 4 160 allow tcp from any to any setup keep-state\n\
-        65535 1 40 set 31 deny ip from any to any\nclock 104\nstates 0\njournal 2 7\npublish 1\n\
-        ask 1.1 100 lookup :default tcp 10.0.0.1 1025 192.0.2.1 80 S notfound\n\
-        ask 1.1 100 install 2 keep :default tcp 10.0.0.1 1025 192.0.2.1 80 S created\n\
-        ask 1.2 101 lookup :default tcp 192.0.2.1 80 10.0.0.1 1025 S found 2 reverse\n\
-        ask 1.3 102 lookup :default tcp 10.0.0.1 1025 192.0.2.1 80 F found 2 forward\n\
-        ask 1.4 103 lookup :default tcp 192.0.2.1 80 10.0.0.1 1025 F found 2 reverse\n\
-        ask 1.5 104 lookup :default tcp 10.0.0.1 1025 192.0.2.1 80 - notfound\n\
-        lane 1 refused 0 tracker 10\n\
-        records 5\nallow 4\ndeny 1\neditions 1\nentries 7\nstates 0\n";
-    assert_reported(&rt, alloc, &run, true, text)
+/// The book of these editions for two lanes, with the connection's asks where they are wanted.
+fn book_of(
+    rt: &impl Abort,
+    alloc: Global,
+    editions: &[Arc<Edition>],
+    is_asked: bool,
+) -> Result<Book, Fail> {
+    assert!(rt; !editions.is_empty());
+    let facts = editions[0].facts().share()?;
+    assert!(rt; facts.number == 1);
+    let mut book = Book::open(alloc, 2, facts)?;
+    if is_asked {
+        ask_all(rt, &mut book)?;
+    }
+    Ok(book)
 }
 
-fn answers(alloc: Global) -> Result<Items<LineAnswer>, Fail> {
-    let table = Some(Name::new(alloc, b"nets")?);
-    let mut answers = Vec::new(alloc);
-    answers.push(LineAnswer {
-        line: 7,
-        answer: Answer::Refused(ApplyFault::ReservedSet),
-    })?;
-    answers.push(LineAnswer {
-        line: 9,
-        answer: Answer::Listed {
-            edition: 1,
-            table: None,
-        },
-    })?;
-    answers.push(LineAnswer {
-        line: 10,
-        answer: Answer::Listed { edition: 2, table },
-    })?;
-    Ok(Items::from_vec(answers))
+/// The report, and then the summary, compared with the row's text.
+fn assert_reported(rt: &impl Abort, alloc: Global, row: &Row<'_>) -> Result<(), Fail> {
+    let editions = editions_of(rt, alloc, row.editions)?;
+    assert!(rt; !editions.is_empty());
+    let book = book_of(rt, alloc, &editions, row.is_asked)?;
+    let dockets = dockets_of(alloc, row.captures)?;
+    let tallies = tallies_of(rt, alloc, row.captures)?;
+    let ends = Ends {
+        captures: captures_of(alloc, row.captures)?,
+        answers: answers_of(alloc, row.is_answered)?,
+    };
+    let mut out = MemorySink::new(alloc, 4096)?;
+    write_report(
+        &editions,
+        &book,
+        &dockets,
+        &tallies,
+        &[10],
+        row.hits,
+        &ends,
+        row.is_asked,
+        &mut out,
+    )
+    .or(Err("not written"))?;
+    write_summary(&editions, &book, &dockets, &tallies, &mut out).or(Err("not written"))?;
+    assert_eq!(rt; out.written(), row.text.as_bytes());
+    Ok(())
+}
+
+const fn judged(verdict: Verdict, number: u16, edition: u64, cause: Cause) -> DocketEntry {
+    DocketEntry::Judged {
+        verdict,
+        cause,
+        rule: RuleRef { id: 0, number },
+        edition,
+    }
+}
+
+#[test]
+fn empty_script_denies_one_syn(rt: HostRuntime) -> Result<(), Fail> {
+    let capture = Captured {
+        entries: &[judged(Verdict::Deny, 65535, 1, Cause::Rule)],
+        counted: &[(0, 40)],
+        end: CaptureEnd::Read { records: 1 },
+    };
+    let row = Row {
+        editions: &[&[]],
+        captures: &[capture],
+        is_asked: false,
+        is_answered: false,
+        hits: &[],
+        text: "1.1 deny 65535 at 1\nend 1 records 1\neditions 1\nrules 1\n\
+            65535 1 40 set 31 deny ip from any to any\nclock 0\nstates 0\n\
+            records 1\nallow 0\ndeny 1\neditions 1\nentries 1\nstates 0\n",
+    };
+    assert_reported(&rt, rt.alloc(), &row)
+}
+
+#[test]
+fn tcp_state_lives_and_dies(rt: HostRuntime) -> Result<(), Fail> {
+    let allow = judged(Verdict::Allow, 200, 1, Cause::Rule);
+    let deny = judged(Verdict::Deny, 65535, 1, Cause::Rule);
+    let capture = Captured {
+        entries: &[allow, allow, allow, allow, deny],
+        counted: &[(2, 40), (2, 40), (2, 40), (2, 40), (0, 40)],
+        end: CaptureEnd::Read { records: 5 },
+    };
+    let row = Row {
+        editions: &[&[Change::CheckState, Change::AllowSetup]],
+        captures: &[capture],
+        is_asked: true,
+        is_answered: false,
+        hits: &[],
+        text: "1.1 allow 00200 at 1\n1.2 allow 00200 at 1\n1.3 allow 00200 at 1\n\
+            1.4 allow 00200 at 1\n1.5 deny 65535 at 1\nend 1 records 5\neditions 1\nrules 3\n\
+            00100 0 0 check-state\n00200 4 160 allow tcp from any to any setup keep-state\n\
+            65535 1 40 set 31 deny ip from any to any\nclock 104\nstates 0\njournal 2 7\n\
+            publish 1\n\
+            ask 1.1 100 lookup :default tcp 10.0.0.1 1025 192.0.2.1 80 S notfound\n\
+            ask 1.1 100 install 2 keep :default tcp 10.0.0.1 1025 192.0.2.1 80 S created\n\
+            ask 1.2 101 lookup :default tcp 192.0.2.1 80 10.0.0.1 1025 S found 2 reverse\n\
+            ask 1.3 102 lookup :default tcp 10.0.0.1 1025 192.0.2.1 80 F found 2 forward\n\
+            ask 1.4 103 lookup :default tcp 192.0.2.1 80 10.0.0.1 1025 F found 2 reverse\n\
+            ask 1.5 104 lookup :default tcp 10.0.0.1 1025 192.0.2.1 80 - notfound\n\
+            lane 1 refused 0 tracker 10\n\
+            records 5\nallow 4\ndeny 1\neditions 1\nentries 7\nstates 0\n",
+    };
+    assert_reported(&rt, rt.alloc(), &row)
 }
 
 #[test]
 fn lines_of_each_kind(rt: HostRuntime) -> Result<(), Fail> {
-    let alloc = rt.alloc();
-    let last = applied(&rt, alloc, Config::new(alloc)?, &table_entry(alloc)?)?;
-    let last = applied(&rt, alloc, last, &disable())?;
-    let editions = editions_of(alloc, vec![in alloc; Config::new(alloc)?, last]?)?;
-    let docket = docket_of(
-        alloc,
-        &[
+    let whole = Captured {
+        entries: &[
             DocketEntry::Other,
             DocketEntry::Malformed(3),
             judged(Verdict::Unreach(3), 100, 2, Cause::Rule),
@@ -388,29 +441,34 @@ fn lines_of_each_kind(rt: HostRuntime) -> Result<(), Fail> {
             judged(Verdict::Deny, 900, 1, Cause::Full(16384)),
             judged(Verdict::Reset, 65535, u64::MAX, Cause::Rule),
         ],
-    )?;
-    let tally = tally_of(&rt, alloc, &[(0, 40)])?;
-    let end = CaptureEnd::Read { records: 6 };
-    let mut run = run_of(&rt, alloc, editions, docket, tally, end)?;
-    run.dockets.push(Docket::new(alloc))?;
-    run.tallies.push(tally_of(&rt, alloc, &[(0, 28), (1, 9)])?)?;
-    run.hits = vec![in alloc; 5, 0]?;
-    let stopped = CaptureEnd::Stopped {
-        at: 0,
-        fault: CaptureFault::ReadFault,
-        count: 1,
+        counted: &[(0, 40)],
+        end: CaptureEnd::Read { records: 6 },
     };
-    run.ends = Ends {
-        captures: Items::from_vec(vec![in alloc; end, stopped]?),
-        answers: answers(alloc)?,
+    let unread = Captured {
+        entries: &[],
+        counted: &[(0, 28), (1, 9)],
+        end: CaptureEnd::Stopped {
+            at: 0,
+            fault: CaptureFault::ReadFault,
+            count: 1,
+        },
     };
-    let text = "1.1 other\n1.2 malformed 3\n1.3 unreach port 00100 at 2\n\
-        1.4 deny 00900 at 1 limit 2\n1.5 deny 00900 at 1 full 16384\n\
-        1.6 reset 65535 at 18446744073709551615\nend 1 records 6\nfault 2 record 0 ReadFault\n\
-        refused line 7 ReservedSet\nlist line 9 edition 1\nrules 1\n\
-        65535 set 31 deny ip from any to any\ntable nets addr 1 line 10 edition 2\n10.0.0.0/8 7\n\
-        editions 2\ndisabled 1 3\nrules 1\n65535 2 68 set 31 deny ip from any to any\n\
-        clock 0\nstates 0\ncache 1 hits 5\ncache 2 hits 0\n\
-        records 6\nallow 0\ndeny 2\neditions 2\nentries 1\nstates 0\n";
-    assert_reported(&rt, alloc, &run, false, text)
+    let row = Row {
+        editions: &[&[], &[Change::TableEntry, Change::Disable]],
+        captures: &[whole, unread],
+        is_asked: false,
+        is_answered: true,
+        hits: &[5, 0],
+        text: "1.1 other\n1.2 malformed 3\n1.3 unreach port 00100 at 2\n\
+            1.4 deny 00900 at 1 limit 2\n1.5 deny 00900 at 1 full 16384\n\
+            1.6 reset 65535 at 18446744073709551615\nend 1 records 6\n\
+            fault 2 record 0 ReadFault\n\
+            refused line 7 ReservedSet\nlist line 9 edition 1\nrules 1\n\
+            65535 set 31 deny ip from any to any\n\
+            table nets addr 1 line 10 edition 2\n10.0.0.0/8 7\n\
+            editions 2\ndisabled 1 3\nrules 1\n65535 2 68 set 31 deny ip from any to any\n\
+            clock 0\nstates 0\ncache 1 hits 5\ncache 2 hits 0\n\
+            records 6\nallow 0\ndeny 2\neditions 2\nentries 1\nstates 0\n",
+    };
+    assert_reported(&rt, rt.alloc(), &row)
 }

@@ -7,7 +7,7 @@ use Rattle.fw_base.specs.Prefix.{Network}
 use Rattle.fw_base.specs.Addr.{address_text}
 use Rattle.fw_base.specs.Prefix6.{Network6}
 use Rattle.fw_rule.specs.Canonical.{network_text}
-use Rattle.fw_rule.specs.Addr6Text.{network6_text, address6_text}
+use Rattle.fw_rule.specs.Address6Text.{network6_text, address6_text}
 
 -- a prefix's text is its address, and its length where that isn't 32
 pub network_text-split : (n : Network) (address : ℕ) → address ≡ n.address → network_text n ≡ address_text address ++ (if n.bits == 32 then [] else 47 ∷ decimal n.bits)

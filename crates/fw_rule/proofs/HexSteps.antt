@@ -5,7 +5,7 @@ use Rattle.std.proofs.lemmas.List.{drop_all}
 use Rattle.std.proofs.Math.Nat.{pow-suc}
 use Rattle.std.proofs.lemmas.Bool.Decides.{eqb_tells}
 use Rattle.std.specs.Fmt.{digits, digits_onto, digit_glyph}
-use Rattle.fw_rule.specs.Addr6Text.{hexadecimal}
+use Rattle.fw_rule.specs.Address6Text.{hexadecimal}
 use Rattle.fw_rule.proofs.DigitSteps.{put_before}
 
 -- the digits of rest are still to be written before those in the buffer; the text has at most 64

@@ -7,7 +7,7 @@ use Rattle.std.specs.Borrow.{Bor}
 use Rattle.std.proofs.lemmas.List.{append-nil, take_min, drop_min, drop_all}
 use Rattle.fw_base.proofs.Texts.{IsUnderWay}
 use Rattle.std.proofs.lemmas.Grind.{flat_map-append}
-use Rattle.fw_rule.specs.Canonical.{spaced, list_words, signed_names, signed, sign_of, unreach_names, code_word, numbers_where, has_bit, option_words, test_words, negation}
+use Rattle.fw_rule.specs.Canonical.{spaced_text, list_words, signed_names, signed_name, sign_of, unreach_names, code_word, numbers_where, has_bit, option_words, test_words, negation_words}
 use Rattle.fw_rule.specs.declared.opt.Opt.{Opt}
 
 -- each text behind a byte
@@ -19,7 +19,7 @@ abbrev pub behind_commas : List (List ℕ) → List ℕ
 behind_commas texts = behind_bytes 44 texts
 
 -- a joined text is the first text, and each other behind the byte
-pub join-cons : (byte : ℕ) (text : List ℕ) (texts : List (List ℕ)) → join_with_byte byte (text ∷ texts) ≡ text ++ behind_bytes byte texts
+join-cons : (byte : ℕ) (text : List ℕ) (texts : List (List ℕ)) → join_with_byte byte (text ∷ texts) ≡ text ++ behind_bytes byte texts
 join-cons byte text [] = sym (append-nil text)
 join-cons byte text (next ∷ texts) = ap (λ rest. text ++ (byte ∷ rest)) (join-cons byte next texts)
 
@@ -34,12 +34,12 @@ pub behind_bytes-drop : {T : Type 0} (byte : ℕ) (f : T → List ℕ) (items : 
 behind_bytes-drop byte f items i d inside = rw (add-one, drop-cons items i d) refl
 
 -- a list is written as ` not ` or a space, and its elements with commas between them
-pub spaced-list_words : (negated : Bool) (elements : List (List ℕ)) → spaced (list_words negated elements) ≡ (if negated then codes " not " else codes " ") ++ join_with_byte 44 elements
+pub spaced-list_words : (negated : Bool) (elements : List (List ℕ)) → spaced_text (list_words negated elements) ≡ (if negated then codes " not " else codes " ") ++ join_with_byte 44 elements
 spaced-list_words true elements = ap (λ rest. codes " not " ++ rest) (append-nil (join_with_byte 44 elements))
 spaced-list_words false elements = ap (λ rest. 32 ∷ rest) (append-nil (join_with_byte 44 elements))
 
 -- the words of two lists are written one list after the other
-pub spaced-append : (front rest : List (List ℕ)) → spaced (front ++ rest) ≡ spaced front ++ spaced rest
+pub spaced-append : (front rest : List (List ℕ)) → spaced_text (front ++ rest) ≡ spaced_text front ++ spaced_text rest
 spaced-append front rest = flat_map-append (λ word. 32 ∷ word) front rest
 
 -- texts with commas between them, the first behind another text, which is written only if there is one
@@ -48,13 +48,13 @@ parted before [] = []
 parted before (text ∷ texts) = before ++ (text ++ behind_commas texts)
 
 -- behind a comma each of the texts stands behind a comma
-pub parted-comma : (texts : List (List ℕ)) → parted (codes ",") texts ≡ behind_commas texts
+parted-comma : (texts : List (List ℕ)) → parted (codes ",") texts ≡ behind_commas texts
 unfolding parted
 parted-comma [] = refl
 parted-comma (text ∷ texts) = refl
 
 -- the first text stands behind the text before it, and each other behind a comma
-pub parted-cons : (before text : List ℕ) (texts : List (List ℕ)) → parted before (text ∷ texts) ≡ (before ++ text) ++ parted (codes ",") texts
+parted-cons : (before text : List ℕ) (texts : List (List ℕ)) → parted before (text ∷ texts) ≡ (before ++ text) ++ parted (codes ",") texts
 unfolding parted
 parted-cons before text texts = sym (append_assoc before text (behind_commas texts)) ∙ ap (λ rest. (before ++ text) ++ rest) (sym (parted-comma texts))
 
@@ -66,42 +66,42 @@ parted-nil (text ∷ texts) = join-cons 44 text texts
 
 -- the options from a place on are written as the one there, and then those behind it
 pub spaced-options : (options : List Opt) (i : ℕ) (item : Opt) → item ≡ get_or options i item → i < length options
-    → spaced (flat_map option_words (drop i options)) ≡ spaced (option_words item) ++ spaced (flat_map option_words (drop (i + 1) options))
+    → spaced_text (flat_map option_words (drop i options)) ≡ spaced_text (option_words item) ++ spaced_text (flat_map option_words (drop (i + 1) options))
 spaced-options options i item here inside =
     rw (add-one, drop-cons options i item, ← here) (spaced-append (option_words item) (flat_map option_words (drop (suc i) options)))
 
 -- the names from bit i on
-pub signed_names-drop : (names : List (Bor (List ℕ))) (i : ℕ) (d : Bor (List ℕ)) (set_bits clear_bits : ℕ) → i < length names
+signed_names-drop : (names : List (Bor (List ℕ))) (i : ℕ) (d : Bor (List ℕ)) (set_bits clear_bits : ℕ) → i < length names
     → signed_names (map (λ name. name.now) (drop i names)) i set_bits clear_bits
-    ≡ signed (sign_of (has_bit set_bits i) (has_bit clear_bits i)) (get_or names i d).now ++ signed_names (map (λ name. name.now) (drop (i + 1) names)) (i + 1) set_bits clear_bits
+    ≡ signed_name (sign_of (has_bit set_bits i) (has_bit clear_bits i)) (get_or names i d).now ++ signed_names (map (λ name. name.now) (drop (i + 1) names)) (i + 1) set_bits clear_bits
 unfolding signed_names
 signed_names-drop names i d set_bits clear_bits inside = rw (drop-cons names i d) (rw add-one refl)
 
 -- a name with its sign stands behind the text before it, and those after it behind commas
-pub parted-signed : (before sign name : List ℕ) (rest : List (List ℕ)) → parted before (signed (Some sign) name ++ rest) ≡ (before ++ (sign ++ (name ++ []))) ++ parted (codes ",") rest
+parted-signed : (before sign name : List ℕ) (rest : List (List ℕ)) → parted before (signed_name (Some sign) name ++ rest) ≡ (before ++ (sign ++ (name ++ []))) ++ parted (codes ",") rest
 parted-signed before sign name rest = parted-cons before (sign ++ name) rest ∙ ap (λ end. (before ++ (sign ++ end)) ++ parted (codes ",") rest) (sym (append-nil name))
 
 -- with the state in its place
 pub placed-split : (options front back : List Opt) (at : ℕ) (state : List (List ℕ)) → front ≡ take (min at (length options)) options → back ≡ drop (min at (length options)) options
-    → spaced (flat_map option_words (take at options) ++ (state ++ flat_map option_words (drop at options)))
-    ≡ spaced (flat_map option_words front) ++ (spaced state ++ spaced (flat_map option_words back))
+    → spaced_text (flat_map option_words (take at options) ++ (state ++ flat_map option_words (drop at options)))
+    ≡ spaced_text (flat_map option_words front) ++ (spaced_text state ++ spaced_text (flat_map option_words back))
 placed-split options front back at state f b =
     rw (f, b, take_min at options, drop_min at options)
     (spaced-append (flat_map option_words (take at options)) (state ++ flat_map option_words (drop at options))
-    ∙ ap (λ rest. spaced (flat_map option_words (take at options)) ++ rest) (spaced-append state (flat_map option_words (drop at options))))
+    ∙ ap (λ rest. spaced_text (flat_map option_words (take at options)) ++ rest) (spaced-append state (flat_map option_words (drop at options))))
 
 -- a body is written as its protocol, source and destination with their ports, and options
 pub body-split : (protocol from_word to_word a b c d e : List (List ℕ))
-    → spaced (protocol ++ (from_word ++ (a ++ (b ++ (to_word ++ (c ++ (d ++ e)))))))
-    ≡ spaced protocol ++ ((spaced from_word ++ spaced (a ++ b)) ++ ((spaced to_word ++ spaced (c ++ d)) ++ spaced e))
+    → spaced_text (protocol ++ (from_word ++ (a ++ (b ++ (to_word ++ (c ++ (d ++ e)))))))
+    ≡ spaced_text protocol ++ ((spaced_text from_word ++ spaced_text (a ++ b)) ++ ((spaced_text to_word ++ spaced_text (c ++ d)) ++ spaced_text e))
 body-split protocol from_word to_word a b c d e = simp (spaced-append, append_assoc)
 
 -- four lists of words are written one list after the other
-pub words-split : (a b c d : List (List ℕ)) → spaced (a ++ (b ++ (c ++ d))) ≡ spaced a ++ (spaced b ++ (spaced c ++ spaced d))
+pub words-split : (a b c d : List (List ℕ)) → spaced_text (a ++ (b ++ (c ++ d))) ≡ spaced_text a ++ (spaced_text b ++ (spaced_text c ++ spaced_text d))
 words-split a b c d = simp spaced-append
 
 -- words joined by spaces are the first word, and each other behind a space
-pub join_spaces : (word : List ℕ) (words : List (List ℕ)) → join_with_byte 32 (word ∷ words) ≡ word ++ spaced words
+pub join_spaces : (word : List ℕ) (words : List (List ℕ)) → join_with_byte 32 (word ∷ words) ≡ word ++ spaced_text words
 join_spaces word [] = sym (append-nil word)
 join_spaces word (next ∷ words) = ap (λ rest. word ++ (32 ∷ rest)) (join_spaces next words)
 
@@ -122,19 +122,19 @@ unfolding code_word unreach_names
 code_unnamed code many = rw (slice_get_past unreach_names code many) refl
 
 -- those of the numbers from k on of which the test holds
-pub numbers_where-step : (test : ℕ → Bool) (most k : ℕ) → k < most → numbers_where test (most - k) k ≡ (if test k then decimal k ∷ [] else []) ++ numbers_where test (most - (k + 1)) (k + 1)
+numbers_where-step : (test : ℕ → Bool) (most k : ℕ) → k < most → numbers_where test (most - k) k ≡ (if test k then decimal k ∷ [] else []) ++ numbers_where test (most - (k + 1)) (k + 1)
 unfolding numbers_where
 numbers_where-step test most k inside =
     let e : most - k ≡ suc (most - (k + 1)) = omega arith in rw e refl
 
 -- from the end on no number is left
-pub numbers_where-end : (test : ℕ → Bool) (most k : ℕ) → k ≡ most → numbers_where test (most - k) k ≡ []
+numbers_where-end : (test : ℕ → Bool) (most k : ℕ) → k ≡ most → numbers_where test (most - k) k ≡ []
 unfolding numbers_where
 numbers_where-end test most k done =
     let e : most - k ≡ 0 = omega arith in rw e refl
 
 -- a number stands behind the text before it, and those after it behind commas
-pub parted-number : (before text : List ℕ) (rest : List (List ℕ)) → parted before (text ∷ rest) ≡ (before ++ (text ++ [])) ++ parted (codes ",") rest
+parted-number : (before text : List ℕ) (rest : List (List ℕ)) → parted before (text ∷ rest) ≡ (before ++ (text ++ [])) ++ parted (codes ",") rest
 parted-number before text rest = parted-cons before text rest ∙ ap (λ end. (before ++ end) ++ parted (codes ",") rest) (sym (append-nil text))
 
 -- the test holds of k, and its number was written
@@ -193,9 +193,9 @@ pub same_rest : {a b : Option (List ℕ)} {l m : ℕ} {text was rest : List ℕ}
 same_rest e way = record { done = way.done; split = way.split ∙ ap (λ more. way.done ++ more) e; appended = way.appended; later = way.later }
 
 -- an option is written as ` not ` or nothing, and its test
-pub spaced-option : (option : Opt) → spaced (option_words option) ≡ (if option.negated then codes " not" else []) ++ spaced (test_words option.test)
-spaced-option option = elim option.negated as (λ negated. spaced (negation negated ++ test_words option.test) ≡ (if negated then codes " not" else []) ++ spaced (test_words option.test)) [ true ↦ refl | false ↦ refl ]
+pub spaced-option : (option : Opt) → spaced_text (option_words option) ≡ (if option.negated then codes " not" else []) ++ spaced_text (test_words option.test)
+spaced-option option = elim option.negated as (λ negated. spaced_text (negation_words negated ++ test_words option.test) ≡ (if negated then codes " not" else []) ++ spaced_text (test_words option.test)) [ true ↦ refl | false ↦ refl ]
 
 -- a word with a list behind it
-pub spaced-pair : (word text : List ℕ) → spaced (word ∷ text ∷ []) ≡ ((32 ∷ word) ++ (32 ∷ [])) ++ text
+pub spaced-pair : (word text : List ℕ) → spaced_text (word ∷ text ∷ []) ≡ ((32 ∷ word) ++ (32 ∷ [])) ++ text
 spaced-pair word text = simp (append_assoc, append-nil)

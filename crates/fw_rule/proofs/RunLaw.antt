@@ -1,7 +1,8 @@
 -- The run that is shortened is the longest, the first of equal ones.
 use Rattle.std.proofs.Common.{◌≡◌, ℕ, ◌+◌, ◌<◌, ◌≤◌, zero, suc, Option, Some, None, slice_get, List, [], ◌∷◌, drop, refl, sym, ap, ◌∙◌, arith, inl, inr}
 use Rattle.std.proofs.lemmas.Bool.Decides.{eqb_tells, leb_tells}
-use Rattle.fw_rule.specs.Addr6Text.{leading_zeros, longest_run, place_of_run}
+use Rattle.std.proofs.Math.Nat.{zero-add}
+use Rattle.fw_rule.specs.Address6Text.{leading_zeros, longest_run, place_of_run}
 use Rattle.fw_rule.specs.ZeroRuns.{IsZeroRun, FirstLongestRunsAreFound}
 use Rattle.fw_rule.proofs.ZeroRuns.{run_fits, run_there}
 
@@ -36,14 +37,11 @@ zeros_counted (g ∷ groups) (suc count) zeros =
       | inr h ↦ absurd (h.1 (same_zero g (zeros 0 (omega arith))))
     ]
 
-zero_plus : (n : ℕ) → 0 + n ≡ n
-zero_plus n = omega arith
-
 suc_plus : (n m : ℕ) → suc n + m ≡ suc (n + m)
 suc_plus n m = omega arith
 
 at_drop : (groups : List ℕ) (place k : ℕ) → slice_get groups (place + k) ≡ slice_get (drop place groups) k
-at_drop groups zero k = ap (slice_get groups) (zero_plus k)
+at_drop groups zero k = ap (slice_get groups) (zero-add k)
 at_drop [] (suc place) k = refl
 at_drop (g ∷ groups) (suc place) k = ap (slice_get (g ∷ groups)) (suc_plus place k) ∙ at_drop groups place k
 

@@ -3,7 +3,7 @@ use Rattle.std.proofs.Common.{◌≡◌, ℕ, ◌+◌, ◌-◌, ◌<◌, ◌≤�
 use Rattle.std.proofs.lemmas.List.{drop_all, take_all}
 use Rattle.std.proofs.lemmas.Bool.{lt-ltb, le-ltb}
 use Rattle.std.proofs.lemmas.Bool.Decides.{eqb_tells, leb_tells}
-use Rattle.fw_rule.specs.Addr6Text.{leading_zeros, longest_run, place_of_run, groups_joined, groups_text, shortened}
+use Rattle.fw_rule.specs.Address6Text.{leading_zeros, longest_run, place_of_run, groups_joined, groups_text, shortened_text}
 use Rattle.fw_rule.specs.declared.address6_text.Run.{Run}
 use Rattle.fw_rule.proofs.ZeroRuns.{front_run, back_run, run_fits}
 
@@ -103,7 +103,7 @@ unfolding groups_text
 text-joined groups count same few = rw (← same, lt-ltb count 2 few) refl
 
 -- the longest run is shortened in the text where it has two groups or more
-pub text-shortened : (groups : List ℕ) (run : Run) → IsFound groups run → 2 ≤ run.count → groups_text groups ≡ shortened groups run.place run.count
+pub text-shortened : (groups : List ℕ) (run : Run) → IsFound groups run → 2 ≤ run.count → groups_text groups ≡ shortened_text groups run.place run.count
 unfolding groups_text
 text-shortened groups run found many = rw (← found.count, le-ltb run.count 2 many, ← found.place) refl
 

@@ -3,16 +3,16 @@ use Rattle.std.proofs.Common.{◌≡◌, ◌≢◌, ℕ, ◌-◌, ◌*◌, ◌%�
 use Rattle.std.specs.Prelude.{bit_or}
 use Rattle.std.specs.Int.{bit_at}
 use Rattle.std.proofs.Math.Pow.{pow-lt}
-use Rattle.std.proofs.Math.Nat.{mod-eq_of_lt}
+use Rattle.std.proofs.Math.Nat.{mod-eq_of_lt, max-zero}
 use Rattle.std.proofs.lemmas.Nat.Bits.{bit_at_or, bit_at-zero, bit_at-pow_same, bit_at-pow_other, bit_at-lt}
-use Rattle.std.proofs.lemmas.Bool.{lt-ltb, le-ltb}
+use Rattle.std.proofs.lemmas.Bool.{lt-ltb, le-ltb, ne_eqb}
 use Rattle.std.proofs.lemmas.Bool.Decides.{eqb_tells, leb_tells}
 use Rattle.fw_rule.specs.Bits.{has_bit}
 use Rattle.fw_rule.specs.TypeSet.{has_type, no_types, with_type}
 use Rattle.fw_rule.specs.declared.type_set.TypeSet.{TypeSet}
 
 -- a 1 in place k, as the code computes it
-pub one_shifted : (k : ℕ) → k < 128 → 1 * 2 ^ k % 2 ^ 128 ≡ 2 ^ k
+one_shifted : (k : ℕ) → k < 128 → 1 * 2 ^ k % 2 ^ 128 ≡ 2 ^ k
 one_shifted k inside =
     let below : 2 ^ k < 2 ^ 128 = pow-lt inside in
     let e : 1 * 2 ^ k ≡ 2 ^ k = omega arith in
@@ -29,14 +29,11 @@ no_types-has k = elim (nat_lt k 128) as (λ b. (if b then has_bit 0 k else has_b
 max_one : (n : ℕ) → n < 2 → max n 1 ≡ 1
 max_one n small = omega arith
 
-max_none : (n : ℕ) → max n 0 ≡ n
-max_none n = omega arith
-
 -- one bit more
 bit_more : (mask n k : ℕ) → has_bit (bit_or mask (2 ^ n)) k ≡ (k == n || has_bit mask k)
 bit_more mask n k = elim (eqb_tells k n) [
   | inl h ↦ rw h.0 (ap (λ m. m == 1) (bit_at_or mask (2 ^ n) k ∙ ap (λ j. max (bit_at mask k) (bit_at (2 ^ n) j)) h.1 ∙ ap (max (bit_at mask k)) (bit_at-pow_same n) ∙ max_one (bit_at mask k) (bit_at-lt mask k)))
-  | inr h ↦ rw h.0 (ap (λ m. m == 1) (bit_at_or mask (2 ^ n) k ∙ ap (max (bit_at mask k)) (bit_at-pow_other n k h.1) ∙ max_none (bit_at mask k)))
+  | inr h ↦ rw h.0 (ap (λ m. m == 1) (bit_at_or mask (2 ^ n) k ∙ ap (max (bit_at mask k)) (bit_at-pow_other n k h.1) ∙ max-zero (bit_at mask k)))
 ]
 
 -- two numbers from 128 on are the same where what they have above it is
@@ -46,9 +43,6 @@ same_above k n up high = elim (eqb_tells k n) [
   | inr h ↦ elim (eqb_tells (k - 128) (n - 128)) [ inl e ↦ absurd (h.1 (omega (arith, e.1))) | inr e ↦ e.0 ∙ sym h.0 ]
 ]
 
-differ : (k n : ℕ) → k ≢ n → (k == n) ≡ false
-differ k n other = elim (eqb_tells k n) [ inl h ↦ absurd (other h.1) | inr h ↦ h.0 ]
-
 -- a set with one type more has that type and those that it had
 pub with_type-has : (set : TypeSet) (n k : ℕ) → has_type (with_type set n) k ≡ (k == n || has_type set k)
 unfolding has_type with_type
@@ -56,11 +50,11 @@ with_type-has set n k = elim (leb_tells 128 n) [
   | inl high ↦
       elim (leb_tells 128 k) [
         | inl up ↦ rw (le-ltb n 128 high.1, le-ltb k 128 up.1) (bit_more set.high (n - 128) (k - 128) ∙ ap (λ b. b || has_bit set.high (k - 128)) (same_above k n up.1 high.1))
-        | inr below ↦ rw (le-ltb n 128 high.1, lt-ltb k 128 below.1) (ap (λ b. b || has_bit set.low k) (sym (differ k n (omega arith))))
+        | inr below ↦ rw (le-ltb n 128 high.1, lt-ltb k 128 below.1) (ap (λ b. b || has_bit set.low k) (sym (ne_eqb k n (omega arith))))
       ]
   | inr low ↦
       elim (leb_tells 128 k) [
-        | inl up ↦ rw (lt-ltb n 128 low.1, le-ltb k 128 up.1) (ap (λ b. b || has_bit set.high (k - 128)) (sym (differ k n (omega arith))))
+        | inl up ↦ rw (lt-ltb n 128 low.1, le-ltb k 128 up.1) (ap (λ b. b || has_bit set.high (k - 128)) (sym (ne_eqb k n (omega arith))))
         | inr below ↦ rw (lt-ltb n 128 low.1, lt-ltb k 128 below.1) (bit_more set.low n k)
       ]
 ]

@@ -2,7 +2,7 @@
 use Rattle.std.proofs.Common.{◌≡◌, ℕ, ◌+◌, ◌<◌, length, drop, get_or, drop-cons, add-one, List, [], ◌++◌, refl, Option, Result, Ok, Err, arith, append_assoc, sym, ap, ◌∙◌}
 use Rattle.std.proofs.KnownBytes.{Appends-trans}
 use Rattle.fw_rule.specs.Pieces.{pieces_text, piece_text}
-use Rattle.fw_rule.specs.declared.piece.Piece.{Piece}
+use Rattle.fw_rule.specs.declared.writing.Piece.{Piece}
 use Rattle.fw_base.specs.Texts.{WritesText}
 use Rattle.fw_base.proofs.Texts.{IsUnderWay, ends}
 use Rattle.std.proofs.lemmas.Result.{err_from_is_err_and}

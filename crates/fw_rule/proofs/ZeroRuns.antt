@@ -2,7 +2,7 @@
 use Rattle.std.proofs.Common.{◌≡◌, ℕ, ◌+◌, ◌<◌, ◌≤◌, suc, List, [], ◌∷◌, length, drop, refl, arith, inl, inr, subst}
 use Rattle.std.proofs.lemmas.Bool.{le-leb, lt-leb}
 use Rattle.std.proofs.lemmas.Bool.Decides.{eqb_tells, leb_tells}
-use Rattle.fw_rule.specs.Addr6Text.{leading_zeros, longest_run, place_of_run}
+use Rattle.fw_rule.specs.Address6Text.{leading_zeros, longest_run, place_of_run}
 
 -- the run at the front is the longest, the first of equal ones
 pub record IsFrontRun (group : ℕ) (groups : List ℕ) (here : ℕ) : Type 0 where

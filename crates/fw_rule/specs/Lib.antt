@@ -1,5 +1,5 @@
 -- rules and their texts
-pub mod Addr6Text
+pub mod Address6Text
 pub mod Bits
 pub mod Canonical
 pub mod FlowName

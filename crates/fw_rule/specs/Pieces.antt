@@ -2,8 +2,8 @@
 use Rattle.std.specs.Prelude.{ℕ, List}
 use Rattle.std.specs.List.{flat_map}
 use Rattle.std.specs.Fmt.{decimal}
-use Rattle.fw_rule.specs.declared.piece.Piece.{Piece}
-use Rattle.fw_rule.specs.declared.piece.Piece.TheVariants.{Text, Number}
+use Rattle.fw_rule.specs.declared.writing.Piece.{Piece}
+use Rattle.fw_rule.specs.declared.writing.Piece.TheVariants.{Text, Number}
 
 -- the text of one piece
 abbrev pub piece_text : Piece → List ℕ

@@ -20,8 +20,8 @@ use Rattle.fw_rule.specs.declared.state_opt.StateOpt.{StateOpt}
 use Rattle.fw_rule.specs.declared.state_opt.StateOpt.TheVariants.{Keep, Limit}
 use Rattle.fw_rule.specs.declared.body.Body.{Body}
 use Rattle.fw_rule.specs.declared.rule_draft.RuleDraft.{RuleDraft}
-use Rattle.fw_rule.specs.declared.key.Key.{Key}
-use Rattle.fw_rule.specs.declared.key.Key.TheVariants.{Net as NetKey, Number}
+use Rattle.fw_rule.specs.declared.table_command.Key.{Key}
+use Rattle.fw_rule.specs.declared.table_command.Key.TheVariants.{Net as NetKey, Number}
 use Rattle.fw_rule.specs.declared.table_command.TableCommand.{TableCommand}
 use Rattle.fw_rule.specs.declared.table_command.TableCommand.TheVariants.{Create, Destroy, Add as AddEntry, Remove, Clear, SwapWith, ListEntries}
 use Rattle.fw_rule.specs.declared.command.Command.{Command}

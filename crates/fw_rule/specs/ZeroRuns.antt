@@ -1,6 +1,6 @@
 -- Runs of zero groups (RFC 5952 section 4.2.3).
 use Rattle.std.specs.Prelude.{◌≡◌, ℕ, ◌+◌, ◌<◌, ◌≤◌, Some, List, length, slice_get}
-use Rattle.fw_rule.specs.Addr6Text.{longest_run, place_of_run}
+use Rattle.fw_rule.specs.Address6Text.{longest_run, place_of_run}
 
 -- so many zero groups stand from this place on
 pub record IsZeroRun (groups : List ℕ) (place count : ℕ) : Type 0 where

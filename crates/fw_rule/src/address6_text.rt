@@ -1,10 +1,10 @@
 ghost use Rattle.std.specs.Prelude.{◌≡◌, ◌≤◌, ◌<◌, ◌+◌, ◌-◌, ◌%◌, ◌/◌, ◌^◌, ◌==◌, suc, nat_le, if◌then◌else◌, length};
 ghost use Rattle.fw_base.specs.Texts.{WritesText};
-ghost use Rattle.fw_rule.specs.Addr6Text as text;
+ghost use Rattle.fw_rule.specs.Address6Text as text;
+ghost use Rattle.fw_rule.specs.ZeroRuns.{FirstLongestRunsAreFound};
 
 use crate::digits::{MOST_HEX_DIGITS, put_hex_digits};
-use crate::piece::Piece;
-use crate::writing::{Element, write_joined, write_pieces};
+use crate::writing::{Element, Piece, write_joined, write_pieces};
 use fw_base::{Addr6, Failed, Prefix6, Sink, write_text};
 
 /// How many groups of sixteen bits an address has.
@@ -35,7 +35,7 @@ fn group(address: u128, behind: u32) -> u16
     ((address >> behind) % 65_536) as u16
 }
 
-#[tactic(auto, unfolding(crate::specs::Addr6Text::groups_of))]
+#[tactic(auto, unfolding(crate::specs::Address6Text::groups_of))]
 fn groups(address: u128) -> [u16; GROUPS]
     ensures { result ≡ text.groups_of address }
 {
@@ -95,7 +95,7 @@ fn longest_run(groups: &[u16]) -> Run
 fn write_shortened<K: Sink>(out: &mut K, groups: &[u16], run: Run) -> Result<(), Failed>
     requires { run.place + run.count ≤ length groups.now }
     ensures { WritesText (K.written out.old) (K.written out.new) (K.faults out.old)
-        (K.faults out.new) (text.shortened groups.now run.place run.count) result }
+        (K.faults out.new) (text.shortened_text groups.now run.place run.count) result }
 {
     write_joined(out, b':', &groups[..run.place])?;
     write_text(out, b"::")?;
@@ -136,3 +136,9 @@ pub(crate) fn write_prefix6<K: Sink>(out: &mut K, prefix: Prefix6) -> Result<(),
     }
     write_pieces(out, &[Piece::Text(b"/"), Piece::Number(u32::from(bits))])
 }
+
+/// The run of zero groups that the text of an IPv6 address shortens is the longest, the first of equal
+/// ones (RFC 5952 section 4.2.3).
+pub fn first_longest_runs_are_found()
+    ensures { FirstLongestRunsAreFound }
+{}

@@ -1,6 +1,6 @@
 ghost use Rattle.std.specs.Prelude.{◌≡◌, IfOk};
 
-use crate::{AddrSpec, Family, Items, Opt, PortList, StateOpt};
+use crate::{AddrSpec, Items, Opt, PortList, StateOpt};
 use fw_base::OutOfMemory;
 use std::alloc::Global;
 
@@ -21,6 +21,17 @@ pub struct Body {
     /// Before which of the options `state` stands, for printing: at most their number, and 0 where
     /// there is no `state`.
     pub state_at: usize,
+}
+
+/// Which version of IP a rule asks for (ipfw(8), "RULE BODY").
+#[derive(Clone, Copy, Debug, PartialEq, Eq, Hash)]
+pub enum Family {
+    /// `ip`, `all`, and each protocol that is named or numbered: both versions.
+    AnyIp,
+    /// `ip4` or `ipv4` (RFC 791).
+    Four,
+    /// `ip6` or `ipv6` (RFC 8200).
+    Six,
 }
 
 impl Body {

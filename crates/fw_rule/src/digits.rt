@@ -1,6 +1,6 @@
 ghost use Rattle.std.specs.Prelude.{◌≡◌, ◌≤◌, ◌<◌, drop, false};
 ghost use Rattle.std.specs.Fmt.{decimal, digit_glyph};
-ghost use Rattle.fw_rule.specs.Addr6Text.{hexadecimal};
+ghost use Rattle.fw_rule.specs.Address6Text.{hexadecimal};
 
 /// How many digits a number of 32 bits has at most.
 pub(crate) const MOST_DIGITS: usize = 10;

@@ -5,8 +5,7 @@ ghost use Rattle.fw_base.specs.Addr.{address_text};
 
 use crate::AddrItem;
 use crate::address6_text::write_prefix6;
-use crate::piece::Piece;
-use crate::writing::{Element, write_pieces};
+use crate::writing::{Element, Piece, write_pieces};
 use fw_base::{Addr, Failed, PortRange, Prefix, Sink};
 
 /// Writes an address as four numbers with dots between them. Where the sink fails, a front of that was

@@ -3,12 +3,11 @@ ghost use Rattle.std.specs.List.{join_with_byte, flat_map};
 ghost use Rattle.std.specs.Option.{option_copied};
 ghost use Rattle.fw_base.specs.Texts.{WritesText};
 ghost use Rattle.fw_rule.specs.Canonical as text;
-ghost use Rattle.fw_rule.specs.Canonical.{spaced};
+ghost use Rattle.fw_rule.specs.Canonical.{spaced_text};
 ghost use Rattle.fw_rule.specs.TypeSet.{has_type};
 
 use crate::flow_name::write_flow_name;
-use crate::piece::Piece;
-use crate::writing::write_pieces;
+use crate::writing::{Piece, write_pieces};
 use crate::{Field, Iface, LimitMask, Opt, StateOpt, Test, TypeSet};
 use fw_base::{Failed, Sink, write_text};
 
@@ -145,7 +144,7 @@ fn mask_word(mask: LimitMask) -> &'static [u8]
 /// Writes a test, each word behind a space.
 fn write_test<K: Sink>(out: &mut K, test: &Test) -> Result<(), Failed>
     ensures { WritesText (K.written out.old) (K.written out.new) (K.faults out.old)
-        (K.faults out.new) (spaced (text.test_words test.now)) result }
+        (K.faults out.new) (spaced_text (text.test_words test.now)) result }
 {
     match test {
         Test::Inward => write_text(out, b" in"),
@@ -184,7 +183,7 @@ fn option_start(negated: bool) -> &'static [u8]
 /// Writes an option, each word behind a space.
 fn write_option<K: Sink>(out: &mut K, option: &Opt) -> Result<(), Failed>
     ensures { WritesText (K.written out.old) (K.written out.new) (K.faults out.old)
-        (K.faults out.new) (spaced (text.option_words option.now)) result }
+        (K.faults out.new) (spaced_text (text.option_words option.now)) result }
 {
     write_text(out, option_start(option.negated))?;
     write_test(out, &option.test)
@@ -193,7 +192,7 @@ fn write_option<K: Sink>(out: &mut K, option: &Opt) -> Result<(), Failed>
 /// Writes options, each word behind a space.
 pub(crate) fn write_options<K: Sink>(out: &mut K, options: &[Opt]) -> Result<(), Failed>
     ensures { WritesText (K.written out.old) (K.written out.new) (K.faults out.old)
-        (K.faults out.new) (spaced (flat_map text.option_words options.now)) result }
+        (K.faults out.new) (spaced_text (flat_map text.option_words options.now)) result }
 {
     for option in options {
         write_option(out, option)?;
@@ -204,7 +203,7 @@ pub(crate) fn write_options<K: Sink>(out: &mut K, options: &[Opt]) -> Result<(),
 /// Writes `limit` with its mask and number, each word behind a space.
 fn write_limit<K: Sink>(out: &mut K, mask: LimitMask, most: u16) -> Result<(), Failed>
     ensures { WritesText (K.written out.old) (K.written out.new) (K.faults out.old)
-        (K.faults out.new) (spaced (text.limit_words mask most)) result }
+        (K.faults out.new) (spaced_text (text.limit_words mask most)) result }
 {
     let mask = Piece::Text(mask_word(mask));
     let most = Piece::Number(u32::from(most));
@@ -217,7 +216,7 @@ fn write_limit<K: Sink>(out: &mut K, mask: LimitMask, most: u16) -> Result<(), F
 /// Writes how states are made, each word behind a space.
 fn write_state_option<K: Sink>(out: &mut K, state: &StateOpt) -> Result<(), Failed>
     ensures { WritesText (K.written out.old) (K.written out.new) (K.faults out.old)
-        (K.faults out.new) (spaced (text.state_option_words state.now)) result }
+        (K.faults out.new) (spaced_text (text.state_option_words state.now)) result }
 {
     match state {
         StateOpt::Keep(name) => {
@@ -234,7 +233,7 @@ fn write_state_option<K: Sink>(out: &mut K, state: &StateOpt) -> Result<(), Fail
 /// Writes how states are made where they are, each word behind a space.
 pub(crate) fn write_state<K: Sink>(out: &mut K, state: &Option<StateOpt>) -> Result<(), Failed>
     ensures { WritesText (K.written out.old) (K.written out.new) (K.faults out.old)
-        (K.faults out.new) (spaced (text.state_words state.now)) result }
+        (K.faults out.new) (spaced_text (text.state_words state.now)) result }
 {
     match state {
         None => Ok(()),

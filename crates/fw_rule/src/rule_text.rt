@@ -2,12 +2,11 @@ ghost use Rattle.std.specs.Prelude.{◌≡◌, ◌<◌, ◌++◌, length, slice_
 ghost use Rattle.fw_base.specs.Texts.{WritesText};
 ghost use Rattle.fw_rule.specs.Canonical as text;
 ghost use Rattle.fw_rule.specs.Pieces.{piece_text};
-ghost use Rattle.fw_rule.specs.Canonical.{spaced, rule_text, rest_text};
+ghost use Rattle.fw_rule.specs.Canonical.{spaced_text, rule_text, rest_text};
 
 use crate::flow_name::write_flow_name;
 use crate::options::{write_options, write_state};
-use crate::piece::Piece;
-use crate::writing::{write_five_digits, write_list_words, write_piece, write_pieces};
+use crate::writing::{Piece, write_five_digits, write_list_words, write_piece, write_pieces};
 use crate::{Action, AddrSpec, Body, Family, Opt, PortList, Rule, StateOpt};
 use fw_base::{Failed, Name, Sink, write_text};
 use std::error::Error;
@@ -69,7 +68,7 @@ fn unreach_piece(code: u8) -> Piece<'static>
 /// Writes `check-state` and which flows it looks up, each word behind a space.
 fn write_check_state<K: Sink>(out: &mut K, name: &Option<Name>) -> Result<(), Failed>
     ensures { WritesText (K.written out.old) (K.written out.new) (K.faults out.old)
-        (K.faults out.new) (spaced (text.check_state_words name.now)) result }
+        (K.faults out.new) (spaced_text (text.check_state_words name.now)) result }
 {
     write_text(out, b" check-state")?;
     match name {
@@ -81,7 +80,7 @@ fn write_check_state<K: Sink>(out: &mut K, name: &Option<Name>) -> Result<(), Fa
 /// Writes an action, each word behind a space.
 fn write_action<K: Sink>(out: &mut K, action: &Action) -> Result<(), Failed>
     ensures { WritesText (K.written out.old) (K.written out.new) (K.faults out.old)
-        (K.faults out.new) (spaced (text.action_words action.now)) result }
+        (K.faults out.new) (spaced_text (text.action_words action.now)) result }
 {
     match action {
         Action::Allow => write_text(out, b" allow"),
@@ -107,7 +106,7 @@ fn write_action<K: Sink>(out: &mut K, action: &Action) -> Result<(), Failed>
 /// Writes the set where it isn't 0.
 fn write_set<K: Sink>(out: &mut K, set: u8) -> Result<(), Failed>
     ensures { WritesText (K.written out.old) (K.written out.new) (K.faults out.old)
-        (K.faults out.new) (spaced (text.set_words set)) result }
+        (K.faults out.new) (spaced_text (text.set_words set)) result }
 {
     if set == 0 {
         Ok(())
@@ -119,7 +118,7 @@ fn write_set<K: Sink>(out: &mut K, set: u8) -> Result<(), Failed>
 /// Writes `log` and its amount where it isn't 0.
 fn write_amount<K: Sink>(out: &mut K, amount: u32) -> Result<(), Failed>
     ensures { WritesText (K.written out.old) (K.written out.new) (K.faults out.old)
-        (K.faults out.new) (spaced (text.amount_words amount)) result }
+        (K.faults out.new) (spaced_text (text.amount_words amount)) result }
 {
     if amount == 0 {
         write_text(out, b" log")
@@ -133,7 +132,7 @@ fn write_amount<K: Sink>(out: &mut K, amount: u32) -> Result<(), Failed>
 
 fn write_log<K: Sink>(out: &mut K, log: Option<u32>) -> Result<(), Failed>
     ensures { WritesText (K.written out.old) (K.written out.new) (K.faults out.old)
-        (K.faults out.new) (spaced (text.log_words log)) result }
+        (K.faults out.new) (spaced_text (text.log_words log)) result }
 {
     match log {
         None => Ok(()),
@@ -146,7 +145,7 @@ fn write_log<K: Sink>(out: &mut K, log: Option<u32>) -> Result<(), Failed>
 #[tactic(auto, unfolding(crate::specs::Canonical::protocol_word))]
 pub fn write_protocol<K: Sink>(out: &mut K, protocol: u8) -> Result<(), Failed>
     ensures { WritesText (K.written out.old) (K.written out.new) (K.faults out.old)
-        (K.faults out.new) (spaced (text.one_word (text.protocol_word protocol))) result }
+        (K.faults out.new) (spaced_text (text.one_word (text.protocol_word protocol))) result }
 {
     match protocol {
         0 => write_text(out, b" ip"),
@@ -163,7 +162,7 @@ pub fn write_protocol<K: Sink>(out: &mut K, protocol: u8) -> Result<(), Failed>
 /// Writes the version of IP or the protocol behind a space.
 fn write_family<K: Sink>(out: &mut K, family: Family, protocol: u8) -> Result<(), Failed>
     ensures { WritesText (K.written out.old) (K.written out.new) (K.faults out.old)
-        (K.faults out.new) (spaced (text.one_word (text.family_word family protocol))) result }
+        (K.faults out.new) (spaced_text (text.one_word (text.family_word family protocol))) result }
 {
     match family {
         Family::AnyIp => write_protocol(out, protocol),
@@ -174,7 +173,7 @@ fn write_family<K: Sink>(out: &mut K, family: Family, protocol: u8) -> Result<()
 
 fn write_ports<K: Sink>(out: &mut K, ports: &Option<PortList>) -> Result<(), Failed>
     ensures { WritesText (K.written out.old) (K.written out.new) (K.faults out.old)
-        (K.faults out.new) (spaced (text.port_words ports.now)) result }
+        (K.faults out.new) (spaced_text (text.port_words ports.now)) result }
 {
     match ports {
         None => Ok(()),
@@ -184,7 +183,7 @@ fn write_ports<K: Sink>(out: &mut K, ports: &Option<PortList>) -> Result<(), Fai
 
 fn write_addresses<K: Sink>(out: &mut K, addresses: &AddrSpec) -> Result<(), Failed>
     ensures { WritesText (K.written out.old) (K.written out.new) (K.faults out.old)
-        (K.faults out.new) (spaced (text.addr_words addresses.now)) result }
+        (K.faults out.new) (spaced_text (text.addr_words addresses.now)) result }
 {
     write_list_words(out, addresses.negated, addresses.items.as_slice())
 }
@@ -198,7 +197,7 @@ fn write_end<K: Sink>(
 ) -> Result<(), Failed>
     ensures { WritesText (K.written out.old) (K.written out.new) (K.faults out.old)
         (K.faults out.new)
-        (word.now ++ spaced (text.addr_words addresses.now ++ text.port_words ports.now)) result }
+        (word.now ++ spaced_text (text.addr_words addresses.now ++ text.port_words ports.now)) result }
 {
     write_text(out, word)?;
     write_addresses(out, addresses)?;
@@ -213,7 +212,7 @@ fn write_placed<K: Sink>(
     state_at: usize,
 ) -> Result<(), Failed>
     ensures { WritesText (K.written out.old) (K.written out.new) (K.faults out.old)
-        (K.faults out.new) (spaced (text.placed_words options.now state.now state_at)) result }
+        (K.faults out.new) (spaced_text (text.placed_words options.now state.now state_at)) result }
 {
     let (before, behind) = options.split_at(state_at.min(options.len()));
     write_options(out, before)?;
@@ -223,14 +222,14 @@ fn write_placed<K: Sink>(
 
 fn write_body_options<K: Sink>(out: &mut K, body: &Body) -> Result<(), Failed>
     ensures { WritesText (K.written out.old) (K.written out.new) (K.faults out.old)
-        (K.faults out.new) (spaced (text.options_words body.now)) result }
+        (K.faults out.new) (spaced_text (text.options_words body.now)) result }
 {
     write_placed(out, body.options.as_slice(), &body.state, body.state_at)
 }
 
 fn write_body<K: Sink>(out: &mut K, body: &Body) -> Result<(), Failed>
     ensures { WritesText (K.written out.old) (K.written out.new) (K.faults out.old)
-        (K.faults out.new) (spaced (text.body_words body.now)) result }
+        (K.faults out.new) (spaced_text (text.body_words body.now)) result }
 {
     write_family(out, body.family, body.protocol)?;
     write_end(out, b" from", &body.source, &body.source_ports)?;
@@ -240,7 +239,7 @@ fn write_body<K: Sink>(out: &mut K, body: &Body) -> Result<(), Failed>
 
 fn write_optional_body<K: Sink>(out: &mut K, body: &Option<Body>) -> Result<(), Failed>
     ensures { WritesText (K.written out.old) (K.written out.new) (K.faults out.old)
-        (K.faults out.new) (spaced (text.optional_body body.now)) result }
+        (K.faults out.new) (spaced_text (text.optional_body body.now)) result }
 {
     match body {
         None => Ok(()),

@@ -1,6 +1,5 @@
 ghost use Rattle.std.specs.Prelude.{◌≡◌, IfOk};
 
-use crate::LimitMask;
 use fw_base::{Name, OutOfMemory};
 
 /// How a rule makes dynamic states, and the flow name that they get (ipfw(8), "STATEFUL FIREWALL").
@@ -10,6 +9,15 @@ pub enum StateOpt {
     Keep(Name),
     /// `limit`: at most so many states, 1 to 65535, that agree in the masked part.
     Limit(LimitMask, u16, Name),
+}
+
+/// Which part of a flow a `limit` counts by.
+#[derive(Clone, Copy, Debug, PartialEq, Eq, Hash)]
+pub enum LimitMask {
+    SrcAddr,
+    SrcPort,
+    DstAddr,
+    DstPort,
 }
 
 impl StateOpt {

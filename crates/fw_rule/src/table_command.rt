@@ -1,5 +1,4 @@
-use crate::{Key, TableType};
-use fw_base::Name;
+use fw_base::{Name, Prefix};
 
 /// What is done with a table (ipfw(8), "LOOKUP TABLES").
 #[derive(Debug, Drop)]
@@ -13,4 +12,20 @@ pub enum TableCommand {
     Clear,
     SwapWith(Name),
     ListEntries,
+}
+
+/// What a table's keys are.
+#[derive(Clone, Copy, Debug, PartialEq, Eq, Hash)]
+pub enum TableType {
+    /// Prefixes.
+    Addresses,
+    /// Whole numbers.
+    Numbers,
+}
+
+/// A key of a table.
+#[derive(Clone, Copy, Debug, PartialEq, Eq, Hash)]
+pub enum Key {
+    Net(Prefix),
+    Number(u32),
 }

@@ -1,6 +1,6 @@
 ghost use Rattle.std.specs.Prelude.{◌≡◌, IfOk};
 
-use crate::{Field, Iface, TypeSet};
+use crate::{Iface, TypeSet};
 use fw_base::{Name, OutOfMemory};
 
 /// What an option of a rule's body asks of a packet (ipfw(8), "RULE OPTIONS").
@@ -34,6 +34,15 @@ pub enum Test {
     IpOptions { present: u8, absent: u8 },
     /// `lookup`: the table has a value for the field.
     Lookup(Field, Name),
+}
+
+/// The field of a packet that `lookup` looks up in a table.
+#[derive(Clone, Copy, Debug, PartialEq, Eq, Hash)]
+pub enum Field {
+    SrcIp,
+    DstIp,
+    SrcPort,
+    DstPort,
 }
 
 impl Test {

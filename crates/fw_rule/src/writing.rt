@@ -2,12 +2,18 @@ ghost use Rattle.std.specs.Prelude.{◌≡◌, ◌≤◌, ◌^◌, ◌<◌, ◌+
 ghost use Rattle.std.specs.List.{join_with_byte};
 ghost use Rattle.std.specs.Fmt.{decimal};
 ghost use Rattle.fw_base.specs.Texts.{WritesText};
-ghost use Rattle.fw_rule.specs.Canonical.{five_digits, spaced, list_words};
+ghost use Rattle.fw_rule.specs.Canonical.{five_digits, spaced_text, list_words};
 ghost use Rattle.fw_rule.specs.Pieces.{pieces_text, piece_text};
 
 use crate::digits::{MOST_DIGITS, put_digits};
-use crate::piece::Piece;
 use fw_base::{Failed, Sink, write_text};
+
+/// A piece of a text: bytes as they are, or a number in decimal digits.
+#[derive(Clone, Copy)]
+pub(crate) enum Piece<'a> {
+    Text(&'a [u8]),
+    Number(u32),
+}
 
 /// Writes one piece.
 pub(crate) fn write_piece<K: Sink>(out: &mut K, piece: Piece<'_>) -> Result<(), Failed>
@@ -83,7 +89,7 @@ pub(crate) fn write_list_words<T: Element, K: Sink>(
     items: &[T],
 ) -> Result<(), Failed>
     ensures { WritesText (K.written out.old) (K.written out.new) (K.faults out.old)
-        (K.faults out.new) (spaced (list_words negated (map T.text items.now))) result }
+        (K.faults out.new) (spaced_text (list_words negated (map T.text items.now))) result }
 {
     write_text(out, list_start(negated))?;
     write_joined(out, b',', items)

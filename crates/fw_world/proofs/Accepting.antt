@@ -1,26 +1,20 @@
 -- A desk that stands for some commands stands for one more once that was published.
-use Rattle.std.proofs.Common.{◌≡◌, ℕ, suc, ◌+◌, ◌-◌, List, [], ◌∷◌, ◌++◌, length, Option, Some, Ok, Err, refl, sym, ap, ◌∙◌, subst, arith}
-use Rattle.std.specs.Prelude.{slice_get}
+use Rattle.std.proofs.Common.{◌≡◌, ℕ, ◌+◌, ◌-◌, List, [], ◌∷◌, ◌++◌, length, Some, Ok, sym, ap, ◌∙◌, subst, arith}
 use Rattle.fw_rule.specs.declared.command.Command.{Command}
 use Rattle.generation_store.specs.Published.{Published, IsBuilt}
 use Rattle.rule_chain.specs.Apply.{apply}
 use Rattle.rule_chain.specs.Configuration.{Configuration}
-use Rattle.fw_world.specs.Committing.{IsRefusal, IsCommitFault}
+use Rattle.fw_world.specs.Committing.{IsCommitFault}
 use Rattle.fw_world.specs.CommitFaults.{IsCauseOf}
 use Rattle.fw_world.specs.Editions.{AreEditionsFrom, IsLastOf}
 use Rattle.fw_world.specs.Steps.{Publishes}
 use Rattle.fw_world.specs.World.{WorldValue, DeskStandsFor}
 use Rattle.fw_world.specs.declared.commit_fault.CommitFault.{CommitFault}
 use Rattle.fw_world.specs.declared.commit_fault.CommitFault.TheVariants.{Refused, OutOfMemory}
+use Rattle.fw_world.proofs.WorldSteps.{IsLastOf-tail}
 
 same_value : {X : Type 0} (x y : X) → Some x ≡ Some y → x ≡ y
 same_value x y is = cc
-
--- the last of two or more isn't the first
-last_behind : (edition next : Published) (editions : List Published) (before : Published) → IsLastOf (edition ∷ next ∷ editions) before → IsLastOf (next ∷ editions) before
-last_behind edition next editions before is =
-    let place : length (edition ∷ next ∷ editions) - 1 ≡ suc (length (next ∷ editions) - 1) = omega arith in
-    rw place at is
 
 more_editions : (number : ℕ) (config : Configuration) (commands : List Command) (editions : List Published) (command : Command) (before : Published) (made : Configuration) (edition : Published)
     → AreEditionsFrom number config commands editions → IsLastOf editions before → apply before.config command ≡ Ok made → IsBuilt (number + length editions) made edition
@@ -35,7 +29,7 @@ more_editions number config [] (one ∷ next ∷ editions) command before made e
 more_editions number config (first ∷ commands) (one ∷ []) command before made edition are last is built = absurd are.3
 more_editions number config (first ∷ commands) (one ∷ next ∷ editions) command before made edition are last is built =
     let count : number + length (one ∷ next ∷ editions) ≡ number + 1 + length (next ∷ editions) = omega arith in
-    (are.0, are.1, are.2, more_editions (number + 1) are.1 commands (next ∷ editions) command before made edition are.3 (last_behind one next editions before last) is (rw count at built))
+    (are.0, are.1, are.2, more_editions (number + 1) are.1 commands (next ∷ editions) command before made edition are.3 (IsLastOf-tail one next editions before last) is (rw count at built))
 
 -- one command more
 pub accepts_one_more : (old new : WorldValue) (command : Command) (first : Configuration) (commands : List Command) → Publishes old new command

@@ -1,10 +1,8 @@
 -- The lists of asks in journals that grow.
-use Rattle.std.proofs.Common.{◌≡◌, ◌≢◌, ℕ, ◌+◌, ◌≤◌, Bool, true, false, T, List, [], ◌∷◌, ◌++◌, length, map, refl, sym, ap, ◌∙◌, subst, cond, arith, eq-eqb, append_assoc}
+use Rattle.std.proofs.Common.{◌≡◌, ◌≢◌, ℕ, ◌+◌, ◌≤◌, Bool, true, false, T, List, [], ◌∷◌, ◌++◌, length, refl, sym, ap, ◌∙◌, subst, cond, arith, eq-eqb, append_assoc}
 use Rattle.std.proofs.Math.Facts.{eqb_yes}
-use Rattle.std.proofs.Math.Dec.{eqb_refl}
 use Rattle.std.proofs.lemmas.List.{append-nil}
 use Rattle.std.specs.Prelude.{◌==◌}
-use Rattle.dyn_states.specs.declared.facts.Facts.{Facts}
 use Rattle.dyn_states.specs.declared.op.Op.{Op}
 use Rattle.dyn_states.specs.declared.reply.Reply.{Reply}
 use Rattle.state_journal.specs.Items.{asks_of}
@@ -69,12 +67,6 @@ other_ask k lane after at op reply [] other = decided (lane == k) refl
     decided false is = refl
 other_ask k lane after at op reply (Publish number ∷ entries) other = other_ask k lane number at op reply entries other
 other_ask k lane after at op reply (Ask by asked told when ∷ entries) other = rw (other_ask k lane after at op reply entries other) refl
-
--- a publication behind the entries is no ask
-pub publication_asks : (k after number : ℕ) (entries : List Entry) → asks_of k after (entries ++ Publish number ∷ []) ≡ asks_of k after entries
-publication_asks k after number [] = refl
-publication_asks k after number (Publish earlier ∷ entries) = publication_asks k earlier number entries
-publication_asks k after number (Ask by op reply at ∷ entries) = rw (publication_asks k after number entries) refl
 
 asks_in-append : (xs ys : List Item) → asks_in (xs ++ ys) ≡ asks_in xs ++ asks_in ys
 asks_in-append [] ys = refl

@@ -1,13 +1,13 @@
 -- A lane that stands for its inputs stands for one input more after it judged or skipped a record.
-use Rattle.std.proofs.Common.{◌≡◌, ℕ, ◌+◌, ◌-◌, ◌*◌, ◌%◌, ◌^◌, ◌/◌, ◌<◌, ◌≤◌, Bool, true, false, List, [], ◌∷◌, ◌++◌, length, map, refl, sym, ap, ◌∙◌, subst, cond, arith, append_assoc}
+use Rattle.std.proofs.Common.{◌≡◌, ℕ, ◌+◌, ◌-◌, ◌%◌, ◌^◌, ◌<◌, ◌≤◌, Bool, true, false, List, [], ◌∷◌, ◌++◌, length, refl, sym, ap, ◌∙◌, subst, cond, arith, append_assoc}
 use Rattle.std.proofs.lemmas.List.{append-nil}
 use Rattle.std.proofs.lemmas.List.Sums.{sum_by_push}
-use Rattle.std.specs.Prelude.{◌==◌, Option, Some, None, IsSomeAnd, slice_get, sum_by, count_by}
-use Rattle.std.specs.List.{AllByRecursion}
+use Rattle.std.specs.Prelude.{◌==◌, Option, Some, IsSomeAnd, slice_get, sum_by, count_by}
 use Rattle.fw_base.specs.declared.port.Port.{Port}
+use Rattle.fw_base.proofs.Lists.{all_weaker}
 use Rattle.ip6_headers.specs.Either.{total_of}
 use Rattle.ip6_headers.specs.declared.any_ip.AnyIp.{AnyIp}
-use Rattle.counter_book.specs.Counts.{count_of, raised}
+use Rattle.counter_book.specs.Counts.{raised}
 use Rattle.counter_book.specs.declared.count.Count.{Count}
 use Rattle.dyn_states.specs.declared.op.Op.{Op}
 use Rattle.dyn_states.specs.declared.reply.Reply.{Reply}
@@ -27,7 +27,7 @@ use Rattle.fw_world.specs.Legal.{StandFor}
 use Rattle.fw_world.specs.Steps.{question_of}
 use Rattle.fw_world.specs.Tallies.{Hit, hits_under, packet_hits, record_hits, lane_hits, count_in, IsTallyOf}
 use Rattle.fw_world.proofs.AskLists.{record_asks, ops-record_asks, replies-record_asks}
-use Rattle.fw_world.proofs.Records.{EachRecord-append, EachRecord-weaker, IsEvaluated-asks, asks_of_record-earlier, asks_of_record-next, asks_are_within, AreAsksOf-record, AreAsksOf-entries, AllByRecursion-weaker, slice_get-last}
+use Rattle.fw_world.proofs.Records.{EachRecord-append, EachRecord-weaker, IsEvaluated-asks, asks_of_record-earlier, asks_of_record-next, asks_are_within, AreAsksOf-record, AreAsksOf-entries, slice_get-last}
 
 -- the hits of one record more
 lane_hits-append : (editions : List Published) (asks : List LaneAsk) (at : ℕ) (inputs : List Input) (entries : List DocketEntry) (input : Input) (entered : DocketEntry) → EachRecord IsEntryFor at inputs entries
@@ -153,5 +153,5 @@ module _ (editions : List Published) (asks : List LaneAsk) (docket : DocketValue
             subst (λ (k : ℕ). IsSomeAnd (slice_get (docket.entries ++ entered ∷ []) k) (IsJudgedUnder judgement.edition)) same_place
             (subst (λ (o : Option DocketEntry). IsSomeAnd o (IsJudgedUnder judgement.edition)) (sym (slice_get-last docket.entries entered)) refl) in
             AreAsksOf-record (docket.entries ++ entered ∷ []) asks judgement.edition (n + 1) ops replies (AreAsksOf-entries docket.entries entered asks stands.asked)
-            (AllByRecursion-weaker (λ one. one.at ≤ n) (λ one. one.at ≤ n + 1) asks (λ one below. omega arith) within) (omega arith) entered_at;
+            (all_weaker (λ (one : LaneAsk). one.at ≤ n) (λ (one : LaneAsk). one.at ≤ n + 1) (λ one below. omega arith) asks within) (omega arith) entered_at;
       })

@@ -1,14 +1,12 @@
 -- What a lane keeps while the world goes on beside it: cite these for a lane that stands aside.
-use Rattle.std.proofs.Common.{◌≡◌, ◌≢◌, ℕ, ◌+◌, ◌-◌, ◌<◌, ◌≤◌, List, [], ◌∷◌, ◌++◌, length, refl, sym, ap, ◌∙◌, subst, arith}
+use Rattle.std.proofs.Common.{◌≡◌, ◌≢◌, ℕ, ◌+◌, ◌-◌, ◌≤◌, List, [], ◌∷◌, ◌++◌, length, refl, sym, ap, ◌∙◌, subst, arith}
 use Rattle.std.proofs.lemmas.List.{length-append}
 use Rattle.std.proofs.lemmas.List.Elements.{All-weaker}
-use Rattle.std.specs.Prelude.{All, IfSome, IsSomeAnd, Option, Some, None, slice_get}
-use Rattle.fw_base.specs.declared.port.Port.{Port}
-use Rattle.ip6_headers.specs.declared.any_ip.AnyIp.{AnyIp}
+use Rattle.std.specs.Prelude.{All, IfSome, IsSomeAnd, Option, Some, None}
 use Rattle.fw_rule.specs.declared.command.Command.{Command}
 use Rattle.generation_store.specs.Published.{Published}
-use Rattle.state_journal.specs.Items.{asks_of}
-use Rattle.state_journal.specs.Journal.{Journal, with_publication}
+use Rattle.state_journal.specs.Journal.{Journal}
+use Rattle.state_journal.proofs.ItemLists.{asks_of-publication}
 use Rattle.eval_engine.specs.Dockets.{judgement_of}
 use Rattle.eval_engine.specs.declared.docket_entry.DocketEntry.{DocketEntry}
 use Rattle.eval_engine.specs.declared.docket_entry.DocketEntry.TheVariants as entry
@@ -22,7 +20,6 @@ use Rattle.fw_world.specs.Sections.{judged_editions}
 use Rattle.fw_world.specs.Steps.{ChangesAsksOf, Publishes}
 use Rattle.fw_world.specs.Tallies.{Hit, packet_hits, record_hits, lane_hits, IsTallyOf}
 use Rattle.fw_world.specs.World.{WorldValue, published, IsLaneOf, LaneStandsFor}
-use Rattle.fw_world.proofs.AskLists.{publication_asks}
 use Rattle.fw_world.proofs.Records.{IsSomeAnd-append, slice_get-append}
 
 -- a lane stands for what it stood for while another lane asks
@@ -83,7 +80,7 @@ pub stands_behind : (old new : WorldValue) (command : Command) (lane : LaneValue
 stands_behind old new command lane inputs publishes stands =
     let more : List Published = publishes.edition ∷ [] in
     let asks : List LaneAsk = lane_asks lane.place old.journal.entries in
-    let own : lane_asks lane.place new.journal.entries ≡ asks = ap (λ (j : Journal). lane_asks lane.place j.entries) publishes.journal ∙ ap asks_in (publication_asks lane.place 0 publishes.edition.facts.number old.journal.entries) in
+    let own : lane_asks lane.place new.journal.entries ≡ asks = ap (λ (j : Journal). lane_asks lane.place j.entries) publishes.journal ∙ ap asks_in (asks_of-publication lane.place 0 publishes.edition.facts.number old.journal.entries) in
     let grown : StandFor (old.editions ++ more) asks lane.docket lane.tally inputs = record {
       entered = stands.entered;
       evaluated = each-append old.editions more asks 1 inputs lane.docket.entries stands.evaluated;

@@ -7,11 +7,10 @@ use Rattle.std.proofs.Math.Seq.{get_or-append_seam}
 use Rattle.std.proofs.lemmas.List.{append-nil, length-append, map-append}
 use Rattle.std.proofs.lemmas.List.Elements.{filter-append}
 use Rattle.std.proofs.lemmas.Option.{slice_get_within, slice_get-get_or}
-use Rattle.std.specs.Prelude.{◌⊎◌, ◌==◌, filter, get_or, Option, Some, None, IsSomeAnd, slice_get}
+use Rattle.std.specs.Prelude.{◌⊎◌, ◌==◌, get_or, Option, Some, None, IsSomeAnd, slice_get}
 use Rattle.std.specs.List.{AllByRecursion}
 use Rattle.std.specs.List.Sorted.{IsNonDecreasing}
-use Rattle.fw_base.specs.declared.port.Port.{Port}
-use Rattle.ip6_headers.specs.declared.any_ip.AnyIp.{AnyIp}
+use Rattle.fw_base.proofs.Lists.{all_push, all_weaker}
 use Rattle.dyn_states.specs.declared.op.Op.{Op}
 use Rattle.dyn_states.specs.declared.reply.Reply.{Reply}
 use Rattle.generation_store.specs.Published.{Published}
@@ -23,15 +22,6 @@ use Rattle.fw_world.specs.Editions.{edition_numbered}
 use Rattle.fw_world.specs.Entries.{EachRecord, IsEvaluated, IsEvaluation}
 use Rattle.fw_world.specs.Inputs.{Input, Other, Malformed, Packet}
 use Rattle.fw_world.proofs.AskLists.{record_asks}
-
-pub AllByRecursion-push : {X : Type 0} (P : X → Type 0) (xs : List X) (x : X) → AllByRecursion P xs → P x → AllByRecursion P (xs ++ x ∷ [])
-AllByRecursion-push P [] x all one = (one, tt)
-AllByRecursion-push P (y ∷ xs) x all one = (all.0, AllByRecursion-push P xs x all.1 one)
-
--- what follows of each element follows of all
-pub AllByRecursion-weaker : {X : Type 0} (P Q : X → Type 0) (xs : List X) → ((x : X) → P x → Q x) → AllByRecursion P xs → AllByRecursion Q xs
-AllByRecursion-weaker P Q [] weaker all = tt
-AllByRecursion-weaker P Q (x ∷ xs) weaker all = (weaker x all.0, AllByRecursion-weaker P Q xs weaker all.1)
 
 -- one record more
 pub EachRecord-append : (P : ℕ → Input → DocketEntry → Type 0) (at : ℕ) (inputs : List Input) (entries : List DocketEntry) (input : Input) (entered : DocketEntry)
@@ -177,8 +167,8 @@ AllByRecursion-map y (ask ∷ asks) all = (all.0, AllByRecursion-map y asks all.
 AreAsksOf-push : (entries : List DocketEntry) (asks : List LaneAsk) (ask : LaneAsk) → AreAsksOf entries asks → AllByRecursion (λ one. one.at ≤ ask.at) asks → 1 ≤ ask.at → IsAskOfEntry entries ask → AreAsksOf entries (asks ++ ask ∷ [])
 AreAsksOf-push entries asks ask are below numbered entered = record {
   ordered = rw (map-append (λ (one : LaneAsk). one.at) asks (ask ∷ [])) (IsNonDecreasing-push (map (λ (one : LaneAsk). one.at) asks) ask.at are.ordered (AllByRecursion-map ask.at asks below));
-  numbered = AllByRecursion-push (λ (one : LaneAsk). 1 ≤ one.at) asks ask are.numbered numbered;
-  entered = AllByRecursion-push (IsAskOfEntry entries) asks ask are.entered entered;
+  numbered = all_push (λ (one : LaneAsk). 1 ≤ one.at) asks ask are.numbered numbered;
+  entered = all_push (IsAskOfEntry entries) asks ask are.entered entered;
 }
 
 -- those of one record behind others
@@ -190,7 +180,7 @@ AreAsksOf-record entries asks after at (op ∷ ops) (reply ∷ replies) are belo
     let ask : LaneAsk = record { after = after; at = at; op = op; reply = reply } in
     let self : at ≤ at = omega arith in
     let one = AreAsksOf-push entries asks ask are below numbered entered in
-    let rest = AreAsksOf-record entries (asks ++ ask ∷ []) after at ops replies one (AllByRecursion-push (λ (one : LaneAsk). one.at ≤ at) asks ask below self) numbered entered in
+    let rest = AreAsksOf-record entries (asks ++ ask ∷ []) after at ops replies one (all_push (λ (one : LaneAsk). one.at ≤ at) asks ask below self) numbered entered in
     subst (λ (all : List LaneAsk). AreAsksOf entries all) (append_assoc asks (ask ∷ []) (record_asks after at ops replies)) rest
 
 -- asks of entries are those of more entries
@@ -198,5 +188,5 @@ pub AreAsksOf-entries : (entries : List DocketEntry) (entered : DocketEntry) (as
 AreAsksOf-entries entries entered asks are = record {
   ordered = are.ordered;
   numbered = are.numbered;
-  entered = AllByRecursion-weaker (IsAskOfEntry entries) (IsAskOfEntry (entries ++ entered ∷ [])) asks (λ ask is. IsSomeAnd-append (IsJudgedUnder ask.after) entries (entered ∷ []) (ask.at - 1) is) are.entered;
+  entered = all_weaker (IsAskOfEntry entries) (IsAskOfEntry (entries ++ entered ∷ [])) (λ ask is. IsSomeAnd-append (IsJudgedUnder ask.after) entries (entered ∷ []) (ask.at - 1) is) asks are.entered;
 }

@@ -1,10 +1,5 @@
 -- What follows for the value of a call.
-use Rattle.std.specs.Prelude.{Result, Ok, Err, IfOk, OnOk, OnErr}
-
--- a fact of the value from another
-pub IfOk-then : {T E : Type 0} (result : Result T E) (P Q : T → Type 0) → ((value : T) → P value → Q value) → IfOk result P → IfOk result Q
-IfOk-then (Ok value) P Q goes is = goes value is
-IfOk-then (Err fault) P Q goes is = tt
+use Rattle.std.specs.Prelude.{Result, Ok, Err, IfOk, OnOk}
 
 -- a fact where there is a value, from two of the value
 pub OnOk-both : {T E : Type 0} (result : Result T E) (P Q : T → Type 0) (S : Type 0) → ((value : T) → P value → Q value → S) → IfOk result P → IfOk result Q → OnOk result S

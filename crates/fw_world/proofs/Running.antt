@@ -5,7 +5,7 @@ use Rattle.std.proofs.lemmas.List.Elements.{All-weaker}
 use Rattle.std.proofs.lemmas.Option.{unwrap_or-slice_get}
 use Rattle.std.proofs.Math.Dec.{T}
 use Rattle.std.proofs.Math.Facts.{eqb_yes}
-use Rattle.std.specs.Prelude.{◌==◌, All, slice_get, slice_set, unwrap_or}
+use Rattle.std.specs.Prelude.{◌==◌, All, slice_set}
 use Rattle.counter_book.specs.Counts.{count_of, raised, no_count}
 use Rattle.counter_book.specs.declared.count.Count.{Count}
 use Rattle.dyn_states.specs.declared.op.Op.{Op}
@@ -43,16 +43,6 @@ pub record IsReached {B : Type 0} (enters : B → Op → Reply → B → Type 0)
   pub replies : List Reply
   pub stands : StandsAt q asks replies counts stage tally
   pub entered : EntersEach enters old asks replies now
-
--- a tally keeps its length over hits
-counts_after-length : (bytes : ℕ) (hits : List ℕ) (counts : List Count) → length (counts_after bytes hits counts) ≡ length counts
-unfolding counts_after
-counts_after-length bytes [] counts = refl
-counts_after-length bytes (counter ∷ hits) counts = counts_after-length bytes hits _ ∙ length-set counts counter _
-
--- a tally is fitted as long as it was at the start
-pub StandsAt-length : (q : Question) (asks : List Op) (replies : List Reply) (counts : List Count) (stage : Stage) (tally : List Count) → StandsAt q asks replies counts stage tally → length tally ≡ length counts
-StandsAt-length q asks replies counts stage tally stands = ap length stands.tallied ∙ counts_after-length _ _ counts
 
 -- the count under a number after one hit
 count_of-hit : (counts : List Count) (counter id : ℕ) (bytes : ℕ) → counter < length counts

@@ -1,43 +1,41 @@
 -- What asks and publications leave of a world.
-use Rattle.std.proofs.Common.{◌≡◌, ◌≢◌, ℕ, suc, ◌+◌, ◌-◌, ◌<◌, ◌≤◌, List, [], ◌∷◌, ◌++◌, length, map, refl, sym, ap, ◌∙◌, subst, arith}
-use Rattle.std.proofs.lemmas.List.{append-nil, length-append, map-append}
-use Rattle.std.specs.Prelude.{Option, Some, None, IsSomeAnd, slice_get}
+use Rattle.std.proofs.Common.{◌≡◌, ℕ, suc, ◌+◌, ◌-◌, ◌≤◌, List, [], ◌∷◌, ◌++◌, length, map, refl, sym, ap, ◌∙◌, subst, arith}
+use Rattle.std.proofs.lemmas.List.{length-append, map-append}
+use Rattle.std.specs.Prelude.{Some, slice_get}
 use Rattle.fw_base.specs.declared.port.Port.{Port}
-use Rattle.ip6_headers.specs.Either.{total_of}
 use Rattle.ip6_headers.specs.declared.any_ip.AnyIp.{AnyIp}
 use Rattle.counter_book.specs.declared.count.Count.{Count}
 use Rattle.dyn_states.specs.RuleLists.{has_id}
 use Rattle.dyn_states.specs.declared.facts.Facts.{Facts}
 use Rattle.dyn_states.specs.declared.op.Op.{Op}
 use Rattle.dyn_states.specs.declared.reply.Reply.{Reply}
-use Rattle.generation_store.specs.Published.{Published, has_identity, IsEdition, IsBuilt}
+use Rattle.generation_store.specs.Published.{Published, has_identity, IsEdition}
 use Rattle.state_journal.specs.Items.{asks_of}
-use Rattle.state_journal.specs.Journal.{Journal, with_ask, with_publication, last_rules, first_journal}
+use Rattle.state_journal.specs.Journal.{Journal, with_ask, with_publication, last_rules}
 use Rattle.state_journal.specs.declared.entry.Entry.{Entry}
 use Rattle.state_journal.specs.declared.entry.Entry.TheVariants.{Publish, Ask}
 use Rattle.eval_engine.proofs.Hits.{judgement_names_edition}
-use Rattle.eval_engine.specs.Dockets.{DocketValue}
 use Rattle.eval_engine.specs.Evaluation.{evaluate}
 use Rattle.eval_engine.specs.Question.{Question}
 use Rattle.eval_engine.specs.Dockets.{judged_entry}
 use Rattle.eval_engine.specs.declared.judgement.Judgement.{Judgement}
-use Rattle.fw_world.specs.AskRuns.{EntersEach, Evaluates, AsksSome}
+use Rattle.fw_world.specs.AskRuns.{Evaluates, AsksSome}
 use Rattle.fw_world.specs.Asks.{LaneAsk, AreOfLanes}
 use Rattle.fw_world.specs.Editions.{IsLastOf, edition_numbered}
 use Rattle.fw_world.specs.Inputs.{Input, Packet}
-use Rattle.fw_world.specs.Lane.{LaneValue, with_entry}
+use Rattle.fw_world.specs.Lane.{LaneValue}
 use Rattle.fw_world.specs.Legal.{StandFor, lane_asks}
-use Rattle.fw_world.specs.Publications.{publications, PublishesEach, facts_of}
+use Rattle.fw_world.specs.Publications.{publications, facts_of}
 use Rattle.fw_rule.specs.declared.command.Command.{Command}
 use Rattle.fw_world.specs.Steps.{Judges, ChangesAsksOf, IsNextEdition, question_of, with_asks}
 use Rattle.fw_world.specs.World.{WorldValue, published, LaneStandsFor}
 use Rattle.fw_world.specs.WorldKept.{AreNumbered, IsWorld}
-use Rattle.fw_world.proofs.AskLists.{last_number, record_asks, lane_asks-record, asks_of-others, KeepsAround, KeepsAround-asks, with_asks-run, publications-publication, AreOfLanes-publication}
+use Rattle.fw_world.proofs.AskLists.{last_number, record_asks, lane_asks-record, asks_of-others, KeepsAround-asks, with_asks-run, publications-publication, AreOfLanes-publication}
 use Rattle.fw_world.proofs.Judging.{StandFor-judged}
 use Rattle.fw_world.proofs.Running.{EntersEach-length}
 
 -- the last of several is the last of all but the first
-IsLastOf-tail : (first next : Published) (rest : List Published) (edition : Published) → IsLastOf (first ∷ next ∷ rest) edition → IsLastOf (next ∷ rest) edition
+pub IsLastOf-tail : (first next : Published) (rest : List Published) (edition : Published) → IsLastOf (first ∷ next ∷ rest) edition → IsLastOf (next ∷ rest) edition
 IsLastOf-tail first next rest edition is =
     let same : length (first ∷ next ∷ rest) - 1 ≡ suc (length (next ∷ rest) - 1) = omega arith in
     subst (λ (k : ℕ). slice_get (first ∷ next ∷ rest) k ≡ Some edition) same is

@@ -1,6 +1,8 @@
 ghost use Rattle.std.specs.Prelude.{◌≡◌, ◌≤◌, ◌∷◌, [], length, map, IfOk, IfErr};
 ghost use Rattle.std.specs.Arc.{arc_value};
 ghost use Rattle.fw_rule.specs.WellFormed.{IsWellFormed};
+ghost use Rattle.generation_store.specs.Published.{IsBuilt};
+ghost use Rattle.rule_chain.specs.Apply.{apply};
 ghost use Rattle.rule_chain.specs.Changing.{IsChanging};
 ghost use Rattle.fw_world.specs.CommitFaults.{IsCauseOf};
 ghost use Rattle.fw_world.specs.Editions.{IsLastOf};
@@ -11,6 +13,7 @@ use crate::commit_fault::refusal;
 use fw_base::OutOfMemory;
 use fw_rule::Command;
 use generation_store::{Edition, Store};
+use rule_chain::{Config, touches_rules};
 use std::alloc::Global;
 use std::sync::Arc;
 
@@ -32,6 +35,24 @@ pub(crate) fn store_of(alloc: Global, edition: Arc<Edition>) -> Result<Store, Ou
     Ok(store)
 }
 
+/// The edition of this number and of the configuration that the command made of the last one.
+fn edition_after(
+    alloc: Global,
+    last: &Edition,
+    number: u64,
+    command: &Command,
+    config: Config,
+) -> Result<Arc<Edition>, OutOfMemory>
+    requires { apply last.now.config command.now ≡ Ok config }
+    ensures { IfOk result (λ edition. IsBuilt number config (arc_value edition)) }
+{
+    if touches_rules(command) {
+        Edition::build_behind(alloc, last, number, config)
+    } else {
+        Edition::build_beside(alloc, last, number, config)
+    }
+}
+
 /// What the command makes of the last of these editions, as the next one.
 pub(crate) fn next_edition(
     alloc: Global,
@@ -48,7 +69,7 @@ pub(crate) fn next_edition(
     let number = editions.len() as u64 + 1;
     let last = last_edition(editions);
     match last.config().apply(alloc, command) {
-        Ok(config) => Ok(Edition::build_behind(alloc, last, number, config)?),
+        Ok(config) => Ok(edition_after(alloc, last, number, command, config)?),
         Err(fault) => Err(refusal(fault)),
     }
 }

@@ -96,7 +96,7 @@ impl SerialWorld {
         ensures desk { IfOk result (λ opened. opened.desk ≡ opened.world.editions) }
     {
         let edition = Edition::build(alloc, 1, config)?;
-        let book = Book::open(alloc, lanes, edition.facts().copy(alloc)?)?;
+        let book = Book::open(alloc, lanes, edition.facts().share()?)?;
         let desk = SerialDesk {
             store: store_of(alloc, share(&edition)?)?,
         };
@@ -332,7 +332,7 @@ impl SerialWorld {
         ensures unchanged { OnErr result (self.new ≡ self.old) }
     {
         let edition = next_edition(alloc, self.store.all(), command)?;
-        let facts = edition.facts().copy(alloc)?;
+        let facts = edition.facts().share()?;
         let number = edition.number();
         let shared = share(&edition)?;
         self.store.ready()?;

@@ -1,12 +1,9 @@
 -- Identities in order.
-use Rattle.std.proofs.Common.{◌≡◌, ◌≢◌, ℕ, zero, suc, ◌+◌, ◌≤◌, ◌<◌, Bool, true, false, ◌&&◌, ◌==◌, nat_lt, List, [], ◌∷◌, length, get_or, refl, ap, sym, ◌∙◌, arith}
+use Rattle.std.proofs.Common.{◌≡◌, ◌≢◌, ℕ, zero, suc, ◌+◌, ◌≤◌, ◌<◌, true, false, ◌==◌, nat_lt, List, [], ◌∷◌, length, get_or, refl, ap, sym, ◌∙◌, arith}
 use Rattle.std.proofs.lemmas.Bool.Decides.{nat_tests}
+use Rattle.std.proofs.lemmas.Bool.{and_parts}
 use Rattle.dyn_states.specs.Facts.{rises_from, is_rule_list}
 use Rattle.dyn_states.specs.RuleLists.{has_id}
-
-and_both : (a b : Bool) → (a && b) ≡ true → (a ≡ true) × (b ≡ true)
-and_both true b is = (refl, is)
-and_both false b is = cc
 
 -- numbers that rise strictly rise from the first on
 rising : (first : ℕ) (ids : List ℕ) → ((k : ℕ) → k < length ids → get_or (first ∷ ids) k 0 < get_or ids k 0) → rises_from first ids ≡ true
@@ -20,10 +17,10 @@ rising first (id ∷ ids) up =
 above : (least : ℕ) (ids : List ℕ) (k : ℕ) → rises_from least ids ≡ true → k < length ids → least < get_or ids k 0
 above least [] k up within = absurd (omega arith)
 above least (id ∷ ids) zero up within =
-    let first = (and_both (nat_lt least id) (rises_from id ids) up).0 in
+    let first = (and_parts (nat_lt least id) (rises_from id ids) up).0 in
     grind (arith, nat_tests)
 above least (id ∷ ids) (suc k) up within =
-    let steps = and_both (nat_lt least id) (rises_from id ids) up in
+    let steps = and_parts (nat_lt least id) (rises_from id ids) up in
     let rest = above id ids k steps.1 (omega arith) in
     let first : least < id = let h = steps.0 in grind (arith, nat_tests) in
     omega (arith, first, rest)
@@ -32,7 +29,7 @@ above least (id ∷ ids) (suc k) up within =
 not_zero : (least : ℕ) (ids : List ℕ) → rises_from least ids ≡ true → has_id ids 0 ≡ false
 not_zero least [] up = refl
 not_zero least (id ∷ ids) up =
-    let steps = and_both (nat_lt least id) (rises_from id ids) up in
+    let steps = and_parts (nat_lt least id) (rises_from id ids) up in
     let other : (id == 0) ≡ false = let h = steps.0 in grind (arith, nat_tests) in
     rw other (not_zero id ids steps.1)
 
@@ -52,7 +49,7 @@ rule_list (id ∷ ids) up has =
 pub not_falling : (ids : List ℕ) (i j : ℕ) → is_rule_list ids ≡ true → i ≤ j → j < length ids → get_or ids i 0 ≤ get_or ids j 0
 not_falling [] i j is le within = absurd (omega arith)
 not_falling (id ∷ ids) i j is le within =
-    let steps = and_both (id == 0) (rises_from 0 ids) is in
+    let steps = and_parts (id == 0) (rises_from 0 ids) is in
     let first : id ≡ 0 = let h = steps.0 in grind (arith, nat_tests) in
     each id ids i j first steps.1 le within
   where
@@ -61,9 +58,9 @@ not_falling (id ∷ ids) i j is le within =
     later least (id ∷ ids) zero zero up le within = omega arith
     later least (id ∷ ids) (suc i) zero up le within = absurd (omega arith)
     later least (id ∷ ids) zero (suc j) up le within =
-        let h = above id ids j (and_both (nat_lt least id) (rises_from id ids) up).1 (omega arith) in
+        let h = above id ids j (and_parts (nat_lt least id) (rises_from id ids) up).1 (omega arith) in
         omega (arith, h)
-    later least (id ∷ ids) (suc i) (suc j) up le within = later id ids i j (and_both (nat_lt least id) (rises_from id ids) up).1 (omega arith) (omega arith)
+    later least (id ∷ ids) (suc i) (suc j) up le within = later id ids i j (and_parts (nat_lt least id) (rises_from id ids) up).1 (omega arith) (omega arith)
 
     each : (id : ℕ) (ids : List ℕ) (i j : ℕ) → id ≡ 0 → rises_from 0 ids ≡ true → i ≤ j → j < length (id ∷ ids) → get_or (id ∷ ids) i 0 ≤ get_or (id ∷ ids) j 0
     each id ids zero j first up le within = omega (arith, first)

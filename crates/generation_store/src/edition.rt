@@ -1,7 +1,7 @@
 ghost use Rattle.std.specs.Prelude.{◌≡◌, ◌<◌, ℕ, IfOk, length, map, slice_index_or};
 ghost use Rattle.std.specs.Arc.{arc_value};
 ghost use Rattle.fw_rule.specs.declared.rule.Rule.{Rule};
-ghost use Rattle.generation_store.specs.Indexed.{IsIndexed};
+ghost use Rattle.rule_chain.specs.Touching.{HasRulesOf};
 ghost use Rattle.generation_store.specs.Jumps as jumps;
 ghost use Rattle.generation_store.specs.Placing.{ArePlaced, identity_of};
 ghost use Rattle.generation_store.specs.Published as spec;
@@ -9,10 +9,10 @@ ghost use Rattle.generation_store.specs.Published.{AreFacts, IsEdition, IsBuilt}
 ghost use Rattle.rule_gates.specs.Gates.{AreGates};
 
 use crate::Jump;
-use crate::flow_names::flow_names;
 use crate::gates::shared_gates;
-use crate::jumps::{first_from, jumps_of};
-use crate::placed::{Placed, by_identity, identities, places};
+use crate::index::{Index, index_of};
+use crate::jumps::first_from;
+use crate::placed::{Placed, by_identity, identities};
 use dyn_states::{Facts, FlowName};
 use fw_base::{Numbered, OutOfMemory};
 use rule_chain::Config;
@@ -22,18 +22,13 @@ use std::marker::Model;
 use std::sync::Arc;
 
 /// A configuration that was published under a number, with what an evaluation asks of it. No call but
-/// `build` takes memory.
+/// those that build one takes memory.
 #[derive(Drop)]
 pub struct Edition {
     number: u64,
     config: Config,
     facts: Facts,
-    jumps: Vec<Jump>,
-    /// The place of the rule of each identity of the facts.
-    places: Vec<u32>,
-    names: Vec<FlowName>,
-    /// Several editions may have one list of gates.
-    gates: Arc<Vec<Gate>>,
+    pub(crate) index: Arc<Index>,
 }
 
 impl Model for Edition {
@@ -46,8 +41,8 @@ impl Model for Edition {
     ghost view = { λ e. record { number = e.number; config = e.config; facts = e.facts } };
 
     ghost invariant = { λ e.
-        IsIndexed (record { number = e.number; config = e.config; facts = e.facts }) e.jumps.items
-        e.places.items e.names.items (arc_value e.gates).items };
+        IsIndexed (record { number = e.number; config = e.config; facts = e.facts })
+        (arc_value e.index) };
 }
 
 impl Edition {
@@ -70,8 +65,34 @@ impl Edition {
     ) -> Result<Arc<Edition>, OutOfMemory>
         ensures { IfOk result (λ edition. IsBuilt number config (arc_value edition)) }
     {
-        let gates = shared_gates(alloc, &last.gates, config.rules())?;
+        let gates = shared_gates(alloc, &last.index.gates, config.rules())?;
         with_gates(alloc, number, config, gates)
+    }
+
+    /// The same, beside another edition that has the same rules and flow names, in constant time: both have
+    /// one list of identities and all that an evaluation asks of the rules.
+    pub fn build_beside(
+        alloc: Global,
+        last: &Edition,
+        number: u64,
+        config: Config,
+    ) -> Result<Arc<Edition>, OutOfMemory>
+        requires { HasRulesOf last.now.config config }
+        ensures { IfOk result (λ edition. IsBuilt number config (arc_value edition)) }
+    {
+        let settings = config.settings();
+        let facts = Facts {
+            number,
+            rules: last.facts.rules.share()?,
+            settings,
+        };
+        let edition = Edition {
+            number,
+            config,
+            facts,
+            index: Arc::try_clone(&last.index)?,
+        };
+        Ok(Arc::new(alloc, edition)?)
     }
 
     /// The number that it was published under.
@@ -101,7 +122,7 @@ impl Edition {
     pub fn jumps(&self) -> &[Jump]
         ensures { result.now ≡ jumps.jumps_of self.now.config.rules }
     {
-        &self.jumps
+        &self.index.jumps
     }
 
     /// One gate for each rule, in their order: it admits each packet that an evaluation has to look at the
@@ -109,7 +130,7 @@ impl Edition {
     pub fn gates(&self) -> &[Gate]
         ensures { AreGates self.now.config.rules result.now }
     {
-        self.gates.as_slice()
+        self.index.gates.as_slice()
     }
 
     /// The place of the first rule numbered so or higher; the list's length where there is none.
@@ -124,7 +145,7 @@ impl Edition {
         ensures { result ≡ spec.place_of id self.now.config.rules }
     {
         match self.facts.rules.as_slice().binary_search(&id) {
-            Ok(index) => Some(self.places[index] as usize),
+            Ok(index) => Some(self.index.places[index] as usize),
             Err(_) => None,
         }
     }
@@ -135,7 +156,7 @@ impl Edition {
         ensures { (d : Rule) → result
             ≡ spec.flow_name self.now.config.names (slice_index_or self.now.config.rules place d) }
     {
-        self.names[place]
+        self.index.names[place]
     }
 }
 
@@ -151,17 +172,12 @@ fn with_gates(
 {
     let placed = by_identity(alloc, config.rules())?;
     let facts = facts_of(alloc, number, &config, &placed)?;
-    let jumps = jumps_of(alloc, config.rules())?;
-    let names = flow_names(alloc, config.names(), config.rules())?;
-    let places = places(alloc, &placed)?;
+    let index = index_of(alloc, &config, &placed, gates)?;
     let edition = Edition {
         number,
         config,
         facts,
-        jumps,
-        places,
-        names,
-        gates,
+        index,
     };
     Ok(Arc::new(alloc, edition)?)
 }

@@ -8,6 +8,7 @@ pub use store::Store;
 mod edition;
 mod flow_names;
 mod gates;
+mod index;
 mod jump;
 mod jumps;
 mod placed;

@@ -3,8 +3,9 @@ ghost use Rattle.std.specs.Arc.{arc_value};
 ghost use Rattle.rule_chain.specs.Chain.{AscendsFrom, HaveOwnIds};
 ghost use Rattle.generation_store.specs.Placing.{ArePlaced, identity_of, placed_from};
 
+use dyn_states::Identities;
 use fw_base::OutOfMemory;
-use fw_rule::{Items, Rule};
+use fw_rule::Rule;
 use std::alloc::Global;
 use std::sync::Arc;
 
@@ -44,14 +45,14 @@ pub(crate) fn by_identity(alloc: Global, rules: &[Arc<Rule>]) -> Result<Vec<Plac
 }
 
 /// The identities alone.
-pub(crate) fn identities(alloc: Global, placed: &[Placed]) -> Result<Items<u32>, OutOfMemory>
+pub(crate) fn identities(alloc: Global, placed: &[Placed]) -> Result<Identities, OutOfMemory>
     ensures { IfOk result (λ identities. identities ≡ map (λ p. p.identity) placed.now) }
 {
     let mut identities = Vec::with_capacity(alloc, placed.len())?;
     for rule in placed {
         identities.push(rule.identity)?;
     }
-    Ok(Items::from_vec(identities))
+    Identities::new(alloc, identities)
 }
 
 /// The places alone.

@@ -2,12 +2,13 @@ ghost use Rattle.std.specs.Prelude.{◌≡◌, IfOk, IfSome, IsSomeAnd, Some, No
 ghost use Rattle.fw_rule.specs.FlowName.{IsFlowName};
 ghost use Rattle.fw_rule.specs.WellFormed.{IsBody, IsState, IsWellFormed};
 ghost use Rattle.fw_rule.specs.declared.addr_item.AddrItem.TheVariants as items;
+ghost use Rattle.rule_chain.specs.Touching.{HasRulesOf};
 
 use crate::{Edition, Jump, Store};
 use dyn_states::FlowName;
 use fw_base::Name;
 use fw_rule::{Action, AddrItem, AddrSpec, Body, Command, Family, Items, RuleDraft, StateOpt};
-use rule_chain::{Config, is_changing};
+use rule_chain::{Config, is_changing, touches_rules};
 use std::alloc::Global;
 use std::sync::Arc;
 use std::test::Fail;
@@ -114,6 +115,18 @@ fn configured(alloc: Global, rules: &[(u16, Deed)]) -> Result<Config, Fail> {
     Ok(config)
 }
 
+/// The configuration after a command that touches no rule.
+fn edited(alloc: Global, config: &Config, command: &Command) -> Result<Config, Fail>
+    requires { IsWellFormed command.now }
+    ensures { IfOk result (HasRulesOf config.now) }
+{
+    if is_changing(command) && !touches_rules(command) {
+        Ok(config.apply(alloc, command)?)
+    } else {
+        Err("an edit of rules")?
+    }
+}
+
 /// The seventh edition, of that configuration.
 fn edition(alloc: Global, rules: &[(u16, Deed)]) -> Result<Arc<Edition>, Fail> {
     Ok(Edition::build(alloc, 7, configured(alloc, rules)?)?)
@@ -182,5 +195,14 @@ fn editions_behind_another(rt: HostRuntime) -> Result<(), Fail> {
         assert_eq!(rt; next.config().rules().len(), rules.len().saturating_add(1));
         assert_eq!(rt; next.gates().len(), rules.len().saturating_add(1));
     }
+    let edit = Command::SetMask {
+        disable: 2,
+        enable: 0,
+    };
+    let config = edited(rt.alloc(), last.config(), &edit)?;
+    let beside = Edition::build_beside(rt.alloc(), &last, 8, config)?;
+    assert_eq!(rt; (beside.number(), beside.facts().number), (8, 8));
+    assert_eq!(rt; beside.config().disabled(), 2);
+    assert_eq!(rt; Arc::strong_count(&last.index), 2);
     Ok(())
 }

@@ -1,19 +1,6 @@
-pub mod Spans
-pub mod RulesRead
-pub mod Following
-pub mod NumbersRead
-pub mod Cuts
-pub mod Placing
-pub mod Listing
-pub mod DraftsInRange
-pub mod DigitSteps
-pub mod MaskSteps
-pub mod TypesRead
-pub mod ItemsRead
-pub mod MasksRead
-pub mod HexSteps
-pub mod Gaps
-pub mod Sides
-pub mod Items6Read
+-- what the loops of the code keep from step to step
+pub mod Steps
+-- what is read is in its form
+pub mod Forms
+-- where the fault of a rule stands
 pub mod Places
-pub mod RulePlaces

@@ -8,16 +8,16 @@ use Rattle.fw_rule.specs.declared.addr_item.AddrItem.{AddrItem}
 use Rattle.fw_rule.specs.declared.addr_item.AddrItem.TheVariants.{Any, Me, Net, Net6, InTable, TableValue}
 use Rattle.fw_rule.specs.declared.addr_spec.AddrSpec.{AddrSpec}
 use Rattle.ipfw_parser.specs.declared.kind.Kind.TheVariants.{BadAddress, BadPrefix}
-use Rattle.ipfw_parser.specs.Reading.{Word, Fault, Reading, fault_at, ◌>>=◌, same, first, negation}
+use Rattle.ipfw_parser.specs.Reading.{Word, Fault, WordReading, fault_at, ◌>>=◌, same, first, negation}
 use Rattle.ipfw_parser.specs.Numbers.{decimal, up_to, number}
 use Rattle.ipfw_parser.specs.Names.{table_name}
-pub use Rattle.ipfw_parser.specs.Parts.{before, behind, then_some}
+pub use Rattle.ipfw_parser.specs.Parts.{part_before, part_behind, then_some}
 use Rattle.ipfw_parser.specs.Addresses6.{prefix6, has_colon}
-use Rattle.ipfw_parser.specs.Lists.{elements_outside, each}
+use Rattle.ipfw_parser.specs.Lists.{elements_outside, each_element}
 
 -- an octet, 0 to 255 of one to three digits
-unfoldable pub octet : List ℕ → Option ℕ
-octet text = up_to 255 (decimal 3 text)
+unfoldable pub octet_in : List ℕ → Option ℕ
+octet_in text = up_to 255 (decimal 3 text)
 
 -- an octet and the text behind the dot after it
 abbrev pub with_rest : Option ℕ → Option (List ℕ) → Option (ℕ × List ℕ)
@@ -26,7 +26,7 @@ with_rest other more = None
 
 -- an octet before a dot, and the text behind the dot
 unfoldable pub octet_and_dot : List ℕ → Option (ℕ × List ℕ)
-octet_and_dot text = with_rest (octet (before 46 text)) (behind 46 text)
+octet_and_dot text = with_rest (octet_in (part_before 46 text)) (part_behind 46 text)
 
 -- four octets with dots between them
 unfoldable pub address_in : List ℕ → Option ℕ
@@ -34,7 +34,7 @@ address_in text =
     then_some (octet_and_dot text) (λ a.
     then_some (octet_and_dot a.1) (λ b.
     then_some (octet_and_dot b.1) (λ c.
-    then_some (octet c.1) (λ d.
+    then_some (octet_in c.1) (λ d.
     Some (from_be_bytes w32 (a.0 ∷ b.0 ∷ c.0 ∷ d ∷ []))))))
 
 -- the address, or the fault of its column
@@ -59,8 +59,8 @@ prefix_length column (Some text) = found_length column (up_to 32 (decimal 10 tex
 -- an address, with a length or without
 unfoldable pub prefix : Word → Result Network Fault
 prefix word = do
-  a ← address (record { column = word.column; text = before 47 word.text })
-  bits ← prefix_length word.column (behind 47 word.text)
+  a ← address (record { column = word.column; text = part_before 47 word.text })
+  bits ← prefix_length word.column (part_behind 47 word.text)
   Ok (network a bits)
 
 -- how long the part before the first comma or closing parenthesis is
@@ -114,10 +114,10 @@ item word =
 
 -- a list of addresses, one word
 unfoldable pub items : Word → Result (List AddrItem) Fault
-items word = each item word.column (elements_outside false word.text)
+items word = each_element item word.column (elements_outside false word.text)
 
 -- `not` or nothing, and a list of addresses
-unfoldable pub addr_spec : ℕ → List Word → Reading AddrSpec
+unfoldable pub addr_spec : ℕ → List Word → WordReading AddrSpec
 addr_spec end words = do
   negated ← negation end words
   list ← first end negated.1

@@ -2,15 +2,16 @@
 use Rattle.std.specs.Prelude.{ℕ, ◌+◌, ◌-◌, ◌*◌, suc, Bool, ◌&&◌, ◌||◌, ◌==◌, nat_le, nat_eq, if◌then◌else◌, Option, Some, None, Result, Ok, List, [], ◌∷◌, ◌++◌, length, take, drop, replicate, codes}
 use Rattle.std.specs.List.{list_all, list_any, slice_split, starts_with}
 use Rattle.std.specs.Option.{option_map}
+use Rattle.std.specs.Char.{is_ascii_digit}
 use Rattle.fw_base.specs.Prefix6.{Network6, network6}
 use Rattle.ipfw_parser.specs.declared.kind.Kind.TheVariants.{BadAddress, BadPrefix}
 use Rattle.ipfw_parser.specs.Reading.{Word, Fault, ◌>>=◌}
-use Rattle.ipfw_parser.specs.Numbers.{is_digit, decimal, up_to}
-use Rattle.ipfw_parser.specs.Parts.{before, behind, then_some, found_or}
+use Rattle.ipfw_parser.specs.Numbers.{decimal, up_to}
+use Rattle.ipfw_parser.specs.Parts.{part_before, part_behind, then_some, found_or}
 
 -- a hexadecimal digit, in either case
 abbrev pub is_hex : ℕ → Bool
-is_hex byte = is_digit byte || (nat_le 65 byte && nat_le byte 70) || (nat_le 97 byte && nat_le byte 102)
+is_hex byte = is_ascii_digit byte || (nat_le 65 byte && nat_le byte 70) || (nat_le 97 byte && nat_le byte 102)
 
 -- what the digit counts
 abbrev pub hex_value : ℕ → ℕ
@@ -57,20 +58,20 @@ gap_in [] = None
 gap_in (byte ∷ bytes) = if starts_with nat_eq (byte ∷ bytes) (codes "::") then Some 0 else option_map suc (gap_in bytes)
 
 -- eight groups
-unfoldable pub whole : List ℕ → Option (List ℕ)
-whole groups = if nat_eq (length groups) 8 then Some groups else None
+unfoldable pub whole_groups : List ℕ → Option (List ℕ)
+whole_groups groups = if nat_eq (length groups) 8 then Some groups else None
 
 -- eight groups with those of the `::` between the others: one zero group or more
-unfoldable pub filled : List ℕ → List ℕ → Option (List ℕ)
-filled front back = if nat_le (length front + length back) 7 then Some (front ++ (replicate (8 - (length front + length back)) 0 ++ back)) else None
+unfoldable pub filled_groups : List ℕ → List ℕ → Option (List ℕ)
+filled_groups front back = if nat_le (length front + length back) 7 then Some (front ++ (replicate (8 - (length front + length back)) 0 ++ back)) else None
 
 -- the eight groups of a text, by where its first `::` stands
 abbrev pub groups_by : List ℕ → Option ℕ → Option (List ℕ)
-groups_by text None = then_some (side text) whole
+groups_by text None = then_some (side text) whole_groups
 groups_by text (Some at) =
     then_some (side (take at text)) (λ front.
     then_some (side (drop (at + 2) text)) (λ back.
-    filled front back))
+    filled_groups front back))
 
 -- the eight groups that the text writes; a second `::` leaves an empty group between two colons
 unfoldable pub eight_groups : List ℕ → Option (List ℕ)
@@ -97,8 +98,8 @@ prefix6_length column (Some text) = found_or BadPrefix column (up_to 128 (decima
 -- an address with a length behind a `/`, or without one; host bits are cleared
 unfoldable pub prefix6 : Word → Result Network6 Fault
 prefix6 word = do
-  a ← address6 (record { column = word.column; text = before 47 word.text })
-  bits ← prefix6_length word.column (behind 47 word.text)
+  a ← address6 (record { column = word.column; text = part_before 47 word.text })
+  bits ← prefix6_length word.column (part_behind 47 word.text)
   Ok (network6 a bits)
 
 -- an element of a list of addresses that has a colon is read as IPv6

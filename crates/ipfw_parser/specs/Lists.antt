@@ -38,11 +38,11 @@ elements_outside_left None = []
 elements_outside_left (Some text) = elements_outside false text
 
 -- each element read, up to the first fault
-unfoldable pub each : {X : Type 0} → (Word → Result X Fault) → ℕ → List (List ℕ) → Result (List X) Fault
-each read column [] = Ok []
-each read column (text ∷ texts) = do
+unfoldable pub each_element : {X : Type 0} → (Word → Result X Fault) → ℕ → List (List ℕ) → Result (List X) Fault
+each_element read column [] = Ok []
+each_element read column (text ∷ texts) = do
   x ← read (record { column = column; text = text })
-  xs ← each read column texts
+  xs ← each_element read column texts
   Ok (x ∷ xs)
 
 -- ICMP types, 0 to 31, as the bits of a mask (RFC 792)
@@ -78,24 +78,24 @@ is_negated [] = false
 is_negated (byte ∷ bytes) = byte == 33
 
 -- the name of an element without its !
-unfoldable pub bare : List ℕ → List ℕ
-bare text = if is_negated text then drop 1 text else text
+unfoldable pub bare_name : List ℕ → List ℕ
+bare_name text = if is_negated text then drop 1 text else text
 
 -- the masks with the bit of one more name
-abbrev pub with_name : Masks → Bool → ℕ → Masks
-with_name masks negated k = if negated then record masks { clear = bit_or masks.clear (2 ^ k) } else record masks { set = bit_or masks.set (2 ^ k) }
+abbrev pub with_sign : Masks → Bool → ℕ → Masks
+with_sign masks negated k = if negated then record masks { clear = bit_or masks.clear (2 ^ k) } else record masks { set = bit_or masks.set (2 ^ k) }
 
 -- the place of a name, or the fault of its column
-abbrev pub flag_found : ℕ → Option ℕ → Result ℕ Fault
-flag_found column (Some k) = Ok k
-flag_found column None = fault_at column BadFlag
+abbrev pub found_flag : ℕ → Option ℕ → Result ℕ Fault
+found_flag column (Some k) = Ok k
+found_flag column None = fault_at column BadFlag
 
 -- the masks of all elements, from left to right
 unfoldable pub sign_masks : List (List ℕ) → Masks → ℕ → List (List ℕ) → Result Masks Fault
 sign_masks names masks column [] = Ok masks
 sign_masks names masks column (text ∷ texts) = do
-  k ← flag_found column (place names (bare text))
-  sign_masks names (with_name masks (is_negated text) k) column texts
+  k ← found_flag column (place names (bare_name text))
+  sign_masks names (with_sign masks (is_negated text) k) column texts
 
 -- no name stands both with and without a !
 unfoldable pub signs : List (List ℕ) → Word → Result Masks Fault

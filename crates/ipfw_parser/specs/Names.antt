@@ -1,6 +1,7 @@
 -- Names of tables, flows and interfaces, and words that stand for numbers (services: RFC 6335).
 use Rattle.std.specs.Prelude.{ℕ, ◌-◌, Bool, false, ◌&&◌, ◌||◌, ◌==◌, nat_le, if◌then◌else◌, Option, Some, None, Result, Ok, List, [], ◌∷◌, length, position, slice_get, slice_index, take, drop, codes, option_and_then}
 use Rattle.std.specs.List.{list_all}
+use Rattle.fw_base.specs.Name.{is_name_byte}
 use Rattle.fw_rule.specs.Canonical.{unreach_names}
 use Rattle.fw_rule.specs.declared.iface.Iface.{Iface}
 use Rattle.fw_rule.specs.declared.iface.Iface.TheVariants.{AnyIface, Exact, Begins}
@@ -8,11 +9,7 @@ use Rattle.ipfw_parser.specs.declared.kind.Kind.TheVariants.{BadName, UnknownWor
 use Rattle.ipfw_parser.specs.Reading.{Word, Fault, fault_at, same}
 use Rattle.ipfw_parser.specs.Numbers.{number, starts_with_digit}
 
--- an ASCII letter, a digit, _ . or -
-unfoldable pub is_name_byte : ℕ → Bool
-is_name_byte b = (nat_le 97 b && nat_le b 122) || (nat_le 65 b && nat_le b 90) || (nat_le 48 b && nat_le b 57) || b == 95 || b == 46 || b == 45
-
--- a name of one to so many bytes
+-- a name of one to so many bytes: letters, digits, `_`, `.` and `-`
 unfoldable pub is_name : ℕ → List ℕ → Bool
 is_name most text = list_all is_name_byte text && (nat_le 1 (length text) && nat_le (length text) most)
 
@@ -30,8 +27,8 @@ unfoldable pub is_any_flow : List ℕ → Bool
 is_any_flow text = same (drop 1 text) (codes "any")
 
 -- the name behind the colon, by the rules of table names
-unfoldable pub flow_name : Word → Result (List ℕ) Fault
-flow_name word = if is_name 63 (drop 1 word.text) then Ok (drop 1 word.text) else fault_at word.column BadName
+unfoldable pub named_flow : Word → Result (List ℕ) Fault
+named_flow word = if is_name 63 (drop 1 word.text) then Ok (drop 1 word.text) else fault_at word.column BadName
 
 -- an interface's name stands for all that begin so
 unfoldable pub ends_with_star : List ℕ → Bool
@@ -65,13 +62,13 @@ unfoldable pub service : List ℕ → Option ℕ
 service text = option_and_then (λ k. slice_get service_ports k) (place service_names text)
 
 -- the number that the word stands for, or its fault
-abbrev pub found : Word → Option ℕ → Result ℕ Fault
-found word (Some k) = Ok k
-found word None = fault_at word.column UnknownWord
+abbrev pub found_word : Word → Option ℕ → Result ℕ Fault
+found_word word (Some k) = Ok k
+found_word word None = fault_at word.column UnknownWord
 
 -- a word of a table, as its place there
 unfoldable pub word_in : List (List ℕ) → Word → Result ℕ Fault
-word_in table word = found word (place table word.text)
+word_in table word = found_word word (place table word.text)
 
 -- a code of `unreach`, by number or by name
 unfoldable pub code : Word → Result ℕ Fault

@@ -1,12 +1,9 @@
 -- Numbers: one to ten decimal digits.
 use Rattle.std.specs.Prelude.{ℕ, ◌+◌, ◌-◌, ◌*◌, Bool, false, ◌&&◌, nat_le, if◌then◌else◌, Option, Some, None, Result, Ok, List, [], ◌∷◌, length}
 use Rattle.std.specs.List.{list_all}
+use Rattle.std.specs.Char.{is_ascii_digit}
 use Rattle.ipfw_parser.specs.declared.kind.Kind.TheVariants.{BadNumber, NumberRange, UnknownWord}
 use Rattle.ipfw_parser.specs.Reading.{Word, Fault, fault_at}
-
--- a decimal digit
-abbrev pub is_digit : ℕ → Bool
-is_digit byte = nat_le 48 byte && nat_le byte 57
 
 -- the number that digits write behind those of n
 abbrev pub value_after : ℕ → List ℕ → ℕ
@@ -15,7 +12,7 @@ value_after n (digit ∷ digits) = value_after (10 * n + (digit - 48)) digits
 
 -- the number that the digits write, where there are only digits
 unfoldable pub digits_value : List ℕ → Option ℕ
-digits_value text = if list_all is_digit text then Some (value_after 0 text) else None
+digits_value text = if list_all is_ascii_digit text then Some (value_after 0 text) else None
 
 -- one to so many digits
 unfoldable pub decimal : ℕ → List ℕ → Option ℕ
@@ -38,7 +35,7 @@ number least most word = number_by least most word.column (decimal 10 word.text)
 -- the text begins with a digit
 unfoldable pub starts_with_digit : List ℕ → Bool
 starts_with_digit [] = false
-starts_with_digit (byte ∷ bytes) = is_digit byte
+starts_with_digit (byte ∷ bytes) = is_ascii_digit byte
 
 -- a set, 0 to 31; what doesn't begin with a digit isn't read as a number
 unfoldable pub set_number : Word → Result ℕ Fault

@@ -2,19 +2,19 @@
 use Rattle.std.specs.Prelude.{ℕ, ◌+◌, zero, suc, Bool, true, false, ◌||◌, if◌then◌else◌, Option, Some, None, Result, Ok, List, [], ◌∷◌, codes, is_some}
 use Rattle.fw_rule.specs.Canonical.{flag_names, option_names}
 use Rattle.fw_rule.specs.FlowName.{default_flow}
-use Rattle.fw_rule.specs.declared.field.Field.{Field}
-use Rattle.fw_rule.specs.declared.field.Field.TheVariants.{SrcIp, DstIp, SrcPort as SrcPortField, DstPort as DstPortField}
+use Rattle.fw_rule.specs.declared.test.Field.{Field}
+use Rattle.fw_rule.specs.declared.test.Field.TheVariants.{SrcIp, DstIp, SrcPort as SrcPortField, DstPort as DstPortField}
 use Rattle.fw_rule.specs.declared.test.Test.{Test}
 use Rattle.fw_rule.specs.declared.test.Test.TheVariants.{Inward, Outward, Established, Setup, Frag, Recv, Xmit, Via, TcpFlags, IcmpTypes, Icmp6Types, IpOptions, Lookup}
 use Rattle.fw_rule.specs.declared.opt.Opt.{Opt}
-use Rattle.fw_rule.specs.declared.limit_mask.LimitMask.{LimitMask}
-use Rattle.fw_rule.specs.declared.limit_mask.LimitMask.TheVariants.{SrcAddr, SrcPort, DstAddr, DstPort}
+use Rattle.fw_rule.specs.declared.state_opt.LimitMask.{LimitMask}
+use Rattle.fw_rule.specs.declared.state_opt.LimitMask.TheVariants.{SrcAddr, SrcPort, DstAddr, DstPort}
 use Rattle.fw_rule.specs.declared.state_opt.StateOpt.{StateOpt}
 use Rattle.fw_rule.specs.declared.state_opt.StateOpt.TheVariants.{Keep, Limit}
 use Rattle.ipfw_parser.specs.declared.kind.Kind.TheVariants.{UnknownWord, SecondState, Misplaced}
-use Rattle.ipfw_parser.specs.Reading.{Word, Fault, Reading, fault_at, ◌>>=◌, same, first}
+use Rattle.ipfw_parser.specs.Reading.{Word, Fault, WordReading, fault_at, ◌>>=◌, same, first}
 use Rattle.ipfw_parser.specs.Numbers.{number}
-use Rattle.ipfw_parser.specs.Names.{iface, table_name, starts_with_colon, is_any_flow, flow_name}
+use Rattle.ipfw_parser.specs.Names.{iface, table_name, starts_with_colon, is_any_flow, named_flow}
 use Rattle.ipfw_parser.specs.Lists.{types, types6, signs}
 
 -- the field that a table is asked for
@@ -46,7 +46,7 @@ plain_test text =
     else None
 
 -- a table's name behind a field
-unfoldable pub lookup : ℕ → List Word → Reading Test
+unfoldable pub lookup : ℕ → List Word → WordReading Test
 lookup end words = do
   which ← first end words
   found ← field which.0
@@ -79,7 +79,7 @@ has_argument text =
     same text (codes "recv") || (same text (codes "xmit") || (same text (codes "via") || (same text (codes "tcpflags") || (same text (codes "icmptypes") || (same text (codes "icmp6types") || same text (codes "ipoptions"))))))
 
 -- the option that begins with this word, with what stands behind it
-abbrev pub test_by : ℕ → Word → List Word → Option Test → Reading Test
+abbrev pub test_by : ℕ → Word → List Word → Option Test → WordReading Test
 test_by end word words (Some test) = Ok (test, words)
 test_by end word words None =
     if same word.text (codes "lookup") then lookup end words
@@ -90,7 +90,7 @@ test_by end word words None =
     else fault_at word.column UnknownWord
 
 -- a test that begins with this word
-unfoldable pub test : ℕ → Word → List Word → Reading Test
+unfoldable pub test : ℕ → Word → List Word → WordReading Test
 test end word words = test_by end word words (plain_test word.text)
 
 -- the word begins a state option
@@ -98,7 +98,7 @@ unfoldable pub is_state : List ℕ → Bool
 is_state text = same text (codes "keep-state") || same text (codes "limit")
 
 -- an option that begins with this word: a test, or `not` and a test
-unfoldable pub option : ℕ → Word → List Word → Reading Opt
+unfoldable pub option : ℕ → Word → List Word → WordReading Opt
 option end word words =
     if same word.text (codes "not") then (do
       next ← first end words
@@ -110,15 +110,15 @@ option end word words =
       Ok (record { negated = false; test = found.0 }, found.1))
 
 -- the flow that states are of, where a name follows: `default` where none does, and one flow alone
-unfoldable pub made_flow : List Word → Reading (List ℕ)
+unfoldable pub made_flow : List Word → WordReading (List ℕ)
 made_flow [] = Ok (default_flow, [])
 made_flow (word ∷ words) =
     if starts_with_colon word.text then
-    (if is_any_flow word.text then fault_at word.column Misplaced else (flow_name word >>= λ name. Ok (name, words)))
+    (if is_any_flow word.text then fault_at word.column Misplaced else (named_flow word >>= λ name. Ok (name, words)))
     else Ok (default_flow, word ∷ words)
 
 -- how states are made, beginning with this word
-unfoldable pub state : ℕ → Word → List Word → Reading StateOpt
+unfoldable pub state : ℕ → Word → List Word → WordReading StateOpt
 state end word words =
     if same word.text (codes "keep-state") then (made_flow words >>= λ flow. Ok (Keep flow.0, flow.1))
     else (do

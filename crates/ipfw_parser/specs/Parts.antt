@@ -5,12 +5,12 @@ use Rattle.ipfw_parser.specs.declared.kind.Kind.{Kind}
 use Rattle.ipfw_parser.specs.Reading.{Fault, fault_at}
 
 -- the part before the first such byte
-unfoldable pub before : ℕ → List ℕ → List ℕ
-before byte text = take (unwrap_or (position (λ b. b == byte) text) (length text)) text
+unfoldable pub part_before : ℕ → List ℕ → List ℕ
+part_before byte text = take (unwrap_or (position (λ b. b == byte) text) (length text)) text
 
 -- the part behind it, where it is there
-unfoldable pub behind : ℕ → List ℕ → Option (List ℕ)
-behind byte text = option_map (λ k. drop (k + 1) text) (position (λ b. b == byte) text)
+unfoldable pub part_behind : ℕ → List ℕ → Option (List ℕ)
+part_behind byte text = option_map (λ k. drop (k + 1) text) (position (λ b. b == byte) text)
 
 -- what is found in what was found
 abbrev pub then_some : {X Y : Type 0} → Option X → (X → Option Y) → Option Y

@@ -28,8 +28,8 @@ abbrev pub ◌>>=◌ : {X Y : Type 0} → Result X Fault → (X → Result Y Fau
 (Err e) >>= f = Err e
 
 -- a value, and the words that are left
-abbrev pub Reading : Type 0 → Type 0
-Reading X = Result (X × List Word) Fault
+abbrev pub WordReading : Type 0 → Type 0
+WordReading X = Result (X × List Word) Fault
 
 -- What a call answered is what reading gives, unless memory ran out.
 abbrev pub Fails : {Y : Type 0} → ParseFault → Result Y Fault → Type 0
@@ -37,9 +37,9 @@ Fails OutOfMemory reading = Unit {0}
 Fails (At column kind) reading = reading ≡ fault_at column kind
 
 -- a value is what reading gives; an error is its fault, or want of memory
-abbrev pub Gives : {X Y : Type 0} → (X → Y) → Result X ParseFault → Result Y Fault → Type 0
-Gives view (Ok x) reading = reading ≡ Ok (view x)
-Gives view (Err e) reading = Fails e reading
+abbrev pub ReadsAs : {X Y : Type 0} → (X → Y) → Result X ParseFault → Result Y Fault → Type 0
+ReadsAs view (Ok x) reading = reading ≡ Ok (view x)
+ReadsAs view (Err e) reading = Fails e reading
 
 -- a call that takes no memory doesn't answer that there was none
 abbrev pub NeedsNoMemory : {X : Type 0} → Result X ParseFault → Type 0
@@ -48,24 +48,24 @@ NeedsNoMemory (Err (At column kind)) = ⊤
 NeedsNoMemory (Err OutOfMemory) = ⊥
 
 -- the word of a line that a token spans
-abbrev pub word_of : List ℕ → Token → Word
-word_of line token = record { column = token.start + 1; text = take (token.end - token.start) (drop token.start line) }
+abbrev pub word_at : List ℕ → Token → Word
+word_at line token = record { column = token.start + 1; text = take (token.end - token.start) (drop token.start line) }
 
 -- the token lies in the line
-pub record IsWithin (line : List ℕ) (token : Token) : Type 0 where
+pub record HoldsToken (line : List ℕ) (token : Token) : Type 0 where
   pub some : token.start < token.end
   pub inside : token.end ≤ length line
 
 -- the tokens lie in the line
-abbrev pub AreWithin : List ℕ → List Token → Type 0
-AreWithin line tokens = (k : ℕ) → (d : Token) → k < length tokens → IsWithin line (slice_index_or tokens k d)
+abbrev pub HoldsTokens : List ℕ → List Token → Type 0
+HoldsTokens line tokens = (k : ℕ) → (d : Token) → k < length tokens → HoldsToken line (slice_index_or tokens k d)
 
 -- the text is this word
 unfoldable pub same : List ℕ → List ℕ → Bool
 same text word = pointwise nat_eq text word
 
 -- the next word; end is the column one past the line's last word
-unfoldable pub first : ℕ → List Word → Reading Word
+unfoldable pub first : ℕ → List Word → WordReading Word
 first end [] = fault_at end MissingWord
 first end (word ∷ words) = Ok (word, words)
 
@@ -76,7 +76,7 @@ expected name end words = do
   if same next.0.text name then Ok next.1 else fault_at next.0.column UnknownWord
 
 -- whether `not` stands before the next words
-unfoldable pub negation : ℕ → List Word → Reading Bool
+unfoldable pub negation : ℕ → List Word → WordReading Bool
 negation end words = do
   next ← first end words
   if same next.0.text (codes "not") then Ok (true, next.1) else Ok (false, words)

@@ -3,35 +3,35 @@ use Rattle.std.specs.Prelude.{ℕ, ◌+◌, ◌-◌, Bool, false, ◌||◌, if�
 use Rattle.fw_rule.specs.declared.action.Action.{Action}
 use Rattle.fw_rule.specs.declared.action.Action.TheVariants.{Allow, Deny, Reset, Unreach, Count, SkipTo, Call, Return, CheckState}
 use Rattle.fw_rule.specs.FlowName.{default_flow}
-use Rattle.fw_rule.specs.declared.family.Family.{Family}
-use Rattle.fw_rule.specs.declared.family.Family.TheVariants.{AnyIp, Four, Six}
+use Rattle.fw_rule.specs.declared.body.Family.{Family}
+use Rattle.fw_rule.specs.declared.body.Family.TheVariants.{AnyIp, Four, Six}
 use Rattle.fw_rule.specs.declared.body.Body.{Body}
 use Rattle.fw_rule.specs.declared.rule_draft.RuleDraft.{RuleDraft}
 use Rattle.fw_lex.specs.declared.token.Token.{Token}
 use Rattle.fw_lex.specs.Words.{before_comment}
 use Rattle.ipfw_parser.specs.declared.kind.Kind.TheVariants.{UnknownWord, ExtraWord}
-use Rattle.ipfw_parser.specs.Reading.{Word, Fault, Reading, fault_at, ◌>>=◌, same, first, expected, word_of}
+use Rattle.ipfw_parser.specs.Reading.{Word, Fault, WordReading, fault_at, ◌>>=◌, same, first, expected, word_at}
 use Rattle.ipfw_parser.specs.Numbers.{number, starts_with_digit, set_number}
-use Rattle.ipfw_parser.specs.Names.{code, starts_with_colon, is_any_flow, flow_name}
+use Rattle.ipfw_parser.specs.Names.{code, starts_with_colon, is_any_flow, named_flow}
 use Rattle.ipfw_parser.specs.Addresses.{addr_spec}
 use Rattle.ipfw_parser.specs.Ports.{source_ports, destination_ports}
 use Rattle.ipfw_parser.specs.Options.{options}
 
 -- a word that begins with a digit is the number
-unfoldable pub rule_number : ℕ → List Word → Reading (Option ℕ)
+unfoldable pub rule_number : ℕ → List Word → WordReading (Option ℕ)
 rule_number end words = do
   next ← first end words
   if starts_with_digit next.0.text then (number 0 65535 next.0 >>= λ n. Ok (Some n, next.1)) else Ok (None, words)
 
 -- the set behind `set`
-unfoldable pub set_behind : ℕ → List Word → Reading ℕ
+unfoldable pub set_behind : ℕ → List Word → WordReading ℕ
 set_behind end words = do
   which ← first end words
   n ← set_number which.0
   Ok (n, which.1)
 
 -- the set, 0 where none is named
-unfoldable pub rule_set : ℕ → List Word → Reading ℕ
+unfoldable pub rule_set : ℕ → List Word → WordReading ℕ
 rule_set end words = do
   next ← first end words
   if same next.0.text (codes "set") then set_behind end next.1 else Ok (0, words)
@@ -48,7 +48,7 @@ plain_action text =
     else None
 
 -- the action that begins with this word, with what stands behind it
-abbrev pub action_by : ℕ → Word → List Word → Option Action → Reading Action
+abbrev pub action_by : ℕ → Word → List Word → Option Action → WordReading Action
 action_by end word words (Some action) = Ok (action, words)
 action_by end word words None =
     if same word.text (codes "unreach") then (do
@@ -66,24 +66,24 @@ action_by end word words None =
     else fault_at word.column UnknownWord
 
 -- an action that begins with this word
-unfoldable pub action : ℕ → Word → List Word → Reading Action
+unfoldable pub action : ℕ → Word → List Word → WordReading Action
 action end word words = action_by end word words (plain_action word.text)
 
 -- the amount behind `logamount`
-unfoldable pub amount_behind : ℕ → List Word → Reading ℕ
+unfoldable pub amount_behind : ℕ → List Word → WordReading ℕ
 amount_behind end words = do
   next ← first end words
   n ← number 0 4294967295 next.0
   Ok (n, next.1)
 
 -- behind `log`: its amount, 0 where none is given
-unfoldable pub amount : ℕ → List Word → Reading ℕ
+unfoldable pub amount : ℕ → List Word → WordReading ℕ
 amount end words = do
   next ← first end words
   if same next.0.text (codes "logamount") then amount_behind end next.1 else Ok (0, words)
 
 -- `log` and its amount
-unfoldable pub log : ℕ → List Word → Reading (Option ℕ)
+unfoldable pub log : ℕ → List Word → WordReading (Option ℕ)
 log end words = do
   next ← first end words
   if same next.0.text (codes "log") then (amount end next.1 >>= λ found. Ok (Some found.0, found.1)) else Ok (None, words)
@@ -136,11 +136,11 @@ body end words = do
   })
 
 -- the flow that is looked up, where a name follows: `default` where none does, and None for every flow
-unfoldable pub looked_up : List Word → Reading (Option (List ℕ))
-looked_up [] = Ok (Some default_flow, [])
-looked_up (word ∷ words) =
+unfoldable pub looked_up_flow : List Word → WordReading (Option (List ℕ))
+looked_up_flow [] = Ok (Some default_flow, [])
+looked_up_flow (word ∷ words) =
     if starts_with_colon word.text then
-    (if is_any_flow word.text then Ok (None, words) else (flow_name word >>= λ name. Ok (Some name, words)))
+    (if is_any_flow word.text then Ok (None, words) else (named_flow word >>= λ name. Ok (Some name, words)))
     else Ok (Some default_flow, word ∷ words)
 
 -- nothing stands behind the flow
@@ -150,11 +150,11 @@ check_end number_read set_read flow (word ∷ words) = fault_at word.column Extr
 
 -- behind `check-state`
 unfoldable pub check_state : Option ℕ → ℕ → List Word → Result RuleDraft Fault
-check_state number_read set_read words = looked_up words >>= λ flow. check_end number_read set_read flow.0 flow.1
+check_state number_read set_read words = looked_up_flow words >>= λ flow. check_end number_read set_read flow.0 flow.1
 
 -- an action and a body
-unfoldable pub matching : Option ℕ → ℕ → ℕ → Word → List Word → Result RuleDraft Fault
-matching number_read set_read end word words = do
+unfoldable pub matching_rule : Option ℕ → ℕ → ℕ → Word → List Word → Result RuleDraft Fault
+matching_rule number_read set_read end word words = do
   made ← action end word words
   logged ← log end made.1
   asked ← body end logged.1
@@ -166,7 +166,7 @@ rule end words = do
   numbered ← rule_number end words
   in_set ← rule_set end numbered.1
   next ← first end in_set.1
-  if same next.0.text (codes "check-state") then check_state numbered.0 in_set.0 next.1 else matching numbered.0 in_set.0 end next.0 next.1
+  if same next.0.text (codes "check-state") then check_state numbered.0 in_set.0 next.1 else matching_rule numbered.0 in_set.0 end next.0 next.1
 
 -- one past the line's last word; one past the part before # where there is none
 abbrev pub end_behind : ℕ → Option Token → ℕ
@@ -179,4 +179,4 @@ end_column part tokens = end_behind part (slice_get tokens (length tokens - 1))
 
 -- the rule in a line's words behind the first ones
 unfoldable pub rule_in : List ℕ → List Token → ℕ → Result RuleDraft Fault
-rule_in line tokens skipped = rule (end_column (length (before_comment line)) tokens) (drop skipped (map (word_of line) tokens))
+rule_in line tokens skipped = rule (end_column (length (before_comment line)) tokens) (drop skipped (map (word_at line) tokens))

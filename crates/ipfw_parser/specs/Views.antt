@@ -1,6 +1,6 @@
 -- What the parser's words mean.
 use Rattle.std.specs.Prelude.{List, map}
-use Rattle.ipfw_parser.specs.Reading.{Word, word_of}
+use Rattle.ipfw_parser.specs.Reading.{Word, word_at}
 use Rattle.ipfw_parser.specs.declared.word.Word.{Word as TextWord}
 use Rattle.ipfw_parser.specs.declared.words.Words.{Words}
 
@@ -10,4 +10,4 @@ view word = record { column = word.column; text = word.text.now }
 
 -- the words as a list
 abbrev pub list_of : Words → List Word
-list_of words = map (word_of words.line.now) words.tokens.now
+list_of words = map (word_at words.line.now) words.tokens.now

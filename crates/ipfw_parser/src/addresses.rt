@@ -2,7 +2,7 @@ ghost use Rattle.std.specs.Prelude.{◌≡◌, ◌<◌, ◌≤◌, IfSome, IfOk,
 ghost use Rattle.std.specs.Bool.{OnTrue};
 ghost use Rattle.std.specs.Option.{option_map, option_copied};
 ghost use Rattle.std.specs.List.{starts_with};
-ghost use Rattle.ipfw_parser.specs.Reading.{Gives, NeedsNoMemory};
+ghost use Rattle.ipfw_parser.specs.Reading.{ReadsAs, NeedsNoMemory};
 ghost use Rattle.ipfw_parser.specs.Views.{view, list_of};
 ghost use Rattle.ipfw_parser.specs.Addresses as spec;
 
@@ -15,9 +15,9 @@ use fw_base::{Addr, Name, Prefix};
 use fw_rule::{AddrItem, AddrSpec, Items};
 use std::alloc::Global;
 
-#[tactic(auto, unfolding(crate::specs::Addresses::octet))]
-fn octet(text: &[u8]) -> Option<u8>
-    ensures { result ≡ spec.octet text.now }
+#[tactic(auto, unfolding(crate::specs::Addresses::octet_in))]
+fn octet_in(text: &[u8]) -> Option<u8>
+    ensures { result ≡ spec.octet_in text.now }
 {
     match up_to(decimal(text, 3), 255) {
         Some(value) => Some(value as u8),
@@ -30,7 +30,7 @@ fn octet_and_dot(text: &[u8]) -> Option<(u8, &[u8])>
     ensures { option_map (λ r. (r.0, r.1.now)) result ≡ spec.octet_and_dot text.now }
 {
     let (front, rest) = cut(text, b'.');
-    match (octet(front), rest) {
+    match (octet_in(front), rest) {
         (Some(value), Some(rest)) => Some((value, rest)),
         _ => None,
     }
@@ -43,14 +43,14 @@ fn address_in(text: &[u8]) -> Option<Addr>
     let (first, rest) = octet_and_dot(text)?;
     let (second, rest) = octet_and_dot(rest)?;
     let (third, rest) = octet_and_dot(rest)?;
-    let fourth = octet(rest)?;
+    let fourth = octet_in(rest)?;
     Some(Addr(u32::from_be_bytes([first, second, third, fourth])))
 }
 
 /// An address: four numbers of one to three digits, 0 to 255, with dots between them.
 #[tactic(auto, unfolding(crate::specs::Addresses::address))]
 pub fn address(word: Word<'_>) -> Result<Addr, ParseFault>
-    ensures value { Gives (λ a. a.0) result (spec.address (view word.entry)) }
+    ensures value { ReadsAs (λ a. a.0) result (spec.address (view word.entry)) }
     ensures memory { NeedsNoMemory result }
 {
     match address_in(word.text) {
@@ -60,7 +60,7 @@ pub fn address(word: Word<'_>) -> Result<Addr, ParseFault>
 }
 
 fn prefix_length<'a>(word: Word<'a>, text: Option<&'a [u8]>) -> Result<u8, ParseFault>
-    ensures value { Gives (λ n. n) result
+    ensures value { ReadsAs (λ n. n) result
         (spec.prefix_length word.entry.column (option_copied text.entry)) }
     ensures within { IfOk result (λ n. n ≤ 32) }
     ensures memory { NeedsNoMemory result }
@@ -78,7 +78,7 @@ fn prefix_length<'a>(word: Word<'a>, text: Option<&'a [u8]>) -> Result<u8, Parse
 /// bits are cleared.
 #[tactic(auto, unfolding(crate::specs::Addresses::prefix))]
 pub fn prefix(word: Word<'_>) -> Result<Prefix, ParseFault>
-    ensures value { Gives (λ p. p) result (spec.prefix (view word.entry)) }
+    ensures value { ReadsAs (λ p. p) result (spec.prefix (view word.entry)) }
     ensures memory { NeedsNoMemory result }
 {
     let (front, rest) = cut(word.text, b'/');
@@ -99,7 +99,7 @@ fn closes(text: &[u8]) -> bool
 
 #[tactic(auto, unfolding(crate::specs::Addresses::table_value))]
 fn table_value(name: Name, word: Word<'_>) -> Result<AddrItem, ParseFault>
-    ensures { Gives (λ i. i) result (spec.table_value name (view word.entry)) }
+    ensures { ReadsAs (λ i. i) result (spec.table_value name (view word.entry)) }
 {
     let end = part_len(word.text);
     let digits = Word {
@@ -116,7 +116,7 @@ fn table_value(name: Name, word: Word<'_>) -> Result<AddrItem, ParseFault>
 
 #[tactic(auto, unfolding(crate::specs::Addresses::table_end, crate::specs::Addresses::starts_with_comma))]
 fn table_end(name: Name, word: Word<'_>) -> Result<AddrItem, ParseFault>
-    ensures { Gives (λ i. i) result (spec.table_end name (view word.entry)) }
+    ensures { ReadsAs (λ i. i) result (spec.table_end name (view word.entry)) }
 {
     if closes(word.text) {
         return Ok(AddrItem::InTable(name));
@@ -135,7 +135,7 @@ fn table_end(name: Name, word: Word<'_>) -> Result<AddrItem, ParseFault>
 
 #[tactic(auto, unfolding(crate::specs::Addresses::table_item))]
 fn table_item(alloc: Global, word: Word<'_>) -> Result<AddrItem, ParseFault>
-    ensures { Gives (λ i. i) result (spec.table_item (view word.entry)) }
+    ensures { ReadsAs (λ i. i) result (spec.table_item (view word.entry)) }
 {
     let end = part_len(word.text);
     let name = table_name(
@@ -163,7 +163,7 @@ fn table_start(text: &[u8]) -> bool
 
 #[tactic(auto, unfolding(crate::specs::Addresses::item))]
 fn item(alloc: Global, word: Word<'_>) -> Result<AddrItem, ParseFault>
-    ensures { Gives (λ i. i) result (spec.item (view word.entry)) }
+    ensures { ReadsAs (λ i. i) result (spec.item (view word.entry)) }
 {
     if word.is(b"any") {
         Ok(AddrItem::Any)
@@ -187,7 +187,7 @@ fn item(alloc: Global, word: Word<'_>) -> Result<AddrItem, ParseFault>
 
 #[tactic(auto, unfolding(crate::specs::Addresses::items))]
 fn items(alloc: Global, word: Word<'_>) -> Result<Items<AddrItem>, ParseFault>
-    ensures { Gives (λ i. i) result (spec.items (view word.entry)) }
+    ensures { ReadsAs (λ i. i) result (spec.items (view word.entry)) }
 {
     let mut found = Vec::new(alloc);
     let mut rest = Some(word.text);
@@ -210,7 +210,7 @@ pub(crate) fn addr_spec(
     end: u32,
     words: Words<'_>,
 ) -> Result<(AddrSpec, Words<'_>), ParseFault>
-    ensures { Gives (λ r. (r.0, list_of r.1)) result (spec.addr_spec end (list_of words.entry)) }
+    ensures { ReadsAs (λ r. (r.0, list_of r.1)) result (spec.addr_spec end (list_of words.entry)) }
 {
     let (negated, words) = negation(end, words)?;
     let (list, words) = words.first(end)?;

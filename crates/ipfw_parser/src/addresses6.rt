@@ -2,7 +2,7 @@ ghost use Rattle.std.specs.Prelude.{◌≡◌, ◌<◌, ◌≤◌, ◌+◌, ◌-
 ghost use Rattle.std.specs.Bool.{OnTrue};
 ghost use Rattle.std.specs.List.{starts_with};
 ghost use Rattle.std.specs.Option.{option_map, option_copied};
-ghost use Rattle.ipfw_parser.specs.Reading.{Gives, NeedsNoMemory};
+ghost use Rattle.ipfw_parser.specs.Reading.{ReadsAs, NeedsNoMemory};
 ghost use Rattle.ipfw_parser.specs.Views.{view};
 ghost use Rattle.ipfw_parser.specs.SideViews.{side_of, whole_value, filled_value, address6_value};
 ghost use Rattle.ipfw_parser.specs.Addresses6 as spec;
@@ -199,7 +199,7 @@ fn address6_in(text: &[u8]) -> Option<Addr6>
 /// place of one zero group or more.
 #[tactic(auto, unfolding(crate::specs::Addresses6::address6))]
 fn address6(word: Word<'_>) -> Result<Addr6, ParseFault>
-    ensures value { Gives (λ a. a.0) result (spec.address6 (view word.entry)) }
+    ensures value { ReadsAs (λ a. a.0) result (spec.address6 (view word.entry)) }
     ensures memory { NeedsNoMemory result }
 {
     match address6_in(word.text) {
@@ -209,7 +209,7 @@ fn address6(word: Word<'_>) -> Result<Addr6, ParseFault>
 }
 
 fn prefix6_length<'a>(word: Word<'a>, text: Option<&'a [u8]>) -> Result<u8, ParseFault>
-    ensures value { Gives (λ n. n) result
+    ensures value { ReadsAs (λ n. n) result
         (spec.prefix6_length word.entry.column (option_copied text.entry)) }
     ensures within { IfOk result (λ n. n ≤ 128) }
     ensures memory { NeedsNoMemory result }
@@ -227,7 +227,7 @@ fn prefix6_length<'a>(word: Word<'a>, text: Option<&'a [u8]>) -> Result<u8, Pars
 /// bits are cleared.
 #[tactic(auto, unfolding(crate::specs::Addresses6::prefix6))]
 pub fn prefix6(word: Word<'_>) -> Result<Prefix6, ParseFault>
-    ensures value { Gives (λ p. p) result (spec.prefix6 (view word.entry)) }
+    ensures value { ReadsAs (λ p. p) result (spec.prefix6 (view word.entry)) }
     ensures memory { NeedsNoMemory result }
 {
     let (front, rest) = cut(word.text, b'/');

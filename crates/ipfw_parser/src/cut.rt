@@ -14,10 +14,10 @@ fn find_byte(text: &[u8], wanted: u8) -> Option<usize>
 }
 
 /// The part of the text before the first such byte, and the part behind it where it is there.
-#[tactic(auto, unfolding(crate::specs::Addresses::before, crate::specs::Addresses::behind))]
+#[tactic(auto, unfolding(crate::specs::Addresses::part_before, crate::specs::Addresses::part_behind))]
 pub fn cut(text: &[u8], at: u8) -> (&[u8], Option<&[u8]>)
-    ensures front { result.0.now ≡ spec.before at text.now }
-    ensures rest { option_copied result.1 ≡ spec.behind at text.now }
+    ensures front { result.0.now ≡ spec.part_before at text.now }
+    ensures rest { option_copied result.1 ≡ spec.part_behind at text.now }
 {
     match find_byte(text, at) {
         Some(place) => (&text[..place], Some(&text[place + 1..])),

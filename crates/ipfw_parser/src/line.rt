@@ -1,7 +1,7 @@
 ghost use Rattle.std.specs.Prelude.{◌≡◌, ◌≤◌, ◌^◌, ◌<◌, length, drop, map, IfOk};
 ghost use Rattle.fw_rule.specs.WellFormed.{IsDraft};
 ghost use Rattle.fw_lex.specs.Words as lex;
-ghost use Rattle.ipfw_parser.specs.Reading.{Gives, word_of};
+ghost use Rattle.ipfw_parser.specs.Reading.{ReadsAs, word_at};
 ghost use Rattle.ipfw_parser.specs.Views.{list_of};
 ghost use Rattle.ipfw_parser.specs.Rules.{rule_in, end_column};
 
@@ -14,7 +14,7 @@ use std::alloc::Global;
 /// The words of a line, whose tokens these are.
 pub fn words_of<'a>(line: &'a [u8], tokens: &'a [Token]) -> Words<'a>
     requires short { length line.now ≤ 1048576 }
-    requires tokens { tokens.now ≡ lex.words_of line.now }
+    requires tokens { tokens.now ≡ lex.tokens_of line.now }
     ensures line { result.line.now ≡ line.entry.now }
     ensures tokens { result.tokens.now ≡ tokens.entry.now }
 {
@@ -54,11 +54,11 @@ pub fn parse_rule(
     first: usize,
 ) -> Result<RuleDraft, ParseFault>
     requires short { length line.now ≤ 1048576 }
-    requires tokens { tokens.now ≡ lex.words_of line.now }
+    requires tokens { tokens.now ≡ lex.tokens_of line.now }
     requires first { first ≤ length tokens.now }
 
     // Exactly the grammar's draft or its first fault, unless memory runs out.
-    ensures exact { Gives (λ draft. draft) result (rule_in line.now tokens.now first) }
+    ensures exact { ReadsAs (λ draft. draft) result (rule_in line.now tokens.now first) }
     ensures well_formed { IfOk result IsDraft }
 {
     parse_words(alloc, words_of(line, tokens), first)
@@ -67,7 +67,7 @@ pub fn parse_rule(
 #[tactic(auto, unfolding(crate::specs::Rules::rule_in))]
 fn parse_words(alloc: Global, words: Words<'_>, first: usize) -> Result<RuleDraft, ParseFault>
     requires { first ≤ length words.tokens.now }
-    ensures { Gives (λ draft. draft) result
+    ensures { ReadsAs (λ draft. draft) result
         (rule_in words.entry.line.now words.entry.tokens.now first) }
 {
     rule(alloc, line_end(words), skip(words, first))

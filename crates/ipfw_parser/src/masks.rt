@@ -1,5 +1,5 @@
 ghost use Rattle.std.specs.Prelude.{◌≡◌, ◌<◌, ◌≤◌, IfSome, IfOk, map, length};
-ghost use Rattle.ipfw_parser.specs.Reading.{Gives};
+ghost use Rattle.ipfw_parser.specs.Reading.{ReadsAs};
 ghost use Rattle.ipfw_parser.specs.Views.{view};
 ghost use Rattle.ipfw_parser.specs.Names.{place};
 ghost use Rattle.ipfw_parser.specs.SignViews.{signs_view};
@@ -14,7 +14,7 @@ use fw_rule::TypeSet;
 /// A list of ICMP types, 0 to 31, as the bits of a mask.
 #[tactic(auto, unfolding(crate::specs::Lists::types))]
 pub(crate) fn types(word: Word<'_>) -> Result<u32, ParseFault>
-    ensures { Gives (λ m. m) result (spec.types (view word.entry)) }
+    ensures { ReadsAs (λ m. m) result (spec.types (view word.entry)) }
 {
     let mut mask: u32 = 0;
     let mut rest = Some(word.text);
@@ -34,7 +34,7 @@ pub(crate) fn types(word: Word<'_>) -> Result<u32, ParseFault>
 /// A list of ICMPv6 types, 0 to 255, as a set.
 #[tactic(auto, unfolding(crate::specs::Lists::types6))]
 pub(crate) fn types6(word: Word<'_>) -> Result<TypeSet, ParseFault>
-    ensures { Gives (λ s. s) result (spec.types6 (view word.entry)) }
+    ensures { ReadsAs (λ s. s) result (spec.types6 (view word.entry)) }
 {
     let mut set = TypeSet::empty();
     let mut rest = Some(word.text);
@@ -67,9 +67,9 @@ fn is_negated(text: &[u8]) -> bool
     }
 }
 
-#[tactic(auto, unfolding(crate::specs::Lists::bare, crate::specs::Lists::is_negated))]
-fn bare(text: &[u8]) -> &[u8]
-    ensures { result.now ≡ spec.bare text.now }
+#[tactic(auto, unfolding(crate::specs::Lists::bare_name, crate::specs::Lists::is_negated))]
+fn bare_name(text: &[u8]) -> &[u8]
+    ensures { result.now ≡ spec.bare_name text.now }
 {
     match text {
         [b'!', name @ ..] => name,
@@ -77,9 +77,9 @@ fn bare(text: &[u8]) -> &[u8]
     }
 }
 
-fn with_name(signs: Signs, negated: bool, bit: u32) -> Signs
+fn with_sign(signs: Signs, negated: bool, bit: u32) -> Signs
     requires { bit < 8 }
-    ensures { signs_view result ≡ spec.with_name (signs_view signs) negated bit }
+    ensures { signs_view result ≡ spec.with_sign (signs_view signs) negated bit }
 {
     if negated {
         Signs {
@@ -94,9 +94,9 @@ fn with_name(signs: Signs, negated: bool, bit: u32) -> Signs
     }
 }
 
-fn found_place<'x>(names: &'x [&'x [u8]], word: Word<'x>) -> Result<usize, ParseFault>
-    ensures value { Gives (λ k. k) result
-        (spec.flag_found word.entry.column
+fn found_flag<'x>(names: &'x [&'x [u8]], word: Word<'x>) -> Result<usize, ParseFault>
+    ensures value { ReadsAs (λ k. k) result
+        (spec.found_flag word.entry.column
         (place (map (λ name. name.now) names.now) word.entry.text.now)) }
     ensures within { IfOk result (λ k. k < length names.now) }
 {
@@ -110,7 +110,7 @@ fn found_place<'x>(names: &'x [&'x [u8]], word: Word<'x>) -> Result<usize, Parse
 #[tactic(auto, unfolding(crate::specs::Lists::signs))]
 pub(crate) fn signed_names<'x>(names: &'x [&'x [u8]], word: Word<'x>) -> Result<Signs, ParseFault>
     requires { length names.now ≤ 8 }
-    ensures { Gives signs_view result
+    ensures { ReadsAs signs_view result
         (spec.signs (map (λ name. name.now) names.now) (view word.entry)) }
 {
     let mut found = Signs { set: 0, clear: 0 };
@@ -119,10 +119,10 @@ pub(crate) fn signed_names<'x>(names: &'x [&'x [u8]], word: Word<'x>) -> Result<
         let (element, more) = first_element(text);
         let name = Word {
             column: word.column,
-            text: bare(element),
+            text: bare_name(element),
         };
-        let place = found_place(names, name)?;
-        found = with_name(found, is_negated(element), place as u32);
+        let place = found_flag(names, name)?;
+        found = with_sign(found, is_negated(element), place as u32);
         rest = more;
     }
     if found.set & found.clear == 0 {

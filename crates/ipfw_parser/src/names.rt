@@ -1,14 +1,13 @@
 ghost use Rattle.std.specs.Prelude.{◌≡◌, ◌<◌, ◌≤◌, length, drop, position, IfSome, IfOk};
 ghost use Rattle.std.specs.Bool.{OnTrue};
-ghost use Rattle.std.specs.List.{list_all};
-ghost use Rattle.ipfw_parser.specs.Reading.{Gives, same};
+ghost use Rattle.ipfw_parser.specs.Reading.{ReadsAs, same};
 ghost use Rattle.ipfw_parser.specs.Views.{view};
 ghost use Rattle.fw_rule.specs.Canonical.{unreach_names};
 ghost use Rattle.ipfw_parser.specs.Names as spec;
 
 use crate::numbers::{number, starts_with_digit};
 use crate::{Kind, ParseFault, Word};
-use fw_base::Name;
+use fw_base::{Name, are_name_bytes};
 use fw_rule::{Iface, UNREACH_NAMES};
 use std::alloc::Global;
 
@@ -22,24 +21,6 @@ const SERVICE_PORTS: [u16; 16] = [
     21, 22, 23, 25, 53, 67, 68, 69, 80, 110, 123, 143, 161, 443, 993, 995,
 ];
 
-#[tactic(auto, unfolding(crate::specs::Names::is_name_byte))]
-fn is_name_byte(byte: u8) -> bool
-    ensures { result ≡ spec.is_name_byte byte }
-{
-    (97 <= byte && byte <= 122)
-        || (65 <= byte && byte <= 90)
-        || (48 <= byte && byte <= 57)
-        || byte == b'_'
-        || byte == b'.'
-        || byte == b'-'
-}
-
-fn are_name_bytes(text: &[u8]) -> bool
-    ensures { result ≡ list_all spec.is_name_byte text.now }
-{
-    text.iter().all(|byte| is_name_byte(*byte))
-}
-
 #[tactic(auto, unfolding(crate::specs::Names::is_name))]
 fn is_name(text: &[u8], most: usize) -> bool
     ensures { result ≡ spec.is_name most text.now }
@@ -50,7 +31,7 @@ fn is_name(text: &[u8], most: usize) -> bool
 /// The name of a table: 1 to 63 letters, digits, `_`, `.` and `-`.
 #[tactic(auto, unfolding(crate::specs::Names::table_name))]
 pub fn table_name(alloc: Global, word: Word<'_>) -> Result<Name, ParseFault>
-    ensures { Gives (λ n. n) result (spec.table_name (view word.entry)) }
+    ensures { ReadsAs (λ n. n) result (spec.table_name (view word.entry)) }
 {
     if is_name(word.text, 63) {
         Ok(Name::new(alloc, word.text)?)
@@ -94,9 +75,9 @@ pub(crate) fn is_any_flow(word: Word<'_>) -> bool
 }
 
 /// The name of a flow behind its colon, by the rules of table names.
-#[tactic(auto, unfolding(crate::specs::Names::flow_name, crate::specs::Names::table_name))]
-pub(crate) fn flow_name(alloc: Global, word: Word<'_>) -> Result<Name, ParseFault>
-    ensures { Gives (λ n. n) result (spec.flow_name (view word.entry)) }
+#[tactic(auto, unfolding(crate::specs::Names::named_flow, crate::specs::Names::table_name))]
+pub(crate) fn named_flow(alloc: Global, word: Word<'_>) -> Result<Name, ParseFault>
+    ensures { ReadsAs (λ n. n) result (spec.named_flow (view word.entry)) }
 {
     table_name(alloc, behind_colon(word))
 }
@@ -112,7 +93,7 @@ fn ends_with_star(text: &[u8]) -> bool
 /// Interfaces: `any`, the name of one, or the beginning of names and `*`. A name has 1 to 15 bytes.
 #[tactic(auto, unfolding(crate::specs::Names::iface))]
 pub(crate) fn iface(alloc: Global, word: Word<'_>) -> Result<Iface, ParseFault>
-    ensures { Gives (λ i. i) result (spec.iface (view word.entry)) }
+    ensures { ReadsAs (λ i. i) result (spec.iface (view word.entry)) }
 {
     if word.is(b"any") {
         Ok(Iface::AnyIface)
@@ -161,7 +142,7 @@ fn unreach_place(text: &[u8]) -> Option<usize>
 /// A code of `unreach`: 0 to 255, or one of the names of 0 to 15.
 #[tactic(auto, unfolding(crate::specs::Names::code, crate::specs::Names::word_in))]
 pub(crate) fn code(word: Word<'_>) -> Result<u8, ParseFault>
-    ensures { Gives (λ n. n) result (spec.code (view word.entry)) }
+    ensures { ReadsAs (λ n. n) result (spec.code (view word.entry)) }
 {
     if starts_with_digit(word.text) {
         return Ok(number(word, 0, 255)? as u8);

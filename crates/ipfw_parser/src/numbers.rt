@@ -1,5 +1,5 @@
 ghost use Rattle.std.specs.Prelude.{◌≡◌, ◌<◌, ◌≤◌, ◌^◌, length, IfOk, IfSome};
-ghost use Rattle.ipfw_parser.specs.Reading.{Gives, NeedsNoMemory};
+ghost use Rattle.ipfw_parser.specs.Reading.{ReadsAs, NeedsNoMemory};
 ghost use Rattle.ipfw_parser.specs.Views.{view};
 ghost use Rattle.ipfw_parser.specs.Numbers as numbers;
 
@@ -8,12 +8,6 @@ use crate::{Kind, ParseFault, Word};
 /// How many digits a number has at most.
 pub(crate) const MOST_DIGITS: usize = 10;
 
-fn is_digit(byte: u8) -> bool
-    ensures { result ≡ numbers.is_digit byte }
-{
-    48 <= byte && byte <= 57
-}
-
 /// The number that the digits write, where there are only digits.
 fn digits_value(text: &[u8]) -> Option<u64>
     requires { length text.now ≤ 10 }
@@ -21,7 +15,7 @@ fn digits_value(text: &[u8]) -> Option<u64>
 {
     let mut value: u64 = 0;
     for byte in text {
-        if !is_digit(*byte) {
+        if !byte.is_ascii_digit() {
             return None;
         }
         value = 10 * value + u64::from(*byte - b'0');
@@ -56,7 +50,7 @@ pub(crate) fn up_to(value: Option<u64>, most: u64) -> Option<u64>
 /// A number of one to ten digits, from `least` to `most`.
 #[tactic(auto, unfolding(crate::specs::Numbers::number))]
 pub fn number(word: Word<'_>, least: u64, most: u64) -> Result<u64, ParseFault>
-    ensures value { Gives (λ n. n) result (numbers.number least most (view word.entry)) }
+    ensures value { ReadsAs (λ n. n) result (numbers.number least most (view word.entry)) }
     ensures within { IfOk result (λ n. n ≤ most) }
     ensures memory { NeedsNoMemory result }
 {
@@ -74,14 +68,14 @@ pub fn starts_with_digit(text: &[u8]) -> bool
 {
     match text {
         [] => false,
-        [first, ..] => is_digit(*first),
+        [first, ..] => first.is_ascii_digit(),
     }
 }
 
 /// The number of a set, 0 to 31.
 #[tactic(auto, unfolding(crate::specs::Numbers::set_number))]
 pub fn set_number(word: Word<'_>) -> Result<u8, ParseFault>
-    ensures value { Gives (λ n. n) result (numbers.set_number (view word.entry)) }
+    ensures value { ReadsAs (λ n. n) result (numbers.set_number (view word.entry)) }
     ensures memory { NeedsNoMemory result }
 {
     if starts_with_digit(word.text) {

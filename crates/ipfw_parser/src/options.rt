@@ -1,10 +1,10 @@
 ghost use Rattle.std.specs.Prelude.{◌≡◌, Some, None, false, is_some};
-ghost use Rattle.ipfw_parser.specs.Reading.{Gives};
+ghost use Rattle.ipfw_parser.specs.Reading.{ReadsAs};
 ghost use Rattle.ipfw_parser.specs.Views.{view, list_of};
 ghost use Rattle.ipfw_parser.specs.Options as spec;
 
 use crate::masks::{signed_names, types, types6};
-use crate::names::{flow_name, iface, is_any_flow, starts_with_colon};
+use crate::names::{iface, is_any_flow, named_flow, starts_with_colon};
 use crate::numbers::number;
 use crate::{Kind, ParseFault, Word, Words, table_name};
 use fw_base::Name;
@@ -13,7 +13,7 @@ use std::alloc::Global;
 
 #[tactic(auto, unfolding(crate::specs::Options::field))]
 fn field(word: Word<'_>) -> Result<Field, ParseFault>
-    ensures { Gives (λ f. f) result (spec.field (view word.entry)) }
+    ensures { ReadsAs (λ f. f) result (spec.field (view word.entry)) }
 {
     if word.is(b"src-ip") {
         Ok(Field::SrcIp)
@@ -30,7 +30,7 @@ fn field(word: Word<'_>) -> Result<Field, ParseFault>
 
 #[tactic(auto, unfolding(crate::specs::Options::limit_mask))]
 fn limit_mask(word: Word<'_>) -> Result<LimitMask, ParseFault>
-    ensures { Gives (λ m. m) result (spec.limit_mask (view word.entry)) }
+    ensures { ReadsAs (λ m. m) result (spec.limit_mask (view word.entry)) }
 {
     if word.is(b"src-addr") {
         Ok(LimitMask::SrcAddr)
@@ -67,7 +67,7 @@ fn plain_test(word: Word<'_>) -> Option<Test>
 
 #[tactic(auto, unfolding(crate::specs::Options::lookup))]
 fn lookup(alloc: Global, end: u32, words: Words<'_>) -> Result<(Test, Words<'_>), ParseFault>
-    ensures { Gives (λ r. (r.0, list_of r.1)) result (spec.lookup end (list_of words.entry)) }
+    ensures { ReadsAs (λ r. (r.0, list_of r.1)) result (spec.lookup end (list_of words.entry)) }
 {
     let (which, words) = words.first(end)?;
     let field = field(which)?;
@@ -78,7 +78,7 @@ fn lookup(alloc: Global, end: u32, words: Words<'_>) -> Result<(Test, Words<'_>)
 
 #[tactic(auto, unfolding(crate::specs::Options::test_of))]
 fn test_of<'a>(alloc: Global, name: Word<'a>, word: Word<'a>) -> Result<Test, ParseFault>
-    ensures { Gives (λ t. t) result (spec.test_of name.entry.text.now (view word.entry)) }
+    ensures { ReadsAs (λ t. t) result (spec.test_of name.entry.text.now (view word.entry)) }
 {
     if name.is(b"recv") {
         Ok(Test::Recv(iface(alloc, word)?))
@@ -99,7 +99,7 @@ fn test_of<'a>(alloc: Global, name: Word<'a>, word: Word<'a>) -> Result<Test, Pa
 
 #[tactic(auto, unfolding(fw_rule::specs::Canonical::flag_names))]
 fn tcp_flags(word: Word<'_>) -> Result<Test, ParseFault>
-    ensures { Gives (λ t. t) result (spec.tcp_flags (view word.entry)) }
+    ensures { ReadsAs (λ t. t) result (spec.tcp_flags (view word.entry)) }
 {
     let signs = signed_names(&FLAG_NAMES, word)?;
     Ok(Test::TcpFlags {
@@ -110,7 +110,7 @@ fn tcp_flags(word: Word<'_>) -> Result<Test, ParseFault>
 
 #[tactic(auto, unfolding(fw_rule::specs::Canonical::option_names))]
 fn ip_options(word: Word<'_>) -> Result<Test, ParseFault>
-    ensures { Gives (λ t. t) result (spec.ip_options (view word.entry)) }
+    ensures { ReadsAs (λ t. t) result (spec.ip_options (view word.entry)) }
 {
     let signs = signed_names(&OPTION_NAMES, word)?;
     Ok(Test::IpOptions {
@@ -140,7 +140,7 @@ fn test<'a>(
     word: Word<'a>,
     words: Words<'a>,
 ) -> Result<(Test, Words<'a>), ParseFault>
-    ensures { Gives (λ r. (r.0, list_of r.1)) result
+    ensures { ReadsAs (λ r. (r.0, list_of r.1)) result
         (spec.test end (view word.entry) (list_of words.entry)) }
 {
     if let Some(test) = plain_test(word) {
@@ -171,7 +171,7 @@ pub(crate) fn option<'a>(
     word: Word<'a>,
     words: Words<'a>,
 ) -> Result<(Opt, Words<'a>), ParseFault>
-    ensures { Gives (λ r. (r.0, list_of r.1)) result
+    ensures { ReadsAs (λ r. (r.0, list_of r.1)) result
         (spec.option end (view word.entry) (list_of words.entry)) }
 {
     if word.is(b"not") {
@@ -191,7 +191,7 @@ pub(crate) fn option<'a>(
 /// The flow that states are of: `default` where no name follows, and one flow alone.
 #[tactic(auto, unfolding(crate::specs::Options::made_flow))]
 fn made_flow(alloc: Global, words: Words<'_>) -> Result<(Name, Words<'_>), ParseFault>
-    ensures { Gives (λ r. (r.0, list_of r.1)) result (spec.made_flow (list_of words.entry)) }
+    ensures { ReadsAs (λ r. (r.0, list_of r.1)) result (spec.made_flow (list_of words.entry)) }
 {
     let Some((word, behind)) = words.next() else {
         return Ok((Name::new(alloc, b"default")?, words));
@@ -202,7 +202,7 @@ fn made_flow(alloc: Global, words: Words<'_>) -> Result<(Name, Words<'_>), Parse
     if is_any_flow(word) {
         Err(word.fault(Kind::Misplaced))
     } else {
-        Ok((flow_name(alloc, word)?, behind))
+        Ok((named_flow(alloc, word)?, behind))
     }
 }
 
@@ -214,7 +214,7 @@ pub(crate) fn state<'a>(
     word: Word<'a>,
     words: Words<'a>,
 ) -> Result<(StateOpt, Words<'a>), ParseFault>
-    ensures { Gives (λ r. (r.0, list_of r.1)) result
+    ensures { ReadsAs (λ r. (r.0, list_of r.1)) result
         (spec.state end (view word.entry) (list_of words.entry)) }
 {
     if word.is(b"keep-state") {

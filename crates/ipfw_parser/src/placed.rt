@@ -1,5 +1,5 @@
 ghost use Rattle.std.specs.Prelude.{◌≡◌, ◌≤◌, false, length};
-ghost use Rattle.ipfw_parser.specs.Reading.{Gives};
+ghost use Rattle.ipfw_parser.specs.Reading.{ReadsAs};
 ghost use Rattle.ipfw_parser.specs.Views.{list_of};
 ghost use Rattle.ipfw_parser.specs.Options as spec;
 ghost use Rattle.ipfw_parser.specs.PlacedViews.{placed_view};
@@ -23,7 +23,7 @@ pub(crate) fn options(
     end: u32,
     words: Words<'_>,
 ) -> Result<PlacedOptions, ParseFault>
-    ensures { Gives placed_view result
+    ensures { ReadsAs placed_view result
         (spec.options (length (list_of words.entry)) end false (list_of words.entry)) }
 {
     let mut found = Vec::new(alloc);

@@ -1,6 +1,6 @@
 ghost use Rattle.std.specs.Prelude.{◌≡◌, ◌<◌, ◌≤◌, IfSome, IfOk, map};
 ghost use Rattle.std.specs.Option.{option_map, option_copied};
-ghost use Rattle.ipfw_parser.specs.Reading.{Gives};
+ghost use Rattle.ipfw_parser.specs.Reading.{ReadsAs};
 ghost use Rattle.ipfw_parser.specs.Views.{view, list_of};
 ghost use Rattle.ipfw_parser.specs.Ports as spec;
 
@@ -16,7 +16,7 @@ use std::alloc::Global;
 /// A port: a service or a number, 0 to 65535.
 #[tactic(auto, unfolding(crate::specs::Ports::port))]
 fn port(word: Word<'_>) -> Result<u16, ParseFault>
-    ensures { Gives (λ p. p) result (spec.port (view word.entry)) }
+    ensures { ReadsAs (λ p. p) result (spec.port (view word.entry)) }
 {
     match service(word.text) {
         Some(port) => Ok(port),
@@ -28,7 +28,7 @@ fn port(word: Word<'_>) -> Result<u16, ParseFault>
 }
 
 fn range_to<'a>(word: Word<'a>, low: u16, text: Option<&'a [u8]>) -> Result<PortRange, ParseFault>
-    ensures { Gives (λ r. r) result
+    ensures { ReadsAs (λ r. r) result
         (spec.range_to word.entry.column low (option_copied text.entry)) }
 {
     let high = match text {
@@ -46,7 +46,7 @@ fn range_to<'a>(word: Word<'a>, low: u16, text: Option<&'a [u8]>) -> Result<Port
 
 #[tactic(auto, unfolding(crate::specs::Ports::range))]
 fn range(word: Word<'_>) -> Result<PortRange, ParseFault>
-    ensures { Gives (λ r. r) result (spec.range (view word.entry)) }
+    ensures { ReadsAs (λ r. r) result (spec.range (view word.entry)) }
 {
     let (front, rest) = cut(word.text, b'-');
     let low = port(Word {
@@ -58,7 +58,7 @@ fn range(word: Word<'_>) -> Result<PortRange, ParseFault>
 
 #[tactic(auto, unfolding(crate::specs::Ports::ranges))]
 fn ranges(alloc: Global, word: Word<'_>) -> Result<Items<PortRange>, ParseFault>
-    ensures { Gives (λ r. r) result (spec.ranges (view word.entry)) }
+    ensures { ReadsAs (λ r. r) result (spec.ranges (view word.entry)) }
 {
     let mut found = Vec::new(alloc);
     let mut rest = Some(word.text);
@@ -77,7 +77,7 @@ fn ranges(alloc: Global, word: Word<'_>) -> Result<Items<PortRange>, ParseFault>
 /// A list of ports in one word, `not` before it or not.
 #[tactic(auto, unfolding(crate::specs::Ports::port_list))]
 fn port_list(alloc: Global, end: u32, words: Words<'_>) -> Result<(PortList, Words<'_>), ParseFault>
-    ensures { Gives (λ r. (r.0, list_of r.1)) result (spec.port_list end (list_of words.entry)) }
+    ensures { ReadsAs (λ r. (r.0, list_of r.1)) result (spec.port_list end (list_of words.entry)) }
 {
     let (negated, words) = negation(end, words)?;
     let (list, words) = words.first(end)?;
@@ -92,7 +92,7 @@ pub(crate) fn source_ports(
     end: u32,
     words: Words<'_>,
 ) -> Result<(Option<PortList>, Words<'_>), ParseFault>
-    ensures { Gives (λ r. (r.0, list_of r.1)) result (spec.source_ports end (list_of words.entry)) }
+    ensures { ReadsAs (λ r. (r.0, list_of r.1)) result (spec.source_ports end (list_of words.entry)) }
 {
     let (next, _rest) = words.first(end)?;
     if next.is(b"to") {
@@ -140,7 +140,7 @@ pub(crate) fn destination_ports(
     end: u32,
     words: Words<'_>,
 ) -> Result<(Option<PortList>, Words<'_>), ParseFault>
-    ensures { Gives (λ r. (r.0, list_of r.1)) result
+    ensures { ReadsAs (λ r. (r.0, list_of r.1)) result
         (spec.destination_ports end (list_of words.entry)) }
 {
     if !begin_with_ports(words) {

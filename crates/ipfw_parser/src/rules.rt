@@ -1,11 +1,11 @@
 ghost use Rattle.std.specs.Prelude.{◌≡◌, ◌≤◌, length, drop, IfOk};
 ghost use Rattle.ipfw_parser.specs.Reading as reading;
-ghost use Rattle.ipfw_parser.specs.Reading.{Gives, NeedsNoMemory};
+ghost use Rattle.ipfw_parser.specs.Reading.{ReadsAs, NeedsNoMemory};
 ghost use Rattle.ipfw_parser.specs.Views.{view, list_of};
 ghost use Rattle.ipfw_parser.specs.Rules as spec;
 
 use crate::addresses::addr_spec;
-use crate::names::{code, flow_name, is_any_flow, starts_with_colon};
+use crate::names::{code, is_any_flow, named_flow, starts_with_colon};
 use crate::numbers::{number, set_number, starts_with_digit};
 use crate::placed::options;
 use crate::ports::{destination_ports, source_ports};
@@ -17,7 +17,7 @@ use std::alloc::Global;
 /// The words behind the next one, which is this word.
 #[tactic(auto, unfolding(crate::specs::Reading::expected))]
 pub fn expected<'a>(name: &'a [u8], end: u32, words: Words<'a>) -> Result<Words<'a>, ParseFault>
-    ensures value { Gives (λ w. list_of w) result
+    ensures value { ReadsAs (λ w. list_of w) result
         (reading.expected name.entry.now end (list_of words.entry)) }
     ensures memory { NeedsNoMemory result }
 {
@@ -32,7 +32,7 @@ pub fn expected<'a>(name: &'a [u8], end: u32, words: Words<'a>) -> Result<Words<
 /// The rule's number, where a word that begins with a digit stands.
 #[tactic(auto, unfolding(crate::specs::Rules::rule_number))]
 fn rule_number(end: u32, words: Words<'_>) -> Result<(Option<u16>, Words<'_>), ParseFault>
-    ensures { Gives (λ r. (r.0, list_of r.1)) result (spec.rule_number end (list_of words.entry)) }
+    ensures { ReadsAs (λ r. (r.0, list_of r.1)) result (spec.rule_number end (list_of words.entry)) }
 {
     let (next, rest) = words.first(end)?;
     if starts_with_digit(next.text) {
@@ -46,7 +46,7 @@ fn rule_number(end: u32, words: Words<'_>) -> Result<(Option<u16>, Words<'_>), P
 /// The number of a set, and the words behind it.
 #[tactic(auto, unfolding(crate::specs::Rules::set_behind))]
 pub fn set_behind(end: u32, words: Words<'_>) -> Result<(u8, Words<'_>), ParseFault>
-    ensures value { Gives (λ r. (r.0, list_of r.1)) result
+    ensures value { ReadsAs (λ r. (r.0, list_of r.1)) result
         (spec.set_behind end (list_of words.entry)) }
     ensures memory { NeedsNoMemory result }
 {
@@ -57,7 +57,7 @@ pub fn set_behind(end: u32, words: Words<'_>) -> Result<(u8, Words<'_>), ParseFa
 /// The rule's set, 0 where none is named.
 #[tactic(auto, unfolding(crate::specs::Rules::rule_set))]
 fn rule_set(end: u32, words: Words<'_>) -> Result<(u8, Words<'_>), ParseFault>
-    ensures { Gives (λ r. (r.0, list_of r.1)) result (spec.rule_set end (list_of words.entry)) }
+    ensures { ReadsAs (λ r. (r.0, list_of r.1)) result (spec.rule_set end (list_of words.entry)) }
 {
     let (next, rest) = words.first(end)?;
     if next.is(b"set") {
@@ -92,7 +92,7 @@ fn plain_action(word: Word<'_>) -> Option<Action>
 /// An action that begins with the word.
 #[tactic(auto, unfolding(crate::specs::Rules::action))]
 fn action<'a>(end: u32, word: Word<'a>, words: Words<'a>) -> Result<(Action, Words<'a>), ParseFault>
-    ensures { Gives (λ r. (r.0, list_of r.1)) result
+    ensures { ReadsAs (λ r. (r.0, list_of r.1)) result
         (spec.action end (view word.entry) (list_of words.entry)) }
 {
     if let Some(action) = plain_action(word) {
@@ -114,7 +114,7 @@ fn action<'a>(end: u32, word: Word<'a>, words: Words<'a>) -> Result<(Action, Wor
 
 #[tactic(auto, unfolding(crate::specs::Rules::amount_behind))]
 fn amount_behind(end: u32, words: Words<'_>) -> Result<(u32, Words<'_>), ParseFault>
-    ensures { Gives (λ r. (r.0, list_of r.1)) result
+    ensures { ReadsAs (λ r. (r.0, list_of r.1)) result
         (spec.amount_behind end (list_of words.entry)) }
 {
     let (next, words) = words.first(end)?;
@@ -123,7 +123,7 @@ fn amount_behind(end: u32, words: Words<'_>) -> Result<(u32, Words<'_>), ParseFa
 
 #[tactic(auto, unfolding(crate::specs::Rules::amount))]
 fn amount(end: u32, words: Words<'_>) -> Result<(u32, Words<'_>), ParseFault>
-    ensures { Gives (λ r. (r.0, list_of r.1)) result (spec.amount end (list_of words.entry)) }
+    ensures { ReadsAs (λ r. (r.0, list_of r.1)) result (spec.amount end (list_of words.entry)) }
 {
     let (next, rest) = words.first(end)?;
     if next.is(b"logamount") {
@@ -136,7 +136,7 @@ fn amount(end: u32, words: Words<'_>) -> Result<(u32, Words<'_>), ParseFault>
 /// `log` and its amount, 0 where none is given.
 #[tactic(auto, unfolding(crate::specs::Rules::log))]
 fn log(end: u32, words: Words<'_>) -> Result<(Option<u32>, Words<'_>), ParseFault>
-    ensures { Gives (λ r. (r.0, list_of r.1)) result (spec.log end (list_of words.entry)) }
+    ensures { ReadsAs (λ r. (r.0, list_of r.1)) result (spec.log end (list_of words.entry)) }
 {
     let (next, rest) = words.first(end)?;
     if next.is(b"log") {
@@ -172,7 +172,7 @@ fn names_version(word: Word<'_>) -> bool
 /// A protocol by name or by number; 0 stands for every protocol.
 #[tactic(auto, unfolding(crate::specs::Rules::protocol))]
 fn protocol(word: Word<'_>) -> Result<u8, ParseFault>
-    ensures { Gives (λ n. n) result (spec.protocol (view word.entry)) }
+    ensures { ReadsAs (λ n. n) result (spec.protocol (view word.entry)) }
 {
     if names_version(word) {
         Ok(0)
@@ -195,7 +195,7 @@ fn protocol(word: Word<'_>) -> Result<u8, ParseFault>
 
 #[tactic(auto, unfolding(crate::specs::Rules::body))]
 fn body(alloc: Global, end: u32, words: Words<'_>) -> Result<Body, ParseFault>
-    ensures { Gives (λ b. b) result (spec.body end (list_of words.entry)) }
+    ensures { ReadsAs (λ b. b) result (spec.body end (list_of words.entry)) }
 {
     let (next, words) = words.first(end)?;
     let protocol = protocol(next)?;
@@ -220,9 +220,9 @@ fn body(alloc: Global, end: u32, words: Words<'_>) -> Result<Body, ParseFault>
 }
 
 /// The flow that is looked up: `default` where no name follows, and none for `:any`.
-#[tactic(auto, unfolding(crate::specs::Rules::looked_up))]
-fn looked_up(alloc: Global, words: Words<'_>) -> Result<(Option<Name>, Words<'_>), ParseFault>
-    ensures { Gives (λ r. (r.0, list_of r.1)) result (spec.looked_up (list_of words.entry)) }
+#[tactic(auto, unfolding(crate::specs::Rules::looked_up_flow))]
+fn looked_up_flow(alloc: Global, words: Words<'_>) -> Result<(Option<Name>, Words<'_>), ParseFault>
+    ensures { ReadsAs (λ r. (r.0, list_of r.1)) result (spec.looked_up_flow (list_of words.entry)) }
 {
     let Some((word, behind)) = words.next() else {
         return Ok((Some(Name::new(alloc, b"default")?), words));
@@ -233,7 +233,7 @@ fn looked_up(alloc: Global, words: Words<'_>) -> Result<(Option<Name>, Words<'_>
     if is_any_flow(word) {
         return Ok((None, behind));
     }
-    Ok((Some(flow_name(alloc, word)?), behind))
+    Ok((Some(named_flow(alloc, word)?), behind))
 }
 
 /// Nothing stands behind the flow of `check-state`.
@@ -244,7 +244,7 @@ fn check_end(
     flow: Option<Name>,
     words: Words<'_>,
 ) -> Result<RuleDraft, ParseFault>
-    ensures { Gives (λ d. d) result (spec.check_end number set flow (list_of words.entry)) }
+    ensures { ReadsAs (λ d. d) result (spec.check_end number set flow (list_of words.entry)) }
 {
     match words.next() {
         Some((word, _rest)) => Err(word.fault(Kind::ExtraWord)),
@@ -266,15 +266,15 @@ fn check_state(
     set: u8,
     words: Words<'_>,
 ) -> Result<RuleDraft, ParseFault>
-    ensures { Gives (λ d. d) result (spec.check_state number set (list_of words.entry)) }
+    ensures { ReadsAs (λ d. d) result (spec.check_state number set (list_of words.entry)) }
 {
-    let (flow, words) = looked_up(alloc, words)?;
+    let (flow, words) = looked_up_flow(alloc, words)?;
     check_end(number, set, flow, words)
 }
 
 /// A rule with a body, whose action begins with the word.
-#[tactic(auto, unfolding(crate::specs::Rules::matching))]
-fn matching<'a>(
+#[tactic(auto, unfolding(crate::specs::Rules::matching_rule))]
+fn matching_rule<'a>(
     alloc: Global,
     number: Option<u16>,
     set: u8,
@@ -282,8 +282,8 @@ fn matching<'a>(
     word: Word<'a>,
     words: Words<'a>,
 ) -> Result<RuleDraft, ParseFault>
-    ensures { Gives (λ d. d) result
-        (spec.matching number set end (view word.entry) (list_of words.entry)) }
+    ensures { ReadsAs (λ d. d) result
+        (spec.matching_rule number set end (view word.entry) (list_of words.entry)) }
 {
     let (action, words) = action(end, word, words)?;
     let (log, words) = log(end, words)?;
@@ -299,7 +299,7 @@ fn matching<'a>(
 
 #[tactic(auto, unfolding(crate::specs::Rules::rule))]
 pub(crate) fn rule(alloc: Global, end: u32, words: Words<'_>) -> Result<RuleDraft, ParseFault>
-    ensures { Gives (λ d. d) result (spec.rule end (list_of words.entry)) }
+    ensures { ReadsAs (λ d. d) result (spec.rule end (list_of words.entry)) }
 {
     let (number, words) = rule_number(end, words)?;
     let (set, words) = rule_set(end, words)?;
@@ -307,6 +307,6 @@ pub(crate) fn rule(alloc: Global, end: u32, words: Words<'_>) -> Result<RuleDraf
     if next.is(b"check-state") {
         check_state(alloc, number, set, words)
     } else {
-        matching(alloc, number, set, end, next, words)
+        matching_rule(alloc, number, set, end, next, words)
     }
 }

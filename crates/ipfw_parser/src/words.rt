@@ -1,5 +1,5 @@
 ghost use Rattle.std.specs.Prelude.{◌≤◌, length};
-ghost use Rattle.ipfw_parser.specs.Reading.{AreWithin};
+ghost use Rattle.ipfw_parser.specs.Reading.{HoldsTokens};
 
 use crate::{Kind, ParseFault, Word};
 use fw_lex::Token;
@@ -10,7 +10,7 @@ pub struct Words<'a> {
     pub line: &'a [u8],
     pub tokens: &'a [Token],
     ghost short: { length line.now ≤ 1048576 },
-    ghost within: { AreWithin line.now tokens.now },
+    ghost within: { HoldsTokens line.now tokens.now },
 }
 
 impl<'a> Words<'a> {
@@ -18,7 +18,7 @@ impl<'a> Words<'a> {
     ghost use Rattle.ipfw_parser.specs.Reading as reading;
     ghost use Rattle.std.specs.Prelude.{◌∷◌};
     ghost use Rattle.std.specs.Option.{option_map};
-    ghost use Rattle.ipfw_parser.specs.Reading.{Gives, NeedsNoMemory, some_words};
+    ghost use Rattle.ipfw_parser.specs.Reading.{ReadsAs, NeedsNoMemory, some_words};
     ghost use Rattle.ipfw_parser.specs.Views.{view, list_of};
 
     /// The next word, if there is one, and the words behind it.
@@ -45,7 +45,7 @@ impl<'a> Words<'a> {
     #[tactic(auto, unfolding(crate::specs::Reading::first))]
     /// The next word and the words behind it. `end` is the column one past the line's last word.
     pub fn first(self, end: u32) -> Result<(Word<'a>, Words<'a>), ParseFault>
-        ensures value { Gives (λ r. (view r.0, list_of r.1)) result
+        ensures value { ReadsAs (λ r. (view r.0, list_of r.1)) result
             (reading.first end (list_of self.entry)) }
         ensures memory { NeedsNoMemory result }
     {

@@ -3,28 +3,28 @@ use Rattle.std.proofs.Common.{◌≡◌, ◌≢◌, ℕ, ◌-◌, ◌^◌, ◌<�
 use Rattle.std.specs.Prelude.{slice_index_or, slice_set, replicate, nat_lt}
 use Rattle.std.proofs.lemmas.List.{get_or-set_other}
 use Rattle.atomic_table.specs.Table.{Me, rest}
-use Rattle.rm_table.specs.declared.role.Role.TheVariants.{Processor}
-use Rattle.rm_table.specs.declared.slot.Slot.{Slot}
-use Rattle.rm_table.specs.declared.slot.Slot.TheVariants.{Edition as Home, Book as Held}
+use Rattle.rm_table.specs.declared.view.Role.TheVariants.{Processor}
+use Rattle.rm_table.specs.declared.padded_slot.Slot.{Slot}
+use Rattle.rm_table.specs.declared.padded_slot.Slot.TheVariants.{Edition as Home, Book as Held}
 use Rattle.rm_table.specs.declared.view.View.{View}
 use Rattle.rm_table.specs.Layout.{book_index}
 use Rattle.rm_table.specs.Meanings.{Meanings, meanings}
-use Rattle.rm_table.specs.Moves.{Hand, noted, book_taken, book_given, HasBook, LeftBy}
-use Rattle.rm_table.specs.Rests.{IsInside}
+use Rattle.rm_table.specs.Moves.{Hand, with_step, book_taken, book_given, HasBook, LeftBy}
+use Rattle.rm_table.specs.Rests.{IsInSection}
 use Rattle.lock_bench.specs.declared.edition.Edition.{Edition}
 use Rattle.lock_bench.specs.declared.book.Book.{Book}
 use Rattle.lock_bench.specs.contracts.edition.EditionNumbered.TheImpl as edition
 use Rattle.lock_bench.specs.contracts.book.BookKept.TheImpl as ledger
 
-abbrev pub Known : Type 0
-Known = Me (Slot Edition Book) (View Edition Book ℕ ℕ ℕ)
+abbrev pub KnownSeat : Type 0
+KnownSeat = Me (Slot Edition Book) (View Edition Book ℕ ℕ ℕ)
 
 abbrev pub means : Meanings Edition Book ℕ ℕ ℕ
 means = meanings edition.ghosts.number edition.ghosts.tag edition.ghosts.name ledger.ghosts.number ledger.ghosts.tag ledger.ghosts.ready ledger.ghosts.of ledger.ghosts.facts_item
 
 -- one entry more in one list leaves the other lists
-pub left_by : (place length : ℕ) (taken book : Book) → 0 < place → book.number ≡ taken.number → book.lengths ≡ slice_set taken.lengths place length → LeftBy means place taken book
-left_by place length taken book above number lengths = record {
+entry_leaves : (place length : ℕ) (taken book : Book) → 0 < place → book.number ≡ taken.number → book.lengths ≡ slice_set taken.lengths place length → LeftBy means place taken book
+entry_leaves place length taken book above number lengths = record {
   number = number;
   tag = number;
   lists = λ k other. ap (λ n. replicate n 0) (same k other);
@@ -35,30 +35,30 @@ left_by place length taken book above number lengths = record {
     same k other = ap (λ xs. slice_index_or xs k 0) lengths ∙ get_or-set_other taken.lengths place k length 0 other
 
 -- the seat that took the book, and put the changed one into its slot
-pub has_entered : (old taken_seat seat : Known) (taken book : Book) (place length : ℕ) → old.0.role ≡ Processor → old.0.place ≡ place → 0 < place → taken_seat ≡ (noted (book_taken old.0 taken) book_index 0, (0, Held None) ∷ old.1) → book.number ≡ taken.number → book.lengths ≡ slice_set taken.lengths place length
+pub has_entered : (old taken_seat seat : KnownSeat) (taken book : Book) (place length : ℕ) → old.0.role ≡ Processor → old.0.place ≡ place → 0 < place → taken_seat ≡ (with_step (book_taken old.0 taken) book_index 0, (0, Held None) ∷ old.1) → book.number ≡ taken.number → book.lengths ≡ slice_set taken.lengths place length
     → seat ≡ (taken_seat.0, (0, Held (Some book)) ∷ rest taken_seat.1) → HasBook means seat.0 seat.1
 has_entered old taken_seat seat taken book place length processor at above is number lengths then =
-    let e : seat ≡ (noted (book_taken old.0 taken) book_index 0, (0, Held (Some book)) ∷ old.1) = then ∙ ap (λ (s : Known). (s.0, (0, Held (Some book)) ∷ rest s.1)) is in
-    subst (λ (s : Known). HasBook means s.0 s.1) (sym e) (record {
+    let e : seat ≡ (with_step (book_taken old.0 taken) book_index 0, (0, Held (Some book)) ∷ old.1) = then ∙ ap (λ (s : KnownSeat). (s.0, (0, Held (Some book)) ∷ rest s.1)) is in
+    subst (λ (s : KnownSeat). HasBook means s.0 s.1) (sym e) (record {
       book = book;
       hand_is = refl;
       taken = taken;
       book_taken = refl;
-      processor = λ _. subst (λ (p : ℕ). LeftBy means p taken book) (sym at) (left_by place length taken book above number lengths);
+      processor = λ _. subst (λ (p : ℕ). LeftBy means p taken book) (sym at) (entry_leaves place length taken book above number lengths);
       operator = λ other. let clash = sym processor ∙ other in absurd cc;
     })
 
 -- the seat once the book is given back
-pub entered : (old taken_seat seat new : Known) (taken book : Book) → taken_seat ≡ (noted (book_taken old.0 taken) book_index 0, (0, Held None) ∷ old.1) → seat ≡ (taken_seat.0, (0, Held (Some book)) ∷ rest taken_seat.1)
-    → ((b : Book) → seat.1 ≡ (0, Held (Some b)) ∷ rest seat.1 → new ≡ (noted (book_given means seat.0 b) book_index 0, rest seat.1)) → new ≡ (noted (book_given means (noted (book_taken old.0 taken) book_index 0) book) book_index 0, old.1)
-entered old taken_seat seat new taken book is then step =
-    let e : seat ≡ (noted (book_taken old.0 taken) book_index 0, (0, Held (Some book)) ∷ old.1) = then ∙ ap (λ (s : Known). (s.0, (0, Held (Some book)) ∷ rest s.1)) is in
-    step book (ap (λ (s : Known). s.1) then ∙ ap (λ (h : Hand Edition Book). (0, Held (Some book)) ∷ h) (sym (ap (λ (s : Known). rest s.1) then)))
-    ∙ ap (λ (s : Known). (noted (book_given means s.0 book) book_index 0, rest s.1)) e
+pub seat_after_entry : (old taken_seat seat new : KnownSeat) (taken book : Book) → taken_seat ≡ (with_step (book_taken old.0 taken) book_index 0, (0, Held None) ∷ old.1) → seat ≡ (taken_seat.0, (0, Held (Some book)) ∷ rest taken_seat.1)
+    → ((b : Book) → seat.1 ≡ (0, Held (Some b)) ∷ rest seat.1 → new ≡ (with_step (book_given means seat.0 b) book_index 0, rest seat.1)) → new ≡ (with_step (book_given means (with_step (book_taken old.0 taken) book_index 0) book) book_index 0, old.1)
+seat_after_entry old taken_seat seat new taken book is then step =
+    let e : seat ≡ (with_step (book_taken old.0 taken) book_index 0, (0, Held (Some book)) ∷ old.1) = then ∙ ap (λ (s : KnownSeat). (s.0, (0, Held (Some book)) ∷ rest s.1)) is in
+    step book (ap (λ (s : KnownSeat). s.1) then ∙ ap (λ (h : Hand Edition Book). (0, Held (Some book)) ∷ h) (sym (ap (λ (s : KnownSeat). rest s.1) then)))
+    ∙ ap (λ (s : KnownSeat). (with_step (book_given means s.0 book) book_index 0, rest s.1)) e
 
 -- it is in its section as before
-pub inside_again : (old new : Known) (taken book : Book) → IsInside old.0 old.1 → new ≡ (noted (book_given means (noted (book_taken old.0 taken) book_index 0) book) book_index 0, old.1) → IsInside new.0 new.1
-inside_again old new taken book o e = subst (λ (s : Known). IsInside s.0 s.1) (sym e) (record {
+pub inside_again : (old new : KnownSeat) (taken book : Book) → IsInSection old.0 old.1 → new ≡ (with_step (book_given means (with_step (book_taken old.0 taken) book_index 0) book) book_index 0, old.1) → IsInSection new.0 new.1
+inside_again old new taken book o e = subst (λ (s : KnownSeat). IsInSection s.0 s.1) (sym e) (record {
   processor = o.processor;
   inside = o.inside;
   unheld = o.unheld;
@@ -69,7 +69,7 @@ inside_again old new taken book o e = subst (λ (s : Known). IsInside s.0 s.1) (
 })
 
 -- who is in has its edition on top of its hand
-pub edition_on_top : (me : Known) (place : ℕ) → IsInside me.0 me.1 → me.0.place ≡ place → (old : Option Edition) × (me.1 ≡ (place, Home old) ∷ rest me.1)
+pub edition_on_top : (me : KnownSeat) (place : ℕ) → IsInSection me.0 me.1 → me.0.place ≡ place → (old : Option Edition) × (me.1 ≡ (place, Home old) ∷ rest me.1)
 edition_on_top me place o at =
     let shown : Hand Edition Book = (place, Home (Some o.edition)) ∷ [] in
     let is : me.1 ≡ shown = o.hand_is ∙ ap (λ (p : ℕ). (p, Home (Some o.edition)) ∷ []) at in

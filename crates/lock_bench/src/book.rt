@@ -26,7 +26,9 @@ impl Book {
     pub fn add_entry(&mut self, place: u32)
         requires { place ≤ 64 }
         ensures number { self.new.number ≡ self.old.number }
-        ensures lengths { self.new.lengths ≡ slice_set self.old.lengths place (min (slice_index_or self.old.lengths place 0 + 1) (2 ^ 64 - 1)) }
+        ensures lengths { self.new.lengths
+            ≡ slice_set self.old.lengths place
+            (min (slice_index_or self.old.lengths place 0 + 1) (2 ^ 64 - 1)) }
     {
         let length = &mut self.lengths[place as usize];
         *length = length.saturating_add(1);

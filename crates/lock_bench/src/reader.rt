@@ -1,7 +1,7 @@
 ghost use Rattle.std.specs.Prelude.{◌≡◌, ◌<◌, ◌≤◌, All, IfOk};
 
 use crate::book::Book;
-use crate::edition::Edition;
+use crate::edition::{Edition, first_editions};
 use crate::timing::nanoseconds;
 use fw_base::OutOfMemory;
 use rm_lock::{Entry, Opened, Processor, RmLock};
@@ -36,9 +36,10 @@ pub fn open_lock(alloc: Global, processors: u32) -> Result<Opened<Edition, Book>
     requires some { 0 < processors }
     requires few { processors ≤ 64 }
     ensures processors { IfOk result (λ o. All (λ p. p.table_id ≡ o.lock) o.processors.items) }
-    ensures operator { IfOk result (λ o. (o.operator.table_id ≡ o.lock) × (o.operator.view.count ≡ processors)) }
+    ensures operator { IfOk result (λ o. (o.operator.table_id ≡ o.lock)
+        × (o.operator.view.count ≡ processors)) }
 {
-    let editions = vec![in alloc; Edition { number: 1 }; processors as usize]?;
+    let editions = first_editions(alloc, processors)?;
     Ok(RmLock::open(alloc, editions, Book::new())?)
 }
 

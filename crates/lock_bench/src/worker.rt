@@ -1,12 +1,12 @@
 ghost use Rattle.std.specs.Prelude.{◌≡◌, ◌≢◌, ℕ, ◌+◌, ◌≤◌, ◌<◌, ◌∷◌, Some, None, IfOk, IsTrue, MatchOption};
 ghost use Rattle.atomic_table.specs.Table.{rest};
 ghost use Rattle.rm_table.specs.Layout.{book_index};
-ghost use Rattle.rm_table.specs.Moves.{noted, book_taken};
-ghost use Rattle.rm_table.specs.Rests.{IsIdle, IsInside, OpensFrom};
-ghost use Rattle.rm_table.specs.declared.slot.Slot.TheVariants.{Edition as Home, Book as Held};
+ghost use Rattle.rm_table.specs.Moves.{with_step, book_taken};
+ghost use Rattle.rm_table.specs.Rests.{IsIdle, IsInSection, OpensFrom};
+ghost use Rattle.rm_table.specs.declared.padded_slot.Slot.TheVariants.{Edition as Home, Book as Held};
 
 use crate::book::Book;
-use crate::edition::Edition;
+use crate::edition::{Edition, first_editions};
 use crate::timing::nanoseconds;
 use fw_base::OutOfMemory;
 use rm_core::Heard;
@@ -89,7 +89,7 @@ pub fn open_table(alloc: Global, processors: u32) -> Result<OpenTable<Edition, B
     ensures opening { IfOk result (λ o. OpensFrom 1 o.seat.me.0 o.seat.me.1) }
     ensures count { IfOk result (λ o. o.seat.me.0.count ≡ processors) }
 {
-    let editions = vec![in alloc; Edition { number: 1 }; processors as usize]?;
+    let editions = first_editions(alloc, processors)?;
     Ok(RmTable::open(alloc, editions, Book::new())?)
 }
 
@@ -133,11 +133,12 @@ fn section(table: &Table, seat: &mut Seat) -> Heard
 // In a section: takes the edition out of its slot, reads its number, and puts it back.
 fn read_edition(table: &Table, seat: &mut Seat, place: u32) -> u64
     requires table { seat.old.table_id ≡ table.now }
-    requires inside { IsInside seat.old.me.0 seat.old.me.1 }
+    requires inside { IsInSection seat.old.me.0 seat.old.me.1 }
     requires place { seat.old.me.0.place ≡ place }
     ensures table { seat.new.table_id ≡ seat.old.table_id }
     ensures same { seat.new.me ≡ seat.old.me }
-    ensures read { seat.old.me.1 ≡ (place, Home (Some (record { number = result }))) ∷ rest seat.old.me.1 }
+    ensures read { seat.old.me.1
+        ≡ (place, Home (Some (record { number = result }))) ∷ rest seat.old.me.1 }
 {
     let Some(edition) = table.exchange_edition(seat, place, None) else {
         unreachable!();
@@ -169,9 +170,13 @@ fn section_with_edition(table: &Table, seat: &mut Seat, place: u32) -> u64
 // A processor in a section tries once for the book, and takes it out of its slot.
 fn try_book(table: &Table, seat: &mut Seat) -> Option<Book>
     requires table { seat.old.table_id ≡ table.now }
-    requires inside { IsInside seat.old.me.0 seat.old.me.1 }
+    requires inside { IsInSection seat.old.me.0 seat.old.me.1 }
     ensures table { seat.new.table_id ≡ seat.old.table_id }
-    ensures tried { MatchOption result ((holder : ℕ) × (seat.new.me ≡ (noted seat.old.me.0 book_index holder, seat.old.me.1)) × (holder ≢ 0)) (λ book. seat.new.me ≡ (noted (book_taken seat.old.me.0 book) book_index 0, (0, Held None) ∷ seat.old.me.1)) }
+    ensures tried { MatchOption result
+        ((holder : ℕ) × (seat.new.me ≡ (with_step seat.old.me.0 book_index holder, seat.old.me.1))
+        × (holder ≢ 0))
+        (λ book. seat.new.me
+        ≡ (with_step (book_taken seat.old.me.0 book) book_index 0, (0, Held None) ∷ seat.old.me.1)) }
 {
     match table.take_book(seat) {
         Tried::Taken => table.exchange_book(seat, None),
@@ -182,15 +187,16 @@ fn try_book(table: &Table, seat: &mut Seat) -> Option<Book>
 // In a section: where the book is free, one entry in the processor's own list. Answers whether it was free.
 fn enter_in_book(table: &Table, seat: &mut Seat, place: u32) -> bool
     requires table { seat.old.table_id ≡ table.now }
-    requires inside { IsInside seat.old.me.0 seat.old.me.1 }
+    requires inside { IsInSection seat.old.me.0 seat.old.me.1 }
     requires place { seat.old.me.0.place ≡ place }
     requires above { 0 < place }
     requires within { place ≤ 64 }
     ensures table { seat.new.table_id ≡ seat.old.table_id }
     ensures place { seat.new.me.0.place ≡ place }
-    ensures inside { IsInside seat.new.me.0 seat.new.me.1 }
+    ensures inside { IsInSection seat.new.me.0 seat.new.me.1 }
     ensures sections { seat.new.me.0.part.sections ≡ seat.old.me.0.part.sections }
-    ensures entered { IsTrue result → seat.new.me.0.part.book_taken ≡ seat.old.me.0.part.book_taken + 1 }
+    ensures entered { IsTrue result
+        → seat.new.me.0.part.book_taken ≡ seat.old.me.0.part.book_taken + 1 }
 {
     let Some(mut book) = try_book(table, seat) else {
         return false;

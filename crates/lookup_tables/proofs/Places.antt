@@ -12,11 +12,8 @@ use Rattle.std.specs.Ordering.{match_ordering, ordering_reverse, is_eq, is_lt, e
 use Rattle.std.specs.Set.{is_member}
 use Rattle.std.proofs.lemmas.List.Sorted.{searchable_from_sorted}
 use Rattle.std.proofs.lemmas.Map.Made.{is_member-Decides, is_some-lookup}
+use Rattle.fw_base.proofs.Lists.{all_weaker}
 use Rattle.lookup_tables.specs.Entries.{AreLower, HasKey, IsGap, IsInOrder, IsPlace, IsPlaceOf, value_of, with_entry, without_key}
-
-AllByRecursion-weaker : {K : Type 0} (P Q : K → Type 0) → ((x : K) → P x → Q x) → (ks : List K) → AllByRecursion P ks → AllByRecursion Q ks
-AllByRecursion-weaker P Q f [] a = tt
-AllByRecursion-weaker P Q f (k ∷ ks) a = (f k a.0, AllByRecursion-weaker P Q f ks a.1)
 
 -- an empty table is in order
 pub in_order-nil : {K : Type 0} (cmp : K → K → Ordering) → IsStrictlySortedBy cmp []
@@ -118,7 +115,7 @@ module _ {K V : Type 0} (cmp : K → K → Ordering) (o : IsTotalOrder cmp) wher
   none-at [] key i sorted lower higher = refl
   none-at (e ∷ es) key zero sorted lower higher =
       let first : cmp key e.0 ≡ Less = below cmp o e.0 key (higher e (omega arith)) in
-      rw first (none-above es key (AllByRecursion-weaker (λ k. cmp e.0 k ≡ Less) (λ k. cmp key k ≡ Less) (λ k less. o.trans key e.0 k first less) (keys_of es) sorted.0))
+      rw first (none-above es key (all_weaker (λ k. cmp e.0 k ≡ Less) (λ k. cmp key k ≡ Less) (λ k less. o.trans key e.0 k first less) (keys_of es) sorted.0))
   none-at (e ∷ es) key (suc i) sorted lower higher =
       let first : cmp key e.0 ≡ Greater = above cmp o e.0 key (lower 0 e (omega arith)) in
       rw first (none-at es key i sorted.1 (λ k d h. lower (suc k) d (omega arith)) (λ d h. higher d (omega arith)))
@@ -142,7 +139,7 @@ module _ {K V : Type 0} (cmp : K → K → Ordering) (o : IsTotalOrder cmp) wher
   in_order-insert [] key v sorted = (tt, tt)
   in_order-insert (e ∷ es) key v sorted =
       elim (cmp key e.0) as (λ r. cmp key e.0 ≡ r → IsStrictlySortedBy cmp (keys_of (match_ordering r ((key, v) ∷ e ∷ es) ((e.0, v) ∷ es) (e ∷ insert_entry cmp es key v)))) [
-        | Less ↦ λ less. ((less, AllByRecursion-weaker (λ k. cmp e.0 k ≡ Less) (λ k. cmp key k ≡ Less) (λ k more. o.trans key e.0 k less more) (keys_of es) sorted.0), sorted)
+        | Less ↦ λ less. ((less, all_weaker (λ k. cmp e.0 k ≡ Less) (λ k. cmp key k ≡ Less) (λ k more. o.trans key e.0 k less more) (keys_of es) sorted.0), sorted)
         | Equal ↦ λ equal. sorted
         | Greater ↦ λ greater. (all-insert (λ k. cmp e.0 k ≡ Less) es key v sorted.0 (below cmp o key e.0 greater), in_order-insert es key v sorted.1)
       ] refl

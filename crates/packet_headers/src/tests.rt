@@ -9,82 +9,69 @@ use std::alloc::{AllocError, Global};
 use std::process::Abort;
 use std::test::Fail;
 
-/// What an IPv4 packet tells, as plain data.
-#[derive(Clone, Copy, Debug, PartialEq, Eq)]
-pub struct Told {
-    pub source: u32,
-    pub destination: u32,
-    pub protocol: u8,
-    pub total: u32,
-    pub offset: u16,
-    pub ports: Option<(u16, u16)>,
-    pub tcp_flags: Option<u8>,
-    pub icmp_type: Option<u8>,
-    pub has_flow: bool,
-    pub options: &'static [u8],
-}
-
-/// A frame and what it is to be read as; `None` for a frame that is no IPv4.
-pub struct Captured {
-    pub link: Link,
-    pub frame: &'static [u8],
-    pub told: Option<Told>,
-}
+/// A frame, and what it tells as `told_by` writes it; `other` for one that is no IPv4.
+pub type Row = (Link, &'static [u8], &'static str);
 
 fn read<'a>(rt: &impl Abort, link: Link, frame: &'a [u8]) -> Packet<'a> {
     assert!(rt; frame.len() < 65_536);
     read_packet(link, frame)
 }
 
-fn assert_tells(rt: &impl Abort, packet: &Ip4<'_>, told: &Told, frame: usize) {
-    assert_eq!(rt; packet.source(), Addr(told.source), "frame {frame}");
-    assert_eq!(rt;
-        packet.destination(),
-        Addr(told.destination),
-        "frame {frame}"
-    );
-    assert_eq!(rt; packet.protocol(), told.protocol, "frame {frame}");
-    assert_eq!(rt; packet.total(), told.total, "frame {frame}");
-    assert_eq!(rt; packet.offset(), told.offset, "frame {frame}");
-    assert_eq!(rt; packet.ports(), told.ports, "frame {frame}");
-    assert_eq!(rt; packet.tcp_flags(), told.tcp_flags, "frame {frame}");
-    assert_eq!(rt; packet.icmp_type(), told.icmp_type, "frame {frame}");
-    assert_eq!(rt; flow(packet).is_some(), told.has_flow, "frame {frame}");
-    for kind in 0..=255 {
-        assert_eq!(rt;
-            packet.has_option(kind),
-            told.options.contains(&kind),
-            "frame {frame}, option {kind}"
-        );
+/// All that a packet tells, in words; what it doesn't have is left out.
+fn told_by(alloc: Global, packet: &Ip4<'_>) -> Result<String, AllocError> {
+    let (source, destination) = (packet.source(), packet.destination());
+    let (protocol, total, offset) = (packet.protocol(), packet.total(), packet.offset());
+    let mut text = format!(in alloc;
+        "{source} > {destination} protocol {protocol} total {total} offset {offset}"
+    )?;
+    if let Some((source, destination)) = packet.ports() {
+        text.push_str(&format!(in alloc; " ports {source} {destination}")?)?;
+    }
+    if let Some(flags) = packet.tcp_flags() {
+        text.push_str(&format!(in alloc; " flags {flags}")?)?;
+    }
+    if let Some(kind) = packet.icmp_type() {
+        text.push_str(&format!(in alloc; " icmp {kind}")?)?;
+    }
+    if flow(packet).is_some() {
+        text.push_str(" flow")?;
+    }
+    for kind in 0..=255u8 {
+        if packet.has_option(kind) {
+            text.push_str(&format!(in alloc; " option {kind}")?)?;
+        }
+    }
+    Ok(text)
+}
+
+/// What a frame is read as, in words.
+fn read_text(
+    rt: &impl Abort,
+    alloc: Global,
+    link: Link,
+    frame: &[u8],
+) -> Result<String, AllocError> {
+    match read(rt, link, frame) {
+        Packet::Ip(packet) => told_by(alloc, &packet),
+        Packet::Other => "other".to_string(alloc),
+        Packet::Malformed(kind) => format!(in alloc; "malformed {kind}"),
     }
 }
 
-fn assert_all_tell(rt: &impl Abort, frames: &[Captured]) {
-    for (place, captured) in frames.iter().enumerate() {
-        match (read(rt, captured.link, captured.frame), &captured.told) {
-            (Packet::Ip(packet), Some(told)) => assert_tells(rt, &packet, told, place),
-            (Packet::Other, None) => {}
-            (other, _) => panic!(rt; "frame {place} is {other:?}"),
-        }
+fn assert_all_tell(rt: &impl Abort, alloc: Global, rows: &[Row]) -> Result<(), Fail> {
+    for (place, (link, frame, text)) in rows.iter().enumerate() {
+        let found = read_text(rt, alloc, *link, frame)?;
+        assert_eq!(rt; found.as_str(), *text, "row {place}");
     }
+    Ok(())
 }
 
 /// One SYN, without a link header.
 const SYN: &[u8] =
     b"\x45\x00\x00\x28\x00\x00\x00\x00\x40\x06\x00\x00\x0a\x00\x00\x01\xc0\x00\x02\x01\x04\x01\x00\x50\x00\x00\x00\x00\x00\x00\x00\x00\x50\x02\xff\xff\x00\x00\x00\x00";
 
-const SYN_TELLS: Told = Told {
-    source: 0x0a00_0001,
-    destination: 0xc000_0201,
-    protocol: 6,
-    total: 40,
-    offset: 0,
-    ports: Some((1025, 80)),
-    tcp_flags: Some(2),
-    icmp_type: None,
-    has_flow: true,
-    options: &[],
-};
+const SYN_TELLS: &str =
+    "10.0.0.1 > 192.0.2.1 protocol 6 total 40 offset 0 ports 1025 80 flags 2 flow";
 
 fn behind(alloc: Global, link_header: &[u8]) -> Result<Vec<u8>, AllocError> {
     let mut frame = Vec::new(alloc);
@@ -94,13 +81,13 @@ fn behind(alloc: Global, link_header: &[u8]) -> Result<Vec<u8>, AllocError> {
 }
 
 #[test]
-fn captured_packets_read_as_another_program_reads_them(rt: HostRuntime) {
-    assert_all_tell(&rt, &CAPTURED);
+fn captured_packets_read_as_another_program_reads_them(rt: HostRuntime) -> Result<(), Fail> {
+    assert_all_tell(&rt, rt.alloc(), &CAPTURED)
 }
 
 #[test]
-fn fields_of_packets(rt: HostRuntime) {
-    assert_all_tell(&rt, &PACKETS);
+fn fields_of_packets(rt: HostRuntime) -> Result<(), Fail> {
+    assert_all_tell(&rt, rt.alloc(), &PACKETS)
 }
 
 #[test]
@@ -122,12 +109,10 @@ fn arp_is_other_and_vlan_is_read(rt: HostRuntime) -> Result<(), Fail> {
             b"\x00\x00\x00\x01\x00\x06\x02\x00\x00\x00\x00\x02\x00\x00\x08\x00",
         ),
     ];
-    for (place, (link, header)) in read_as_ip.into_iter().enumerate() {
+    for (link, header) in read_as_ip {
         let frame = behind(rt.alloc(), header)?;
-        match read(&rt, link, &frame) {
-            Packet::Ip(packet) => assert_tells(&rt, &packet, &SYN_TELLS, place),
-            other => panic!(rt; "{link:?} {header:?}: {other:?}"),
-        }
+        let found = read_text(&rt, rt.alloc(), link, &frame)?;
+        assert_eq!(rt; found.as_str(), SYN_TELLS, "{link:?} {header:?}");
     }
     let other: [(Link, &[u8]); 6] = [
         (Link::Null, b"\x18\x00\x00\x00"),

@@ -8,22 +8,22 @@ use Rattle.fw_base.specs.Faults.{Rose}
 use Rattle.pcap_read.specs.declared.capture.Capture.{Capture}
 use Rattle.pcap_read.specs.declared.capture_fault.CaptureFault.{CaptureFault}
 use Rattle.pcap_read.specs.declared.format.Format.{Format}
-use Rattle.pcap_read.specs.declared.stop.Stop.{Stop}
+use Rattle.pcap_read.specs.declared.capture_fault.Stop.{Stop}
 use Rattle.pcap_read.specs.Window.{Grows}
 use Rattle.pcap_read.specs.Causes.{HasOwnCause, TellsFailedRead}
 use Rattle.pcap_read.specs.Finding.{IsNextRecord}
-use Rattle.pcap_read.specs.Reading.{Captured, header_of, next_of, record_of, Took, Gives, StopsBefore, StopsBehind}
+use Rattle.pcap_read.specs.Reading.{Captured, header_of, next_of, record_of, Took, HasRecords, StopsBefore, StopsBehind}
 use Rattle.pcap_read.specs.Capture.{record_in, source_of, limit_of, held_of, current_of, stop_of, stopped_with, answer_at, stop_by, IsReading, StopsWith, Advances}
 use Rattle.pcap_read.proofs.Fronts.{gives_grown, gives_more, header_grown, front_behind, number_behind}
 
 -- the records so far, as more bytes come
-given_grown : (limit : ℕ) (format : Format) (bytes got : List ℕ) (records : List Captured) (held : List ℕ) → 24 ≤ length bytes → Gives limit format 0 (drop 24 bytes) records held → Gives limit format 0 (drop 24 (bytes ++ got)) records (held ++ got)
+given_grown : (limit : ℕ) (format : Format) (bytes got : List ℕ) (records : List Captured) (held : List ℕ) → 24 ≤ length bytes → HasRecords limit format 0 (drop 24 bytes) records held → HasRecords limit format 0 (drop 24 (bytes ++ got)) records (held ++ got)
 given_grown limit format bytes got records held h p =
-    subst (λ l. Gives limit format 0 l records (held ++ got)) (sym (drop-append-le 24 bytes got h)) (gives_grown limit format 0 (drop 24 bytes) got records held p)
+    subst (λ l. HasRecords limit format 0 l records (held ++ got)) (sym (drop-append-le 24 bytes got h)) (gives_grown limit format 0 (drop 24 bytes) got records held p)
 
 -- one more record
-given_more : (limit : ℕ) (format : Format) (bytes got : List ℕ) (records : List Captured) (held after : List ℕ) (given : ℕ) (r : Captured) (more : List ℕ) → 24 ≤ length bytes → Gives limit format 0 (drop 24 bytes) records held
-    → given ≡ length records → after ≡ held ++ got → next_of limit format given after ≡ Took r more → Gives limit format 0 (drop 24 (bytes ++ got)) (records ++ r ∷ []) more
+given_more : (limit : ℕ) (format : Format) (bytes got : List ℕ) (records : List Captured) (held after : List ℕ) (given : ℕ) (r : Captured) (more : List ℕ) → 24 ≤ length bytes → HasRecords limit format 0 (drop 24 bytes) records held
+    → given ≡ length records → after ≡ held ++ got → next_of limit format given after ≡ Took r more → HasRecords limit format 0 (drop 24 (bytes ++ got)) (records ++ r ∷ []) more
 given_more limit format bytes got records held after given r more h p count e t =
     let zero : 0 + length records ≡ given = omega (arith, count) in
     gives_more limit format 0 (drop 24 (bytes ++ got)) records (held ++ got) r more (given_grown limit format bytes got records held h p)
@@ -31,7 +31,7 @@ given_more limit format bytes got records held after given r more h p count e t 
 
 -- no more records
 stops_behind : {A F : Type 0} (limit : ℕ) (format : Format) (bytes got : List ℕ) (records : List Captured) (held after : List ℕ) (given : ℕ) (stop : Option CaptureFault) → 24 ≤ length bytes → header_of (take 24 bytes) ≡ Ok format
-    → Gives limit format 0 (drop 24 bytes) records held → given ≡ length records → after ≡ held ++ got → StopsBefore A F limit format given after stop → StopsBehind A F limit (bytes ++ got) records (length records + 1) stop
+    → HasRecords limit format 0 (drop 24 bytes) records held → given ≡ length records → after ≡ held ++ got → StopsBefore A F limit format given after stop → StopsBehind A F limit (bytes ++ got) records (length records + 1) stop
 stops_behind limit format bytes got records held after given stop h header p count e s =
     let longer : 24 ≤ length (bytes ++ got) = omega (arith, length-append bytes got, h) in (
       s.0,
@@ -95,8 +95,8 @@ module _ {S : Type 0} (left : S → Option (List ℕ)) (faults : S → ℕ) wher
             steady = steady ∙ reading.steady;
             whole = omega (arith, length-append bytes grows.0, reading.whole);
             header = header_grown bytes grows.0 reading.whole ∙ reading.header ∙ ap Ok (sym format);
-            gives = subst (λ n. Gives n new.format 0 (drop 24 (bytes ++ grows.0)) (records ++ r ∷ []) (held_of new)) (sym limit)
-                (subst (λ f. Gives old.limit f 0 (drop 24 (bytes ++ grows.0)) (records ++ r ∷ []) (held_of new)) (sym format)
+            gives = subst (λ n. HasRecords n new.format 0 (drop 24 (bytes ++ grows.0)) (records ++ r ∷ []) (held_of new)) (sym limit)
+                (subst (λ f. HasRecords old.limit f 0 (drop 24 (bytes ++ grows.0)) (records ++ r ∷ []) (held_of new)) (sym format)
                 (given_more old.limit old.format bytes grows.0 records (held_of old) new.window old.given r (drop new.size new.window) reading.whole reading.gives reading.count grows.1 next.took));
             count = given ∙ ap (λ n. n + 1) reading.count ∙ sym (length-append records (r ∷ []));
           },

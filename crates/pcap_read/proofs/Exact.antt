@@ -2,7 +2,7 @@
 use Rattle.std.proofs.Common.{◌≡◌, ◌≢◌, ℕ, ◌+◌, List, [], ◌++◌, length, Option, None, Some, inl, inr, sym, ap, ◌∙◌, subst, append-nil}
 use Rattle.std.specs.Io.KnownBytes.{Consumes, IsAtEnd}
 use Rattle.pcap_read.specs.declared.capture.Capture.{Capture}
-use Rattle.pcap_read.specs.declared.open_fault.OpenFault.{OpenFault}
+use Rattle.pcap_read.specs.declared.capture_fault.OpenFault.{OpenFault}
 use Rattle.pcap_read.specs.declared.capture_fault.CaptureFault.{CaptureFault}
 use Rattle.pcap_read.specs.declared.capture_fault.CaptureFault.TheVariants.{ReadFault}
 use Rattle.pcap_read.specs.Reading.{Captured, Place, Open, Closed, HasFront, Stops}

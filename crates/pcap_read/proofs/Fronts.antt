@@ -3,9 +3,10 @@ use Rattle.std.proofs.Common.{◌≡◌, ℕ, ◌+◌, ◌<◌, ◌≤◌, List,
 use Rattle.std.proofs.lemmas.List.{take-append-le}
 use Rattle.std.proofs.lemmas.Bool.{cases_lt}
 use lib.Seq.{drop-append-le}
+use Rattle.fw_base.proofs.Logic.{match_true, match_false}
 use Rattle.pcap_read.specs.declared.format.Format.{Format}
 use Rattle.pcap_read.specs.declared.capture_fault.CaptureFault.{CaptureFault}
-use Rattle.pcap_read.specs.Reading.{captured_length, record_of, header_of, Captured, Next, Place, next_of, Open, InHeader, Closed, Took, Stands, Gives, EndsAt, HasFront, place_number}
+use Rattle.pcap_read.specs.Reading.{captured_length, record_of, header_of, Captured, Next, Place, next_of, Open, InHeader, Closed, Took, Stands, HasRecords, EndsAt, HasFront, place_number}
 use Rattle.pcap_read.proofs.Steps.{at_boundary, too_many, in_record_header, too_long, in_record, took, captured_length-grown}
 
 -- what stands there where the next record was taken
@@ -52,13 +53,13 @@ took_grown limit format given bytes got r more e =
     ∙ ap (λ l. Took r (l ++ got)) t.is_rest
 
 -- the records so far stay where more bytes come
-pub gives_grown : (limit : ℕ) (format : Format) (given : ℕ) (bytes got : List ℕ) (rs : List Captured) (rest : List ℕ) → Gives limit format given bytes rs rest → Gives limit format given (bytes ++ got) rs (rest ++ got)
+pub gives_grown : (limit : ℕ) (format : Format) (given : ℕ) (bytes got : List ℕ) (rs : List Captured) (rest : List ℕ) → HasRecords limit format given bytes rs rest → HasRecords limit format given (bytes ++ got) rs (rest ++ got)
 gives_grown limit format given bytes got [] rest e = ap (λ l. l ++ got) e
 gives_grown limit format given bytes got (r ∷ rs) rest p = (p.0 ++ got, took_grown limit format given bytes got r p.0 p.1, gives_grown limit format (given + 1) p.0 got rs rest p.2)
 
 -- one more record behind the others
-pub gives_more : (limit : ℕ) (format : Format) (given : ℕ) (bytes : List ℕ) (rs : List Captured) (rest : List ℕ) (r : Captured) (more : List ℕ) → Gives limit format given bytes rs rest
-    → next_of limit format (given + length rs) rest ≡ Took r more → Gives limit format given bytes (rs ++ r ∷ []) more
+pub gives_more : (limit : ℕ) (format : Format) (given : ℕ) (bytes : List ℕ) (rs : List Captured) (rest : List ℕ) (r : Captured) (more : List ℕ) → HasRecords limit format given bytes rs rest
+    → next_of limit format (given + length rs) rest ≡ Took r more → HasRecords limit format given bytes (rs ++ r ∷ []) more
 gives_more limit format given bytes [] rest r more e t =
     let zero : given + 0 ≡ given = omega arith in
     (more, ap (next_of limit format given) e ∙ ap (λ n. next_of limit format n rest) (sym zero) ∙ t, refl)
@@ -70,12 +71,6 @@ gives_more limit format given bytes (s ∷ rs) rest r more p t =
 pub header_grown : (bytes got : List ℕ) → 24 ≤ length bytes → header_of (take 24 (bytes ++ got)) ≡ header_of (take 24 bytes)
 header_grown bytes got h = ap header_of (take-append-le 24 bytes got h)
 
-at_false : (P Q : Type 0) (b : Bool) → b ≡ false → Q → MatchBool b P Q
-at_false P Q b e q = subst (λ x. MatchBool x P Q) (sym e) q
-
-at_true : (P Q : Type 0) (b : Bool) → b ≡ true → P → MatchBool b P Q
-at_true P Q b e p = subst (λ x. MatchBool x P Q) (sym e) p
-
 at_ok : (P : Format → Type 0) (Q : CaptureFault → Type 0) (r : Result Format CaptureFault) (x : Format) → r ≡ Ok x → P x → MatchResult r P Q
 at_ok P Q r x e p = subst (λ y. MatchResult y P Q) (sym e) p
 
@@ -84,15 +79,15 @@ at_err P Q r x e q = subst (λ y. MatchResult y P Q) (sym e) q
 
 -- the front behind a header
 pub front_behind : (limit : ℕ) (bytes : List ℕ) (records : List Captured) (place : Place) (format : Format) → 24 ≤ length bytes → header_of (take 24 bytes) ≡ Ok format → EndsAt limit format (drop 24 bytes) records place → HasFront limit bytes records place
-front_behind limit bytes records place format h e p = at_false _ _ (nat_lt (length bytes) 24) (grind arith) (at_ok _ _ _ format e p)
+front_behind limit bytes records place format h e p = match_false _ _ (nat_lt (length bytes) 24) (grind arith) (at_ok _ _ _ format e p)
 
 -- the front in the header
 pub front_within : (limit : ℕ) (bytes : List ℕ) → length bytes < 24 → HasFront limit bytes [] (Open InHeader)
-front_within limit bytes h = at_true _ _ (nat_lt (length bytes) 24) (grind arith) (refl, refl)
+front_within limit bytes h = match_true _ _ (nat_lt (length bytes) 24) (grind arith) (refl, refl)
 
 -- the front where the header has a fault
 pub front_fault : (limit : ℕ) (bytes : List ℕ) (fault : CaptureFault) → 24 ≤ length bytes → header_of (take 24 bytes) ≡ Err fault → HasFront limit bytes [] (Closed fault)
-front_fault limit bytes fault h e = at_false _ _ (nat_lt (length bytes) 24) (grind arith) (at_err _ _ _ fault e (refl, refl))
+front_fault limit bytes fault h e = match_false _ _ (nat_lt (length bytes) 24) (grind arith) (at_err _ _ _ fault e (refl, refl))
 
 -- the number of the place, in the header and behind it
 pub number_within : (bytes : List ℕ) (records : List Captured) → length bytes < 24 → place_number bytes records ≡ 0

@@ -3,9 +3,10 @@ use Rattle.std.proofs.Common.{◌≡◌, ℕ, ◌+◌, ◌<◌, ◌≤◌, zero,
 use Rattle.std.specs.List.{AllByRecursion, concat}
 use Rattle.std.proofs.lemmas.Bool.{cases_lt}
 use lib.Seq.{drop-append-le, take-append_seam, drop-append_seam}
+use Rattle.fw_base.proofs.Logic.{was_true, was_false}
 use Rattle.pcap_read.specs.declared.format.Format.{Format}
 use Rattle.pcap_read.specs.declared.capture_fault.CaptureFault.{CaptureFault}
-use Rattle.pcap_read.specs.Reading.{captured_length, header_of, record_of, IsRecord, AtBoundary, Captured, Next, Place, OpenPlace, next_of, Open, InHeader, Closed, Took, Stands, Gives, EndsAt, HasFront}
+use Rattle.pcap_read.specs.Reading.{captured_length, header_of, record_of, IsRecord, AtBoundary, Captured, Next, Place, OpenPlace, next_of, Open, InHeader, Closed, Took, Stands, HasRecords, EndsAt, HasFront}
 use Rattle.pcap_read.proofs.Steps.{at_boundary, too_many, in_record_header, too_long, in_record, took, captured_length-grown}
 use Rattle.pcap_read.proofs.Fronts.{taken, took_grown, gives_grown, header_grown, front_behind, front_within, front_fault}
 
@@ -17,7 +18,7 @@ whichever (Stands place) = inr (place, refl)
 -- ---- there is one
 
 ends_somewhere : (limit fuel : ℕ) (format : Format) (given : ℕ) (bytes : List ℕ) → length bytes < fuel
-    → (records : List Captured) × (rest : List ℕ) × (place : Place) × Gives limit format given bytes records rest × (next_of limit format (given + length records) rest ≡ Stands place)
+    → (records : List Captured) × (rest : List ℕ) × (place : Place) × HasRecords limit format given bytes records rest × (next_of limit format (given + length records) rest ≡ Stands place)
 ends_somewhere limit zero format given bytes h = absurd (omega arith)
 ends_somewhere limit (suc fuel) format given bytes h = elim (whichever (next_of limit format given bytes)) [
   | inl t ↦
@@ -58,11 +59,11 @@ not_both : {X : Type 0} (n : Next) (r : Captured) (x : List ℕ) (place : Place)
 not_both n r x place p q = absurd (cc)
 
 -- the records that a longer string begins with, where the shorter one's end at a place
-begins : (limit : ℕ) (format : Format) (given : ℕ) (bytes more : List ℕ) (rs ss : List Captured) (rest others : List ℕ) (place : Place) → Gives limit format given bytes rs rest → Gives limit format given (bytes ++ more) ss others
-    → next_of limit format (given + length ss) others ≡ Stands place → (behind : List Captured) × (ss ≡ rs ++ behind) × Gives limit format (given + length rs) (rest ++ more) behind others
+begins : (limit : ℕ) (format : Format) (given : ℕ) (bytes more : List ℕ) (rs ss : List Captured) (rest others : List ℕ) (place : Place) → HasRecords limit format given bytes rs rest → HasRecords limit format given (bytes ++ more) ss others
+    → next_of limit format (given + length ss) others ≡ Stands place → (behind : List Captured) × (ss ≡ rs ++ behind) × HasRecords limit format (given + length rs) (rest ++ more) behind others
 begins limit format given bytes more [] ss rest others place p q e =
     let zero : given ≡ given + 0 = omega arith in
-    (ss, refl, subst (λ n. Gives limit format n (rest ++ more) ss others) zero (subst (λ l. Gives limit format given (l ++ more) ss others) p q))
+    (ss, refl, subst (λ n. HasRecords limit format n (rest ++ more) ss others) zero (subst (λ l. HasRecords limit format given (l ++ more) ss others) p q))
 begins limit format given bytes more (r ∷ rs) [] rest others place p q e =
     let zero : given ≡ given + 0 = omega arith in
     not_both (next_of limit format given (bytes ++ more)) r (p.0 ++ more) place (took_grown limit format given bytes more r p.0 p.1) (ap (next_of limit format given) q ∙ ap (λ n. next_of limit format n others) zero ∙ e)
@@ -70,8 +71,8 @@ begins limit format given bytes more (r ∷ rs) (s ∷ ss) rest others place p q
     let one = took_one (next_of limit format given (bytes ++ more)) s r q.0 (p.0 ++ more) q.1 (took_grown limit format given bytes more r p.0 p.1) in
     let next : given + length (s ∷ ss) ≡ given + 1 + length ss = omega arith in
     let after : given + 1 + length rs ≡ given + length (r ∷ rs) = omega arith in
-    let tail = begins limit format (given + 1) p.0 more rs ss rest others place p.2 (subst (λ l. Gives limit format (given + 1) l ss others) one.1 q.2) (ap (λ n. next_of limit format n others) (sym next) ∙ e) in
-    (tail.0, ap (λ x. x ∷ ss) one.0 ∙ ap (λ l. r ∷ l) tail.1, subst (λ n. Gives limit format n (rest ++ more) tail.0 others) after tail.2)
+    let tail = begins limit format (given + 1) p.0 more rs ss rest others place p.2 (subst (λ l. HasRecords limit format (given + 1) l ss others) one.1 q.2) (ap (λ n. next_of limit format n others) (sym next) ∙ e) in
+    (tail.0, ap (λ x. x ∷ ss) one.0 ∙ ap (λ l. r ∷ l) tail.1, subst (λ n. HasRecords limit format n (rest ++ more) tail.0 others) after tail.2)
 
 -- a fault that stands at a record's place stands there however the bytes go on
 closed_stays : (limit : ℕ) (format : Format) (given : ℕ) (bytes more : List ℕ) (fault : CaptureFault) → next_of limit format given bytes ≡ Stands (Closed fault) → next_of limit format given (bytes ++ more) ≡ Stands (Closed fault)
@@ -103,16 +104,10 @@ pub data FrontIs (limit : ℕ) (bytes : List ℕ) (records : List Captured) (pla
 
 front_cases : (limit : ℕ) (bytes : List ℕ) (records : List Captured) (place : Place) → HasFront limit bytes records place → FrontIs limit bytes records place
 front_cases limit bytes records place h = elim (cases_lt (length bytes) 24) [
-  | inl few ↦ let p = when_true _ _ (nat_lt (length bytes) 24) (grind arith) h in short few p.0 p.1
-  | inr whole ↦ headed limit bytes records place whole (header_of (take 24 bytes)) refl (when_false _ _ (nat_lt (length bytes) 24) (grind arith) h)
+  | inl few ↦ let p = was_true _ _ (nat_lt (length bytes) 24) (grind arith) h in short few p.0 p.1
+  | inr whole ↦ headed limit bytes records place whole (header_of (take 24 bytes)) refl (was_false _ _ (nat_lt (length bytes) 24) (grind arith) h)
 ]
   where
-    when_true : (P Q : Type 0) (b : Bool) → b ≡ true → MatchBool b P Q → P
-    when_true P Q b e p = subst (λ x. MatchBool x P Q) e p
-
-    when_false : (P Q : Type 0) (b : Bool) → b ≡ false → MatchBool b P Q → Q
-    when_false P Q b e q = subst (λ x. MatchBool x P Q) e q
-
     headed : (limit : ℕ) (bytes : List ℕ) (records : List Captured) (place : Place) → 24 ≤ length bytes → (r : Result Format CaptureFault) → header_of (take 24 bytes) ≡ r
         → MatchResult (header_of (take 24 bytes)) (λ format. EndsAt limit format (drop 24 bytes) records place) (λ fault. (records ≡ []) × (place ≡ Closed fault)) → FrontIs limit bytes records place
     headed limit bytes records place whole (Err fault) e p =
@@ -123,7 +118,7 @@ front_cases limit bytes records place h = elim (cases_lt (length bytes) 24) [
         good format whole e q
 
 -- where the bytes end at a place, no more records were given of them
-none_behind : (limit : ℕ) (format : Format) (given : ℕ) (rest : List ℕ) (behind : List Captured) (others : List ℕ) (place : Place) → next_of limit format given rest ≡ Stands place → Gives limit format given rest behind others
+none_behind : (limit : ℕ) (format : Format) (given : ℕ) (rest : List ℕ) (behind : List Captured) (others : List ℕ) (place : Place) → next_of limit format given rest ≡ Stands place → HasRecords limit format given rest behind others
     → (behind ≡ []) × (others ≡ rest)
 none_behind limit format given rest [] others place e p = (refl, sym p)
 none_behind limit format given rest (r ∷ behind) others place e p = not_both _ _ _ _ p.1 e
@@ -132,9 +127,9 @@ ends_one : (limit : ℕ) (format : Format) (bytes : List ℕ) (rs ss : List Capt
 ends_one limit format bytes rs ss p q a b =
     let zero : length ss ≡ 0 + length ss = omega arith in
     let count : 0 + length rs ≡ length rs = omega arith in
-    let all = begins limit format 0 bytes [] rs ss a.0 b.0 q a.1 (subst (λ l. Gives limit format 0 l ss b.0) (sym (append-nil bytes)) b.1) (ap (λ n. next_of limit format n b.0) (sym zero) ∙ b.2) in
+    let all = begins limit format 0 bytes [] rs ss a.0 b.0 q a.1 (subst (λ l. HasRecords limit format 0 l ss b.0) (sym (append-nil bytes)) b.1) (ap (λ n. next_of limit format n b.0) (sym zero) ∙ b.2) in
     let none = none_behind limit format (length rs) a.0 all.0 b.0 p a.2
-    (subst (λ l. Gives limit format (length rs) l all.0 b.0) (append-nil a.0) (subst (λ n. Gives limit format n (a.0 ++ []) all.0 b.0) count all.2)) in
+    (subst (λ l. HasRecords limit format (length rs) l all.0 b.0) (append-nil a.0) (subst (λ n. HasRecords limit format n (a.0 ++ []) all.0 b.0) count all.2)) in
     let same : ss ≡ rs = all.1 ∙ ap (λ l. rs ++ l) none.0 ∙ append-nil rs in
     (sym same, stands_one (next_of limit format (length rs) a.0) p q a.2 (ap (next_of limit format (length rs)) (sym none.1) ∙ ap (λ l. next_of limit format (length l) b.0) (sym same) ∙ b.2))
 
@@ -195,7 +190,7 @@ front_stays limit bytes more rs fault h = stays limit bytes more rs (Closed faul
 
 -- ---- whole records
 
-pieces_give : (limit : ℕ) (format : Format) (given : ℕ) (pieces : List (List ℕ)) → AllByRecursion (IsRecord format) pieces → given + length pieces ≤ limit → Gives limit format given (concat pieces) (map (record_of format) pieces) []
+pieces_give : (limit : ℕ) (format : Format) (given : ℕ) (pieces : List (List ℕ)) → AllByRecursion (IsRecord format) pieces → given + length pieces ≤ limit → HasRecords limit format given (concat pieces) (map (record_of format) pieces) []
 pieces_give limit format given [] all few = refl
 pieces_give limit format given (p ∷ ps) all few =
     let size = length p in
@@ -216,4 +211,4 @@ front_whole limit header format pieces size is all few =
     let front : take 24 bytes ≡ header = ap (λ n. take n bytes) (sym size) ∙ take-append_seam header (concat pieces) in
     let rest : drop 24 bytes ≡ concat pieces = ap (λ n. drop n bytes) (sym size) ∙ drop-append_seam header (concat pieces) in
     front_behind limit bytes (map (record_of format) pieces) (Open AtBoundary) format (omega (arith, size, length-append header (concat pieces))) (ap header_of front ∙ is)
-    ([], subst (λ l. Gives limit format 0 l (map (record_of format) pieces) []) (sym rest) (pieces_give limit format 0 pieces all (omega arith)), at_boundary limit format _ [] refl)
+    ([], subst (λ l. HasRecords limit format 0 l (map (record_of format) pieces) []) (sym rest) (pieces_give limit format 0 pieces all (omega arith)), at_boundary limit format _ [] refl)

@@ -4,7 +4,7 @@ use Rattle.std.proofs.lemmas.List.{take-append-le}
 use lib.Seq.{drop-append-le}
 use Rattle.std.proofs.lemmas.Grind.{common_steps}
 use Rattle.std.specs.Int.{w32}
-use Rattle.pcap_read.specs.declared.byte_order.ByteOrder.{ByteOrder}
+use Rattle.pcap_read.specs.declared.format.ByteOrder.{ByteOrder}
 use Rattle.pcap_read.specs.declared.format.Format.{Format}
 use Rattle.pcap_read.specs.declared.capture_fault.CaptureFault.TheVariants.{RecordTooLong, TooManyPackets, ReadFault}
 use Rattle.pcap_read.specs.Reading.{number_of, number_at, captured_length, record_of, next_of, OpenPlace, Open, Closed, at_end, StopsBefore, AtBoundary, InRecordHeader, InRecord, Took, Stands}
@@ -59,13 +59,3 @@ stops_failed limit format given bytes place e h = (Open place, e, inr (h, refl))
 -- a reader at a place that is open stops at the source's end, as that place says
 pub stops_at_end : {atEnd failed : Type 0} (limit : ℕ) (format : Format) (given : ℕ) (bytes : List ℕ) (place : OpenPlace) → next_of limit format given bytes ≡ Stands (Open place) → atEnd → StopsBefore atEnd failed limit format given bytes (at_end place)
 stops_at_end limit format given bytes place e h = (Open place, e, inl (h, refl))
-
--- a wish that was granted or not
-pub granted : (P Q : Type 0) (b : Bool) → MatchBool b P Q → b ≡ true → P
-granted P Q true h e = h
-granted P Q false h e = absurd (cc)
-
--- what holds where a wish was not granted
-pub refused : (P Q : Type 0) (b : Bool) → MatchBool b P Q → b ≡ false → Q
-refused P Q true h e = absurd (cc)
-refused P Q false h e = h

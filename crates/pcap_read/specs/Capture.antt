@@ -8,16 +8,16 @@ use Rattle.pcap_read.specs.declared.capture_fault.CaptureFault.{CaptureFault}
 use Rattle.pcap_read.specs.declared.capture_fault.CaptureFault.TheVariants.{OutOfMemory}
 use Rattle.pcap_read.specs.declared.capture.Capture.{Capture}
 use Rattle.pcap_read.specs.declared.format.Format.{Format}
-use Rattle.pcap_read.specs.declared.open_fault.OpenFault.{OpenFault}
+use Rattle.pcap_read.specs.declared.capture_fault.OpenFault.{OpenFault}
 use Rattle.pcap_read.specs.declared.record.Record.{Record}
-use Rattle.pcap_read.specs.declared.stop.Stop.{Stop}
-use Rattle.pcap_read.specs.declared.stop.Stop.TheVariants.{End, Fault}
+use Rattle.pcap_read.specs.declared.capture_fault.Stop.{Stop}
+use Rattle.pcap_read.specs.declared.capture_fault.Stop.TheVariants.{End, Fault}
 use Rattle.pcap_read.specs.Causes.{HasOwnCause, TellsFailedRead}
-use Rattle.pcap_read.specs.Reading.{Captured, header_of, record_of, Gives, StopsBehind}
+use Rattle.pcap_read.specs.Reading.{Captured, header_of, record_of, HasRecords, StopsBehind}
 
 -- a record that was lent, as its bytes told it
-abbrev pub captured : Record → Captured
-captured r = record { second = r.second; nanos = r.nanos; bytes = r.bytes.now }
+abbrev pub captured_of : Record → Captured
+captured_of r = record { second = r.second; nanos = r.nanos; bytes = r.bytes.now }
 
 -- what a capture stopped with: a fault, or None at its end
 abbrev pub stopped_with : Stop → Option CaptureFault
@@ -41,15 +41,15 @@ record_in (Ok found) = found
 record_in (Err fault) = None
 
 -- the answer of `next`, as the bytes told it
-abbrev pub told : Result (Option Record) CaptureFault → Result (Option Captured) CaptureFault
-told (Ok None) = Ok None
-told (Ok (Some r)) = Ok (Some (captured r))
-told (Err fault) = Err fault
+abbrev pub answer_of : Result (Option Record) CaptureFault → Result (Option Captured) CaptureFault
+answer_of (Ok None) = Ok None
+answer_of (Ok (Some r)) = Ok (Some (captured_of r))
+answer_of (Err fault) = Err fault
 
 -- the answer of a call that went on to a record or none, or failed
-abbrev pub answered : {U : Type 0} → Result U CaptureFault → Option Captured → Result (Option Captured) CaptureFault
-answered (Ok u) found = Ok found
-answered (Err fault) found = Err fault
+abbrev pub answer_with : {U : Type 0} → Result U CaptureFault → Option Captured → Result (Option Captured) CaptureFault
+answer_with (Ok u) found = Ok found
+answer_with (Err fault) found = Err fault
 
 module _ {S : Type 0} where
   abbrev pub source_of : Capture S → S
@@ -91,7 +91,7 @@ module _ {S : Type 0} where
       pub steady : faults (source_of c) ≡ faults source
       pub whole : 24 ≤ length bytes
       pub header : header_of (take 24 bytes) ≡ Ok (format_of c)
-      pub gives : Gives (limit_of c) (format_of c) 0 (drop 24 bytes) records (held_of c)
+      pub gives : HasRecords (limit_of c) (format_of c) 0 (drop 24 bytes) records (held_of c)
       pub count : given_of c ≡ length records
 
     -- A reader of at most `limit` records that was opened on the source as it was `before` took these bytes,

@@ -2,8 +2,8 @@
 use Rattle.std.specs.Prelude.{◌≡◌, ◌≢◌, ℕ, ◌+◌, List, [], length, Option, Some}
 use Rattle.pcap_read.specs.declared.capture_fault.CaptureFault.{CaptureFault}
 use Rattle.pcap_read.specs.declared.capture_fault.CaptureFault.TheVariants.{ReadFault, OutOfMemory}
-use Rattle.pcap_read.specs.declared.counted.Counted.{Counted}
-use Rattle.pcap_read.specs.declared.open_fault.OpenFault.{OpenFault}
+use Rattle.pcap_read.specs.declared.counting.Counted.{Counted}
+use Rattle.pcap_read.specs.declared.capture_fault.OpenFault.{OpenFault}
 use Rattle.pcap_read.specs.Reading.{Captured, Place, Open, Closed, HasFront, at_end}
 use Rattle.pcap_read.specs.Capture.{StopsWith}
 

@@ -3,10 +3,10 @@ use Rattle.std.specs.Prelude.{◌≡◌, ℕ, ◌+◌, ◌*◌, ◌≤◌, Bool,
 use Rattle.std.specs.Int.{Width, w16, w32, byte_len, from_le_bytes, from_be_bytes}
 use Rattle.fw_base.specs.declared.link.Link.{Link}
 use Rattle.fw_base.specs.declared.link.Link.TheVariants.{Null, Ethernet, Raw, Cooked}
-use Rattle.pcap_read.specs.declared.byte_order.ByteOrder.{ByteOrder}
-use Rattle.pcap_read.specs.declared.byte_order.ByteOrder.TheVariants.{Little, Big}
-use Rattle.pcap_read.specs.declared.fraction.Fraction.{Fraction}
-use Rattle.pcap_read.specs.declared.fraction.Fraction.TheVariants.{Micros, Nanos}
+use Rattle.pcap_read.specs.declared.format.ByteOrder.{ByteOrder}
+use Rattle.pcap_read.specs.declared.format.ByteOrder.TheVariants.{Little, Big}
+use Rattle.pcap_read.specs.declared.format.Fraction.{Fraction}
+use Rattle.pcap_read.specs.declared.format.Fraction.TheVariants.{Micros, Nanos}
 use Rattle.pcap_read.specs.declared.format.Format.{Format}
 use Rattle.pcap_read.specs.declared.capture_fault.CaptureFault.{CaptureFault}
 use Rattle.pcap_read.specs.declared.capture_fault.CaptureFault.TheVariants.{ShortHeader, BadMagic, BadVersion, UnknownLink, ShortRecordHeader, RecordTooLong, ShortRecord, TooManyPackets, ReadFault}
@@ -113,13 +113,13 @@ next_of limit format given bytes =
     else Took (record_of format (take (16 + captured_length format bytes) bytes)) (drop (16 + captured_length format bytes) bytes)
 
 -- these are the next records, and `rest` are the bytes behind them
-abbrev pub Gives : ℕ → Format → ℕ → List ℕ → List Captured → List ℕ → Type 0
-Gives limit format given bytes [] rest = bytes ≡ rest
-Gives limit format given bytes (r ∷ rs) rest = (more : List ℕ) × (next_of limit format given bytes ≡ Took r more) × Gives limit format (given + 1) more rs rest
+abbrev pub HasRecords : ℕ → Format → ℕ → List ℕ → List Captured → List ℕ → Type 0
+HasRecords limit format given bytes [] rest = bytes ≡ rest
+HasRecords limit format given bytes (r ∷ rs) rest = (more : List ℕ) × (next_of limit format given bytes ≡ Took r more) × HasRecords limit format (given + 1) more rs rest
 
 -- the records behind a header, and the place where they end
 abbrev pub EndsAt : ℕ → Format → List ℕ → List Captured → Place → Type 0
-EndsAt limit format bytes records place = (rest : List ℕ) × Gives limit format 0 bytes records rest × (next_of limit format (length records) rest ≡ Stands place)
+EndsAt limit format bytes records place = (rest : List ℕ) × HasRecords limit format 0 bytes records rest × (next_of limit format (length records) rest ≡ Stands place)
 
 -- The front of a string of bytes, of which no more than `limit` records are read: its records, and the
 -- place where they end.

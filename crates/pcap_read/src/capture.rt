@@ -1,14 +1,12 @@
 ghost use Rattle.std.specs.Prelude.{◌≡◌, ◌≤◌, ◌<◌, [], length, is_some, true, IfOk, IfSome, MatchResult};
 ghost use Rattle.std.specs.Option.{option_map};
 
-use crate::capture_fault::CaptureFault;
+use crate::capture_fault::{CaptureFault, OpenFault, Stop};
 use crate::finding::find_record;
 use crate::format::Format;
-use crate::open_fault::OpenFault;
 use crate::opening::take_header;
 use crate::record::Record;
 use crate::records::record_in;
-use crate::stop::Stop;
 use crate::window::Window;
 use fw_base::{Link, Source};
 use std::alloc::Global;
@@ -41,7 +39,7 @@ impl<S: Source> Capture<S> {
     ghost use Rattle.std.specs.Borrow.{sem};
     ghost use Rattle.std.specs.Io.BufRead.{Rests};
     ghost use Rattle.pcap_read.specs.contracts.capture.Capture.{the_row};
-    ghost use Rattle.pcap_read.specs.Capture.{IsOpened, IsRefused, Advances, captured, told, answered, source_of, current_of, link_of};
+    ghost use Rattle.pcap_read.specs.Capture.{IsOpened, IsRefused, Advances, captured_of, answer_of, answer_with, source_of, current_of, link_of};
 
     /// Takes the buffer and reads the header; `limit`, 1 to 4,194,304, is how many records are given at
     /// most. On a fault the source is given back.
@@ -98,7 +96,7 @@ impl<S: Source> Capture<S> {
         ensures small { IfOk result (λ found. IfSome found (λ r. length r.bytes.now ≤ 262144)) }
         ensures* advances { sem 𝓛
             (Rests (the_row S.row) self.entry (λ new.
-            Advances S.left S.faults self.old new (told result))) }
+            Advances S.left S.faults self.old new (answer_of result))) }
     {
         self.advance()?;
         Ok(self.current())
@@ -107,7 +105,7 @@ impl<S: Source> Capture<S> {
     /// The record that the last call of `next` gave, again; `None` exactly where it gave none, or there
     /// was no call.
     pub fn current(&self) -> Option<Record<'_>>
-        ensures value { option_map captured result ≡ current_of self.now }
+        ensures value { option_map captured_of result ≡ current_of self.now }
         ensures small { IfSome result (λ r. length r.bytes.now ≤ 262144) }
     {
         if self.size == 0 {
@@ -120,7 +118,7 @@ impl<S: Source> Capture<S> {
     /// Goes on to the next record.
     fn advance(&mut self) -> Result<(), CaptureFault>
         ensures { Advances S.left S.faults self.old self.new
-            (answered result (current_of self.new)) }
+            (answer_with result (current_of self.new)) }
     {
         match self.stop {
             Some(Stop::End) => return Ok(()),

@@ -89,3 +89,19 @@ impl From<fw_base::OutOfMemory> for CaptureFault {
         CaptureFault::OutOfMemory
     }
 }
+
+/// How a capture stopped.
+#[derive(Clone, Copy, Debug)]
+pub enum Stop {
+    /// At its end, behind a whole record or its header.
+    End,
+    /// With a fault.
+    Fault(CaptureFault),
+}
+
+/// Why a source could not be opened as a capture, and the source.
+#[derive(Debug, Drop)]
+pub struct OpenFault<S> {
+    pub fault: CaptureFault,
+    pub source: S,
+}

@@ -3,9 +3,7 @@ ghost use Rattle.pcap_read.specs.Capture.{Finishes, IsRefused};
 ghost use Rattle.pcap_read.specs.Counting.{IsCounted, IsExact, IsExactFault};
 
 use crate::capture::Capture;
-use crate::capture_fault::CaptureFault;
-use crate::counted::Counted;
-use crate::open_fault::OpenFault;
+use crate::capture_fault::{CaptureFault, OpenFault};
 use fw_base::Source;
 use std::alloc::Global;
 
@@ -55,4 +53,15 @@ fn count_rest<S: Source>(capture: &mut Capture<S>) -> (u32, Option<CaptureFault>
             Err(fault) => return (count, Some(fault)),
         }
     }
+}
+
+/// What a capture came to that was read to the place where its records end.
+#[derive(Debug, Drop)]
+pub struct Counted<S> {
+    /// How many records it has.
+    pub records: u32,
+    /// The fault that stands behind them; `None` at the end of a whole capture.
+    pub fault: Option<CaptureFault>,
+    /// The source, with the bytes that were not taken.
+    pub source: S,
 }

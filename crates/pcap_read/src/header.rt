@@ -2,10 +2,8 @@ ghost use Rattle.std.specs.Prelude.{◌≡◌, ◌≤◌, length, take};
 ghost use Rattle.pcap_read.specs.Causes.{IsFaultOfBytes};
 ghost use Rattle.pcap_read.specs.Reading as spec;
 
-use crate::byte_order::ByteOrder;
 use crate::capture_fault::CaptureFault;
-use crate::format::Format;
-use crate::fraction::Fraction;
+use crate::format::{ByteOrder, Format, Fraction};
 use crate::numbers::{u16_at, u32_at};
 use fw_base::Link;
 

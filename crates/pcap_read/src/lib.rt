@@ -7,30 +7,23 @@
 #![tactic(auto)]
 
 pub use capture::Capture;
-pub use capture_fault::CaptureFault;
-pub use counted::Counted;
-pub use counting::count_records;
+pub use capture_fault::{CaptureFault, OpenFault};
+pub use counting::{Counted, count_records};
 pub use laws::one_front;
-pub use open_fault::OpenFault;
 pub use record::Record;
 
-mod byte_order;
 mod capture;
 mod capture_fault;
-mod counted;
 mod counting;
 mod filling;
 mod finding;
 mod format;
-mod fraction;
 mod header;
 mod laws;
 mod numbers;
-mod open_fault;
 mod opening;
 mod record;
 mod records;
-mod stop;
 #[cfg(test)]
 mod tests;
 mod window;

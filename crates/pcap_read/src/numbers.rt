@@ -2,7 +2,7 @@ ghost use Rattle.std.specs.Prelude.{◌≡◌, ◌+◌, ◌≤◌, length};
 ghost use Rattle.std.specs.Int.{w16, w32};
 ghost use Rattle.pcap_read.specs.Reading.{number_at};
 
-use crate::byte_order::ByteOrder;
+use crate::format::ByteOrder;
 
 /// The number of two bytes at a place.
 #[tactic(auto, unfolding(crate::specs::Reading::number_at))]

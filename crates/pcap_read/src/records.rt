@@ -1,10 +1,9 @@
 ghost use Rattle.std.specs.Prelude.{◌≡◌, ◌+◌, ◌≤◌, length};
 ghost use Rattle.pcap_read.specs.Reading.{record_of};
-ghost use Rattle.pcap_read.specs.Capture.{captured};
+ghost use Rattle.pcap_read.specs.Capture.{captured_of};
 
 use crate::finding::RECORD_HEADER_LENGTH;
-use crate::format::Format;
-use crate::fraction::Fraction;
+use crate::format::{Format, Fraction};
 use crate::numbers::u32_at;
 use crate::record::Record;
 
@@ -12,7 +11,7 @@ use crate::record::Record;
 #[tactic(auto, unfolding(crate::specs::Reading::record_of))]
 pub(crate) fn record_in(format: Format, bytes: &[u8]) -> Record<'_>
     requires { 16 ≤ length bytes.now }
-    ensures value { captured result ≡ record_of format bytes.now }
+    ensures value { captured_of result ≡ record_of format bytes.now }
     ensures size { length result.bytes.now + 16 ≡ length bytes.now }
 {
     let second = u32_at(format.order, 0, bytes);

@@ -4,21 +4,17 @@ use Rattle.std.proofs.lemmas.Bool.Decides.{nat_tests}
 use Rattle.std.specs.Prelude.{◌==◌, if◌then◌else◌, Option, Some, None, slice_get}
 use Rattle.std.specs.Option.{option_map}
 use Rattle.pcap_read.specs.Reading.{Captured}
-use Rattle.serial_schedule.specs.Order.{Turn, moment_of, is_before, earlier, first_head, first_capture, next_of, next_moment, without_next, records_at, turn_from, turns_from, turns, record_count}
+use Rattle.serial_schedule.specs.Order.{Turn, moment_of, first_head, first_capture, next_of, next_moment, without_next, records_at, turn_from, turns_from, turns, record_count}
 use Rattle.serial_schedule.specs.declared.head.Head.{Head}
 use Rattle.serial_schedule.specs.declared.moment.Moment.{Moment}
-use Rattle.serial_schedule.proofs.Turns.{first_capture-there}
+use Rattle.serial_schedule.proofs.Turns.{first_capture-there, some_is_earlier}
 use Rattle.record_laws.specs.CaptureOrder.{taken_of, CapturesKeepTheirOrder}
-
-some_earlier : (head : Head) (other : Option Head) → earlier (Some head) other ≡ None → ⊥
-some_earlier head None same = cc
-some_earlier head (Some first) same = elim (is_before first.moment head.moment) as (λ b. (if b then Some first else Some head) ≡ None → ⊥) [ true ↦ λ e. cc | false ↦ λ e. cc ] same
 
 no_head : (start : ℕ) (captures : List (List Captured)) → first_head start (map next_moment captures) ≡ None → record_count captures ≡ 0
 unfolding first_head
 no_head start [] none = refl
 no_head start ([] ∷ captures) none = let rest = no_head (start + 1) captures none in omega arith
-no_head start ((r ∷ records) ∷ captures) none = absurd (some_earlier (record { capture = start; moment = moment_of r }) (first_head (start + 1) (map next_moment captures)) none)
+no_head start ((r ∷ records) ∷ captures) none = absurd (some_is_earlier (record { capture = start; moment = moment_of r }) (first_head (start + 1) (map next_moment captures)) none)
 
 -- where no capture comes first no record is left
 none_left : (captures : List (List Captured)) → first_capture (map next_moment captures) ≡ None → record_count captures ≡ 0

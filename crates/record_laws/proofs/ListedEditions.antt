@@ -3,8 +3,9 @@ use Rattle.std.proofs.Common.{◌≡◌, ◌≢◌, ℕ, zero, suc, ◌+◌, ◌
 use Rattle.std.proofs.lemmas.Bool.Decides.{nat_tests}
 use Rattle.std.specs.Prelude.{◌==◌, ⊤, is_some, if◌then◌else◌, Option, Some, None, Ok, Err, Contains, slice_index_or}
 use Rattle.std.specs.List.{AllByRecursion}
-use Rattle.fw_command.specs.declared.line.Line.{Line}
-use Rattle.fw_command.specs.declared.step.Step.{Step}
+use Rattle.fw_base.proofs.Lists.{all_push, all_weaker}
+use Rattle.fw_command.specs.declared.script.Line.{Line}
+use Rattle.fw_command.specs.declared.script.Step.{Step}
 use Rattle.fw_report.specs.AnswerText.{edition_of}
 use Rattle.fw_report.specs.declared.answer.Answer.{Answer}
 use Rattle.fw_report.specs.declared.answer.Answer.TheVariants.{Refused, Listed}
@@ -26,14 +27,6 @@ use Rattle.serial_schedule.specs.Agenda.{all_lines}
 use Rattle.state_journal.specs.declared.entry.Entry.{Entry}
 use Rattle.state_journal.specs.declared.entry.Entry.TheVariants.{Publish, Ask}
 use Rattle.record_laws.specs.Listings.{IsPublished, NamesPublished, ListingsNamePublishedEditions}
-
-all_push : {X : Type 0} (P : X → Type 0) (xs : List X) (x : X) → AllByRecursion P xs → P x → AllByRecursion P (xs ++ x ∷ [])
-all_push P [] x all one = (one, tt)
-all_push P (y ∷ xs) x all one = (all.0, all_push P xs x all.1 one)
-
-all_weaker : {X : Type 0} (P Q : X → Type 0) (xs : List X) → ((x : X) → P x → Q x) → AllByRecursion P xs → AllByRecursion Q xs
-all_weaker P Q [] weaker all = tt
-all_weaker P Q (x ∷ xs) weaker all = (weaker x all.0, all_weaker P Q xs weaker all.1)
 
 -- a listing names one of the editions up to this number
 abbrev NamesUpTo : ℕ → Answer → Type 0
@@ -64,7 +57,7 @@ with_listing s line (Entries name) is =
 with_command : (s : Standing) (line : ℕ) (command : Command) (applied : Applied Configuration) → IsStanding s → IsStanding (after_applied s line command applied)
 with_command s line command (Ok made) is = record {
   counted = let longer = length-append s.accepted (command ∷ []) in let some = is.counted in omega arith;
-  named = all_weaker (λ (a : LineAnswer). NamesUpTo s.number a.answer) (λ (a : LineAnswer). NamesUpTo (s.number + 1) a.answer) s.answers (λ a names. names_more s.number a.answer names) is.named;
+  named = all_weaker (λ (a : LineAnswer). NamesUpTo s.number a.answer) (λ (a : LineAnswer). NamesUpTo (s.number + 1) a.answer) (λ a names. names_more s.number a.answer names) s.answers is.named;
 }
 with_command s line command (Err fault) is = with_answer s line (Refused fault) is tt
 
@@ -153,7 +146,7 @@ module _ {S : Type 0} (left : S → Option (List ℕ)) (faults : S → ℕ) wher
   listings_name_published config steps captures r is =
       let standing = outcome_of config steps in
       let stands = outcome_stands config steps in
-      let published = all_weaker (λ (a : LineAnswer). NamesUpTo standing.number a.answer) (λ (a : LineAnswer). NamesPublished r.record a.answer) standing.answers (λ a names. named a.answer names) stands.named in
+      let published = all_weaker (λ (a : LineAnswer). NamesUpTo standing.number a.answer) (λ (a : LineAnswer). NamesPublished r.record a.answer) (λ a names. named a.answer names) standing.answers stands.named in
       subst (AllByRecursion (λ (a : LineAnswer). NamesPublished r.record a.answer)) (sym is.answered) published
     where
       named : (answer : Answer) → NamesUpTo (outcome_of config steps).number answer → NamesPublished r.record answer

@@ -1,23 +1,19 @@
 -- Printed verdict lines are as many as records.
-use Rattle.std.proofs.Common.{◌≡◌, ℕ, zero, suc, Option, ◌+◌, ◌/◌, ◌%◌, Bool, true, false, cond, not, ◌&&◌, nat_lt, nat_le, nat_eq, unwrap_or, slice_get, List, [], ◌∷◌, ◌++◌, length, map, replicate, codes, filter, sum_by, refl, sym, ap, ◌∙◌, subst, arith, append_assoc, append-nil}
+use Rattle.std.proofs.Common.{◌≡◌, ℕ, zero, suc, Option, ◌+◌, ◌/◌, ◌%◌, Bool, true, false, cond, not, ◌&&◌, nat_lt, nat_le, nat_eq, List, [], ◌∷◌, ◌++◌, length, map, codes, filter, sum_by, refl, sym, ap, ◌∙◌, subst, arith, append_assoc, append-nil}
 use Rattle.std.proofs.lemmas.Bool.Decides.{nat_tests}
 use Rattle.std.proofs.lemmas.List.{length-map}
 use Rattle.std.proofs.lemmas.List.Sums.{sum_by-cons}
 use Rattle.std.specs.Fmt.{decimal, digits, digits_onto, digit_glyph}
-use Rattle.std.specs.List.{AllByRecursion, onto_first}
+use Rattle.std.specs.List.{onto_first}
 use Rattle.counter_book.specs.declared.count.Count.{Count}
-use Rattle.fw_rule.specs.Canonical.{five_digits, code_word, unreach_names}
+use Rattle.fw_rule.specs.Canonical.{five_digits}
 use Rattle.pcap_read.specs.Words.{word_of}
 use Rattle.pcap_read.specs.declared.capture_fault.CaptureFault.{CaptureFault}
 use Rattle.pcap_read.specs.declared.capture_fault.CaptureFault.TheVariants.{ShortHeader, BadMagic, BadVersion, UnknownLink, ShortRecordHeader, RecordTooLong, ShortRecord, TooManyPackets, ReadFault, OutOfMemory}
 use Rattle.eval_engine.specs.Dockets.{DocketValue, judgement_of}
 use Rattle.eval_engine.specs.declared.docket_entry.DocketEntry.{DocketEntry}
 use Rattle.eval_engine.specs.declared.docket_entry.DocketEntry.TheVariants.{Other, Malformed, Judged}
-use Rattle.eval_engine.specs.declared.judgement.Cause.{Cause}
-use Rattle.eval_engine.specs.declared.judgement.Cause.TheVariants.{Rule, Limit, Full}
 use Rattle.eval_engine.specs.declared.judgement.Judgement.{Judgement}
-use Rattle.eval_engine.specs.declared.verdict.Verdict.{Verdict}
-use Rattle.eval_engine.specs.declared.verdict.Verdict.TheVariants.{Allow, Deny, Reset, Unreach}
 use Rattle.fw_command.specs.Lines.{lines_of}
 use Rattle.fw_report.specs.AnswerText.{answers_text}
 use Rattle.fw_report.specs.DocketText.{verdict_word, verdict_code, cause_word, cause_count, judged_text, entry_text, record_line, record_lines, end_line, captures_text}
@@ -26,6 +22,7 @@ use Rattle.fw_report.specs.Report.{start_text, last_closing, last_edition, repor
 use Rattle.fw_report.specs.RulesText.{editions_line}
 use Rattle.fw_report.specs.declared.capture_end.CaptureEnd.{CaptureEnd}
 use Rattle.fw_report.specs.declared.capture_end.CaptureEnd.TheVariants.{Read, Stopped}
+use Rattle.fw_report.proofs.SilentWords.{number_is_silent, five_digits_are_silent, verdict_is_silent, verdict_code_is_silent, cause_is_silent, cause_count_is_silent, lines-append}
 use Rattle.fw_world.specs.Entries.{EachRecord, IsEntryFor}
 use Rattle.fw_world.specs.Inputs.{Input}
 use Rattle.fw_world.specs.Legal.{EachLane, LaneStands}
@@ -34,13 +31,6 @@ use Rattle.serial_replay.specs.Reading.{Track, AllRead, track_inputs}
 use Rattle.serial_replay.specs.Replay.{limit_for, outcome_of}
 use Rattle.serial_replay.specs.declared.opened_capture.OpenedCapture.{OpenedCapture}
 use Rattle.record_laws.specs.VerdictLines.{begins_with_digit, verdict_lines, other_lines, input_count, recorded_with, VerdictLinesAreRecords, ReplaysPrintEachRecord}
-
-lines-append : (xs ys : List ℕ) → lines_in (xs ++ ys) ≡ lines_in xs + lines_in ys
-unfolding lines_in
-lines-append [] ys = omega arith
-lines-append (x ∷ xs) ys =
-    let rest = lines-append xs ys in
-    elim (nat_eq x 10) as (λ b. cond b (1 + lines_in (xs ++ ys)) (lines_in (xs ++ ys)) ≡ cond b (1 + lines_in xs) (lines_in xs) + lines_in ys) [ true ↦ omega (arith, rest) | false ↦ rest ]
 
 -- a text that is one line: bytes with no line's end, and one
 record IsLine (text : List ℕ) : Type 0 where
@@ -73,24 +63,6 @@ first_line text rest line =
     ∙ ap lines_of (append_assoc line.body (10 ∷ []) rest)
     ∙ silent_line line.body rest line.silent
 
-glyph_silent : (d : ℕ) → nat_eq (digit_glyph false d) 10 ≡ false
-glyph_silent d =
-    elim (nat_lt d 10) as (λ b. nat_eq (cond b (48 + d) (87 + d)) 10 ≡ false) [ true ↦ grind (arith, nat_tests) | false ↦ grind (arith, nat_tests) ]
-
-onto_silent : (k n : ℕ) (acc : List ℕ) → lines_in (digits_onto k 10 false n acc) ≡ lines_in acc
-unfolding lines_in
-onto_silent zero n acc = refl
-onto_silent (suc k) n acc =
-    let first : lines_in (digit_glyph false (n % 10) ∷ acc) ≡ lines_in acc = rw (glyph_silent (n % 10)) refl in
-    elim (nat_eq (n / 10) 0) as (λ b. lines_in (cond b (digit_glyph false (n % 10) ∷ acc) (digits_onto k 10 false (n / 10) (digit_glyph false (n % 10) ∷ acc))) ≡ lines_in acc) [
-      | true ↦ first
-      | false ↦ onto_silent k (n / 10) (digit_glyph false (n % 10) ∷ acc) ∙ first
-    ]
-
-number : (n : ℕ) → lines_in (decimal n) ≡ 0
-unfolding digits lines_in
-number n = onto_silent 64 n []
-
 -- a digit is from 48 to 57
 glyph_digit : (d : ℕ) → nat_lt d 10 ≡ true → (nat_le 48 (digit_glyph false d) && nat_le (digit_glyph false d) 57) ≡ true
 glyph_digit d small = rw small (both (nat_le 48 (48 + d)) (nat_le (48 + d) 57) (grind (arith, nat_tests)) (grind (arith, nat_tests)))
@@ -117,50 +89,6 @@ number_digit : (n : ℕ) (rest : List ℕ) → begins_with_digit (decimal n ++ r
 unfolding digits
 number_digit n rest = still_digit (decimal n) rest (onto_digit 63 n [])
 
-zeros : (k : ℕ) → lines_in (replicate k 48) ≡ 0
-unfolding lines_in
-zeros zero = refl
-zeros (suc k) = zeros k
-
-five : (n : ℕ) → lines_in (five_digits n) ≡ 0
-unfolding five_digits
-five n = lines-append _ (decimal n) ∙ rw (zeros _, number n) refl
-
-named : (names : List (List ℕ)) (i : ℕ) (d : List ℕ) → AllByRecursion (λ name. lines_in name ≡ 0) names → lines_in d ≡ 0 → lines_in (unwrap_or (slice_get names i) d) ≡ 0
-named [] i d all none = none
-named (name ∷ names) zero d all none = all.0
-named (name ∷ names) (suc i) d all none = named names i d all.1 none
-
-code : (n : ℕ) → lines_in (code_word n) ≡ 0
-unfolding code_word unreach_names lines_in
-code n = named unreach_names n (decimal n) (refl, (refl, (refl, (refl, (refl, (refl, (refl, (refl, (refl, (refl, (refl, (refl, (refl, (refl, (refl, (refl, tt)))))))))))))))) (number n)
-
-word : (verdict : Verdict) → lines_in (verdict_word verdict) ≡ 0
-unfolding lines_in
-word Allow = refl
-word Deny = refl
-word Reset = refl
-word (Unreach n) = refl
-
-behind_word : (verdict : Verdict) → lines_in (verdict_code verdict) ≡ 0
-unfolding lines_in
-behind_word Allow = refl
-behind_word Deny = refl
-behind_word Reset = refl
-behind_word (Unreach n) = code n
-
-cause : (c : Cause) → lines_in (cause_word c) ≡ 0
-unfolding lines_in
-cause Rule = refl
-cause (Limit n) = refl
-cause (Full n) = refl
-
-cause_number : (c : Cause) → lines_in (cause_count c) ≡ 0
-unfolding lines_in
-cause_number Rule = refl
-cause_number (Limit n) = number n
-cause_number (Full n) = number n
-
 -- a line's end alone
 ended : IsLine (codes "\n")
 unfolding lines_in
@@ -169,14 +97,14 @@ ended = record { body = []; ends = refl; silent = refl }
 judged_line : (j : Judgement) → IsLine (judged_text j)
 unfolding judged_text lines_in
 judged_line j =
-    before (codes " ") _ refl (before (verdict_word j.verdict) _ (word j.verdict) (before (verdict_code j.verdict) _ (behind_word j.verdict)
-    (before (codes " ") _ refl (before (five_digits j.rule.number) _ (five j.rule.number) (before (codes " at ") _ refl (before (decimal j.edition) _ (number j.edition)
-    (before (cause_word j.cause) _ (cause j.cause) (before (cause_count j.cause) _ (cause_number j.cause) ended))))))))
+    before (codes " ") _ refl (before (verdict_word j.verdict) _ (verdict_is_silent j.verdict) (before (verdict_code j.verdict) _ (verdict_code_is_silent j.verdict)
+    (before (codes " ") _ refl (before (five_digits j.rule.number) _ (five_digits_are_silent j.rule.number) (before (codes " at ") _ refl (before (decimal j.edition) _ (number_is_silent j.edition)
+    (before (cause_word j.cause) _ (cause_is_silent j.cause) (before (cause_count j.cause) _ (cause_count_is_silent j.cause) ended))))))))
 
 entry_line : (entry : DocketEntry) → IsLine (entry_text entry)
 unfolding entry_text lines_in
 entry_line Other = record { body = codes " other"; ends = refl; silent = refl }
-entry_line (Malformed kind) = before (codes " malformed ") _ refl (before (decimal kind) _ (number kind) ended)
+entry_line (Malformed kind) = before (codes " malformed ") _ refl (before (decimal kind) _ (number_is_silent kind) ended)
 entry_line (Judged verdict cause rule edition) = judged_line (judgement_of verdict cause rule edition)
 
 -- A line of a record begins with a digit.
@@ -187,8 +115,8 @@ record IsVerdictLine (text : List ℕ) : Type 0 where
 record_is_line : (capture at : ℕ) (entry : DocketEntry) → IsVerdictLine (record_line capture at entry)
 unfolding record_line lines_in before
 record_is_line capture at entry =
-    let behind = before (codes ".") _ refl (before (decimal at) _ (number at) (entry_line entry)) in
-    record { line = before (decimal capture) _ (number capture) behind; digit = number_digit capture behind.body }
+    let behind = before (codes ".") _ refl (before (decimal at) _ (number_is_silent at) (entry_line entry)) in
+    record { line = before (decimal capture) _ (number_is_silent capture) behind; digit = number_digit capture behind.body }
 
 -- A line of a capture's end doesn't.
 record IsEndLine (text : List ℕ) : Type 0 where
@@ -211,10 +139,10 @@ fault_word OutOfMemory = refl
 end_is_line : (capture : ℕ) (end : CaptureEnd) → IsEndLine (end_line capture end)
 unfolding end_line lines_in before
 end_is_line capture (Read records) =
-    let behind = before (decimal capture) _ (number capture) (before (codes " records ") _ refl (before (decimal records) _ (number records) ended)) in
+    let behind = before (decimal capture) _ (number_is_silent capture) (before (codes " records ") _ refl (before (decimal records) _ (number_is_silent records) ended)) in
     record { line = before (codes "end ") _ refl behind; word = refl }
 end_is_line capture (Stopped at fault count) =
-    let behind = before (decimal capture) _ (number capture) (before (codes " record ") _ refl (before (decimal at) _ (number at) (before (codes " ") _ refl (before (word_of fault) _ (fault_word fault) ended)))) in
+    let behind = before (decimal capture) _ (number_is_silent capture) (before (codes " record ") _ refl (before (decimal at) _ (number_is_silent at) (before (codes " ") _ refl (before (word_of fault) _ (fault_word fault) ended)))) in
     record { line = before (codes "fault ") _ refl behind; word = refl }
 
 -- how many lines of a text begin with a digit, and how many don't

@@ -1,7 +1,7 @@
 -- The editions that listings show.
 use Rattle.std.specs.Prelude.{◌≡◌, ℕ, ◌≤◌, ⊤, Some, List, length, Contains, Option}
 use Rattle.std.specs.List.{AllByRecursion}
-use Rattle.fw_command.specs.declared.step.Step.{Step}
+use Rattle.fw_command.specs.declared.script.Step.{Step}
 use Rattle.fw_report.specs.AnswerText.{edition_of}
 use Rattle.fw_report.specs.declared.answer.Answer.{Answer}
 use Rattle.fw_report.specs.declared.answer.Answer.TheVariants.{Refused, Listed}

@@ -1,7 +1,7 @@
 -- The lines that the report has for the captures' records.
 use Rattle.std.specs.Prelude.{◌≡◌, ℕ, Option, Bool, false, not, ◌&&◌, nat_le, List, [], ◌∷◌, ◌++◌, filter, length, map, sum_by}
 use Rattle.fw_command.specs.Lines.{lines_of}
-use Rattle.fw_command.specs.declared.step.Step.{Step}
+use Rattle.fw_command.specs.declared.script.Step.{Step}
 use Rattle.fw_report.specs.DocketText.{captures_text}
 use Rattle.fw_report.specs.Recorded.{Recorded}
 use Rattle.fw_report.specs.Report.{report_text}

@@ -1,6 +1,6 @@
 ghost use Rattle.std.specs.Prelude.{◌≡◌, false, IfOk};
 ghost use Rattle.std.specs.List.{AllByRecursion};
-ghost use Rattle.fw_command.specs.WellFormed.{IsLine, IsStep};
+ghost use Rattle.fw_command.specs.WellFormed.{IsLine, IsStepInRange};
 ghost use Rattle.fw_world.specs.Steps.{ChangesAsksOf};
 ghost use Rattle.fw_world.specs.World.{IsLaneOf};
 ghost use Rattle.record_laws.specs.OneLane.{IsOneLane};
@@ -202,7 +202,7 @@ fn run_step(
     step: &Step,
     records: usize,
 ) -> Result<Live, Fail>
-    requires formed { IsStep step.now }
+    requires formed { IsStepInRange step.now }
     requires one { IsOneLane live.world live.desk live.lane }
     ensures { IfOk result (λ after. IsOneLane after.world after.desk after.lane) }
 {
@@ -223,7 +223,7 @@ fn run_steps(
     steps: &[Step],
     records: usize,
 ) -> Result<Live, Fail>
-    requires formed { AllByRecursion IsStep steps.now }
+    requires formed { AllByRecursion IsStepInRange steps.now }
     requires one { IsOneLane live.world live.desk live.lane }
     ensures { IfOk result (λ after. IsOneLane after.world after.desk after.lane) }
 {

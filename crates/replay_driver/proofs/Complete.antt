@@ -6,12 +6,13 @@ use Rattle.rule_chain.specs.declared.apply_fault.ApplyFault.TheVariants.{NoSuchT
 use Rattle.replay_driver.specs.declared.script_error.ScriptError.TheVariants.{Refused}
 use Rattle.std.specs.List.{list_any, AllByRecursion}
 use Rattle.std.specs.Io.KnownBytes.{Consumes, IsAtEnd}
+use Rattle.std.proofs.lemmas.Bool.{or_from}
 use Rattle.command_words.specs.Words.{CaptureNames}
 use Rattle.fw_base.specs.Faults.{Rose}
 use Rattle.fw_base.specs.Memory.{MemoryBytes}
 use Rattle.fw_base.specs.Pairs.{Pair, take_named, TakesOut}
-use Rattle.fw_command.specs.declared.line.Line.{Line}
-use Rattle.fw_command.specs.declared.pace.Pace.TheVariants.{Serial}
+use Rattle.fw_command.specs.declared.script.Line.{Line}
+use Rattle.fw_command.specs.declared.script.Pace.TheVariants.{Serial}
 use Rattle.fw_command.specs.declared.script.Script.{Script}
 use Rattle.fw_command.specs.Scripts.{script_of}
 use Rattle.fw_report.specs.declared.capture_end.CaptureEnd.{CaptureEnd}
@@ -90,18 +91,13 @@ quiet_end : (end : CaptureEnd) (records : List Captured) (number : ℕ) (stop : 
 quiet_end (Read count) records number stop faults is none = (refl, refl)
 quiet_end (Stopped at fault count) records number stop faults is none = let some = is.0 in absurd (cc)
 
--- neither of two tests
-neither : (a b : Bool) → a ≡ false → b ≡ false → (a || b) ≡ false
-neither true b p q = absurd (cc)
-neither false b p q = q
-
 none_of_both : {X : Type 0} (test : X → Bool) (xs ys : List X) → list_any test xs ≡ false → list_any test ys ≡ false → list_any test (xs ++ ys) ≡ false
 none_of_both test [] ys p q = q
 none_of_both test (x ∷ xs) ys p q = by_first (test x) refl p (λ more. none_of_both test xs ys more q)
   where
     by_first : (b : Bool) → test x ≡ b → list_any test (x ∷ xs) ≡ false → (list_any test xs ≡ false → list_any test (xs ++ ys) ≡ false) → list_any test ((x ∷ xs) ++ ys) ≡ false
     by_first true is p behind = let t : (true || list_any test xs) ≡ false = sym (ap (λ (b : Bool). b || list_any test xs) is) ∙ p in absurd (cc)
-    by_first false is p behind = neither (test x) (list_any test (xs ++ ys)) is (behind (sym (ap (λ (b : Bool). b || list_any test xs) is) ∙ p))
+    by_first false is p behind = or_from (test x) (list_any test (xs ++ ys)) is (behind (sym (ap (λ (b : Bool). b || list_any test xs) is) ∙ p))
 
 -- ---- the answers before `live`
 
@@ -210,7 +206,7 @@ module _ {S : Type 0} (left : S → Option (List ℕ)) (failures : S → ℕ) wh
       let (port, here, behind) = read in
       let one = read_well limit o source track end whole.0 here quiet.0 in
       let others = all_read_well limit os sources tracks ends whole.1 behind quiet.1 in
-      (neither (is_unread end) (list_any is_unread ends) one.0 others.0, neither (is_stopped end) (list_any is_stopped ends) one.1 others.1)
+      (or_from (is_unread end) (list_any is_unread ends) one.0 others.0, or_from (is_stopped end) (list_any is_stopped ends) one.1 others.1)
 
   -- a replay of whole captures beside an accepted script has status 0
   replayed_well : (script : List ℕ) (opened : List (OpenedCapture S)) (kept : RecordValue) (ends : Ends) (sources : List S) → IsAccepted script → AllByRecursion (IsWhole (limit_for (length opened))) opened
@@ -236,7 +232,7 @@ one_told limit opened (s ∷ []) (t ∷ []) (end ∷ []) whole (port, here, behi
   where
     by_first : (b : Bool) → is_unread end ≡ b → (is_unread end || false) ≡ false → (is_stopped end || false) ≡ false
     by_first true is e = let t : (true || false) ≡ false = sym (ap (λ (b : Bool). b || false) is) ∙ e in absurd (cc)
-    by_first false is e = neither (is_stopped end) false (told_well known_left failures_of limit opened s t end whole here is) refl
+    by_first false is e = or_from (is_stopped end) false (told_well known_left failures_of limit opened s t end whole here is) refl
 one_told limit opened (s ∷ []) (t ∷ []) (end ∷ e ∷ es) whole (port, here, behind) quiet = absurd behind
 one_told limit opened (s ∷ []) (t ∷ u ∷ us) (end ∷ ends) whole (port, here, behind) quiet = absurd behind
 one_told limit opened (s ∷ v ∷ vs) (t ∷ ts) (end ∷ ends) whole (port, here, behind) quiet = absurd behind

@@ -1,6 +1,6 @@
 -- A script from its bytes to edition 1, step by step.
 use Rattle.std.proofs.Common.{◌≡◌, ℕ, List, Result, Ok, Err, ap, ◌∙◌}
-use Rattle.fw_command.specs.declared.pace.Pace.TheVariants.{Serial}
+use Rattle.fw_command.specs.declared.script.Pace.TheVariants.{Serial}
 use Rattle.fw_command.specs.declared.script.Script.{Script}
 use Rattle.fw_command.specs.Scripts.{script_of}
 use Rattle.fw_report.specs.declared.line_answer.LineAnswer.{LineAnswer}

@@ -2,7 +2,7 @@
 -- that are no command.
 use Rattle.std.specs.Prelude.{ℕ, Bool, List, Option, None, Some, option_and_then}
 use Rattle.command_words.specs.Words.{CommandWords, CaptureNames, Replay, Load, command_of}
-use Rattle.command_words.specs.declared.mode.Mode.TheVariants.{Serial, Live}
+use Rattle.command_words.specs.declared.invocation.Mode.TheVariants.{Serial, Live}
 
 -- what the words of a replay name
 pub record ReplayNames : Type 0 where

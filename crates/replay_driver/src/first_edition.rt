@@ -1,7 +1,7 @@
 ghost use Rattle.std.specs.Prelude.{◌≡◌, ◌++◌, [], IfOk, IfErr, OnOk, length};
 ghost use Rattle.std.specs.List.{AllByRecursion};
-ghost use Rattle.fw_command.specs.WellFormed.{IsLine, IsScript, IsStep};
-ghost use Rattle.fw_command.specs.declared.pace.Pace.TheVariants.{Serial};
+ghost use Rattle.fw_command.specs.WellFormed.{IsLine, IsScript, IsStepInRange};
+ghost use Rattle.fw_command.specs.declared.script.Pace.TheVariants.{Serial};
 ghost use Rattle.fw_command.specs.Scripts.{script_of};
 ghost use Rattle.rule_chain.specs.First.{first_configuration};
 ghost use Rattle.serial_replay.specs.Commands.{listing_of, table_listing};
@@ -165,7 +165,7 @@ fn read_lines(alloc: Global, bytes: &[u8]) -> Result<Script, ScriptError>
 /// What a script gives before a packet is read, or why there is no edition 1.
 pub(crate) fn read_first_edition(alloc: Global, bytes: &[u8]) -> Result<FirstEdition, ScriptError>
     ensures exact { Gives (λ e. e) result (spec.first_edition bytes.now) }
-    ensures well_formed { IfOk result (λ edition. AllByRecursion IsStep edition.live) }
+    ensures well_formed { IfOk result (λ edition. AllByRecursion IsStepInRange edition.live) }
 {
     let Script { before, live, .. } = read_lines(alloc, bytes)?;
     let lines = before.as_slice();

@@ -76,7 +76,7 @@ fn enter(book: &mut Book, record: u32) -> Result<(), OutOfMemory> {
 
 /// A journal of so many asks, all of one lane.
 fn book(alloc: Global, edition: &Edition, asks: u32) -> Result<Book> {
-    let facts = edition.facts().copy(alloc)?;
+    let facts = edition.facts().share()?;
     if facts.number != 1 {
         bail!("the first edition has another number");
     }

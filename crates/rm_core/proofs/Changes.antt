@@ -7,12 +7,12 @@ use Rattle.std.proofs.lemmas.Option.{slice_get_within, get_or_from_slice_get}
 use Rattle.std.proofs.lemmas.Bool.Decides.{nat_tests, eqb_tells}
 use Rattle.std.proofs.lemmas.List.{length-map, get_or_default}
 use Rattle.std.proofs.lemmas.List.Edits.{map_over_more}
-use Rattle.rm_core.specs.declared.phase.Phase.TheVariants.{Out, Raised}
-use Rattle.rm_core.specs.declared.token.Token.TheVariants.{Held, Revoked}
+use Rattle.rm_core.specs.declared.processor_state.Phase.TheVariants.{Out, Raised}
+use Rattle.rm_core.specs.declared.processor_state.Token.TheVariants.{Held, Revoked}
 use Rattle.rm_core.specs.declared.event.Event.{Event}
 use Rattle.rm_core.specs.declared.event.Event.TheVariants.{Raise, Check, Lower, TakeBack, GiveBack, Regain, Revoke, Drain, ReadNumber, Publish}
 use Rattle.rm_core.specs.declared.processor_state.ProcessorState.{ProcessorState}
-use Rattle.rm_core.specs.CoreState.{CoreState, processor_of, with_processor, IsProcessor, after, after_check, after_drain, after_publication, idle, opening}
+use Rattle.rm_core.specs.CoreState.{CoreState, processor_of, with_processor, IsProcessor, after, after_check, after_drain, with_flags_cleared, idle, opening}
 
 -- what holds of the processor that there is
 pub IsProcessor-some : (s : CoreState) (i : ℕ) (P : ProcessorState → Type 0) → IsProcessor s i P → (p : ProcessorState) × (processor_of s i ≡ Some p) × P p
@@ -27,7 +27,7 @@ pub IsProcessor-from : (s : CoreState) (i : ℕ) (P : ProcessorState → Type 0)
 IsProcessor-from s i P p is holds = subst (λ (o : Option ProcessorState). IsSomeAnd o P) (sym is) holds
 
 -- a processor's number is not 0, and it stands one place before it
-pub processor_of-some : (s : CoreState) (i : ℕ) (p : ProcessorState) → processor_of s i ≡ Some p → (0 < i) × (slice_get s.processors (i - 1) ≡ Some p)
+processor_of-some : (s : CoreState) (i : ℕ) (p : ProcessorState) → processor_of s i ≡ Some p → (0 < i) × (slice_get s.processors (i - 1) ≡ Some p)
 processor_of-some s i p is = grind (arith, nat_tests)
 
 -- a processor that there is has a number from 1 to the processors' count
@@ -37,7 +37,7 @@ processor_of-within s i p is =
     (at.0, omega (arith, slice_get_within s.processors (i - 1) p at.1))
 
 -- what holds of all holds of each
-pub All-slice_get : {A : Type 0} (P : A → Type 0) (xs : List A) (k : ℕ) (x : A) → slice_get xs k ≡ Some x → All P xs → P x
+All-slice_get : {A : Type 0} (P : A → Type 0) (xs : List A) (k : ℕ) (x : A) → slice_get xs k ≡ Some x → All P xs → P x
 All-slice_get {A} P xs k x is all = subst P (get_or_from_slice_get xs k x x is) (all k x (slice_get_within xs k x is))
 
 -- what holds of all processors holds of each one, by its number
@@ -68,22 +68,6 @@ pub length-with_processor : (s : CoreState) (i : ℕ) (change : ProcessorState �
 length-with_processor s i change =
     elim (processor_of s i) as (λ o. length (option_map_or (λ p. record s { processors = slice_set s.processors (i - 1) (change p) }) o s).processors ≡ length s.processors) [ None ↦ refl | Some p ↦ length-set s.processors (i - 1) (change p) ]
 
--- the processor as it is read
-pub processor_of-read : (s : CoreState) (i : ℕ) (P : ProcessorState → Type 0) (p : ProcessorState) → IsProcessor s i P → slice_index_or s.processors (i - 1) p ≡ p → processor_of s i ≡ Some p
-processor_of-read s i P p there read =
-    let found : (q : ProcessorState) × (processor_of s i ≡ Some q) × P q = IsProcessor-some s i P there in
-    let same : slice_index_or s.processors (i - 1) p ≡ found.0 = get_or_from_slice_get s.processors (i - 1) found.0 p (processor_of-some s i found.0 found.1).1 in
-    found.1 ∙ ap (λ (q : ProcessorState). Some q) (sym same ∙ read)
-
--- a processor as it is read, written back changed
-pub with_processor-read : (s : CoreState) (i : ℕ) (P : ProcessorState → Type 0) (change : ProcessorState → ProcessorState) (p : ProcessorState) → IsProcessor s i P → slice_index_or s.processors (i - 1) p ≡ p → record s { processors = slice_set s.processors (i - 1) (change p) } ≡ with_processor s i change
-with_processor-read s i P change p there read = sym (with_processor-some s i change p (processor_of-read s i P p there read))
-
-pub IsProcessor-within : (s : CoreState) (i : ℕ) (P : ProcessorState → Type 0) → IsProcessor s i P → (0 < i) × (i ≤ length s.processors)
-IsProcessor-within s i P there =
-    let found : (q : ProcessorState) × (processor_of s i ≡ Some q) × P q = IsProcessor-some s i P there in
-    processor_of-within s i found.0 found.1
-
 -- each step keeps the processors' count
 pub length-after : (s : CoreState) (event : Event) → length (after s event).processors ≡ length s.processors
 length-after s (Raise i) = length-with_processor s i (λ p. record p { phase = Raised })
@@ -95,7 +79,7 @@ length-after s (Regain i) = length-with_processor s i (λ p. record p { token = 
 length-after s (Revoke i) = length-with_processor s i (λ p. record p { token = Revoked (s.number + 1); revoked = true })
 length-after s (Drain i) = length-with_processor s i after_drain
 length-after s ReadNumber = refl
-length-after s Publish = length-map s.processors after_publication
+length-after s Publish = length-map s.processors with_flags_cleared
 
 -- a loop that writes f of each element over it
 pub map-more_read : {A : Type 0} (f : A → A) (xs ys : List A) (i : ℕ) (y d : A) → i < length xs → ys ≡ map f (take i xs) ++ drop i xs → length ys ≡ length xs → y ≡ f (slice_index_or ys i d) → slice_set ys i y ≡ map f (take (i + 1) xs) ++ drop (i + 1) xs
@@ -103,24 +87,29 @@ map-more_read {A} f xs ys i y d within so_far long is =
     let inside : i < length ys = omega arith in
     rw is (map_over_more f xs ys i (slice_index_or ys i d) within so_far (get_or_default ys i d (slice_index_or ys i d) inside))
 
-slice_get-set_same : {A : Type 0} (xs : List A) (k : ℕ) (x y : A) → slice_get xs k ≡ Some x → slice_get (slice_set xs k y) k ≡ Some y
-slice_get-set_same [] k x y is = absurd cc
-slice_get-set_same (z ∷ zs) zero x y is = refl
-slice_get-set_same (z ∷ zs) (suc k) x y is = slice_get-set_same zs k x y is
+-- an element that is set stands at its place
+pub get_set_here : {A : Type 0} (xs : List A) (p : ℕ) (a : A) → p < length xs → slice_get (slice_set xs p a) p ≡ Some a
+get_set_here [] p a h = absurd (omega arith)
+get_set_here (x ∷ xs) zero a h = refl
+get_set_here (x ∷ xs) (suc p) a h = get_set_here xs p a (omega arith)
 
-slice_get-set_other : {A : Type 0} (xs : List A) (k j : ℕ) (y : A) → k ≢ j → slice_get (slice_set xs j y) k ≡ slice_get xs k
-slice_get-set_other [] k j y apart = refl
-slice_get-set_other (z ∷ zs) zero zero y apart = absurd (apart refl)
-slice_get-set_other (z ∷ zs) zero (suc j) y apart = refl
-slice_get-set_other (z ∷ zs) (suc k) zero y apart = refl
-slice_get-set_other (z ∷ zs) (suc k) (suc j) y apart = slice_get-set_other zs k j y (λ same. apart (ap (λ (n : ℕ). suc n) same))
+-- what another place has, or lacks, stays where an element is set
+pub get_set_else : {A : Type 0} (xs : List A) (p k : ℕ) (a : A) → k ≢ p → slice_get (slice_set xs p a) k ≡ slice_get xs k
+get_set_else [] p k a other = refl
+get_set_else (x ∷ xs) zero zero a other = absurd (other refl)
+get_set_else (x ∷ xs) zero (suc k) a other = refl
+get_set_else (x ∷ xs) (suc p) zero a other = refl
+get_set_else (x ∷ xs) (suc p) (suc k) a other = get_set_else xs p k a (λ e. other (ap suc e))
+
+-- each of many copies is the one that was copied
+pub same_of-replicate : {A : Type 0} (a b : A) (n j : ℕ) → slice_get (replicate n a) j ≡ Some b → b ≡ a
+same_of-replicate a b zero j is = absurd cc
+same_of-replicate a b (suc n) zero is = cc
+same_of-replicate a b (suc n) (suc j) is = same_of-replicate a b n j is
 
 -- the processor that there is, by its place
 pub processor_of-at : (s : CoreState) (i : ℕ) → 0 < i → processor_of s i ≡ slice_get s.processors (i - 1)
 processor_of-at s i above = grind (arith, nat_tests)
-
-pub processor_of-none : (s : CoreState) → processor_of s 0 ≡ None
-processor_of-none s = refl
 
 -- after a change the processor is the changed one, and each other one is as it was
 pub processor_of-changed : (s : CoreState) (i : ℕ) (change : ProcessorState → ProcessorState) (p : ProcessorState) → processor_of s i ≡ Some p → processor_of (with_processor s i change) i ≡ Some (change p)
@@ -128,14 +117,14 @@ processor_of-changed s i change p is =
     let at : (0 < i) × (slice_get s.processors (i - 1) ≡ Some p) = processor_of-some s i p is in
     rw (with_processor-some s i change p is)
     (processor_of-at (record s { processors = slice_set s.processors (i - 1) (change p) }) i at.0
-    ∙ slice_get-set_same s.processors (i - 1) p (change p) at.1)
+    ∙ get_set_here s.processors (i - 1) (change p) (slice_get_within s.processors (i - 1) p at.1))
 
 unchanged_below : (s : CoreState) (i j : ℕ) (y : ProcessorState) → i ≢ j → 0 < j → processor_of (record s { processors = slice_set s.processors (j - 1) y }) i ≡ processor_of s i
 unchanged_below s zero j y apart above = refl
 unchanged_below s (suc k) j y apart above =
     let places : suc k - 1 ≢ j - 1 = λ same. apart (omega arith) in
     processor_of-at (record s { processors = slice_set s.processors (j - 1) y }) (suc k) (omega arith)
-    ∙ slice_get-set_other s.processors (suc k - 1) (j - 1) y places
+    ∙ get_set_else s.processors (j - 1) (suc k - 1) y places
     ∙ sym (processor_of-at s (suc k) (omega arith))
 
 unchanged_at : (s : CoreState) (i j : ℕ) (change : ProcessorState → ProcessorState) (o : Option ProcessorState) → processor_of s j ≡ o → i ≢ j → processor_of (with_processor s j change) i ≡ processor_of s i
@@ -146,7 +135,7 @@ unchanged_at s i j change (Some p) is apart =
     ap (λ (t : CoreState). processor_of t i) (with_processor-some s j change p is)
     ∙ unchanged_below s i j (change p) apart (processor_of-some s j p is).0
 
-pub processor_of-unchanged : (s : CoreState) (i j : ℕ) (change : ProcessorState → ProcessorState) → i ≢ j → processor_of (with_processor s j change) i ≡ processor_of s i
+processor_of-unchanged : (s : CoreState) (i j : ℕ) (change : ProcessorState → ProcessorState) → i ≢ j → processor_of (with_processor s j change) i ≡ processor_of s i
 processor_of-unchanged s i j change apart = unchanged_at s i j change (processor_of s j) refl apart
 
 -- what holds of a processor, if there is one
@@ -178,14 +167,9 @@ processor_of-map s number holder i f p is =
     let back : (q : ProcessorState) × (slice_get s.processors (i - 1) ≡ Some q) × (f q ≡ p) = slice_get-map_back f s.processors (i - 1) p at.1 in
     (back.0, processor_of-at s i at.0 ∙ back.1, back.2)
 
-slice_get-replicate : {A : Type 0} (n k : ℕ) (x y : A) → slice_get (replicate n x) k ≡ Some y → x ≡ y
-slice_get-replicate zero k x y is = absurd cc
-slice_get-replicate (suc n) zero x y is = cc
-slice_get-replicate (suc n) (suc k) x y is = slice_get-replicate n k x y is
-
 -- at the opening each processor is out and holds its token
 pub processor_of-opening : (n number i : ℕ) (p : ProcessorState) → processor_of (opening n number) i ≡ Some p → idle ≡ p
-processor_of-opening n number i p is = slice_get-replicate n (i - 1) idle p (processor_of-some (opening n number) i p is).1
+processor_of-opening n number i p is = sym (same_of-replicate idle p n (i - 1) (processor_of-some (opening n number) i p is).1)
 
 -- the same, where there is that processor
 pub IsProcessor-with_processor : (P : ProcessorState → Type 0) (s : CoreState) (i j : ℕ) (change : ProcessorState → ProcessorState) (q : ProcessorState) → processor_of s j ≡ Some q → (i ≡ j → P q → P (change q)) → IsProcessor s i P → IsProcessor (with_processor s j change) i P

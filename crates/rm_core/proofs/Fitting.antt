@@ -3,21 +3,21 @@ use Rattle.std.proofs.Common.{◌≡◌, ℕ, ◌+◌, ◌-◌, ◌^◌, ◌<◌
 use Rattle.std.specs.Prelude.{All, slice_index_or}
 use Rattle.std.proofs.lemmas.List.{length-map}
 use Rattle.std.proofs.lemmas.List.Elements.{All-map}
-use Rattle.rm_core.specs.declared.phase.Phase.{Phase}
-use Rattle.rm_core.specs.declared.phase.Phase.TheVariants.{Out, Raised, In}
-use Rattle.rm_core.specs.declared.token.Token.{Token}
-use Rattle.rm_core.specs.declared.token.Token.TheVariants.{Held, Revoked}
+use Rattle.rm_core.specs.declared.processor_state.Phase.{Phase}
+use Rattle.rm_core.specs.declared.processor_state.Phase.TheVariants.{Out, Raised, In}
+use Rattle.rm_core.specs.declared.processor_state.Token.{Token}
+use Rattle.rm_core.specs.declared.processor_state.Token.TheVariants.{Held, Revoked}
 use Rattle.rm_core.specs.declared.event.Event.{Event}
 use Rattle.rm_core.specs.declared.event.Event.TheVariants.{Raise, Check, Lower, TakeBack, GiveBack, Regain, Revoke, Drain, ReadNumber, Publish}
 use Rattle.rm_core.specs.declared.processor_state.ProcessorState.{ProcessorState}
-use Rattle.rm_core.specs.CoreState.{CoreState, Allowed, after, Safe, Fits, idle, processor_of, with_processor, after_check, with_token_read, with_tracker_read, after_drain, after_publication}
+use Rattle.rm_core.specs.CoreState.{CoreState, MayCome, after, Safe, Fits, idle, processor_of, with_processor, after_check, with_token_read, with_tracker_read, after_drain, with_flags_cleared}
 use Rattle.rm_core.proofs.Changes.{IsProcessor-some, All-processor_of, All-with_processor, number-with_processor, length-with_processor}
 
 -- the number of a processor's refusal fits 64 bits
 abbrev pub FitsAt : ProcessorState → Type 0
 FitsAt p = (t : ℕ) → p.token ≡ Revoked t → t < 2 ^ 64
 
-pub Fits-with_processor : (s : CoreState) (i : ℕ) (change : ProcessorState → ProcessorState) (p : ProcessorState) → processor_of s i ≡ Some p → (FitsAt p → FitsAt (change p)) → Fits s → Fits (with_processor s i change)
+Fits-with_processor : (s : CoreState) (i : ℕ) (change : ProcessorState → ProcessorState) (p : ProcessorState) → processor_of s i ≡ Some p → (FitsAt p → FitsAt (change p)) → Fits s → Fits (with_processor s i change)
 Fits-with_processor s i change p is keeps fits = record {
   nonempty = rw (length-with_processor s i change) fits.nonempty;
   number = rw (number-with_processor s i change) fits.number;
@@ -41,11 +41,11 @@ next_fits s safe fits drained =
     fits.tokens 0 idle fits.nonempty (s.number + 1) (safe.announced 0 idle fits.nonempty revoked)
 
 -- where a publication may come, the number after it fits 64 bits
-pub next_number_fits : (s : CoreState) → Safe s → Fits s → Allowed s Publish → s.number + 1 < 2 ^ 64
+pub next_number_fits : (s : CoreState) → Safe s → Fits s → MayCome s Publish → s.number + 1 < 2 ^ 64
 next_number_fits s safe fits may = next_fits s safe fits may.1
 
 -- each allowed step of a safe state keeps the core's numbers below 2^64
-pub Fits-after : (s : CoreState) (event : Event) → Safe s → Fits s → Allowed s event → Fits (after s event)
+pub Fits-after : (s : CoreState) (event : Event) → Safe s → Fits s → MayCome s event → Fits (after s event)
 Fits-after s (Raise i) safe fits may =
     let there : (p : ProcessorState) × (processor_of s i ≡ Some p) × (p.phase ≡ Out) = IsProcessor-some s i (λ p. p.phase ≡ Out) may in
     Fits-with_processor s i (λ p. record p { phase = Raised }) there.0 there.1 (λ below. below) fits
@@ -71,5 +71,5 @@ Fits-after s ReadNumber safe fits may = fits
 Fits-after s Publish safe fits may = record {
   nonempty = rw length-map fits.nonempty;
   number = next_fits s safe fits may.1;
-  tokens = All-map FitsAt after_publication s.processors (λ k d inside. fits.tokens k d inside);
+  tokens = All-map FitsAt with_flags_cleared s.processors (λ k d inside. fits.tokens k d inside);
 }

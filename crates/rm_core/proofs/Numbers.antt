@@ -4,16 +4,16 @@ use Rattle.std.specs.Prelude.{All, ◌==◌, ◌&&◌, if◌then◌else◌}
 use Rattle.std.specs.Option.{option_map_or}
 use Rattle.std.proofs.lemmas.Bool.Decides.{eqb_tells}
 use Rattle.std.proofs.lemmas.Option.{same_Some}
-use Rattle.rm_core.specs.declared.phase.Phase.{Phase}
-use Rattle.rm_core.specs.declared.phase.Phase.TheVariants.{Out, Raised, In}
-use Rattle.rm_core.specs.declared.token.Token.{Token}
-use Rattle.rm_core.specs.declared.token.Token.TheVariants.{Held, Revoked}
-use Rattle.rm_core.specs.declared.heard.Heard.TheVariants.{Nothing}
+use Rattle.rm_core.specs.declared.processor_state.Phase.{Phase}
+use Rattle.rm_core.specs.declared.processor_state.Phase.TheVariants.{Out, Raised, In}
+use Rattle.rm_core.specs.declared.processor_state.Token.{Token}
+use Rattle.rm_core.specs.declared.processor_state.Token.TheVariants.{Held, Revoked}
+use Rattle.rm_core.specs.declared.event.Heard.TheVariants.{Nothing}
 use Rattle.rm_core.specs.declared.event.Event.{Event}
 use Rattle.rm_core.specs.declared.event.Event.TheVariants.{Raise, Check, Lower, TakeBack, GiveBack, Regain, Revoke, Drain, ReadNumber, Publish}
 use Rattle.rm_core.specs.declared.processor_state.ProcessorState.{ProcessorState}
-use Rattle.rm_core.specs.CoreState.{CoreState, Allowed, after, heard, Safe, processor_of, with_processor, after_check, with_token_read, after_drain, with_tracker_read, after_publication, token_heard}
-use Rattle.rm_core.specs.Runs.{is_regain_of, is_check_of, is_held}
+use Rattle.rm_core.specs.CoreState.{CoreState, MayCome, after, step_answer, Safe, processor_of, with_processor, after_check, with_token_read, after_drain, with_tracker_read, with_flags_cleared, token_answer}
+use Rattle.rm_core.specs.Runs.{is_regain_of, is_check_of, says_held}
 use Rattle.rm_core.proofs.Changes.{IsProcessor-some, All-processor_of, Holds, Holds-with_processor, number-with_processor, processor_of-map, processor_of-changed}
 
 -- whoever holds its token knows the published number, and whoever was revoked at t knows a smaller one than t
@@ -26,8 +26,8 @@ abbrev pub Knows : CoreState → ℕ → ℕ → Type 0
 Knows s i known = Holds (KnowsAt s.number known) s i
 
 -- whoever is in came in under the published number
-abbrev pub Entered : CoreState → ℕ → ℕ → Type 0
-Entered s i entered = Holds (λ p. p.phase ≡ In → entered ≡ s.number) s i
+abbrev pub EntersAt : CoreState → ℕ → ℕ → Type 0
+EntersAt s i entered = Holds (λ p. p.phase ≡ In → entered ≡ s.number) s i
 
 -- a change of one processor that keeps the token keeps what it knows
 same_token : (s : CoreState) (i j known : ℕ) (change : ProcessorState → ProcessorState) (q : ProcessorState) → processor_of s j ≡ Some q → (change q).token ≡ q.token → Knows s i known → Knows (with_processor s j change) i known
@@ -49,7 +49,7 @@ token-with_tracker_read In q = refl
 -- what is known before a publication of processors that are all drained, and so revoked
 publish_knows : (s : CoreState) (i known : ℕ) → Safe s → All (λ p. p.drained ≡ true) s.processors → Knows s i known → Knows (after s Publish) i known
 publish_knows s i known safe drained knows p is =
-    let before : (q : ProcessorState) × (processor_of s i ≡ Some q) × (after_publication q ≡ p) = processor_of-map s (s.number + 1) s.holder i after_publication p is in
+    let before : (q : ProcessorState) × (processor_of s i ≡ Some q) × (with_flags_cleared q ≡ p) = processor_of-map s (s.number + 1) s.holder i with_flags_cleared p is in
     let gone : (before.0).drained ≡ true = All-processor_of (λ p. p.drained ≡ true) s i before.0 drained before.1 in
     let revoked : (before.0).revoked ≡ true = All-processor_of (λ p. p.drained ≡ true → p.revoked ≡ true) s i before.0 safe.within before.1 gone in
     let taken : (before.0).token ≡ Revoked (s.number + 1) = All-processor_of (λ p. p.revoked ≡ true → p.token ≡ Revoked (s.number + 1)) s i before.0 safe.announced before.1 revoked in
@@ -90,7 +90,7 @@ regain_knows s i j known q there knows =
         rw other.0 (Holds-with_processor (KnowsAt s.number known) s i j (λ p. record p { token = Held }) q there (λ same _. absurd (other.1 same)) knows)
 
 -- a step keeps what a processor knows, and one that regains its token knows the published number
-pub Knows-after : (s : CoreState) (event : Event) (i known : ℕ) → Safe s → Allowed s event → Knows s i known → Knows (after s event) i (if is_regain_of i event then s.number else known)
+pub Knows-after : (s : CoreState) (event : Event) (i known : ℕ) → Safe s → MayCome s event → Knows s i known → Knows (after s event) i (if is_regain_of i event then s.number else known)
 Knows-after s (Raise j) i known safe may knows =
     let there : (q : ProcessorState) × (processor_of s j ≡ Some q) × (q.phase ≡ Out) = IsProcessor-some s j (λ p. p.phase ≡ Out) may in
     same_token s i j known (λ p. record p { phase = Raised }) there.0 there.1 refl knows
@@ -115,7 +115,7 @@ Knows-after s ReadNumber i known safe may knows = knows
 Knows-after s Publish i known safe may knows = publish_knows s i known safe may.1 knows
 
 -- a change of one processor that brings nobody in keeps the number under which each came in
-same_inside : (s : CoreState) (i j entered : ℕ) (change : ProcessorState → ProcessorState) (q : ProcessorState) → processor_of s j ≡ Some q → ((change q).phase ≡ In → q.phase ≡ In) → Entered s i entered → Entered (with_processor s j change) i entered
+same_inside : (s : CoreState) (i j entered : ℕ) (change : ProcessorState → ProcessorState) (q : ProcessorState) → processor_of s j ≡ Some q → ((change q).phase ≡ In → q.phase ≡ In) → EntersAt s i entered → EntersAt (with_processor s j change) i entered
 same_inside s i j entered change q there same knows =
     rw (number-with_processor s j change)
     (Holds-with_processor (λ p. p.phase ≡ In → entered ≡ s.number) s i j change q there (λ _ at inside. at (same inside)) knows)
@@ -126,7 +126,7 @@ phase-with_tracker_read Raised q = refl
 phase-with_tracker_read In q = refl
 
 -- a check by this processor: it is in only if its token was held
-own_check : (s : CoreState) (i entered : ℕ) (q : ProcessorState) (token : Token) → q.token ≡ token → q.phase ≡ Raised → processor_of s i ≡ Some q → Holds (λ p. p.phase ≡ In → (if is_held (token_heard token) then s.number else entered) ≡ s.number) (with_processor s i after_check) i
+own_check : (s : CoreState) (i entered : ℕ) (q : ProcessorState) (token : Token) → q.token ≡ token → q.phase ≡ Raised → processor_of s i ≡ Some q → Holds (λ p. p.phase ≡ In → (if says_held (token_answer token) then s.number else entered) ≡ s.number) (with_processor s i after_check) i
 own_check s i entered q Held held raised there p is inside = refl
 own_check s i entered q (Revoked t) revoked raised there p is inside =
     let same : with_token_read (Revoked t) q ≡ after_check q = ap (λ (t : Token). with_token_read t q) (sym revoked) in
@@ -136,49 +136,49 @@ own_check s i entered q (Revoked t) revoked raised there p is inside =
     absurd cc
 
 -- what a check hears
-pub heard-check : (s : CoreState) (j : ℕ) (q : ProcessorState) → processor_of s j ≡ Some q → heard s (Check j) ≡ token_heard q.token
-heard-check s j q there = ap (λ (o : Option ProcessorState). option_map_or (λ p. token_heard p.token) o Nothing) there
+pub step_answer-check : (s : CoreState) (j : ℕ) (q : ProcessorState) → processor_of s j ≡ Some q → step_answer s (Check j) ≡ token_answer q.token
+step_answer-check s j q there = ap (λ (o : Option ProcessorState). option_map_or (λ p. token_answer p.token) o Nothing) there
 
-check_entered : (s : CoreState) (i j entered : ℕ) (q : ProcessorState) → processor_of s j ≡ Some q → q.phase ≡ Raised → Entered s i entered → Entered (with_processor s j after_check) i (if (i == j) && is_held (heard s (Check j)) then s.number else entered)
+check_entered : (s : CoreState) (i j entered : ℕ) (q : ProcessorState) → processor_of s j ≡ Some q → q.phase ≡ Raised → EntersAt s i entered → EntersAt (with_processor s j after_check) i (if (i == j) && says_held (step_answer s (Check j)) then s.number else entered)
 check_entered s i j entered q there raised knows =
     rw (number-with_processor s j after_check) (by_number (eqb_tells i j))
   where
-    by_number : (((i == j) ≡ true) × (i ≡ j)) ⊎ (((i == j) ≡ false) × (i ≢ j)) → Holds (λ p. p.phase ≡ In → (if (i == j) && is_held (heard s (Check j)) then s.number else entered) ≡ s.number) (with_processor s j after_check) i
+    by_number : (((i == j) ≡ true) × (i ≡ j)) ⊎ (((i == j) ≡ false) × (i ≢ j)) → Holds (λ p. p.phase ≡ In → (if (i == j) && says_held (step_answer s (Check j)) then s.number else entered) ≡ s.number) (with_processor s j after_check) i
     by_number (inl same) =
-        rw (same.0, heard-check s j q there)
-        (subst (λ (n : ℕ). Holds (λ p. p.phase ≡ In → (if is_held (token_heard q.token) then s.number else entered) ≡ s.number) (with_processor s j after_check) n) (sym same.1)
+        rw (same.0, step_answer-check s j q there)
+        (subst (λ (n : ℕ). Holds (λ p. p.phase ≡ In → (if says_held (token_answer q.token) then s.number else entered) ≡ s.number) (with_processor s j after_check) n) (sym same.1)
         (own_check s j entered q q.token refl raised there))
     by_number (inr other) =
         rw other.0 (Holds-with_processor (λ p. p.phase ≡ In → entered ≡ s.number) s i j after_check q there (λ same _. absurd (other.1 same)) knows)
 
-publish_entered : (s : CoreState) (i entered : ℕ) → Safe s → All (λ p. p.drained ≡ true) s.processors → Entered (after s Publish) i entered
+publish_entered : (s : CoreState) (i entered : ℕ) → Safe s → All (λ p. p.drained ≡ true) s.processors → EntersAt (after s Publish) i entered
 publish_entered s i entered safe drained p is inside =
-    let before : (q : ProcessorState) × (processor_of s i ≡ Some q) × (after_publication q ≡ p) = processor_of-map s (s.number + 1) s.holder i after_publication p is in
+    let before : (q : ProcessorState) × (processor_of s i ≡ Some q) × (with_flags_cleared q ≡ p) = processor_of-map s (s.number + 1) s.holder i with_flags_cleared p is in
     let gone : (before.0).drained ≡ true = All-processor_of (λ p. p.drained ≡ true) s i before.0 drained before.1 in
     let same : (before.0).phase ≡ p.phase = ap (λ (q : ProcessorState). q.phase) before.2 in
     absurd (All-processor_of (λ p. p.drained ≡ true → p.phase ≢ In) s i before.0 safe.outside before.1 gone (same ∙ inside))
 
 -- a step keeps that a processor which is in came in under the published number
-pub Entered-after : (s : CoreState) (event : Event) (i entered : ℕ) → Safe s → Allowed s event → Entered s i entered → Entered (after s event) i (if is_check_of i event && is_held (heard s event) then s.number else entered)
-Entered-after s (Raise j) i entered safe may knows =
+pub EntersAt-after : (s : CoreState) (event : Event) (i entered : ℕ) → Safe s → MayCome s event → EntersAt s i entered → EntersAt (after s event) i (if is_check_of i event && says_held (step_answer s event) then s.number else entered)
+EntersAt-after s (Raise j) i entered safe may knows =
     let there : (q : ProcessorState) × (processor_of s j ≡ Some q) × (q.phase ≡ Out) = IsProcessor-some s j (λ p. p.phase ≡ Out) may in
     same_inside s i j entered (λ p. record p { phase = Raised }) there.0 there.1 (λ inside. absurd cc) knows
-Entered-after s (Check j) i entered safe may knows =
+EntersAt-after s (Check j) i entered safe may knows =
     let there : (q : ProcessorState) × (processor_of s j ≡ Some q) × (q.phase ≡ Raised) = IsProcessor-some s j (λ p. p.phase ≡ Raised) may in
     check_entered s i j entered there.0 there.1 there.2 knows
-Entered-after s (Lower j) i entered safe may knows =
+EntersAt-after s (Lower j) i entered safe may knows =
     let there : (q : ProcessorState) × (processor_of s j ≡ Some q) × ((q.phase ≡ Raised) ⊎ (q.phase ≡ In)) = IsProcessor-some s j (λ p. (p.phase ≡ Raised) ⊎ (p.phase ≡ In)) may in
     same_inside s i j entered (λ p. record p { phase = Out }) there.0 there.1 (λ inside. absurd cc) knows
-Entered-after s (TakeBack h) i entered safe may knows = knows
-Entered-after s (GiveBack h) i entered safe may knows = knows
-Entered-after s (Regain j) i entered safe may knows =
+EntersAt-after s (TakeBack h) i entered safe may knows = knows
+EntersAt-after s (GiveBack h) i entered safe may knows = knows
+EntersAt-after s (Regain j) i entered safe may knows =
     let there : (q : ProcessorState) × (processor_of s j ≡ Some q) × (q.phase ≡ Out) = IsProcessor-some s j (λ p. p.phase ≡ Out) may.0 in
     same_inside s i j entered (λ p. record p { token = Held }) there.0 there.1 (λ inside. inside) knows
-Entered-after s (Revoke j) i entered safe may knows =
+EntersAt-after s (Revoke j) i entered safe may knows =
     let there : (q : ProcessorState) × (processor_of s j ≡ Some q) × (q.revoked ≡ false) = IsProcessor-some s j (λ p. p.revoked ≡ false) may.0 in
     same_inside s i j entered (λ p. record p { token = Revoked (s.number + 1); revoked = true }) there.0 there.1 (λ inside. inside) knows
-Entered-after s (Drain j) i entered safe may knows =
+EntersAt-after s (Drain j) i entered safe may knows =
     let there : (q : ProcessorState) × (processor_of s j ≡ Some q) × ((q.revoked ≡ true) × (q.drained ≡ false)) = IsProcessor-some s j (λ p. (p.revoked ≡ true) × (p.drained ≡ false)) may in
     same_inside s i j entered after_drain there.0 there.1 (λ inside. sym (phase-with_tracker_read there.0.phase there.0) ∙ inside) knows
-Entered-after s ReadNumber i entered safe may knows = knows
-Entered-after s Publish i entered safe may knows = publish_entered s i entered safe may.1
+EntersAt-after s ReadNumber i entered safe may knows = knows
+EntersAt-after s Publish i entered safe may knows = publish_entered s i entered safe may.1

@@ -2,14 +2,14 @@
 use Rattle.std.proofs.Common.{◌≡◌, ◌≢◌, ℕ, ◌+◌, ◌<◌, ◌≤◌, ◌⊎◌, true, false, Some, None, length, refl, sym, ◌∙◌, ap, arith}
 use Rattle.std.specs.Prelude.{All, slice_index_or}
 use Rattle.std.proofs.lemmas.List.Elements.{All-map}
-use Rattle.rm_core.specs.declared.phase.Phase.{Phase}
-use Rattle.rm_core.specs.declared.phase.Phase.TheVariants.{Out, Raised, In}
-use Rattle.rm_core.specs.declared.token.Token.{Token}
-use Rattle.rm_core.specs.declared.token.Token.TheVariants.{Held, Revoked}
+use Rattle.rm_core.specs.declared.processor_state.Phase.{Phase}
+use Rattle.rm_core.specs.declared.processor_state.Phase.TheVariants.{Out, Raised, In}
+use Rattle.rm_core.specs.declared.processor_state.Token.{Token}
+use Rattle.rm_core.specs.declared.processor_state.Token.TheVariants.{Held, Revoked}
 use Rattle.rm_core.specs.declared.event.Event.{Event}
 use Rattle.rm_core.specs.declared.event.Event.TheVariants.{Raise, Check, Lower, TakeBack, GiveBack, Regain, Revoke, Drain, ReadNumber, Publish}
 use Rattle.rm_core.specs.declared.processor_state.ProcessorState.{ProcessorState}
-use Rattle.rm_core.specs.CoreState.{CoreState, Allowed, after, Safe, operator_of, processor_of, with_processor, after_check, with_token_read, with_tracker_read, after_drain, after_publication}
+use Rattle.rm_core.specs.CoreState.{CoreState, MayCome, after, Safe, operator_of, processor_of, with_processor, after_check, with_token_read, with_tracker_read, after_drain, with_flags_cleared}
 use Rattle.rm_core.proofs.Changes.{IsProcessor-some, processor_of-within, All-processor_of, All-with_processor, number-with_processor, holder-with_processor, length-with_processor}
 
 -- the operator holds the lock behind
@@ -25,7 +25,7 @@ pub record SafeAt (number : ℕ) (writing : Type 0) (p : ProcessorState) : Type 
   pub outside : p.drained ≡ true → p.phase ≢ In
 
 -- the parts of Safe, processor by processor
-pub SafeAt-all : (s : CoreState) → Safe s → All (SafeAt s.number (Writing s)) s.processors
+SafeAt-all : (s : CoreState) → Safe s → All (SafeAt s.number (Writing s)) s.processors
 SafeAt-all s safe k d within = record {
   within = safe.within k d within;
   behind = safe.writing k d within;
@@ -35,7 +35,7 @@ SafeAt-all s safe k d within = record {
 }
 
 -- a state is safe if it has the number and each processor is safe where the operator holds the lock behind still
-pub Safe-from_all : (s : CoreState) (number : ℕ) (writing : Type 0) → number ≡ s.number → (writing → Writing s) → All (SafeAt number writing) s.processors → Safe s
+Safe-from_all : (s : CoreState) (number : ℕ) (writing : Type 0) → number ≡ s.number → (writing → Writing s) → All (SafeAt number writing) s.processors → Safe s
 Safe-from_all s number writing same still all = record {
   within = λ k d inside. (all k d inside).within;
   writing = λ k d inside revoked. still ((all k d inside).behind revoked);
@@ -45,7 +45,7 @@ Safe-from_all s number writing same still all = record {
 }
 
 -- a change of one processor keeps a state safe, if it keeps that processor safe
-pub Safe-with_processor : (s : CoreState) (i : ℕ) (change : ProcessorState → ProcessorState) (p : ProcessorState) → processor_of s i ≡ Some p → (SafeAt s.number (Writing s) p → SafeAt s.number (Writing s) (change p)) → Safe s → Safe (with_processor s i change)
+Safe-with_processor : (s : CoreState) (i : ℕ) (change : ProcessorState → ProcessorState) (p : ProcessorState) → processor_of s i ≡ Some p → (SafeAt s.number (Writing s) p → SafeAt s.number (Writing s) (change p)) → Safe s → Safe (with_processor s i change)
 Safe-with_processor s i change p is keeps safe =
     Safe-from_all (with_processor s i change) s.number (Writing s)
     (sym (number-with_processor s i change))
@@ -120,7 +120,7 @@ revoke_safe number writing p holds not_revoked safe = record {
   outside = safe.outside;
 }
 
-publish_safe : (number : ℕ) (writing other : Type 0) (p : ProcessorState) → p.drained ≡ true → SafeAt number writing p → SafeAt (number + 1) other (after_publication p)
+publish_safe : (number : ℕ) (writing other : Type 0) (p : ProcessorState) → p.drained ≡ true → SafeAt number writing p → SafeAt (number + 1) other (with_flags_cleared p)
 publish_safe number writing other p drained safe = record {
   within = λ never. absurd cc;
   behind = λ never. absurd cc;
@@ -143,28 +143,28 @@ unwritten_safe number writing other p not_revoked safe = record {
 }
 
 -- the state of the table, by the kind of step
-raise_keeps : (s : CoreState) (i : ℕ) → Allowed s (Raise i) → Safe s → Safe (after s (Raise i))
+raise_keeps : (s : CoreState) (i : ℕ) → MayCome s (Raise i) → Safe s → Safe (after s (Raise i))
 raise_keeps s i may safe =
     let found : (p : ProcessorState) × (processor_of s i ≡ Some p) × (p.phase ≡ Out) = IsProcessor-some s i (λ p. p.phase ≡ Out) may in
     Safe-with_processor s i (λ p. record p { phase = Raised }) found.0 found.1 (raise_safe s.number (Writing s) found.0) safe
 
-check_keeps : (s : CoreState) (i : ℕ) → Allowed s (Check i) → Safe s → Safe (after s (Check i))
+check_keeps : (s : CoreState) (i : ℕ) → MayCome s (Check i) → Safe s → Safe (after s (Check i))
 check_keeps s i may safe =
     let found : (p : ProcessorState) × (processor_of s i ≡ Some p) × (p.phase ≡ Raised) = IsProcessor-some s i (λ p. p.phase ≡ Raised) may in
     Safe-with_processor s i after_check found.0 found.1 (check_safe s.number (Writing s) found.0) safe
 
-lower_keeps : (s : CoreState) (i : ℕ) → Allowed s (Lower i) → Safe s → Safe (after s (Lower i))
+lower_keeps : (s : CoreState) (i : ℕ) → MayCome s (Lower i) → Safe s → Safe (after s (Lower i))
 lower_keeps s i may safe =
     let found : (p : ProcessorState) × (processor_of s i ≡ Some p) × ((p.phase ≡ Raised) ⊎ (p.phase ≡ In)) = IsProcessor-some s i (λ p. (p.phase ≡ Raised) ⊎ (p.phase ≡ In)) may in
     Safe-with_processor s i (λ p. record p { phase = Out }) found.0 found.1 (lower_safe s.number (Writing s) found.0) safe
 
 -- nobody held it, so the operator didn't
-take_back_keeps : (s : CoreState) (h : ℕ) → Allowed s (TakeBack h) → Safe s → Safe (after s (TakeBack h))
+take_back_keeps : (s : CoreState) (h : ℕ) → MayCome s (TakeBack h) → Safe s → Safe (after s (TakeBack h))
 take_back_keeps s h may safe =
     Safe-from_all (after s (TakeBack h)) s.number (Writing s) refl (λ writing. let free : s.holder ≡ None = may.1 in absurd cc) (SafeAt-all s safe)
 
 -- another than the operator held it, or nobody is revoked
-give_back_keeps : (s : CoreState) (h : ℕ) → Allowed s (GiveBack h) → Safe s → Safe (after s (GiveBack h))
+give_back_keeps : (s : CoreState) (h : ℕ) → MayCome s (GiveBack h) → Safe s → Safe (after s (GiveBack h))
 give_back_keeps s h may safe =
     Safe-from_all (after s (GiveBack h)) s.number ⊥ refl (λ never. absurd never)
     (λ k d inside. unwritten_safe s.number (Writing s) ⊥ (slice_index_or s.processors k d)
@@ -177,7 +177,7 @@ give_back_keeps s h may safe =
     (SafeAt-all s safe k d inside))
 
 -- the operator holds nothing while a processor holds the lock behind
-regain_keeps : (s : CoreState) (i : ℕ) → Allowed s (Regain i) → Safe s → Safe (after s (Regain i))
+regain_keeps : (s : CoreState) (i : ℕ) → MayCome s (Regain i) → Safe s → Safe (after s (Regain i))
 regain_keeps s i may safe =
     let found : (p : ProcessorState) × (processor_of s i ≡ Some p) × (p.phase ≡ Out) = IsProcessor-some s i (λ p. p.phase ≡ Out) may.0 in
     let within : (0 < i) × (i ≤ length s.processors) = processor_of-within s i found.0 found.1 in
@@ -189,25 +189,25 @@ regain_keeps s i may safe =
     omega arith))
     safe
 
-revoke_keeps : (s : CoreState) (i : ℕ) → Allowed s (Revoke i) → Safe s → Safe (after s (Revoke i))
+revoke_keeps : (s : CoreState) (i : ℕ) → MayCome s (Revoke i) → Safe s → Safe (after s (Revoke i))
 revoke_keeps s i may safe =
     let found : (p : ProcessorState) × (processor_of s i ≡ Some p) × (p.revoked ≡ false) = IsProcessor-some s i (λ p. p.revoked ≡ false) may.0 in
     Safe-with_processor s i (λ p. record p { token = Revoked (s.number + 1); revoked = true }) found.0 found.1
     (revoke_safe s.number (Writing s) found.0 may.1 found.2) safe
 
-drain_keeps : (s : CoreState) (i : ℕ) → Allowed s (Drain i) → Safe s → Safe (after s (Drain i))
+drain_keeps : (s : CoreState) (i : ℕ) → MayCome s (Drain i) → Safe s → Safe (after s (Drain i))
 drain_keeps s i may safe =
     let found : (p : ProcessorState) × (processor_of s i ≡ Some p) × ((p.revoked ≡ true) × (p.drained ≡ false)) = IsProcessor-some s i (λ p. (p.revoked ≡ true) × (p.drained ≡ false)) may in
     Safe-with_processor s i after_drain found.0 found.1 (drain_safe s.number (Writing s) found.0 found.2.0) safe
 
-publish_keeps : (s : CoreState) → Allowed s Publish → Safe s → Safe (after s Publish)
+publish_keeps : (s : CoreState) → MayCome s Publish → Safe s → Safe (after s Publish)
 publish_keeps s may safe =
     Safe-from_all (after s Publish) (s.number + 1) ⊥ refl (λ never. absurd never)
-    (All-map (SafeAt (s.number + 1) ⊥) after_publication s.processors
+    (All-map (SafeAt (s.number + 1) ⊥) with_flags_cleared s.processors
     (λ k d inside. publish_safe s.number (Writing s) ⊥ (slice_index_or s.processors k d) (may.1 k d inside) (SafeAt-all s safe k d inside)))
 
 -- each allowed step leads from a safe state to a safe one
-pub Safe-after : (s : CoreState) (event : Event) → Safe s → Allowed s event → Safe (after s event)
+pub Safe-after : (s : CoreState) (event : Event) → Safe s → MayCome s event → Safe (after s event)
 Safe-after s (Raise i) safe may = raise_keeps s i may safe
 Safe-after s (Check i) safe may = check_keeps s i may safe
 Safe-after s (Lower i) safe may = lower_keeps s i may safe

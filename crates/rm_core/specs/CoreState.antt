@@ -1,12 +1,12 @@
 -- The core of a read-mostly lock, rmlock(9): its state, its ten steps, and what holds in each state.
 use Rattle.std.specs.Prelude.{◌≡◌, ◌≢◌, ◌⊎◌, ⊤, ℕ, ◌+◌, ◌-◌, ◌^◌, ◌<◌, ◌≤◌, ◌==◌, true, false, if◌then◌else◌, Option, Some, None, IsSomeAnd, List, length, map, slice_get, slice_set, replicate, All}
 use Rattle.std.specs.Option.{option_map_or}
-use Rattle.rm_core.specs.declared.phase.Phase.{Phase}
-use Rattle.rm_core.specs.declared.phase.Phase.TheVariants.{Out, Raised, In}
-use Rattle.rm_core.specs.declared.token.Token.{Token}
-use Rattle.rm_core.specs.declared.token.Token.TheVariants.{Held, Revoked}
-use Rattle.rm_core.specs.declared.heard.Heard.{Heard}
-use Rattle.rm_core.specs.declared.heard.Heard.TheVariants.{Held as HeardHeld, Revoked as HeardRevoked, Drained, NotOut, Number, Nothing}
+use Rattle.rm_core.specs.declared.processor_state.Phase.{Phase}
+use Rattle.rm_core.specs.declared.processor_state.Phase.TheVariants.{Out, Raised, In}
+use Rattle.rm_core.specs.declared.processor_state.Token.{Token}
+use Rattle.rm_core.specs.declared.processor_state.Token.TheVariants.{Held, Revoked}
+use Rattle.rm_core.specs.declared.event.Heard.{Heard}
+use Rattle.rm_core.specs.declared.event.Heard.TheVariants.{Held as HeardHeld, Revoked as HeardRevoked, Drained, NotOut, Number, Nothing}
 use Rattle.rm_core.specs.declared.event.Event.{Event}
 use Rattle.rm_core.specs.declared.event.Event.TheVariants.{Raise, Check, Lower, TakeBack, GiveBack, Regain, Revoke, Drain, ReadNumber, Publish}
 use Rattle.rm_core.specs.declared.processor_state.ProcessorState.{ProcessorState}
@@ -22,8 +22,8 @@ pub record CoreState : Type 0 where
   pub processors : List ProcessorState
 
 -- the state of these parts
-abbrev pub state_of : ℕ → Option ℕ → List ProcessorState → CoreState
-state_of number holder processors = record { number = number; holder = holder; processors = processors }
+abbrev pub core_state_of : ℕ → Option ℕ → List ProcessorState → CoreState
+core_state_of number holder processors = record { number = number; holder = holder; processors = processors }
 
 -- a processor that is out and holds its token
 abbrev pub idle : ProcessorState
@@ -31,7 +31,7 @@ idle = record { phase = Out; token = Held; revoked = false; drained = false }
 
 -- a new lock of that many processors
 abbrev pub opening : ℕ → ℕ → CoreState
-opening processors number = state_of number None (replicate processors idle)
+opening processors number = core_state_of number None (replicate processors idle)
 
 -- the operator's number, one past the last processor's
 abbrev pub operator_of : CoreState → ℕ
@@ -50,19 +50,19 @@ abbrev pub IsProcessor : CoreState → ℕ → (ProcessorState → Type 0) → T
 IsProcessor s i P = IsSomeAnd (processor_of s i) P
 
 -- when a step may come. One with another number than a processor's, or than the operator's for the lock behind, never may
-abbrev pub Allowed : CoreState → Event → Type 0
-Allowed s (Raise i) = IsProcessor s i (λ p. p.phase ≡ Out)
-Allowed s (Check i) = IsProcessor s i (λ p. p.phase ≡ Raised)
-Allowed s (Lower i) = IsProcessor s i (λ p. (p.phase ≡ Raised) ⊎ (p.phase ≡ In))
-Allowed s (TakeBack h) = IsSeat s h × (s.holder ≡ None)
+abbrev pub MayCome : CoreState → Event → Type 0
+MayCome s (Raise i) = IsProcessor s i (λ p. p.phase ≡ Out)
+MayCome s (Check i) = IsProcessor s i (λ p. p.phase ≡ Raised)
+MayCome s (Lower i) = IsProcessor s i (λ p. (p.phase ≡ Raised) ⊎ (p.phase ≡ In))
+MayCome s (TakeBack h) = IsSeat s h × (s.holder ≡ None)
 -- the writer gives it back only once what it revoked is published
-Allowed s (GiveBack h) = IsSeat s h × (s.holder ≡ Some h) × (h ≡ operator_of s → All (λ p. p.revoked ≡ false) s.processors)
-Allowed s (Regain i) = IsProcessor s i (λ p. p.phase ≡ Out) × (s.holder ≡ Some i)
+MayCome s (GiveBack h) = IsSeat s h × (s.holder ≡ Some h) × (h ≡ operator_of s → All (λ p. p.revoked ≡ false) s.processors)
+MayCome s (Regain i) = IsProcessor s i (λ p. p.phase ≡ Out) × (s.holder ≡ Some i)
 -- the next number has to fit a word of 64 bits
-Allowed s (Revoke i) = IsProcessor s i (λ p. p.revoked ≡ false) × (s.holder ≡ Some (operator_of s)) × (s.number < 2 ^ 64 - 1)
-Allowed s (Drain i) = IsProcessor s i (λ p. (p.revoked ≡ true) × (p.drained ≡ false))
-Allowed s ReadNumber = ⊤
-Allowed s Publish = (s.holder ≡ Some (operator_of s)) × All (λ p. p.drained ≡ true) s.processors
+MayCome s (Revoke i) = IsProcessor s i (λ p. p.revoked ≡ false) × (s.holder ≡ Some (operator_of s)) × (s.number < 2 ^ 64 - 1)
+MayCome s (Drain i) = IsProcessor s i (λ p. (p.revoked ≡ true) × (p.drained ≡ false))
+MayCome s ReadNumber = ⊤
+MayCome s Publish = (s.holder ≡ Some (operator_of s)) × All (λ p. p.drained ≡ true) s.processors
 
 -- a processor after it has read its token: it is in if that is held
 abbrev pub with_token_read : Token → ProcessorState → ProcessorState
@@ -84,8 +84,8 @@ abbrev pub after_drain : ProcessorState → ProcessorState
 after_drain p = with_tracker_read p.phase p
 
 -- a processor after the publication
-abbrev pub after_publication : ProcessorState → ProcessorState
-after_publication p = record p { revoked = false; drained = false }
+abbrev pub with_flags_cleared : ProcessorState → ProcessorState
+with_flags_cleared p = record p { revoked = false; drained = false }
 
 -- the state with that processor changed
 abbrev pub with_processor : CoreState → ℕ → (ProcessorState → ProcessorState) → CoreState
@@ -103,25 +103,25 @@ after s (Regain i) = with_processor s i (λ p. record p { token = Held })
 after s (Revoke i) = with_processor s i (λ p. record p { token = Revoked (s.number + 1); revoked = true })
 after s (Drain i) = with_processor s i after_drain
 after s ReadNumber = s
-after s Publish = record s { number = s.number + 1; processors = map after_publication s.processors }
+after s Publish = record s { number = s.number + 1; processors = map with_flags_cleared s.processors }
 
 -- what a check hears
-abbrev pub token_heard : Token → Heard
-token_heard Held = HeardHeld
-token_heard (Revoked number) = HeardRevoked number
+abbrev pub token_answer : Token → Heard
+token_answer Held = HeardHeld
+token_answer (Revoked number) = HeardRevoked number
 
 -- what a drain hears
-abbrev pub phase_heard : Phase → Heard
-phase_heard Out = Drained
-phase_heard Raised = NotOut
-phase_heard In = NotOut
+abbrev pub phase_answer : Phase → Heard
+phase_answer Out = Drained
+phase_answer Raised = NotOut
+phase_answer In = NotOut
 
 -- what a step hears
-abbrev pub heard : CoreState → Event → Heard
-heard s (Check i) = option_map_or (λ p. token_heard p.token) (processor_of s i) Nothing
-heard s (Drain i) = option_map_or (λ p. phase_heard p.phase) (processor_of s i) Nothing
-heard s ReadNumber = Number s.number
-heard s _ = Nothing
+abbrev pub step_answer : CoreState → Event → Heard
+step_answer s (Check i) = option_map_or (λ p. token_answer p.token) (processor_of s i) Nothing
+step_answer s (Drain i) = option_map_or (λ p. phase_answer p.phase) (processor_of s i) Nothing
+step_answer s ReadNumber = Number s.number
+step_answer s _ = Nothing
 
 -- What holds in each state that the lock can reach.
 pub record Safe (s : CoreState) : Type 0 where
@@ -144,7 +144,7 @@ pub record Fits (s : CoreState) : Type 0 where
   pub tokens : All (λ p. (t : ℕ) → p.token ≡ Revoked t → t < 2 ^ 64) s.processors
 
 -- What a `Core` keeps of its state.
-pub record Kept (s : CoreState) : Type 0 where
+pub record IsCore (s : CoreState) : Type 0 where
   pub safe : Safe s
   pub fits : Fits s
   pub few : length s.processors ≤ 64

@@ -2,19 +2,13 @@
 //! which state, what it changes and what it hears. It has no thread, no clock and no queue.
 #![tactic(auto)]
 
-pub use event::Event;
-pub use heard::Heard;
+pub use event::{Event, Heard};
 pub use lock_core::Core;
-pub use phase::Phase;
-pub use processor_state::ProcessorState;
-pub use token::Token;
+pub use processor_state::{Phase, ProcessorState, Token};
 
 mod event;
-mod heard;
 pub mod laws;
 mod lock_core;
-mod phase;
 mod processor_state;
 #[cfg(test)]
 mod tests;
-mod token;

@@ -1,5 +1,5 @@
 ghost use Rattle.std.specs.Prelude.{◌≡◌, ◌<◌, ◌≤◌, ◌↔◌, true, false, IsTrue, IfOk, All, map, ◌+◌, ◌^◌};
-ghost use Rattle.rm_core.specs.CoreState.{CoreState, state_of, after_publication, opening, Allowed, after, heard, Safe, operator_of, IsSeat, processor_of, IsProcessor};
+ghost use Rattle.rm_core.specs.CoreState.{CoreState, core_state_of, with_flags_cleared, opening, MayCome, after, step_answer, Safe, operator_of, IsSeat, processor_of, IsProcessor};
 
 use crate::{Event, Heard, Phase, ProcessorState, Token};
 use fw_base::OutOfMemory;
@@ -17,13 +17,13 @@ pub struct Core {
 }
 
 impl Model for Core {
-    ghost use Rattle.rm_core.specs.CoreState.{CoreState, state_of, Kept};
+    ghost use Rattle.rm_core.specs.CoreState.{CoreState, core_state_of, IsCore};
 
     ghost Value = { CoreState };
 
-    ghost view = { λ c. state_of c.number c.holder c.processors.items };
+    ghost view = { λ c. core_state_of c.number c.holder c.processors.items };
 
-    ghost invariant = { λ c. Kept (state_of c.number c.holder c.processors.items) };
+    ghost invariant = { λ c. IsCore (core_state_of c.number c.holder c.processors.items) };
 }
 
 impl Core {
@@ -44,7 +44,7 @@ impl Core {
     /// Whether the step may come now. One that names nobody never may. Takes no memory and looks at one
     /// processor, or at each where the operator gives the lock behind back or publishes.
     pub fn allows(&self, event: Event) -> bool
-        ensures { IsTrue result ↔ Allowed self.now event }
+        ensures { IsTrue result ↔ MayCome self.now event }
     {
         match event {
             Event::Raise(number) => self.is_at(number, Phase::Out),
@@ -64,9 +64,9 @@ impl Core {
     /// Makes the step, which has to be an allowed one, and answers what it hears. Takes no memory and
     /// writes one field, or each processor's two flags at a publication.
     pub fn step(&mut self, event: Event) -> Heard
-        requires { Allowed self.old event }
+        requires { MayCome self.old event }
         ensures after { self.new ≡ after self.old event }
-        ensures heard { result ≡ heard self.old event }
+        ensures heard { result ≡ step_answer self.old event }
         ensures safe { Safe self.new }
     {
         advance(
@@ -78,7 +78,7 @@ impl Core {
     }
 
     fn may_give_back(&self, number: u32) -> bool
-        ensures { IsTrue result ↔ Allowed self.now (Event.GiveBack number) }
+        ensures { IsTrue result ↔ MayCome self.now (Event.GiveBack number) }
     {
         self.is_seat(number)
             && self.holds(number)
@@ -86,7 +86,7 @@ impl Core {
     }
 
     fn may_revoke(&self, number: u32) -> bool
-        ensures { IsTrue result ↔ Allowed self.now (Event.Revoke number) }
+        ensures { IsTrue result ↔ MayCome self.now (Event.Revoke number) }
     {
         match self.processor(number) {
             Some(processor) => {
@@ -97,7 +97,7 @@ impl Core {
     }
 
     fn may_drain(&self, number: u32) -> bool
-        ensures { IsTrue result ↔ Allowed self.now (Event.Drain number) }
+        ensures { IsTrue result ↔ MayCome self.now (Event.Drain number) }
     {
         match self.processor(number) {
             Some(processor) => processor.revoked && !processor.drained,
@@ -166,11 +166,12 @@ fn advance(
     processors: &mut [ProcessorState],
     event: Event,
 ) -> Heard
-    requires allowed { Allowed (state_of published.old holder.old processors.old) event }
+    requires allowed { MayCome (core_state_of published.old holder.old processors.old) event }
     requires room { event ≡ Event.Publish → published.old + 1 < 2 ^ 64 }
-    ensures after { state_of published.new holder.new processors.new
-        ≡ after (state_of published.old holder.old processors.old) event }
-    ensures heard { result ≡ heard (state_of published.old holder.old processors.old) event }
+    ensures after { core_state_of published.new holder.new processors.new
+        ≡ after (core_state_of published.old holder.old processors.old) event }
+    ensures heard { result
+        ≡ step_answer (core_state_of published.old holder.old processors.old) event }
 {
     match event {
         Event::Raise(number) => {
@@ -210,7 +211,7 @@ fn advance(
 
 // the writer's two sets are empty from now on
 fn end_write(processors: &mut [ProcessorState])
-    ensures { processors.new ≡ map after_publication processors.old }
+    ensures { processors.new ≡ map with_flags_cleared processors.old }
 {
     for processor in processors {
         processor.revoked = false;

@@ -1,7 +1,27 @@
 ghost use Rattle.std.specs.Prelude.{◌≡◌, true};
-ghost use Rattle.rm_core.specs.CoreState.{after_check, token_heard, after_drain, phase_heard};
+ghost use Rattle.rm_core.specs.CoreState.{after_check, token_answer, after_drain, phase_answer};
 
-use crate::{Heard, Phase, Token};
+use crate::Heard;
+
+/// What a processor's tracker says of it.
+#[derive(Clone, Copy, Debug, PartialEq, Eq)]
+pub enum Phase {
+    /// Outside of every section.
+    Out,
+    /// The tracker is raised and the token not read yet: the section has begun.
+    Raised,
+    /// Inside a section that it entered with its token held.
+    In,
+}
+
+/// A processor's read token.
+#[derive(Clone, Copy, Debug, PartialEq, Eq)]
+pub enum Token {
+    /// The processor may enter.
+    Held,
+    /// A writer took it away. The number is that of the publication that it was taken away for.
+    Revoked(u64),
+}
 
 /// What the lock knows of one processor.
 #[derive(Clone, Copy, Debug, PartialEq, Eq)]
@@ -28,7 +48,7 @@ impl ProcessorState {
     /// It reads its token, and is in if the token is held.
     pub(crate) fn check(&mut self) -> Heard
         ensures after { self.new ≡ after_check self.old }
-        ensures heard { result ≡ token_heard self.old.token }
+        ensures heard { result ≡ token_answer self.old.token }
     {
         match self.token {
             Token::Held => {
@@ -50,7 +70,7 @@ impl ProcessorState {
     /// The operator looks whether it is out.
     pub(crate) fn drain(&mut self) -> Heard
         ensures after { self.new ≡ after_drain self.old }
-        ensures heard { result ≡ phase_heard self.old.phase }
+        ensures heard { result ≡ phase_answer self.old.phase }
     {
         match self.phase {
             Phase::Out => {

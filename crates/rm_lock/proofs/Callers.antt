@@ -1,5 +1,5 @@
 -- What a caller of a lock of one or two processors knows of their tokens.
-use Rattle.std.proofs.Common.{◌≡◌, ℕ, zero, suc, ◌+◌, ◌<◌, ◌≤◌, Some, List, [], ◌∷◌, ◌++◌, length, refl, sym, ◌∙◌, ap, subst, arith}
+use Rattle.std.proofs.Common.{◌≡◌, ℕ, zero, suc, ◌+◌, ◌<◌, ◌≤◌, Some, List, [], ◌∷◌, ◌++◌, length, length-append, refl, sym, ◌∙◌, ap, subst, arith}
 use Rattle.std.specs.Prelude.{All, slice_get}
 use Rattle.atomic_table.specs.Seated.{TableId}
 use Rattle.rm_table.specs.Meanings.{values_from}
@@ -8,14 +8,10 @@ use Rattle.rm_lock.specs.Tokens.{TokenState}
 use Rattle.rm_lock.specs.Ends.{EachOnce}
 
 module _ {A : Type 0} where
-  one_longer : (xs : List A) (x : A) → length (xs ++ x ∷ []) ≡ length xs + 1
-  one_longer [] x = refl
-  one_longer (z ∷ xs) x = let e = one_longer xs x in omega arith
-
   -- the only one of a list
   last_of_one : (y : A) (others : List A) (x : A) → y ∷ [] ≡ others ++ x ∷ [] → x ≡ y
   last_of_one y [] x e = cc
-  last_of_one y (z ∷ zs) x e = let l = ap (λ (ts : List A). length ts) e in let m = one_longer zs x in absurd (omega arith)
+  last_of_one y (z ∷ zs) x e = let l = ap (λ (ts : List A). length ts) e in let m = length-append zs (x ∷ []) in absurd (omega arith)
 
   -- the value that is popped off a list of one is the first
   pub popped_one : (f : ℕ → A) (n : ℕ) (items others : List A) (x : A) → n ≡ 1 → items ≡ values_from f 1 n → items ≡ others ++ x ∷ [] → x ≡ f 1
@@ -23,7 +19,7 @@ module _ {A : Type 0} where
 
   last_of_two : (a b : A) (others : List A) (y x : A) → a ∷ b ∷ [] ≡ (others ++ y ∷ []) ++ x ∷ [] → (y ≡ a) × (x ≡ b)
   last_of_two a b [] y x e = (cc, cc)
-  last_of_two a b (z ∷ zs) y x e = let l = ap (λ (ts : List A). length ts) e in let m = one_longer (zs ++ y ∷ []) x in let k = one_longer zs y in absurd (omega arith)
+  last_of_two a b (z ∷ zs) y x e = let l = ap (λ (ts : List A). length ts) e in let m = length-append (zs ++ y ∷ []) (x ∷ []) in let k = length-append zs (y ∷ []) in absurd (omega arith)
 
   -- the values that are popped off a list of two are the second and then the first
   pub popped_two : (f : ℕ → A) (n : ℕ) (items left others : List A) (y x : A) → n ≡ 2 → items ≡ values_from f 1 n → items ≡ left ++ x ∷ [] → left ≡ others ++ y ∷ [] → (y ≡ f 1) × (x ≡ f 2)

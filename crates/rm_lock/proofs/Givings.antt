@@ -2,28 +2,28 @@
 use Rattle.std.proofs.Common.{◌≡◌, inr, ℕ, false, Some, ◌∷◌, refl, sym, ◌∙◌, ap, subst}
 use Rattle.atomic_table.specs.Table.{Me, rest}
 use Rattle.atomic_table.specs.Seated.{TableId}
-use Rattle.rm_table.specs.declared.slot.Slot.{Slot}
-use Rattle.rm_table.specs.declared.slot.Slot.TheVariants.{Book}
+use Rattle.rm_table.specs.declared.padded_slot.Slot.{Slot}
+use Rattle.rm_table.specs.declared.padded_slot.Slot.TheVariants.{Book}
 use Rattle.rm_table.specs.declared.view.View.{View}
 use Rattle.rm_table.specs.Layout.{book_index}
 use Rattle.rm_table.specs.Meanings.{Meanings}
-use Rattle.rm_table.specs.Moves.{Hand, noted, book_given, HasBook, IsWorking}
+use Rattle.rm_table.specs.Moves.{Hand, with_step, book_given, HasBook, IsWorking}
 use Rattle.rm_table.proofs.Base.{some_of}
 use Rattle.rm_lock.specs.Tokens.{BookTokenState, HoldsBy, IsInBy, KeepsBy, IsAtRestBy}
-use Rattle.rm_lock.specs.Calls.{IsAsTaken, IsAsFound, gave_book}
+use Rattle.rm_lock.specs.Calls.{IsAsTaken, IsAsFound, after_giving_book}
 
 module _ {E B T L I : Type 0} (m : Meanings E B T L I) where
   -- the seat once the book is in its slot and given back
-  given : (s0 s1 s2 : Me (Slot E B) (View E B T L I)) (book : B) → s1 ≡ (s0.0, (0, Book (Some book)) ∷ rest s0.1) → ((b : B) → s1.1 ≡ (0, Book (Some b)) ∷ rest s1.1 → s2 ≡ (noted (book_given m s1.0 b) book_index 0, rest s1.1))
-      → s2 ≡ (gave_book m s0.0 book, rest s0.1)
+  given : (s0 s1 s2 : Me (Slot E B) (View E B T L I)) (book : B) → s1 ≡ (s0.0, (0, Book (Some book)) ∷ rest s0.1) → ((b : B) → s1.1 ≡ (0, Book (Some b)) ∷ rest s1.1 → s2 ≡ (with_step (book_given m s1.0 b) book_index 0, rest s1.1))
+      → s2 ≡ (after_giving_book m s0.0 book, rest s0.1)
   given s0 s1 s2 book e1 step =
       step book (subst (λ (s : Me (Slot E B) (View E B T L I)). s.1 ≡ (0, Book (Some book)) ∷ rest s.1) (sym e1) refl)
-      ∙ ap (λ (s : Me (Slot E B) (View E B T L I)). (noted (book_given m s.0 book) book_index 0, rest s.1)) e1
+      ∙ ap (λ (s : Me (Slot E B) (View E B T L I)). (with_step (book_given m s.0 book) book_index 0, rest s.1)) e1
 
   -- what the token knows then
   pub gave : (token : BookTokenState E B T L I) (table : TableId) (s0 s1 s2 : Me (Slot E B) (View E B T L I)) (book : B) → record { table_id = table; view = s0.0; book = book } ≡ token → s1 ≡ (s0.0, (0, Book (Some book)) ∷ rest s0.1)
-      → ((b : B) → s1.1 ≡ (0, Book (Some b)) ∷ rest s1.1 → s2 ≡ (noted (book_given m s1.0 b) book_index 0, rest s1.1)) → s2.0 ≡ gave_book m token.view token.book
-  gave token table s0 s1 s2 book is e1 step = ap (λ (s : Me (Slot E B) (View E B T L I)). s.0) (given s0 s1 s2 book e1 step) ∙ ap (λ (t : BookTokenState E B T L I). gave_book m t.view t.book) is
+      → ((b : B) → s1.1 ≡ (0, Book (Some b)) ∷ rest s1.1 → s2 ≡ (with_step (book_given m s1.0 b) book_index 0, rest s1.1)) → s2.0 ≡ after_giving_book m token.view token.book
+  gave token table s0 s1 s2 book is e1 step = ap (λ (s : Me (Slot E B) (View E B T L I)). s.0) (given s0 s1 s2 book e1 step) ∙ ap (λ (t : BookTokenState E B T L I). after_giving_book m t.view t.book) is
 
   -- a processor that gives the book back has it on top of its hand, with its own list alone changed
   pub holder_has : (token : BookTokenState E B T L I) (table : TableId) (s0 s1 : Me (Slot E B) (View E B T L I)) (book : B) (place : ℕ) (edition : E) → record { table_id = table; view = s0.0; book = book } ≡ token → HoldsBy m.number place edition s0.0 s0.1
@@ -42,7 +42,7 @@ module _ {E B T L I : Type 0} (m : Meanings E B T L I) where
 
   -- a processor that gave the book back is in its section as before
   pub in_again : (s0 s1 s2 : Me (Slot E B) (View E B T L I)) (book : B) (place : ℕ) (edition : E) → HoldsBy m.number place edition s0.0 s0.1 → s1 ≡ (s0.0, (0, Book (Some book)) ∷ rest s0.1)
-      → ((b : B) → s1.1 ≡ (0, Book (Some b)) ∷ rest s1.1 → s2 ≡ (noted (book_given m s1.0 b) book_index 0, rest s1.1)) → IsInBy m.number place edition s2.0 s2.1
+      → ((b : B) → s1.1 ≡ (0, Book (Some b)) ∷ rest s1.1 → s2 ≡ (with_step (book_given m s1.0 b) book_index 0, rest s1.1)) → IsInBy m.number place edition s2.0 s2.1
   in_again s0 s1 s2 book place edition h e1 step = subst (λ (s : Me (Slot E B) (View E B T L I)). IsInBy m.number place edition s.0 s.1) (sym (given s0 s1 s2 book e1 step)) (record {
     processor = h.processor;
     inside = h.inside;
@@ -84,7 +84,7 @@ module _ {E B T L I : Type 0} (m : Meanings E B T L I) where
 
   -- the operator that gave the book back is between two writes as before
   pub at_rest_again : (s0 s1 s2 : Me (Slot E B) (View E B T L I)) (book : B) (processors number : ℕ) → KeepsBy m processors number s0.0 s0.1 → s1 ≡ (s0.0, (0, Book (Some book)) ∷ rest s0.1)
-      → ((b : B) → s1.1 ≡ (0, Book (Some b)) ∷ rest s1.1 → s2 ≡ (noted (book_given m s1.0 b) book_index 0, rest s1.1)) → IsAtRestBy processors number s2.0 s2.1
+      → ((b : B) → s1.1 ≡ (0, Book (Some b)) ∷ rest s1.1 → s2 ≡ (with_step (book_given m s1.0 b) book_index 0, rest s1.1)) → IsAtRestBy processors number s2.0 s2.1
   at_rest_again s0 s1 s2 book processors number k e1 step = subst (λ (s : Me (Slot E B) (View E B T L I)). IsAtRestBy processors number s.0 s.1) (sym (given s0 s1 s2 book e1 step)) (record {
     at_rest = record {
       operator = record { role = k.at_rest.operator.role; split = k.at_rest.operator.split };

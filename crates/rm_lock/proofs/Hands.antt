@@ -1,28 +1,11 @@
 -- The editions in the operator's hand, which are exchanged one by one.
-use Rattle.std.proofs.Common.{◌≡◌, ℕ, zero, suc, ◌+◌, ◌<◌, Some, List, [], ◌∷◌, ◌++◌, length, refl, sym, ◌∙◌, ap, arith}
+use Rattle.std.proofs.Common.{◌≡◌, ℕ, zero, suc, ◌+◌, ◌<◌, Some, List, [], ◌∷◌, ◌++◌, append_assoc, length, length-append, refl, sym, ◌∙◌, ap, arith}
 use Rattle.std.specs.Prelude.{slice_get, slice_set, slice_index_or, take}
 use Rattle.atomic_table.specs.Table.{rest}
-use Rattle.rm_table.specs.declared.slot.Slot.TheVariants.{Edition}
+use Rattle.rm_table.specs.declared.padded_slot.Slot.TheVariants.{Edition}
 use Rattle.rm_table.specs.Moves.{Hand, editions_from, rest_from}
 
 module _ {A : Type 0} where
-  -- nothing behind a list leaves it as it is
-  pub append_nil : (xs : List A) → xs ++ [] ≡ xs
-  append_nil [] = refl
-  append_nil (x ∷ xs) = ap (λ (ys : List A). x ∷ ys) (append_nil xs)
-
-  one_further : (xs : List A) (x : A) (ys : List A) → xs ++ x ∷ ys ≡ (xs ++ x ∷ []) ++ ys
-  one_further [] x ys = refl
-  one_further (z ∷ xs) x ys = ap (λ (zs : List A). z ∷ zs) (one_further xs x ys)
-
-  count_further : (xs : List A) (x : A) → length (xs ++ x ∷ []) ≡ length xs + 1
-  count_further [] x = refl
-  count_further (z ∷ xs) x = let e = count_further xs x in omega arith
-
-  count_both : (xs ys : List A) → length (xs ++ ys) ≡ length xs + length ys
-  count_both [] ys = omega arith
-  count_both (z ∷ xs) ys = let e = count_both xs ys in omega arith
-
   get_behind : (xs : List A) (x : A) (ys : List A) (n : ℕ) → length xs ≡ n → slice_get (xs ++ x ∷ ys) n ≡ Some x
   get_behind [] x ys zero e = refl
   get_behind [] x ys (suc n) e = absurd (omega arith)
@@ -39,28 +22,12 @@ module _ {A : Type 0} where
   split_first [] h = absurd (omega arith)
   split_first (x ∷ xs) h = (x, xs, refl)
 
-  -- the item found at an index within the list
-  pub get_found : (xs : List A) (i : ℕ) (x : A) → i < length xs → x ≡ slice_index_or xs i x → slice_get xs i ≡ Some x
-  get_found [] i x h e = absurd (omega arith)
-  get_found (y ∷ ys) zero x h e = ap (λ (z : A). Some z) (sym e)
-  get_found (y ∷ ys) (suc i) x h e = get_found ys i x (omega arith) e
-
   -- an item of a list's beginning
   pub get_prefix : (xs ys : List A) (i : ℕ) (x : A) → xs ≡ take (length xs) ys → slice_get xs i ≡ Some x → slice_get ys i ≡ Some x
   get_prefix [] ys i x e at = absurd cc
   get_prefix (z ∷ xs) [] i x e at = absurd cc
   get_prefix (z ∷ xs) (y ∷ ys) zero x e at = let same : z ≡ y = cc in cc
   get_prefix (z ∷ xs) (y ∷ ys) (suc i) x e at = let tails : xs ≡ take (length xs) ys = cc in get_prefix xs ys i x tails at
-
-  -- an item that is found stands within its list
-  pub get_within : (xs : List A) (i : ℕ) (x : A) → slice_get xs i ≡ Some x → i < length xs
-  get_within [] i x e = absurd cc
-  get_within (y ∷ ys) zero x e = omega arith
-  get_within (y ∷ ys) (suc i) x e = let h = get_within ys i x e in omega arith
-
-  none_left : (xs : List A) → length xs ≡ 0 → xs ≡ []
-  none_left [] e = refl
-  none_left (x ∷ xs) e = absurd (omega arith)
 
 module _ {E B : Type 0} where
   -- what stands behind the editions
@@ -104,10 +71,10 @@ module _ {E B : Type 0} where
   exchanging_none olds news hand is = record { gone = []; kept = olds; put = []; left = news; olds_are = refl; news_are = refl; gone_count = refl; put_count = refl; items_are = refl; hand_is = is }
 
   kept_more : (done : ℕ) (olds news items : List E) (hand : Hand E B) (x : Exchanging done olds news items hand) → done < length olds → 0 < length x.kept
-  kept_more done olds news items hand x more = let a = ap (λ (zs : List E). length zs) x.olds_are in let b = count_both x.gone x.kept in let c = x.gone_count in omega arith
+  kept_more done olds news items hand x more = let a = ap (λ (zs : List E). length zs) x.olds_are in let b = length-append x.gone x.kept in let c = x.gone_count in omega arith
 
   left_more : (done : ℕ) (olds news items : List E) (hand : Hand E B) (x : Exchanging done olds news items hand) → done < length news → 0 < length x.left
-  left_more done olds news items hand x more = let a = ap (λ (zs : List E). length zs) x.news_are in let b = count_both x.put x.left in let c = x.put_count in omega arith
+  left_more done olds news items hand x more = let a = ap (λ (zs : List E). length zs) x.news_are in let b = length-append x.put x.left in let c = x.put_count in omega arith
 
   -- the next edition lies on top
   pub next_kept : (done : ℕ) (olds news items : List E) (hand : Hand E B) → done < length olds → Exchanging done olds news items hand → (e : E) × (hand ≡ (done + 1, Edition (Some e)) ∷ rest hand)
@@ -132,11 +99,11 @@ module _ {E B : Type 0} where
         kept = k.1;
         put = x.put ++ l.0 ∷ [];
         left = l.1;
-        olds_are = x.olds_are ∙ ap (λ (zs : List E). x.gone ++ zs) k.2 ∙ one_further x.gone k.0 k.1;
-        news_are = x.news_are ∙ ap (λ (zs : List E). x.put ++ zs) l.2 ∙ one_further x.put l.0 l.1;
-        gone_count = count_further x.gone k.0 ∙ ap (λ (n : ℕ). n + 1) x.gone_count;
-        put_count = count_further x.put l.0 ∙ ap (λ (n : ℕ). n + 1) x.put_count;
-        items_are = set ∙ ap (λ (e : E). slice_set items done e) old_is ∙ ap (λ (zs : List E). slice_set zs done k.0) items_were ∙ set_behind x.gone l.0 k.0 l.1 done x.gone_count ∙ one_further x.gone k.0 l.1;
+        olds_are = x.olds_are ∙ ap (λ (zs : List E). x.gone ++ zs) k.2 ∙ sym (append_assoc x.gone (k.0 ∷ []) k.1);
+        news_are = x.news_are ∙ ap (λ (zs : List E). x.put ++ zs) l.2 ∙ sym (append_assoc x.put (l.0 ∷ []) l.1);
+        gone_count = length-append x.gone (k.0 ∷ []) ∙ ap (λ (n : ℕ). n + 1) x.gone_count;
+        put_count = length-append x.put (l.0 ∷ []) ∙ ap (λ (n : ℕ). n + 1) x.put_count;
+        items_are = set ∙ ap (λ (e : E). slice_set items done e) old_is ∙ ap (λ (zs : List E). slice_set zs done k.0) items_were ∙ set_behind x.gone l.0 k.0 l.1 done x.gone_count ∙ sym (append_assoc x.gone (k.0 ∷ []) l.1);
         hand_is =
             now ∙ ap (λ (e : E). rest hand ++ (done + 1, Edition (Some e)) ∷ []) new_is
             ∙ ap (λ (h : Hand E B). rest h ++ (done + 1, Edition (Some l.0)) ∷ []) hand_was
@@ -144,29 +111,16 @@ module _ {E B : Type 0} where
             ∙ ap (λ (h : Hand E B). editions_from (done + 1 + 1) k.1 h) (editions_before 1 x.put [] ((done + 1, Edition (Some l.0)) ∷ []) ∙ editions_further 1 (done + 1) x.put l.0 [] (let c = x.put_count in omega arith));
       }
 
-  pub exchanged_items : (done : ℕ) (olds news items : List E) (hand : Hand E B) → length olds ≡ done → length news ≡ done → Exchanging done olds news items hand → items ≡ olds
-  exchanged_items done olds news items hand all fresh x =
-      let no_left : x.left ≡ [] = none_left x.left (let a = ap (λ (zs : List E). length zs) x.news_are in let b = count_both x.put x.left in let c = x.put_count in omega arith) in
-      let no_kept : x.kept ≡ [] = none_left x.kept (let a = ap (λ (zs : List E). length zs) x.olds_are in let b = count_both x.gone x.kept in let c = x.gone_count in omega arith) in
-      x.items_are ∙ ap (λ (zs : List E). x.gone ++ zs) (no_left ∙ sym no_kept) ∙ sym x.olds_are
-
-  pub exchanged_hand : (done : ℕ) (olds news items : List E) (hand : Hand E B) → length olds ≡ done → length news ≡ done → Exchanging done olds news items hand → hand ≡ editions_from 1 news []
-  exchanged_hand done olds news items hand all fresh x =
-      let no_left : x.left ≡ [] = none_left x.left (let a = ap (λ (zs : List E). length zs) x.news_are in let b = count_both x.put x.left in let c = x.put_count in omega arith) in
-      let no_kept : x.kept ≡ [] = none_left x.kept (let a = ap (λ (zs : List E). length zs) x.olds_are in let b = count_both x.gone x.kept in let c = x.gone_count in omega arith) in
-      let put_is : x.put ≡ news = sym (x.news_are ∙ ap (λ (zs : List E). x.put ++ zs) no_left ∙ append_nil x.put) in
-      x.hand_is ∙ ap (λ (es : List E). editions_from (done + 1) es (editions_from 1 x.put [])) no_kept ∙ ap (λ (es : List E). editions_from 1 es []) put_is
-
   -- the editions in a hand
-  abbrev collected : Hand E B → List E
-  collected [] = []
-  collected ((k, Edition (Some e)) ∷ h) = e ∷ collected h
-  collected (x ∷ h) = collected h
+  abbrev editions_in : Hand E B → List E
+  editions_in [] = []
+  editions_in ((k, Edition (Some e)) ∷ h) = e ∷ editions_in h
+  editions_in (x ∷ h) = editions_in h
 
   -- a hand of editions tells which they are
   pub same_editions : (from : ℕ) (es ds : List E) (xs : Hand E B) → xs ≡ editions_from from es [] → xs ≡ editions_from from ds [] → es ≡ ds
-  same_editions from es ds xs one other = sym (collects from es) ∙ ap (λ (h : Hand E B). collected h) (sym one ∙ other) ∙ collects from ds
+  same_editions from es ds xs one other = sym (collects from es) ∙ ap (λ (h : Hand E B). editions_in h) (sym one ∙ other) ∙ collects from ds
     where
-      collects : (from : ℕ) (es : List E) → collected (editions_from {E = E} {B = B} from es []) ≡ es
+      collects : (from : ℕ) (es : List E) → editions_in (editions_from {E = E} {B = B} from es []) ≡ es
       collects from [] = refl
       collects from (e ∷ es) = ap (λ (ds : List E). e ∷ ds) (collects (from + 1) es)

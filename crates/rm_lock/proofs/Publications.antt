@@ -3,18 +3,18 @@ use Rattle.std.proofs.Common.{◌≡◌, ◌≢◌, inr, ℕ, ◌+◌, ◌<◌, 
 use Rattle.std.specs.Prelude.{slice_get}
 use Rattle.std.proofs.lemmas.List.{length-replicate}
 use Rattle.atomic_table.specs.Table.{Me, rest, turned}
-use Rattle.rm_table.specs.declared.tried.Tried.{Tried}
-use Rattle.rm_table.specs.declared.tried.Tried.TheVariants.{Taken}
-use Rattle.rm_table.specs.declared.slot.Slot.{Slot}
-use Rattle.rm_table.specs.declared.slot.Slot.TheVariants.{Book}
+use Rattle.rm_table.specs.declared.lock_steps.Tried.{Tried}
+use Rattle.rm_table.specs.declared.lock_steps.Tried.TheVariants.{Taken}
+use Rattle.rm_table.specs.declared.padded_slot.Slot.{Slot}
+use Rattle.rm_table.specs.declared.padded_slot.Slot.TheVariants.{Book}
 use Rattle.rm_table.specs.declared.view.View.{View}
 use Rattle.rm_table.specs.Layout.{number_index, book_index, behind_index}
 use Rattle.rm_table.specs.Meanings.{Meanings}
-use Rattle.rm_table.specs.Moves.{Hand, noted, book_taken, book_given, behind_given, published, published_as, rest_from, editions_from, HasNext, HasBook, IsWorking, NoneRevoked, FoundBy}
-use Rattle.rm_table.specs.Answers.{TriedBook}
+use Rattle.rm_table.specs.Moves.{Hand, with_step, book_taken, book_given, behind_given, published_view, published_as, rest_from, editions_from, HasNext, HasBook, IsWorking, NoneRevoked, FoundBy}
+use Rattle.rm_table.specs.Answers.{AnswersBookTry}
 use Rattle.rm_table.proofs.Publishing.{flag_of-replicate}
 use Rattle.rm_table.proofs.Writes.{written_hand, published_of, has_written}
-use Rattle.rm_lock.specs.Calls.{AreNext, Publishes, wrote}
+use Rattle.rm_lock.specs.Calls.{AreNext, PublishesEditions, after_write}
 use Rattle.rm_lock.specs.Tokens.{IsAtRestBy}
 use Rattle.rm_lock.specs.Writes.{IsWriting}
 use Rattle.rm_lock.proofs.Hands.{editions_before, rest_behind}
@@ -28,35 +28,14 @@ first_there [] h = absurd (omega arith)
 first_there (x ∷ xs) h = (x, refl)
 
 module _ {E B T L I : Type 0} (m : Meanings E B T L I) where
-  -- the one try took the book
-  pub try_won : (me after : Me (Slot E B) (View E B T L I)) (tried : Tried) → tried ≡ Taken → TriedBook m me tried after → TriedBook m me Taken after
-  try_won me after tried is t = subst (λ (x : Tried). TriedBook m me x after) is t
-
-  pub book_there : (me after : Me (Slot E B) (View E B T L I)) (tried : Tried) → tried ≡ Taken → TriedBook m me tried after → (b : B) × (after.1 ≡ (0, Book (Some b)) ∷ rest after.1)
-  book_there me after tried is t = let d = try_won me after tried is t in (d.0, subst (λ (s : Me (Slot E B) (View E B T L I)). s.1 ≡ (0, Book (Some d.0)) ∷ rest s.1) (sym d.1) refl)
-
-  abbrev book_on : B → Hand E B → B
-  book_on b [] = b
-  book_on b ((k, Book (Some d)) ∷ h) = d
-  book_on b (x ∷ h) = b
-
-  -- the book that was taken out of its slot is the one that the try found there
-  pub taken_out : (me after new : Me (Slot E B) (View E B T L I)) (book : B) → TriedBook m me Taken after → after.1 ≡ (0, Book (Some book)) ∷ rest after.1 → new ≡ (after.0, (0, Book None) ∷ rest after.1)
-      → (new ≡ (noted (book_taken me.0 book) book_index 0, (0, Book None) ∷ me.1)) × FoundBy m me.0 book
-  taken_out me after new book t was now =
-      let same : book ≡ t.0 = ap (λ (h : Hand E B). book_on book h) (sym was ∙ ap (λ (s : Me (Slot E B) (View E B T L I)). s.1) t.1) in (
-        now ∙ ap (λ (s : Me (Slot E B) (View E B T L I)). (s.0, (0, Book None) ∷ rest s.1)) t.1 ∙ ap (λ (b : B). (noted (book_taken me.0 b) book_index 0, (0, Book None) ∷ me.1)) (sym same),
-        subst (λ (b : B). FoundBy m me.0 b) (sym same) t.2,
-      )
-
   -- the book, changed and in its slot again, lies behind the editions
-  pub book_behind : (s0 s1 s2 s3 : Me (Slot E B) (View E B T L I)) (editions : List E) (taken b : B) → s0.1 ≡ editions_from 1 editions [] → s1 ≡ (noted (book_taken s0.0 taken) book_index 0, (0, Book None) ∷ s0.1)
-      → s2 ≡ (s1.0, (0, Book (Some b)) ∷ rest s1.1) → s3 ≡ (s2.0, turned s2.1) → s3 ≡ (noted (book_taken s0.0 taken) book_index 0, editions_from 1 editions ((0, Book (Some b)) ∷ []))
+  book_behind : (s0 s1 s2 s3 : Me (Slot E B) (View E B T L I)) (editions : List E) (taken b : B) → s0.1 ≡ editions_from 1 editions [] → s1 ≡ (with_step (book_taken s0.0 taken) book_index 0, (0, Book None) ∷ s0.1)
+      → s2 ≡ (s1.0, (0, Book (Some b)) ∷ rest s1.1) → s3 ≡ (s2.0, turned s2.1) → s3 ≡ (with_step (book_taken s0.0 taken) book_index 0, editions_from 1 editions ((0, Book (Some b)) ∷ []))
   book_behind s0 s1 s2 s3 editions taken b e0 e1 e2 e3 =
-      written_hand s0 s1 s2 s3 (editions_from 1 editions []) b (noted (book_taken s0.0 taken) book_index 0) e0 e1 e2 e3
-      ∙ ap (λ (h : Hand E B). (noted (book_taken s0.0 taken) book_index 0, h)) (editions_before 1 editions [] ((0, Book (Some b)) ∷ []))
+      written_hand s0 s1 s2 s3 (editions_from 1 editions []) b (with_step (book_taken s0.0 taken) book_index 0) e0 e1 e2 e3
+      ∙ ap (λ (h : Hand E B). (with_step (book_taken s0.0 taken) book_index 0, h)) (editions_before 1 editions [] ((0, Book (Some b)) ∷ []))
 
-  pub next_ready : (s : Me (Slot E B) (View E B T L I)) (v : View E B T L I) (editions : List E) (facts : T) (others : Hand E B) → s ≡ (v, editions_from 1 editions others) → 0 < v.count → length editions ≡ v.count → AreNext m v.number editions facts → HasNext m s.0 s.1
+  next_ready : (s : Me (Slot E B) (View E B T L I)) (v : View E B T L I) (editions : List E) (facts : T) (others : Hand E B) → s ≡ (v, editions_from 1 editions others) → 0 < v.count → length editions ≡ v.count → AreNext m v.number editions facts → HasNext m s.0 s.1
   next_ready s v editions facts others is some count next =
       let f = first_there editions (omega arith) in
       subst (λ (z : Me (Slot E B) (View E B T L I)). HasNext m z.0 z.1) (sym is) (record {
@@ -70,13 +49,13 @@ module _ {E B T L I : Type 0} (m : Meanings E B T L I) where
       })
 
   -- the seat after the publication
-  pub has_published : (s new : Me (Slot E B) (View E B T L I)) (v : View E B T L I) (edition : E) (editions : List E) (facts : T) (b : B) (i x : ℕ) → s ≡ (v, editions_from 1 editions ((0, Book (Some b)) ∷ [])) → slice_get editions 0 ≡ Some edition → length editions ≡ v.count
-      → new ≡ (noted (published m s.0 s.1) i x, rest_from s.0.count s.1) → new ≡ (noted (published_as m v (m.name edition) (m.tag edition)) i x, (0, Book (Some b)) ∷ [])
+  has_published : (s new : Me (Slot E B) (View E B T L I)) (v : View E B T L I) (edition : E) (editions : List E) (facts : T) (b : B) (i x : ℕ) → s ≡ (v, editions_from 1 editions ((0, Book (Some b)) ∷ [])) → slice_get editions 0 ≡ Some edition → length editions ≡ v.count
+      → new ≡ (with_step (published_view m s.0 s.1) i x, rest_from s.0.count s.1) → new ≡ (with_step (published_as m v (m.name edition) (m.tag edition)) i x, (0, Book (Some b)) ∷ [])
   has_published s new v edition [] facts b i x is first count e = absurd cc
   has_published s new v edition (d ∷ editions) facts b i x is first count e =
       let same : d ≡ edition = cc in
       published_of m s v d b v.count (editions_from 2 editions ((0, Book (Some b)) ∷ [])) i x new is (rest_behind 1 v.count (d ∷ editions) ((0, Book (Some b)) ∷ []) count) refl e
-      ∙ ap (λ (n : E). (noted (published_as m v (m.name n) (m.tag n)) i x, (0, Book (Some b)) ∷ [])) same
+      ∙ ap (λ (n : E). (with_step (published_as m v (m.name n) (m.tag n)) i x, (0, Book (Some b)) ∷ [])) same
 
   -- the book was taken, has taken the facts in, and lies behind the editions
   pub record TakenIn (s0 s4 : Me (Slot E B) (View E B T L I)) (editions : List E) (facts : T) : Type 0 where
@@ -85,7 +64,7 @@ module _ {E B T L I : Type 0} (m : Meanings E B T L I) where
     pub next : AreNext m s0.0.number editions facts
     pub taken : B
     pub book : B
-    pub behind : s4 ≡ (noted (book_taken s0.0 taken) book_index 0, editions_from 1 editions ((0, Book (Some book)) ∷ []))
+    pub behind : s4 ≡ (with_step (book_taken s0.0 taken) book_index 0, editions_from 1 editions ((0, Book (Some book)) ∷ []))
     pub list_0 : m.of taken 0 ≡ s0.0.own
     pub number : m.book_number book ≡ s0.0.number + 1
     pub tag : m.book_tag book ≡ facts
@@ -94,7 +73,7 @@ module _ {E B T L I : Type 0} (m : Meanings E B T L I) where
 
   -- the book that was taken has the new facts, and lies behind the next editions
   pub taken_in : (s0 s1 s3 s4 : Me (Slot E B) (View E B T L I)) (editions : List E) (facts : T) (facts_number : ℕ) (taken book : B) → IsWriting s0.0 → length editions ≡ s0.0.count → s0.1 ≡ editions_from 1 editions [] → AreNext m s0.0.number editions facts → facts_number ≡ s0.0.number + 1
-      → (s1 ≡ (noted (book_taken s0.0 taken) book_index 0, (0, Book None) ∷ s0.1)) × FoundBy m s0.0 taken → m.book_number book ≡ facts_number → m.book_tag book ≡ facts → m.of book 0 ≡ m.of taken 0 ++ m.item facts ∷ [] → ((k : ℕ) → k ≢ 0 → m.of book k ≡ m.of taken k)
+      → (s1 ≡ (with_step (book_taken s0.0 taken) book_index 0, (0, Book None) ∷ s0.1)) × FoundBy m s0.0 taken → m.book_number book ≡ facts_number → m.book_tag book ≡ facts → m.of book 0 ≡ m.of taken 0 ++ m.item facts ∷ [] → ((k : ℕ) → k ≢ 0 → m.of book k ≡ m.of taken k)
       → s3 ≡ (s1.0, (0, Book (Some book)) ∷ rest s1.1) → s4 ≡ (s3.0, turned s3.1) → TakenIn s0 s4 editions facts
   taken_in s0 s1 s3 s4 editions facts facts_number taken book w count hand next facts_are t number tag item others e3 e4 = record {
     writing = w;
@@ -112,35 +91,35 @@ module _ {E B T L I : Type 0} (m : Meanings E B T L I) where
 
   -- with the next editions in its hand the operator may publish
   pub may_publish : (s0 s4 : Me (Slot E B) (View E B T L I)) (editions : List E) (facts : T) → TakenIn s0 s4 editions facts → HasNext m s4.0 s4.1
-  may_publish s0 s4 editions facts t = next_ready s4 (noted (book_taken s0.0 t.taken) book_index 0) editions facts ((0, Book (Some t.book)) ∷ []) t.behind t.writing.some t.count t.next
+  may_publish s0 s4 editions facts t = next_ready s4 (with_step (book_taken s0.0 t.taken) book_index 0) editions facts ((0, Book (Some t.book)) ∷ []) t.behind t.writing.some t.count t.next
 
   edition_there : (s0 s4 : Me (Slot E B) (View E B T L I)) (editions : List E) (facts : T) → TakenIn s0 s4 editions facts → (e : E) × (slice_get editions 0 ≡ Some e)
   edition_there s0 s4 editions facts t = first_there editions (let c = t.count in let some = t.writing.some in omega arith)
 
-  was_published : (s0 s4 s5 : Me (Slot E B) (View E B T L I)) (editions : List E) (facts : T) (t : TakenIn s0 s4 editions facts) → s5 ≡ (noted (published m s4.0 s4.1) number_index (s4.0.number + 1), rest_from s4.0.count s4.1)
-      → s5 ≡ (noted (published_as m (noted (book_taken s0.0 t.taken) book_index 0) (m.name (edition_there s0 s4 editions facts t).0) (m.tag (edition_there s0 s4 editions facts t).0)) number_index (s0.0.number + 1), (0, Book (Some t.book)) ∷ [])
+  was_published : (s0 s4 s5 : Me (Slot E B) (View E B T L I)) (editions : List E) (facts : T) (t : TakenIn s0 s4 editions facts) → s5 ≡ (with_step (published_view m s4.0 s4.1) number_index (s4.0.number + 1), rest_from s4.0.count s4.1)
+      → s5 ≡ (with_step (published_as m (with_step (book_taken s0.0 t.taken) book_index 0) (m.name (edition_there s0 s4 editions facts t).0) (m.tag (edition_there s0 s4 editions facts t).0)) number_index (s0.0.number + 1), (0, Book (Some t.book)) ∷ [])
   was_published s0 s4 s5 editions facts t e5 =
       let f = edition_there s0 s4 editions facts t in
-      let v = noted (book_taken s0.0 t.taken) book_index 0 in
+      let v = with_step (book_taken s0.0 t.taken) book_index 0 in
       has_published s4 s5 v f.0 editions facts t.book number_index (s4.0.number + 1) t.behind f.1 t.count e5
-      ∙ ap (λ (s : Me (Slot E B) (View E B T L I)). (noted (published_as m v (m.name f.0) (m.tag f.0)) number_index (s.0.number + 1), (0, Book (Some t.book)) ∷ [])) t.behind
+      ∙ ap (λ (s : Me (Slot E B) (View E B T L I)). (with_step (published_as m v (m.name f.0) (m.tag f.0)) number_index (s.0.number + 1), (0, Book (Some t.book)) ∷ [])) t.behind
 
   -- behind the publication the operator has the book on top, and may give it back
-  pub may_give : (s0 s4 s5 : Me (Slot E B) (View E B T L I)) (editions : List E) (facts : T) (t : TakenIn s0 s4 editions facts) → s5 ≡ (noted (published m s4.0 s4.1) number_index (s4.0.number + 1), rest_from s4.0.count s4.1) → HasBook m s5.0 s5.1
+  pub may_give : (s0 s4 s5 : Me (Slot E B) (View E B T L I)) (editions : List E) (facts : T) (t : TakenIn s0 s4 editions facts) → s5 ≡ (with_step (published_view m s4.0 s4.1) number_index (s4.0.number + 1), rest_from s4.0.count s4.1) → HasBook m s5.0 s5.1
   may_give s0 s4 s5 editions facts t e5 =
       let f = edition_there s0 s4 editions facts t in
       let tagged : m.tag f.0 ≡ facts = (t.next 0 0 f.0 f.0 f.1 f.1).1 in
-      has_written m (noted (book_taken s0.0 t.taken) book_index 0) f.0 t.taken t.book number_index (s0.0.number + 1) s5 (was_published s0 s4 s5 editions facts t e5) t.writing.operator.role refl t.writing.counts t.number (tagged ∙ sym t.tag) t.list_0
+      has_written m (with_step (book_taken s0.0 t.taken) book_index 0) f.0 t.taken t.book number_index (s0.0.number + 1) s5 (was_published s0 s4 s5 editions facts t e5) t.writing.operator.role refl t.writing.counts t.number (tagged ∙ sym t.tag) t.list_0
       (t.item ∙ ap (λ (g : T). m.of t.taken 0 ++ m.item g ∷ []) (sym tagged)) t.others
 
   -- the seat once the book is given back
-  after_give : (s0 s4 s5 s6 : Me (Slot E B) (View E B T L I)) (editions : List E) (facts : T) (t : TakenIn s0 s4 editions facts) → s5 ≡ (noted (published m s4.0 s4.1) number_index (s4.0.number + 1), rest_from s4.0.count s4.1)
-      → ((c : B) → s5.1 ≡ (0, Book (Some c)) ∷ rest s5.1 → s6 ≡ (noted (book_given m s5.0 c) book_index 0, rest s5.1))
-      → s6 ≡ (noted (book_given m (noted (published_as m (noted (book_taken s0.0 t.taken) book_index 0) (m.name (edition_there s0 s4 editions facts t).0) (m.tag (edition_there s0 s4 editions facts t).0)) number_index (s0.0.number + 1)) t.book) book_index 0, [])
+  after_give : (s0 s4 s5 s6 : Me (Slot E B) (View E B T L I)) (editions : List E) (facts : T) (t : TakenIn s0 s4 editions facts) → s5 ≡ (with_step (published_view m s4.0 s4.1) number_index (s4.0.number + 1), rest_from s4.0.count s4.1)
+      → ((c : B) → s5.1 ≡ (0, Book (Some c)) ∷ rest s5.1 → s6 ≡ (with_step (book_given m s5.0 c) book_index 0, rest s5.1))
+      → s6 ≡ (with_step (book_given m (with_step (published_as m (with_step (book_taken s0.0 t.taken) book_index 0) (m.name (edition_there s0 s4 editions facts t).0) (m.tag (edition_there s0 s4 editions facts t).0)) number_index (s0.0.number + 1)) t.book) book_index 0, [])
   after_give s0 s4 s5 s6 editions facts t e5 step =
       let e = was_published s0 s4 s5 editions facts t e5 in
       step t.book (subst (λ (s : Me (Slot E B) (View E B T L I)). s.1 ≡ (0, Book (Some t.book)) ∷ rest s.1) (sym e) refl)
-      ∙ ap (λ (s : Me (Slot E B) (View E B T L I)). (noted (book_given m s.0 t.book) book_index 0, rest s.1)) e
+      ∙ ap (λ (s : Me (Slot E B) (View E B T L I)). (with_step (book_given m s.0 t.book) book_index 0, rest s.1)) e
 
   -- what giving the lock behind back asks
   pub record MayGiveBack (v : View E B T L I) : Type 0 where
@@ -149,8 +128,8 @@ module _ {E B T L I : Type 0} (m : Meanings E B T L I) where
     pub unrevoked : NoneRevoked v
 
   -- behind the book the operator may give the lock behind back
-  pub may_give_back : (s0 s4 s5 s6 : Me (Slot E B) (View E B T L I)) (editions : List E) (facts : T) (t : TakenIn s0 s4 editions facts) → s5 ≡ (noted (published m s4.0 s4.1) number_index (s4.0.number + 1), rest_from s4.0.count s4.1)
-      → ((c : B) → s5.1 ≡ (0, Book (Some c)) ∷ rest s5.1 → s6 ≡ (noted (book_given m s5.0 c) book_index 0, rest s5.1)) → MayGiveBack s6.0
+  pub may_give_back : (s0 s4 s5 s6 : Me (Slot E B) (View E B T L I)) (editions : List E) (facts : T) (t : TakenIn s0 s4 editions facts) → s5 ≡ (with_step (published_view m s4.0 s4.1) number_index (s4.0.number + 1), rest_from s4.0.count s4.1)
+      → ((c : B) → s5.1 ≡ (0, Book (Some c)) ∷ rest s5.1 → s6 ≡ (with_step (book_given m s5.0 c) book_index 0, rest s5.1)) → MayGiveBack s6.0
   may_give_back s0 s4 s5 s6 editions facts t e5 step = subst (λ (s : Me (Slot E B) (View E B T L I)). MayGiveBack s.0) (sym (after_give s0 s4 s5 s6 editions facts t e5 step)) (record {
     working = inr (record { role = t.writing.operator.role; split = t.writing.operator.split });
     behind = t.writing.behind;
@@ -158,23 +137,23 @@ module _ {E B T L I : Type 0} (m : Meanings E B T L I) where
   })
 
   -- publishing, giving the book back and giving the lock behind back are one publication, and empty the hand
-  pub publishes : (s0 s4 s5 s6 s7 : Me (Slot E B) (View E B T L I)) (editions : List E) (facts : T) (t : TakenIn s0 s4 editions facts) → s5 ≡ (noted (published m s4.0 s4.1) number_index (s4.0.number + 1), rest_from s4.0.count s4.1)
-      → ((c : B) → s5.1 ≡ (0, Book (Some c)) ∷ rest s5.1 → s6 ≡ (noted (book_given m s5.0 c) book_index 0, rest s5.1)) → s7 ≡ (noted (behind_given s6.0) behind_index 0, s6.1) → (Publishes m s0.0 editions facts s7.0) × (s7.1 ≡ [])
+  pub publishes : (s0 s4 s5 s6 s7 : Me (Slot E B) (View E B T L I)) (editions : List E) (facts : T) (t : TakenIn s0 s4 editions facts) → s5 ≡ (with_step (published_view m s4.0 s4.1) number_index (s4.0.number + 1), rest_from s4.0.count s4.1)
+      → ((c : B) → s5.1 ≡ (0, Book (Some c)) ∷ rest s5.1 → s6 ≡ (with_step (book_given m s5.0 c) book_index 0, rest s5.1)) → s7 ≡ (with_step (behind_given s6.0) behind_index 0, s6.1) → (PublishesEditions m s0.0 editions facts s7.0) × (s7.1 ≡ [])
   publishes s0 s4 s5 s6 s7 editions facts t e5 step e7 =
       let f = edition_there s0 s4 editions facts t in
       let tagged : m.tag f.0 ≡ facts = (t.next 0 0 f.0 f.0 f.1 f.1).1 in
-      let is : s7 ≡ (wrote m s0.0 t.taken (m.name f.0) facts t.book, []) =
-      e7 ∙ ap (λ (s : Me (Slot E B) (View E B T L I)). (noted (behind_given s.0) behind_index 0, s.1)) (after_give s0 s4 s5 s6 editions facts t e5 step)
-      ∙ ap (λ (g : T). (wrote m s0.0 t.taken (m.name f.0) g t.book, [])) tagged in (
+      let is : s7 ≡ (after_write m s0.0 t.taken (m.name f.0) facts t.book, []) =
+      e7 ∙ ap (λ (s : Me (Slot E B) (View E B T L I)). (with_step (behind_given s.0) behind_index 0, s.1)) (after_give s0 s4 s5 s6 editions facts t e5 step)
+      ∙ ap (λ (g : T). (after_write m s0.0 t.taken (m.name f.0) g t.book, [])) tagged in (
         record { edition = f.0; first = f.1; taken = t.taken; book = t.book; after_is = ap (λ (s : Me (Slot E B) (View E B T L I)). s.0) is },
         ap (λ (s : Me (Slot E B) (View E B T L I)). s.1) is,
       )
 
   -- the operator is at rest again
-  pub rests_again : (before after : View E B T L I) (hand : Hand E B) (editions : List E) (facts : T) (processors number : ℕ) → processors ≤ 64 → before.count ≡ processors → before.number ≡ number → IsWriting before → Publishes m before editions facts after → hand ≡ []
+  pub rests_again : (before after : View E B T L I) (hand : Hand E B) (editions : List E) (facts : T) (processors number : ℕ) → processors ≤ 64 → before.count ≡ processors → before.number ≡ number → IsWriting before → PublishesEditions m before editions facts after → hand ≡ []
       → IsAtRestBy processors (number + 1) after hand
   rests_again before after hand editions facts processors number few count is w p empty =
-      let v = wrote m before p.taken (m.name p.edition) facts p.book in
+      let v = after_write m before p.taken (m.name p.edition) facts p.book in
       subst (λ (z : View E B T L I). IsAtRestBy processors (number + 1) z hand) (sym p.after_is) (record {
         at_rest = record {
           operator = record { role = w.operator.role; split = w.operator.split };

@@ -2,17 +2,17 @@
 use Rattle.std.proofs.Common.{◌≡◌, ℕ, ◌+◌, ◌-◌, ◌<◌, ◌≤◌, Option, List, [], ◌∷◌, ◌++◌, refl, sym, ◌∙◌, ap, subst, arith}
 use Rattle.atomic_table.specs.Table.{Me}
 use Rattle.atomic_table.specs.Seated.{TableId}
-use Rattle.rm_table.specs.declared.slot.Slot.{Slot}
+use Rattle.rm_table.specs.declared.padded_slot.Slot.{Slot}
 use Rattle.rm_table.specs.declared.view.View.{View}
 use Rattle.rm_table.specs.declared.part.Part.{Part}
 use Rattle.rm_table.specs.Meanings.{Meanings, values_from}
-use Rattle.rm_table.specs.Moves.{kept_at, split_off, right_of, processor_view, IsKept}
+use Rattle.rm_table.specs.Moves.{kept_at, split_off, right_of, processor_view, KeepsPart}
 use Rattle.rm_table.specs.Ends.{first_part, first_view}
 use Rattle.rm_table.specs.Rests.{IsOpening, IsAtRest}
 use Rattle.rm_table.proofs.Base.{pushed_values}
 use Rattle.rm_table.proofs.Resting.{opening_after, opening_ends, opens_first}
-use Rattle.rm_lock.specs.Tokens.{TokenState, greatest_number, IsOutBy, IsAtRestBy}
-use Rattle.rm_lock.specs.Ends.{unkept, new_token, OpensAs}
+use Rattle.rm_lock.specs.Tokens.{TokenState, greatest_pair_number, IsOutBy, IsAtRestBy}
+use Rattle.rm_lock.specs.Ends.{unkept_view, new_token, OpensAs}
 
 -- a place that isn't past the processors' count is within it as the seat knows it
 pub may_count : (place count now before : ℕ) → place < count + 1 → now ≡ before → before ≡ count → place ≤ now
@@ -22,14 +22,11 @@ module _ {E B T L I : Type 0} where
   -- since `old`, the seats of the places below `next` were split off, and these are their tokens
   pub record Splitting (next : ℕ) (table : TableId) (parts : ℕ → Part E L I) (old s : Me (Slot E B) (View E B T L I)) (tokens : List (TokenState E B T L I)) : Type 0 where
     pub opening : IsOpening next parts s.0 s.1
-    pub same : unkept s.0 ≡ unkept old.0
+    pub same : unkept_view s.0 ≡ unkept_view old.0
     pub tokens_are : tokens ≡ values_from (new_token table old.0 parts) 1 (next - 1)
 
-  pub splitting_none : (table : TableId) (parts : ℕ → Part E L I) (old : Me (Slot E B) (View E B T L I)) → IsOpening 1 parts old.0 old.1 → Splitting 1 table parts old old []
-  splitting_none table parts old o = record { opening = o; same = refl; tokens_are = refl }
-
   -- the seat of the next place is there to be split off
-  pub may_be_split : (next : ℕ) (table : TableId) (parts : ℕ → Part E L I) (old s : Me (Slot E B) (View E B T L I)) (tokens : List (TokenState E B T L I)) → next ≤ s.0.count → Splitting next table parts old s tokens → IsKept s.0 next
+  pub may_be_split : (next : ℕ) (table : TableId) (parts : ℕ → Part E L I) (old s : Me (Slot E B) (View E B T L I)) (tokens : List (TokenState E B T L I)) → next ≤ s.0.count → Splitting next table parts old s tokens → KeepsPart s.0 next
   may_be_split next table parts old s tokens within p = (parts next, p.opening.kept next (omega arith) within)
 
   -- the seat that was split off
@@ -39,14 +36,14 @@ module _ {E B T L I : Type 0} where
   -- a seat that was split off is out, and has been told of no number
   pub new_is_out : (next number : ℕ) (parts : ℕ → Part E L I) (s seat : Me (Slot E B) (View E B T L I)) → seat ≡ (right_of s.0 next (kept_at s.0 next), []) → next ≤ s.0.count → (parts next).held ≡ number → (parts next).pairs ≡ [] → IsOpening next parts s.0 s.1 → IsOutBy next number 0 seat.0 seat.1
   new_is_out next number parts s seat is within held unseen o = subst (λ (z : Me (Slot E B) (View E B T L I)). IsOutBy next number 0 z.0 z.1) (sym (split_seat_is next parts s seat is within o))
-      (record { idle = record { processor = refl; out = refl; unheld = refl; bookless = refl; empty_hand = refl }; place_is = refl; number_is = held; told_is = ap (λ (pairs : List (ℕ × L)). greatest_number pairs) unseen })
+      (record { idle = record { processor = refl; out = refl; unheld = refl; bookless = refl; empty_hand = refl }; place_is = refl; number_is = held; told_is = ap (λ (pairs : List (ℕ × L)). greatest_pair_number pairs) unseen })
 
   -- one more
   pub splitting_one : (next : ℕ) (table at : TableId) (parts : ℕ → Part E L I) (old s new seat : Me (Slot E B) (View E B T L I)) (tokens : List (TokenState E B T L I)) → 0 < next → next ≤ s.0.count → at ≡ table → new ≡ (split_off s.0 next, s.1) → seat ≡ (right_of s.0 next (kept_at s.0 next), [])
       → Splitting next table parts old s tokens → Splitting (next + 1) table parts old new (tokens ++ record { table_id = at; view = seat.0 } ∷ [])
   splitting_one next table at parts old s new seat tokens low high here is split p = record {
     opening = opening_after next parts s new is low high p.opening;
-    same = ap (λ (z : Me (Slot E B) (View E B T L I)). unkept z.0) is ∙ p.same;
+    same = ap (λ (z : Me (Slot E B) (View E B T L I)). unkept_view z.0) is ∙ p.same;
     tokens_are = pushed_values (new_token table old.0 parts) tokens next (record { table_id = at; view = seat.0 }) low p.tokens_are
         (ap (λ (t : TableId). record { table_id = t; view = seat.0 }) here
         ∙ ap (λ (z : Me (Slot E B) (View E B T L I)). record { table_id = table; view = z.0 }) (split_seat_is next parts s seat split high p.opening)
@@ -67,7 +64,7 @@ module _ {E B T L I : Type 0} where
     first_opening n edition book me some is = subst (λ (s : Me (Slot E B) (View E B T L I)). IsOpening 1 (first_part m book) s.0 s.1) (sym is) (opens_first m n edition book some)
 
     -- the operator of a new lock is between two writes, at the book's number
-    pub first_at_rest : (n processors : ℕ) (edition : E) (book : B) (v : View E B T L I) (hand : List (ℕ × Slot E B)) (number : ℕ) → n ≡ processors → processors ≤ 64 → m.book_number book ≡ number → IsAtRest v hand → unkept v ≡ unkept (first_view m n edition book) → IsAtRestBy processors number v hand
+    pub first_at_rest : (n processors : ℕ) (edition : E) (book : B) (v : View E B T L I) (hand : List (ℕ × Slot E B)) (number : ℕ) → n ≡ processors → processors ≤ 64 → m.book_number book ≡ number → IsAtRest v hand → unkept_view v ≡ unkept_view (first_view m n edition book) → IsAtRestBy processors number v hand
     first_at_rest n processors edition book v hand number all few is rests same = record {
       at_rest = rests;
       begun = let first : v.opened ≡ m.book_number book = ap (λ (w : View E B T L I). w.opened) same in let now : v.number ≡ m.book_number book = ap (λ (w : View E B T L I). w.number) same in omega arith;
@@ -77,10 +74,10 @@ module _ {E B T L I : Type 0} where
     }
 
     -- a new lock has a token for each processor in order, and the operator's
-    pub opens_as : (n : ℕ) (edition : E) (book : B) (table at : TableId) (me : Me (Slot E B) (View E B T L I)) (v : View E B T L I) (tokens : List (TokenState E B T L I)) → (processors : ℕ) → processors ≡ n → me ≡ (first_view m n edition book, []) → at ≡ table → unkept v ≡ unkept me.0
+    pub opens_as : (n : ℕ) (edition : E) (book : B) (table at : TableId) (me : Me (Slot E B) (View E B T L I)) (v : View E B T L I) (tokens : List (TokenState E B T L I)) → (processors : ℕ) → processors ≡ n → me ≡ (first_view m n edition book, []) → at ≡ table → unkept_view v ≡ unkept_view me.0
         → tokens ≡ values_from (new_token table me.0 (first_part m book)) 1 processors → OpensAs m n edition book table tokens (record { table_id = at; view = v })
     opens_as n edition book table at me v tokens processors all is here same tokens_are = record {
       processors = tokens_are ∙ ap (λ (k : ℕ). values_from (new_token table me.0 (first_part m book)) 1 k) all ∙ ap (λ (s : Me (Slot E B) (View E B T L I)). values_from (new_token table s.0 (first_part m book)) 1 n) is;
       lock = here;
-      knows = same ∙ ap (λ (s : Me (Slot E B) (View E B T L I)). unkept s.0) is;
+      knows = same ∙ ap (λ (s : Me (Slot E B) (View E B T L I)). unkept_view s.0) is;
     }

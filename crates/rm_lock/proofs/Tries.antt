@@ -2,18 +2,18 @@
 use Rattle.std.proofs.Common.{◌≡◌, inl, inr, ℕ, ◌≤◌, Option, Some, None, List, [], ◌∷◌, refl, sym, ◌∙◌, ap, subst}
 use Rattle.atomic_table.specs.Table.{Me, rest}
 use Rattle.atomic_table.specs.Seated.{TableId}
-use Rattle.rm_core.specs.declared.heard.Heard.TheVariants.{Drained}
-use Rattle.rm_table.specs.declared.role.Role.TheVariants.{Processor}
-use Rattle.rm_table.specs.declared.slot.Slot.{Slot}
-use Rattle.rm_table.specs.declared.slot.Slot.TheVariants.{Edition, Book}
-use Rattle.rm_table.specs.declared.tried.Tried.TheVariants.{Taken}
+use Rattle.rm_core.specs.declared.event.Heard.TheVariants.{Drained}
+use Rattle.rm_table.specs.declared.view.Role.TheVariants.{Processor}
+use Rattle.rm_table.specs.declared.padded_slot.Slot.{Slot}
+use Rattle.rm_table.specs.declared.padded_slot.Slot.TheVariants.{Edition, Book}
+use Rattle.rm_table.specs.declared.lock_steps.Tried.TheVariants.{Taken}
 use Rattle.rm_table.specs.declared.view.View.{View}
 use Rattle.rm_table.specs.Layout.{number_index, behind_index, tracker_index, token_index}
 use Rattle.rm_table.specs.Meanings.{Meanings}
-use Rattle.rm_table.specs.Moves.{Hand, noted, drained, behind_taken, behind_given, number_read, regained, SeenUpTo, IsOperator, IsWorking, IsLast, FoundBy}
-use Rattle.rm_table.specs.Answers.{Looked, NumberRead, Regained, TriedBook}
+use Rattle.rm_table.specs.Moves.{Hand, with_step, drained_view, behind_taken, behind_given, number_read, regained_view, SeenUpTo, IsOperator, IsWorking, IsLast, FoundBy}
+use Rattle.rm_table.specs.Answers.{AnswersDrain, AnswersNumberRead, AnswersRegain, AnswersBookTry}
 use Rattle.rm_lock.specs.Tokens.{TokenState, IsInBy}
-use Rattle.rm_lock.specs.Calls.{waited, took_behind, took_book, Regains, TakesBook, FoundOut}
+use Rattle.rm_lock.specs.Calls.{waited_view, after_taking_behind, after_taking_book, Regains, TakesBook, WaitsForProcessor}
 
 module _ {E B : Type 0} where
   -- the book on top of the hand
@@ -25,57 +25,43 @@ module _ {E B : Type 0} where
 module _ {E B T L I : Type 0} where
   -- since `old`, the seat has only looked at that word
   abbrev pub Waiting : ℕ → Me (Slot E B) (View E B T L I) → Me (Slot E B) (View E B T L I) → Type 0
-  Waiting i old s = (others : List ℕ) × (s ≡ (waited old.0 i others, old.1))
-
-  pub waiting_now : (i : ℕ) (old : Me (Slot E B) (View E B T L I)) → Waiting i old old
-  waiting_now i old = ([], refl)
+  Waiting i old s = (others : List ℕ) × (s ≡ (waited_view old.0 i others, old.1))
 
   -- one more look
-  pub waits_on : (i h : ℕ) (old s new : Me (Slot E B) (View E B T L I)) → Waiting i old s → new ≡ (noted s.0 i h, s.1) → Waiting i old new
-  waits_on i h old s new w e = (h ∷ w.0, e ∙ ap (λ (z : Me (Slot E B) (View E B T L I)). (noted z.0 i h, z.1)) w.1)
+  pub waits_on : (i h : ℕ) (old s new : Me (Slot E B) (View E B T L I)) → Waiting i old s → new ≡ (with_step s.0 i h, s.1) → Waiting i old new
+  waits_on i h old s new w e = (h ∷ w.0, e ∙ ap (λ (z : Me (Slot E B) (View E B T L I)). (with_step z.0 i h, z.1)) w.1)
 
-  operator_on : (i h : ℕ) (v : View E B T L I) → IsOperator v → IsOperator (noted v i h)
+  operator_on : (i h : ℕ) (v : View E B T L I) → IsOperator v → IsOperator (with_step v i h)
   operator_on i h v o = record { role = o.role; split = o.split }
 
-  working_on : (i h : ℕ) (v : View E B T L I) → IsWorking v → IsWorking (noted v i h)
+  working_on : (i h : ℕ) (v : View E B T L I) → IsWorking v → IsWorking (with_step v i h)
   working_on i h v (inl p) = inl p
   working_on i h v (inr o) = inr (operator_on i h v o)
 
   -- after a look at a word a seat that was at work still is
-  pub works_on : (i h : ℕ) (s new : Me (Slot E B) (View E B T L I)) → IsWorking s.0 → new ≡ (noted s.0 i h, s.1) → IsWorking new.0
+  pub works_on : (i h : ℕ) (s new : Me (Slot E B) (View E B T L I)) → IsWorking s.0 → new ≡ (with_step s.0 i h, s.1) → IsWorking new.0
   works_on i h s new w e = subst (λ (z : Me (Slot E B) (View E B T L I)). IsWorking z.0) (sym e) (working_on i h s.0 w)
 
   -- after a look at a word the operator is the operator still
-  pub operates_on : (i h : ℕ) (s new : Me (Slot E B) (View E B T L I)) → IsOperator s.0 → new ≡ (noted s.0 i h, s.1) → IsOperator new.0
+  pub operates_on : (i h : ℕ) (s new : Me (Slot E B) (View E B T L I)) → IsOperator s.0 → new ≡ (with_step s.0 i h, s.1) → IsOperator new.0
   operates_on i h s new w e = subst (λ (z : Me (Slot E B) (View E B T L I)). IsOperator z.0) (sym e) (operator_on i h s.0 w)
 
   module _ (m : Meanings E B T L I) where
-    -- the look that found the processor out
-    pub look_won : (old me after : Me (Slot E B) (View E B T L I)) (place : ℕ) → Waiting (tracker_index place) old me → Looked m me place Drained after → FoundOut m old place after
-    look_won old me after place w l = (
-      w.0,
-      l.0,
-      l.1,
-      l.3 ∙ ap (λ (z : Me (Slot E B) (View E B T L I)). (noted (drained z.0 place) (tracker_index place) l.0, (place, Edition (Some l.1)) ∷ z.1)) w.1,
-      l.4 ∙ ap (λ (z : Me (Slot E B) (View E B T L I)). z.0.number) w.1,
-      subst (λ (z : Me (Slot E B) (View E B T L I)). IsLast z.0 (m.name l.1) (m.tag l.1)) w.1 l.5,
-    )
-
     -- One try that took the lock behind: the token is back.
-    pub regains_at_once : (token : TokenState E B T L I) (table : TableId) (s0 s1 s2 s3 s4 : Me (Slot E B) (View E B T L I)) (number : ℕ) → record { table_id = table; view = s0.0 } ≡ token → s0.0.role ≡ Processor → s1 ≡ (noted (behind_taken s0.0) behind_index 0, s0.1)
-        → NumberRead m s1 number s2 → Regained m s2 s3 → s4 ≡ (noted (behind_given s3.0) behind_index 0, s3.1) → (r : Regains token.view s4.0) × (r.others ≡ [])
+    pub regains_at_once : (token : TokenState E B T L I) (table : TableId) (s0 s1 s2 s3 s4 : Me (Slot E B) (View E B T L I)) (number : ℕ) → record { table_id = table; view = s0.0 } ≡ token → s0.0.role ≡ Processor → s1 ≡ (with_step (behind_taken s0.0) behind_index 0, s0.1)
+        → AnswersNumberRead m s1 number s2 → AnswersRegain m s2 s3 → s4 ≡ (with_step (behind_given s3.0) behind_index 0, s3.1) → (r : Regains token.view s4.0) × (r.others ≡ [])
     regains_at_once token table s0 s1 s2 s3 s4 number is role taken n step given =
-        let read : s2 ≡ (noted (number_read (took_behind s0.0 []) number) number_index number, s0.1) = n.step ∙ ap (λ (s : Me (Slot E B) (View E B T L I)). (noted (number_read s.0 number) number_index number, s.1)) taken in
+        let read : s2 ≡ (with_step (number_read (after_taking_behind s0.0 []) number) number_index number, s0.1) = n.step ∙ ap (λ (s : Me (Slot E B) (View E B T L I)). (with_step (number_read s.0 number) number_index number, s.1)) taken in
         let got = step number (ap (λ (s : Me (Slot E B) (View E B T L I)). s.0.part.read) read) in
-        let back : s3 ≡ (noted (regained s2.0 number) (token_index s2.0.count s2.0.place) 0, s2.1) = got.0 in
+        let back : s3 ≡ (with_step (regained_view s2.0 number) (token_index s2.0.count s2.0.place) 0, s2.1) = got.0 in
         let processor : s1.0.role ≡ Processor = ap (λ (s : Me (Slot E B) (View E B T L I)). s.0.role) taken ∙ role in
         let regains : Regains s0.0 s4.0 = record {
           others = [];
           number = number;
           after_is =
               ap (λ (s : Me (Slot E B) (View E B T L I)). s.0) given
-              ∙ ap (λ (s : Me (Slot E B) (View E B T L I)). noted (behind_given s.0) behind_index 0) back
-              ∙ ap (λ (s : Me (Slot E B) (View E B T L I)). noted (behind_given (noted (regained s.0 number) (token_index s.0.count s.0.place) 0)) behind_index 0) read;
+              ∙ ap (λ (s : Me (Slot E B) (View E B T L I)). with_step (behind_given s.0) behind_index 0) back
+              ∙ ap (λ (s : Me (Slot E B) (View E B T L I)). with_step (behind_given (with_step (regained_view s.0 number) (token_index s.0.count s.0.place) 0)) behind_index 0) read;
           refusals = λ t standing. got.1 t (ap (λ (s : Me (Slot E B) (View E B T L I)). s.0.part.refusal) read ∙ standing);
           held = subst (λ (s : Me (Slot E B) (View E B T L I)). s.0.part.held ≤ number) taken (n.processor processor);
           seen = subst (λ (s : Me (Slot E B) (View E B T L I)). SeenUpTo s.0.part number) taken (n.seen processor);
@@ -84,14 +70,14 @@ module _ {E B T L I : Type 0} where
 
     -- One try that took the book.
     pub takes_book_at_once : (token : TokenState E B T L I) (table : TableId) (s0 s1 s2 : Me (Slot E B) (View E B T L I)) (book : B) (place : ℕ) (edition : E) → record { table_id = table; view = s0.0 } ≡ token → IsInBy m.number place edition s0.0 s0.1
-        → TriedBook m s0 Taken s1 → s1.1 ≡ (0, Book (Some book)) ∷ rest s1.1 → s2 ≡ (s1.0, (0, Book None) ∷ rest s1.1) → (t : TakesBook m token.view s2.0 book) × (t.others ≡ [])
+        → AnswersBookTry m s0 Taken s1 → s1.1 ≡ (0, Book (Some book)) ∷ rest s1.1 → s2 ≡ (s1.0, (0, Book None) ∷ rest s1.1) → (t : TakesBook m token.view s2.0 book) × (t.others ≡ [])
     takes_book_at_once token table s0 s1 s2 book place edition is i step was now =
         let same : step.0 ≡ book = ap (λ (h : Hand E B). book_on_top book h) (sym (ap (λ (s : Me (Slot E B) (View E B T L I)). s.1) step.1) ∙ was) in
         let found : FoundBy m s0.0 book = subst (λ (b : B). FoundBy m s0.0 b) same step.2 in
         let read = found.edition i.processor in
         let takes : TakesBook m s0.0 s2.0 book = record {
           others = [];
-          after_is = ap (λ (s : Me (Slot E B) (View E B T L I)). s.0) now ∙ ap (λ (s : Me (Slot E B) (View E B T L I)). s.0) step.1 ∙ ap (λ (b : B). took_book s0.0 [] b) same;
+          after_is = ap (λ (s : Me (Slot E B) (View E B T L I)). s.0) now ∙ ap (λ (s : Me (Slot E B) (View E B T L I)). s.0) step.1 ∙ ap (λ (b : B). after_taking_book s0.0 [] b) same;
           number = read.2 ∙ ap (λ (o : Option E). number_of o) (sym read.1 ∙ i.reading) ∙ i.number_is;
           edition = read.0;
           reading = read.1;

@@ -10,8 +10,8 @@ use Rattle.rm_lock.specs.Tokens.{TokenState}
 
 module _ {E B T L I : Type 0} where
   -- what the operator knows, but for the parts that it keeps of processors
-  abbrev pub unkept : View E B T L I → View E B T L I
-  unkept v = record v { closing = false; kept = [] }
+  abbrev pub unkept_view : View E B T L I → View E B T L I
+  unkept_view v = record v { closing = false; kept = [] }
 
   -- the token of the processor at that place, of which the operator's seat keeps this part
   abbrev pub new_token : TableId → View E B T L I → (ℕ → Part E L I) → ℕ → TokenState E B T L I
@@ -33,7 +33,7 @@ module _ {E B T L I : Type 0} where
     pub record OpensAs (n : ℕ) (edition : E) (book : B) (table : TableId) (tokens : List (TokenState E B T L I)) (operator : TokenState E B T L I) : Type 0 where
       pub processors : tokens ≡ values_from (first_token table n edition book) 1 n
       pub lock : operator.table_id ≡ table
-      pub knows : unkept operator.view ≡ unkept (first_view m n edition book)
+      pub knows : unkept_view operator.view ≡ unkept_view (first_view m n edition book)
 
     -- What is so of one processor at the end: its tracker is twice its sections, its list is in the book, which at the opening began the operator's,
     -- and its number, its refusal, and every pair of number and name that it saw are of publications.

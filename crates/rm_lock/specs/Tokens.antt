@@ -1,18 +1,18 @@
 -- What contracts see of a lock's tokens, and where the seat of each stands.
 use Rattle.std.specs.Prelude.{◌≡◌, ℕ, ◌+◌, ◌-◌, ◌^◌, ◌<◌, ◌≤◌, max, true, false, IsSome, Some, None, List, [], ◌∷◌, length, slice_get}
 use Rattle.atomic_table.specs.Seated.{TableId}
-use Rattle.rm_core.specs.declared.phase.Phase.TheVariants.{In}
-use Rattle.rm_table.specs.declared.role.Role.TheVariants.{Processor}
-use Rattle.rm_table.specs.declared.slot.Slot.TheVariants.{Edition, Book}
+use Rattle.rm_core.specs.declared.processor_state.Phase.TheVariants.{In}
+use Rattle.rm_table.specs.declared.view.Role.TheVariants.{Processor}
+use Rattle.rm_table.specs.declared.padded_slot.Slot.TheVariants.{Edition, Book}
 use Rattle.rm_table.specs.declared.view.View.{View}
 use Rattle.rm_table.specs.Meanings.{Meanings}
 use Rattle.rm_table.specs.Moves.{Hand, IsOperator, IsLast, AllRevoked, AllDrained, editions_from}
 use Rattle.rm_table.specs.Rests.{IsIdle, IsReceipt, IsAtRest}
 
 -- the greatest number among these pairs of number and name, 0 where there is none
-abbrev pub greatest_number : {L : Type 0} → List (ℕ × L) → ℕ
-greatest_number [] = 0
-greatest_number (pair ∷ pairs) = max pair.0 (greatest_number pairs)
+abbrev pub greatest_pair_number : {L : Type 0} → List (ℕ × L) → ℕ
+greatest_pair_number [] = 0
+greatest_pair_number (pair ∷ pairs) = max pair.0 (greatest_pair_number pairs)
 
 -- A token: its lock's table, and what it knows.
 pub record TokenState (E B T L I : Type 0) : Type 0 where
@@ -32,7 +32,7 @@ module _ {E B T L I : Type 0} where
 
   -- the greatest number among the pairs that the processor has seen, which its checks found or a receipt told it of
   abbrev pub told_number : View E B T L I → ℕ
-  told_number v = greatest_number v.part.pairs
+  told_number v = greatest_pair_number v.part.pairs
 
   -- a processor between two sections, that last held or regained this number, and was told of that one
   pub record IsOutBy (place number told : ℕ) (v : View E B T L I) (hand : Hand E B) : Type 0 where

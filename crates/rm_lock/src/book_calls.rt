@@ -1,6 +1,6 @@
 ghost use Rattle.std.specs.Prelude.{◌≡◌, Some};
 ghost use Rattle.rm_table.specs.Meanings.{meanings};
-ghost use Rattle.rm_lock.specs.Calls.{TakesBook, TriesToTakeBook, OpensBook, IsAsTaken, IsAsFound, gave_book};
+ghost use Rattle.rm_lock.specs.Calls.{TakesBook, TriesToTakeBook, OpensBook, IsAsTaken, IsAsFound, after_giving_book};
 
 use crate::slots::{put_book, take_out_book};
 use crate::{Busy, Holding, Keeping, Operator, Reading, RmLock, waits};
@@ -75,7 +75,7 @@ impl<E: Numbered<Tag = B::Facts>, B: Kept> RmLock<E, B> {
             h.book }
         ensures lock { result.table_id ≡ self.now }
         ensures given { result.view
-            ≡ gave_book (meanings E.number E.tag E.name B.number B.tag B.ready B.of B.facts_item)
+            ≡ after_giving_book (meanings E.number E.tag E.name B.number B.tag B.ready B.of B.facts_item)
             h.view h.book }
     {
         let Holding {
@@ -126,7 +126,7 @@ impl<E: Numbered<Tag = B::Facts>, B: Kept> RmLock<E, B> {
             k.book }
         ensures lock { result.table_id ≡ self.now }
         ensures given { result.view
-            ≡ gave_book (meanings E.number E.tag E.name B.number B.tag B.ready B.of B.facts_item)
+            ≡ after_giving_book (meanings E.number E.tag E.name B.number B.tag B.ready B.of B.facts_item)
             k.view k.book }
     {
         let Keeping {

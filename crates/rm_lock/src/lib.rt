@@ -1,22 +1,19 @@
 //! A read-mostly lock, rmlock(9), over numbered editions and a book.
 #![tactic(auto)]
 
-pub use busy::Busy;
-pub use entry::Entry;
 pub use holding::Holding;
 pub use keeping::Keeping;
 pub use lock::{Opened, RmLock};
 pub use operator::Operator;
 pub use processor::Processor;
+pub use reader_calls::{Busy, Entry};
 pub use reading::Reading;
 pub use receipt::Receipt;
 pub use rm_table::Closed;
 pub use writing::Writing;
 
 mod book_calls;
-mod busy;
 mod closing;
-mod entry;
 mod holding;
 mod keeping;
 mod lock;

@@ -1,9 +1,9 @@
 ghost use Rattle.std.specs.Prelude.{◌≡◌, ℕ, ◌+◌, ◌<◌, ◌≤◌, [], Some, IfOk, vec_len, slice_get};
 ghost use Rattle.rm_table.specs.declared.part.Part.{Part};
 ghost use Rattle.rm_table.specs.Meanings.{meanings, values_from};
-ghost use Rattle.rm_table.specs.Ends.{Opens};
+ghost use Rattle.rm_table.specs.Ends.{OpensTable};
 ghost use Rattle.rm_table.specs.Rests.{IsOpening, IsAtRest};
-ghost use Rattle.rm_lock.specs.Ends.{OpensAs, unkept, new_token};
+ghost use Rattle.rm_lock.specs.Ends.{OpensAs, unkept_view, new_token};
 
 use crate::{Opened, Operator, Processor, RmLock};
 use fw_base::{Kept, Numbered, OutOfMemory};
@@ -26,7 +26,7 @@ fn split_all<E: Numbered<Tag = B::Facts>, B: Kept>(
         × ((k : ℕ) → ((parts k).held ≡ number) × ((parts k).pairs ≡ [])) }
     ensures table { seat.new.table_id ≡ seat.old.table_id }
     ensures at_rest { IfOk result (λ _. IsAtRest seat.new.me.0 seat.new.me.1) }
-    ensures same { IfOk result (λ _. unkept seat.new.me.0 ≡ unkept seat.old.me.0) }
+    ensures same { IfOk result (λ _. unkept_view seat.new.me.0 ≡ unkept_view seat.old.me.0) }
     ensures tokens { IfOk result (λ ps. (parts : ℕ → Part E E.Label B.Item)
         → IsOpening 1 parts seat.old.me.0 seat.old.me.1
         → ps.items ≡ values_from (new_token table.now seat.old.me.0 parts) 1 processors) }
@@ -50,7 +50,7 @@ impl<E: Numbered<Tag = B::Facts>, B: Kept> RmLock<E, B> {
     pub fn open(alloc: Global, editions: Vec<E>, book: B) -> Result<Opened<E, B>, OutOfMemory>
         requires most { vec_len editions ≤ 64 }
         requires opens { (edition : E) × (slice_get editions.items 0 ≡ Some edition)
-            × Opens (meanings E.number E.tag E.name B.number B.tag B.ready B.of B.facts_item)
+            × OpensTable (meanings E.number E.tag E.name B.number B.tag B.ready B.of B.facts_item)
             editions.items edition book }
         ensures opened { IfOk result (λ o. (edition : E) → slice_get editions.items 0 ≡ Some edition
             → OpensAs (meanings E.number E.tag E.name B.number B.tag B.ready B.of B.facts_item)

@@ -1,11 +1,11 @@
 ghost use Rattle.std.specs.Prelude.{◌≡◌, ℕ, ◌+◌, ◌-◌, ◌^◌, ◌<◌, ◌≤◌, true, false, Some, None, List, [], ◌∷◌, ◌++◌, length, vec_len, slice_get};
 ghost use Rattle.atomic_table.specs.Table.{rest};
 ghost use Rattle.rm_table.specs.Meanings.{meanings};
-ghost use Rattle.rm_table.specs.Moves.{noted, book_taken, FoundBy, IsOperator, NoneRevoked, NoneDrained, AllRevoked, AllDrained, editions_from};
-ghost use Rattle.rm_table.specs.declared.slot.Slot.TheVariants.{Edition, Book};
+ghost use Rattle.rm_table.specs.Moves.{with_step, book_taken, FoundBy, IsOperator, NoneRevoked, NoneDrained, AllRevoked, AllDrained, editions_from};
+ghost use Rattle.rm_table.specs.declared.padded_slot.Slot.TheVariants.{Edition, Book};
 ghost use Rattle.rm_table.specs.Layout.{book_index};
-ghost use Rattle.rm_lock.specs.Calls.{AreNext, Publishes, revocations};
-ghost use Rattle.rm_lock.specs.Writes.{unmarked, HasFoundAll, IsWriting};
+ghost use Rattle.rm_lock.specs.Calls.{AreNext, PublishesEditions, revocations};
+ghost use Rattle.rm_lock.specs.Writes.{unmarked_view, HasFoundAll, IsWriting};
 
 use crate::slots::{put_book, put_edition, take_edition, take_out_book};
 use crate::waits;
@@ -30,7 +30,7 @@ pub(crate) fn revoke_all<E: Numbered<Tag = B::Facts>, B: Kept>(
     requires size { length seat.old.me.0.revoked ≡ processors + 1 }
     ensures table { seat.new.table_id ≡ seat.old.table_id }
     ensures revoked { AllRevoked seat.new.me.0 }
-    ensures same { unmarked seat.new.me.0 ≡ unmarked seat.old.me.0 }
+    ensures same { unmarked_view seat.new.me.0 ≡ unmarked_view seat.old.me.0 }
     ensures drained { seat.new.me.0.drained ≡ seat.old.me.0.drained }
     ensures steps { seat.new.me.0.steps ≡ seat.old.me.0.steps ++ revocations seat.old.me.0 }
     ensures hand { seat.new.me.1 ≡ seat.old.me.1 }
@@ -117,7 +117,7 @@ fn take_free_book<E: Numbered<Tag = B::Facts>, B: Kept>(
     requires bookless { seat.old.me.0.book ≡ None }
     ensures table { seat.new.table_id ≡ seat.old.table_id }
     ensures taken { (seat.new.me
-        ≡ (noted (book_taken seat.old.me.0 result) book_index 0, (0, Book None) ∷ seat.old.me.1))
+        ≡ (with_step (book_taken seat.old.me.0 result) book_index 0, (0, Book None) ∷ seat.old.me.1))
         × FoundBy (meanings E.number E.tag E.name B.number B.tag B.ready B.of B.facts_item)
         seat.old.me.0 result }
 {
@@ -144,7 +144,7 @@ pub(crate) fn publish_book<E: Numbered<Tag = B::Facts>, B: Kept>(
         → seat.old.me.1 ≡ editions_from 1 editions []
         → AreNext (meanings E.number E.tag E.name B.number B.tag B.ready B.of B.facts_item)
         seat.old.me.0.number editions facts
-        → Publishes (meanings E.number E.tag E.name B.number B.tag B.ready B.of B.facts_item)
+        → PublishesEditions (meanings E.number E.tag E.name B.number B.tag B.ready B.of B.facts_item)
         seat.old.me.0 editions facts seat.new.me.0 }
 {
     let mut book = take_free_book(table, seat);

@@ -1,13 +1,32 @@
 ghost use Rattle.std.specs.Prelude.{◌≡◌, IsSome};
 ghost use Rattle.rm_table.specs.Meanings.{meanings};
-ghost use Rattle.rm_lock.specs.Calls.{Enters, ended, Regains, TriesToRegain};
+ghost use Rattle.rm_lock.specs.Calls.{Enters, after_lower, Regains, TriesToRegain};
 
 use crate::slots::{put_edition, take_edition};
-use crate::{Busy, Entry, Processor, Reading, RmLock, waits};
+use crate::{Processor, Reading, RmLock, waits};
 use fw_base::{Kept, Numbered};
 use rm_core::Heard;
 use rm_table::Tried;
 use std::sync::Wait;
+
+/// What `enter` answers.
+#[derive(Drop)]
+pub enum Entry<E: Numbered<Tag = B::Facts>, B: Kept> {
+    /// The processor is in, and reads its edition.
+    In(Reading<E, B>),
+    /// The processor was refused: its token is revoked for the publication of that number.
+    Revoked(Processor<E, B>, u64),
+}
+
+/// What a try answers that found another holder.
+#[derive(Debug, Drop)]
+pub struct Busy<T> {
+    /// The token, as it was.
+    pub back: T,
+    /// Whom that one try saw in the word: the place of a processor, from 1, or one past the last for the
+    /// operator.
+    pub holder: u64,
+}
 
 impl<E: Numbered<Tag = B::Facts>, B: Kept> RmLock<E, B> {
     /// The processor begins a section: raise and check, and lower where it is refused. Where it is in, it reads an
@@ -54,7 +73,7 @@ impl<E: Numbered<Tag = B::Facts>, B: Kept> RmLock<E, B> {
     pub fn leave(&self, r: Reading<E, B>) -> Processor<E, B>
         requires lock { r.table_id ≡ self.now }
         ensures lock { result.table_id ≡ self.now }
-        ensures left { result.view ≡ ended r.view }
+        ensures left { result.view ≡ after_lower r.view }
     {
         let Reading {
             mut seat,

@@ -1,6 +1,6 @@
 ghost use Rattle.std.specs.Prelude.{◌≡◌, ◌∷◌, Some, None};
 ghost use Rattle.atomic_table.specs.Table.{rest};
-ghost use Rattle.rm_table.specs.declared.slot.Slot.TheVariants.{Edition, Book};
+ghost use Rattle.rm_table.specs.declared.padded_slot.Slot.TheVariants.{Edition, Book};
 
 use fw_base::{Kept, Numbered};
 use rm_table::{RmSeat, RmTable};

@@ -1,5 +1,5 @@
 ghost use Rattle.std.specs.Prelude.{◌≡◌, max};
-ghost use Rattle.rm_table.specs.Moves.{receipt_view, informed};
+ghost use Rattle.rm_table.specs.Moves.{receipt_view, informed_view};
 ghost use Rattle.rm_lock.specs.Tokens.{told_number};
 
 use crate::{Operator, Processor, Receipt, RmLock};
@@ -35,7 +35,7 @@ impl<E: Numbered<Tag = B::Facts>, B: Kept> RmLock<E, B> {
         requires lock { p.table_id ≡ self.now }
         requires same { r.table_id ≡ self.now }
         ensures lock { result.table_id ≡ self.now }
-        ensures heard { result.view ≡ informed p.view r.view }
+        ensures heard { result.view ≡ informed_view p.view r.view }
         ensures told { told_number result.view ≡ max (told_number p.view) r.view.number }
     {
         let Processor {

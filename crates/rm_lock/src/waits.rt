@@ -1,7 +1,7 @@
 ghost use Rattle.std.specs.Prelude.{◌≡◌, ◌+◌, ◌<◌, ◌≤◌, true, false};
 ghost use Rattle.rm_table.specs.Meanings.{meanings};
 ghost use Rattle.rm_table.specs.Moves.{IsWorking, IsOperator, is_revoked, is_drained};
-ghost use Rattle.rm_lock.specs.Calls.{TakenBehind, TakenBook, FoundOut};
+ghost use Rattle.rm_lock.specs.Calls.{WaitsForBehind, WaitsForBook, WaitsForProcessor};
 
 use fw_base::{Kept, Numbered};
 use rm_core::{Heard, Phase};
@@ -17,7 +17,7 @@ pub(crate) fn take_back<E: Numbered<Tag = B::Facts>, B: Kept, R: Wait>(
     requires table { seat.old.table_id ≡ table.now }
     requires working { IsWorking seat.old.me.0 }
     ensures table { seat.new.table_id ≡ seat.old.table_id }
-    ensures taken { TakenBehind seat.old.me seat.new.me }
+    ensures taken { WaitsForBehind seat.old.me seat.new.me }
 {
     for _ in rt.forever() {
         match table.take_back(seat) {
@@ -38,7 +38,7 @@ pub(crate) fn take_book<E: Numbered<Tag = B::Facts>, B: Kept, R: Wait>(
     requires working { IsWorking seat.old.me.0 }
     requires inside { seat.old.me.0.role ≡ Role.Processor → seat.old.me.0.phase ≡ Phase.In }
     ensures table { seat.new.table_id ≡ seat.old.table_id }
-    ensures taken { TakenBook
+    ensures taken { WaitsForBook
         (meanings E.number E.tag E.name B.number B.tag B.ready B.of B.facts_item) seat.old.me
         seat.new.me }
 {
@@ -65,7 +65,7 @@ pub(crate) fn drain<E: Numbered<Tag = B::Facts>, B: Kept, R: Wait>(
     requires revoked { is_revoked seat.old.me.0 processor ≡ true }
     requires undrained { is_drained seat.old.me.0 processor ≡ false }
     ensures table { seat.new.table_id ≡ seat.old.table_id }
-    ensures out { FoundOut (meanings E.number E.tag E.name B.number B.tag B.ready B.of B.facts_item)
+    ensures out { WaitsForProcessor (meanings E.number E.tag E.name B.number B.tag B.ready B.of B.facts_item)
         seat.old.me processor seat.new.me }
 {
     for _ in rt.forever() {

@@ -1,6 +1,6 @@
 ghost use Rattle.std.specs.Prelude.{◌≡◌, ℕ, ◌-◌, ◌^◌, ◌<◌, ◌+◌, true, vec_len};
 ghost use Rattle.rm_table.specs.Meanings.{meanings};
-ghost use Rattle.rm_lock.specs.Calls.{Begins, AreNext, Publishes};
+ghost use Rattle.rm_lock.specs.Calls.{BeginsWrite, AreNext, PublishesEditions};
 ghost use Rattle.rm_lock.specs.Tokens.{AreOld};
 
 use crate::publishing::{drain_all, exchange_all, publish_book, revoke_all};
@@ -16,7 +16,7 @@ impl<E: Numbered<Tag = B::Facts>, B: Kept> RmLock<E, B> {
         requires ready { o.view.ready ≡ true }
         requires room { o.view.number < 2 ^ 64 - 1 }
         ensures lock { result.table_id ≡ self.now }
-        ensures begun { Begins o.view result.view }
+        ensures begun { BeginsWrite o.view result.view }
     {
         let Operator {
             mut seat,
@@ -49,7 +49,7 @@ impl<E: Numbered<Tag = B::Facts>, B: Kept> RmLock<E, B> {
             editions.items facts }
         requires facts { B.facts_number facts ≡ w.view.number + 1 }
         ensures lock { result.0.table_id ≡ self.now }
-        ensures published { Publishes
+        ensures published { PublishesEditions
             (meanings E.number E.tag E.name B.number B.tag B.ready B.of B.facts_item) w.view
             editions.items facts result.0.view }
         ensures old { AreOld (meanings E.number E.tag E.name B.number B.tag B.ready B.of

@@ -5,19 +5,19 @@ use Rattle.std.proofs.lemmas.Bool.{eqb-true}
 use mathlib.Core.Option as at
 use lib.ListN.{get_elem?}
 use Rattle.atomic_table.specs.Table.{State, Final, Seen}
-use Rattle.rm_core.specs.declared.phase.Phase.{Phase}
-use Rattle.rm_core.specs.declared.phase.Phase.TheVariants.{Out, In}
+use Rattle.rm_core.specs.declared.processor_state.Phase.{Phase}
+use Rattle.rm_core.specs.declared.processor_state.Phase.TheVariants.{Out, In}
 use Rattle.rm_core.specs.declared.processor_state.ProcessorState.{ProcessorState}
 use Rattle.rm_core.specs.CoreState.{processor_of}
 use Rattle.rm_core.proofs.Changes.{IsProcessor-some}
-use Rattle.rm_table.specs.declared.role.Role.TheVariants.{Operator}
-use Rattle.rm_table.specs.declared.slot.Slot.{Slot}
-use Rattle.rm_table.specs.declared.slot.Slot.TheVariants.{Edition, Book}
+use Rattle.rm_table.specs.declared.view.Role.TheVariants.{Operator}
+use Rattle.rm_table.specs.declared.padded_slot.Slot.{Slot}
+use Rattle.rm_table.specs.declared.padded_slot.Slot.TheVariants.{Edition, Book}
 use Rattle.rm_table.specs.declared.part.Part.{Part}
 use Rattle.rm_table.specs.declared.view.View.{View}
 use Rattle.rm_table.specs.Layout.{tracker_index, tracker_word}
 use Rattle.rm_table.specs.Meanings.{Meanings}
-use Rattle.rm_table.specs.Rule.{Core, core_of, IsPending, Live, KeptAt, Keeps, Shows, Whole}
+use Rattle.rm_table.specs.Rule.{WholeState, core_of, IsPending, Live, KeptAt, OperatorKeeps, Shows, Whole}
 use Rattle.rm_table.specs.Moves.{AllJoined, NoneDrained, NoneRevoked}
 use Rattle.rm_table.specs.Ends.{EndsWith, ClosesWith}
 use Rattle.std.proofs.lemmas.Option.{slice_get_within}
@@ -25,12 +25,12 @@ use Rattle.rm_table.proofs.Base.{slice_at, at_slice, found_there}
 use Rattle.rm_table.proofs.Own.{known_number}
 use Rattle.rm_table.proofs.Slots.{at_home, book_at_home}
 
-module _ {E B T L I : Type 0} (m : Meanings E B T L I) (c : Core E B T L I) (t : State (Slot E B) (View E B T L I)) (id : ℕ) (v : View E B T L I) (shows : Shows m c t) (is_at : get_elem? t.views id ≡ at.some v)
+module _ {E B T L I : Type 0} (m : Meanings E B T L I) (c : WholeState E B T L I) (t : State (Slot E B) (View E B T L I)) (id : ℕ) (v : View E B T L I) (shows : Shows m c t) (is_at : get_elem? t.views id ≡ at.some v)
     (role : v.role ≡ Operator) (joined : AllJoined v) (undrained : NoneDrained v) (bookless : v.book ≡ None) where
   l : Live m c id v
   l = (shows.each id v is_at).live (inr role)
 
-  o : Keeps m c id v
+  o : OperatorKeeps m c id v
   o = (shows.each id v is_at).operator role
 
   kept_there : (k : ℕ) (part : Part E L I) → slice_get v.kept k ≡ Some (Some part) → KeptAt m c id v.closing k part

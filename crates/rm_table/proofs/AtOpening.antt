@@ -1,24 +1,24 @@
 -- The table at the opening meets the rule.
 use Rattle.std.proofs.Common.{◌≡◌, ◌≢◌, inr, ℕ, zero, suc, ◌+◌, ◌-◌, ◌^◌, ◌<◌, ◌≤◌, Bool, false, Some, None, List, [], ◌∷◌, map, length, length-set, refl, sym, ◌∙◌, ap, arith, subst, append-nil, ne_eqb}
 use Rattle.std.specs.Prelude.{slice_get, slice_index, replicate, if◌then◌else◌}
-use Rattle.std.proofs.lemmas.List.{length-replicate}
+use Rattle.std.proofs.lemmas.List.{length-replicate, length-map, get_or-set_same, get_or-set_other}
 use mathlib.Core.Option as at
 use lib.ListN.{get_elem?}
 use Rattle.atomic_table.specs.Table.{opening}
-use Rattle.rm_core.specs.declared.token.Token.TheVariants.{Held}
+use Rattle.rm_core.specs.declared.processor_state.Token.TheVariants.{Held}
 use Rattle.rm_core.specs.declared.processor_state.ProcessorState.{ProcessorState}
-use Rattle.rm_core.specs.CoreState.{Safe, Fits, idle, opening as core_opening, state_of}
+use Rattle.rm_core.specs.CoreState.{Safe, Fits, idle, opening as core_opening, core_state_of}
 use Rattle.rm_core.proofs.OneRun.{Safe-opening, Fits-opening}
-use Rattle.rm_table.specs.declared.slot.Slot.{Slot}
-use Rattle.rm_table.specs.declared.slot.Slot.TheVariants.{Edition, Book}
+use Rattle.rm_table.specs.declared.padded_slot.Slot.{Slot}
+use Rattle.rm_table.specs.declared.padded_slot.Slot.TheVariants.{Edition, Book}
 use Rattle.rm_table.specs.declared.part.Part.{Part}
 use Rattle.rm_table.specs.declared.view.View.{View}
-use Rattle.rm_table.specs.Layout.{index_of_word, words_of, number_index, behind_index, book_index, tracker_index, token_index}
+use Rattle.rm_table.specs.Layout.{index_of_word, word_count, number_index, behind_index, book_index, tracker_index, token_index}
 use Rattle.rm_table.specs.Meanings.{Meanings, values_from}
-use Rattle.rm_table.specs.Rule.{Core, core_of, Words, Current, KeptAt, Keeps, Agrees, Shows, Whole}
-use Rattle.rm_table.specs.Moves.{IsKept}
-use Rattle.rm_table.specs.Ends.{first_words, first_slots, first_part, first_view, Opens}
-use Rattle.rm_table.proofs.Base.{get_within, at_slice, index_here, index_else, length-values, values_at, found_there}
+use Rattle.rm_table.specs.Rule.{WholeState, core_of, LockWords, Current, KeptAt, OperatorKeeps, Agrees, Shows, Whole}
+use Rattle.rm_table.specs.Moves.{KeepsPart}
+use Rattle.rm_table.specs.Ends.{first_words, first_slots, first_part, first_view, OpensTable}
+use Rattle.rm_table.proofs.Base.{get_within, at_slice, length-values, values_at, found_there}
 use Rattle.rm_table.proofs.Publishing.{flag_of-replicate}
 
 zero_of-replicate : (n k : ℕ) → slice_index (replicate n 0) k ≡ 0
@@ -30,13 +30,13 @@ values-same : {A : Type 0} (x : A) (from n : ℕ) → values_from (λ _. x) from
 values-same x from zero = refl
 values-same x from (suc n) = ap (λ (ys : List _). x ∷ ys) (values-same x (suc from) n)
 
-first_words_are : (n number : ℕ) → Words n number 0 0 (λ k. 0) (λ k. 0) (first_words n number)
+first_words_are : (n number : ℕ) → LockWords n number 0 0 (λ k. 0) (λ k. 0) (first_words n number)
 first_words_are n number =
-    let ws : List ℕ = replicate (words_of n) 0 in
-    let zeros : (i : ℕ) → i ≢ 0 → slice_index (first_words n number) i ≡ 0 = λ i other. index_else ws number_index i number 0 other ∙ zero_of-replicate (words_of n) i in
+    let ws : List ℕ = replicate (word_count n) 0 in
+    let zeros : (i : ℕ) → i ≢ 0 → slice_index (first_words n number) i ≡ 0 = λ i other. get_or-set_other ws number_index i number 0 other ∙ zero_of-replicate (word_count n) i in
     record {
-      size = length-set ws number_index number ∙ length-replicate (words_of n) 0;
-      number_is = index_here ws number_index number 0 (let e : length ws ≡ words_of n = length-replicate (words_of n) 0 in omega arith);
+      size = length-set ws number_index number ∙ length-replicate (word_count n) 0;
+      number_is = get_or-set_same ws number_index number 0 (let e : length ws ≡ word_count n = length-replicate (word_count n) 0 in omega arith);
       behind_is = zeros behind_index (λ clash. absurd (omega arith));
       book_is = zeros book_index (λ clash. absurd (omega arith));
       trackers = λ k low high. zeros (tracker_index k) (λ clash. absurd (omega arith));
@@ -45,16 +45,12 @@ first_words_are n number =
     }
 
 -- a table opens with as many words as its processors need
-pub count_of_first_words : (n number : ℕ) → length (first_words n number) ≡ words_of n
+pub count_of_first_words : (n number : ℕ) → length (first_words n number) ≡ word_count n
 count_of_first_words n number = (first_words_are n number).size
-
-sizes_of-map : {A X : Type 0} (f : A → X) (xs : List A) → length (map f xs) ≡ length xs
-sizes_of-map f [] = refl
-sizes_of-map f (x ∷ xs) = let e = sizes_of-map f xs in omega arith
 
 -- a table opens with a slot for each edition, and one for the book
 pub count_of_first_slots : {E B : Type 0} (book : B) (editions : List E) → length (first_slots book editions) ≡ length editions + 1
-count_of_first_slots {E} {B} book editions = let slot : E → Slot E B = λ e. Edition (Some e) in let e : length (map (λ e. Edition (Some e)) editions) ≡ length editions = sizes_of-map slot editions in omega arith
+count_of_first_slots {E} {B} book editions = let slot : E → Slot E B = λ e. Edition (Some e) in let e : length (map (λ e. Edition (Some e)) editions) ≡ length editions = length-map editions slot in omega arith
 
 -- an element of a list whose elements are all at home
 home_of-map : {A : Type 0} (xs : List A) (k : ℕ) (h : at.Option A) → get_elem? (map at.some xs) k ≡ at.some h → (x : A) × (h ≡ at.some x) × (slice_get xs k ≡ Some x)
@@ -69,7 +65,7 @@ edition_of-map (e ∷ es) (suc k) y is = edition_of-map es k y is
 
 module _ {E B T L I : Type 0} (m : Meanings E B T L I) where
   -- what words, slots and the opening seat show
-  abbrev pub first_core : ℕ → E → B → Core E B T L I
+  abbrev pub first_core : ℕ → E → B → WholeState E B T L I
   first_core n edition book = record {
     number = m.book_number book;
     count = n;
@@ -89,13 +85,13 @@ module _ {E B T L I : Type 0} (m : Meanings E B T L I) where
   }
 
   -- the table at the opening shows its first state by the rule
-  pub opening_shows : (editions : List E) (edition : E) (book : B) → Opens m editions edition book → m.book_number book < 2 ^ 64
+  opening_shows : (editions : List E) (edition : E) (book : B) → OpensTable m editions edition book → m.book_number book < 2 ^ 64
       → Shows m (first_core (length editions) edition book) (opening (first_words (length editions) (m.book_number book)) (first_slots book editions) (first_view m (length editions) edition book))
   opening_shows editions edition book opens fits =
       let n : ℕ = length editions in
       let number : ℕ = m.book_number book in
-      let c : Core E B T L I = first_core n edition book in
-      let core_is : core_of c ≡ core_opening n number = ap (λ (ps : List ProcessorState). state_of number None ps) (values-same idle 1 n) in
+      let c : WholeState E B T L I = first_core n edition book in
+      let core_is : core_of c ≡ core_opening n number = ap (λ (ps : List ProcessorState). core_state_of number None ps) (values-same idle 1 n) in
       let v : View E B T L I = first_view m n edition book in
       let opened : number - number ≡ 0 = omega arith in
       record {
@@ -111,7 +107,7 @@ module _ {E B T L I : Type 0} (m : Meanings E B T L I) where
           last = ap (λ (k : ℕ). get_elem? ((m.name edition, m.book_tag book) ∷ []) k) opened;
         };
         slots = record {
-          size = sizes_of-map (λ (y : Slot E B). at.some y) (first_slots book editions) ∙ sizes editions;
+          size = length-map (first_slots book editions) (λ (y : Slot E B). at.some y) ∙ sizes editions;
           home = λ k y low high is. home_at k y low is;
           away = λ k low high is. let got = home_of-map (first_slots book editions) k at.none is in absurd (at.some-ne-none got.0 (sym got.1));
           book_home = λ y is. at.some-injective y (Book (Some book)) (sym (at.some-injective (at.some (Book (Some book))) (at.some y) is));
@@ -144,7 +140,7 @@ module _ {E B T L I : Type 0} (m : Meanings E B T L I) where
       }
     where
       sizes : (es : List E) → length (first_slots book es) ≡ length es + 1
-      sizes es = let slot : E → Slot E B = λ e. Edition (Some e) in let e : length (map (λ e. Edition (Some e)) es) ≡ length es = sizes_of-map slot es in omega arith
+      sizes es = let slot : E → Slot E B = λ e. Edition (Some e) in let e : length (map (λ e. Edition (Some e)) es) ≡ length es = length-map es slot in omega arith
 
       home_at : (k : ℕ) (y : Slot E B) → 0 < k → get_elem? (map at.some (first_slots book editions)) k ≡ at.some (at.some y) → (e : E) × (y ≡ Edition (Some e)) × Current m (m.book_number book) (m.name edition) (m.book_tag book) e
       home_at zero y low is = absurd (omega arith)
@@ -158,7 +154,7 @@ module _ {E B T L I : Type 0} (m : Meanings E B T L I) where
       v : View E B T L I
       v = first_view m (length editions) edition book
 
-      c : Core E B T L I
+      c : WholeState E B T L I
       c = first_core (length editions) edition book
 
       kept_at : (k : ℕ) (part : Part E L I) → get_elem? (None ∷ values_from (λ place. Some (first_part m book place)) 1 (length editions)) k ≡ at.some (Some part)
@@ -179,11 +175,11 @@ module _ {E B T L I : Type 0} (m : Meanings E B T L I) where
             fresh = λ _. (ap (λ (p : Part E L I). p.sections) same, refl);
           }
 
-      first_kept : (k : ℕ) → 0 < k → k ≤ length editions → IsKept (first_view m (length editions) edition book) k
+      first_kept : (k : ℕ) → 0 < k → k ≤ length editions → KeepsPart (first_view m (length editions) edition book) k
       first_kept zero low high = absurd (omega arith)
       first_kept (suc j) low high = (first_part m book (1 + j), values_at (λ place. Some (first_part m book place)) 1 (length editions) j (omega arith))
 
-      first_keeps : Keeps m (first_core (length editions) edition book) 0 (first_view m (length editions) edition book)
+      first_keeps : OperatorKeeps m (first_core (length editions) edition book) 0 (first_view m (length editions) edition book)
       first_keeps = record {
         place = refl;
         number = refl;
@@ -211,7 +207,7 @@ module _ {E B T L I : Type 0} (m : Meanings E B T L I) where
       only (suc id) u is = absurd (at.some-ne-none u (sym is))
 
   -- the same, where what it stands for is known by equations
-  pub opens_whole : (editions : List E) (edition : E) (book : B) (n : ℕ) (words : List ℕ) (slots : List (Slot E B)) (e : E) (b : B) → Opens m editions edition book → m.book_number book < 2 ^ 64
+  pub opens_whole : (editions : List E) (edition : E) (book : B) (n : ℕ) (words : List ℕ) (slots : List (Slot E B)) (e : E) (b : B) → OpensTable m editions edition book → m.book_number book < 2 ^ 64
       → n ≡ length editions → words ≡ first_words (length editions) (m.book_number book) → slots ≡ first_slots book editions → e ≡ edition → b ≡ book → Whole m (opening words slots (first_view m n e b))
   opens_whole editions edition book n words slots e b opens fits n_is words_are slots_are e_is b_is =
       let P : (ℕ → List ℕ → List (Slot E B) → E → B → Type 0) = λ n ws ss x y. Whole m (opening ws ss (first_view m n x y)) in

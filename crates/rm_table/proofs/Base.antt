@@ -3,6 +3,7 @@ use Rattle.std.proofs.Common.{◌≡◌, ◌≢◌, ℕ, zero, suc, ◌+◌, ◌
 use Rattle.std.proofs.lemmas.Option.{get_or_from_slice_get}
 use Rattle.std.specs.Prelude.{All, IsSome, MatchBool, slice_index, slice_index_or, slice_set, slice_get, if◌then◌else◌}
 use Rattle.std.proofs.lemmas.Bool.Decides.{eqb_tells}
+use Rattle.std.proofs.lemmas.List.{set-get_or, get_or-set_same, get_or-set_other}
 use mathlib.Core.Option as at
 use lib.ListN.{get_elem?}
 use Rattle.rm_core.specs.declared.processor_state.ProcessorState.{ProcessorState}
@@ -10,23 +11,7 @@ use Rattle.rm_core.specs.CoreState.{processor_of, with_processor, IsProcessor}
 use Rattle.rm_core.proofs.Changes.{processor_of-at, processor_of-within, IsProcessor-from, with_processor-some}
 use Rattle.rm_table.specs.Layout.{index_of_word, number_index, behind_index, book_index, tracker_index, token_index}
 use Rattle.rm_table.specs.Meanings.{put, values_from}
-use Rattle.rm_table.specs.Rule.{Core, core_of, Words}
-
--- a fact for either value of a test
-pub match_true : (P Q : Type 0) (b : Bool) → b ≡ true → P → MatchBool b P Q
-match_true P Q b is p = subst (λ (x : Bool). MatchBool x P Q) (sym is) p
-
--- a fact for a test that came out false
-pub match_false : (P Q : Type 0) (b : Bool) → b ≡ false → Q → MatchBool b P Q
-match_false P Q b is q = subst (λ (x : Bool). MatchBool x P Q) (sym is) q
-
--- what was told of a test that came out true
-pub was_true : (P Q : Type 0) (b : Bool) → b ≡ true → MatchBool b P Q → P
-was_true P Q b is p = subst (λ (x : Bool). MatchBool x P Q) is p
-
--- what was told of a test that came out false
-pub was_false : (P Q : Type 0) (b : Bool) → b ≡ false → MatchBool b P Q → Q
-was_false P Q b is q = subst (λ (x : Bool). MatchBool x P Q) is q
+use Rattle.rm_table.specs.Rule.{WholeState, core_of, LockWords}
 
 -- the value that there is
 pub some_of : {A : Type 0} (o : Option A) → IsSome o → (a : A) × (o ≡ Some a)
@@ -82,40 +67,6 @@ module _ {A : Type 0} where
   at_slice (y ∷ ys) zero x e = ap (λ (z : A). Some z) (at.some-injective y x e)
   at_slice (y ∷ ys) (suc j) x e = at_slice ys j x e
 
-  -- the element that was set stands at its place
-  pub index_here : (xs : List A) (i : ℕ) (x d : A) → i < length xs → slice_index_or (slice_set xs i x) i d ≡ x
-  index_here [] i x d h = absurd (omega arith)
-  index_here (y ∷ ys) zero x d h = refl
-  index_here (y ∷ ys) (suc i) x d h = index_here ys i x d (omega arith)
-
-  -- an element at another place stays where one is set
-  pub index_else : (xs : List A) (i j : ℕ) (x d : A) → j ≢ i → slice_index_or (slice_set xs i x) j d ≡ slice_index_or xs j d
-  index_else [] i j x d other = refl
-  index_else (y ∷ ys) zero zero x d other = absurd (other refl)
-  index_else (y ∷ ys) zero (suc j) x d other = refl
-  index_else (y ∷ ys) (suc i) zero x d other = refl
-  index_else (y ∷ ys) (suc i) (suc j) x d other = index_else ys i j x d (λ e. other (ap suc e))
-
-  -- the value set, and each other one
-  pub get_set_here : (xs : List A) (p : ℕ) (a : A) → p < length xs → slice_get (slice_set xs p a) p ≡ Some a
-  get_set_here [] p a h = absurd (omega arith)
-  get_set_here (x ∷ xs) zero a h = refl
-  get_set_here (x ∷ xs) (suc p) a h = get_set_here xs p a (omega arith)
-
-  -- what another place has, or lacks, stays where an element is set
-  pub get_set_else : (xs : List A) (p k : ℕ) (a : A) → k ≢ p → slice_get (slice_set xs p a) k ≡ slice_get xs k
-  get_set_else [] p k a other = refl
-  get_set_else (x ∷ xs) zero zero a other = absurd (other refl)
-  get_set_else (x ∷ xs) zero (suc k) a other = refl
-  get_set_else (x ∷ xs) (suc p) zero a other = refl
-  get_set_else (x ∷ xs) (suc p) (suc k) a other = get_set_else xs p k a (λ e. other (ap suc e))
-
-  -- an element that is set to what it was changes nothing
-  pub set_found : (xs : List A) (i : ℕ) (d : A) → slice_set xs i (slice_index_or xs i d) ≡ xs
-  set_found [] i d = refl
-  set_found (x ∷ xs) zero d = refl
-  set_found (x ∷ xs) (suc i) d = ap (λ (ys : List A). x ∷ ys) (set_found xs i d)
-
   -- the values at n numbers are n
   pub length-values : (f : ℕ → A) (from n : ℕ) → length (values_from f from n) ≡ n
   length-values f from zero = refl
@@ -128,7 +79,7 @@ module _ {A : Type 0} where
   values_at f from (suc n) (suc j) h = let e : suc from + j ≡ from + suc j = omega arith in values_at f (suc from) n j (omega arith) ∙ ap (λ (k : ℕ). Some (f k)) e
 
   -- a value put before `from` changes nothing
-  pub values-below : (f : ℕ → A) (from n p : ℕ) (a : A) → p < from → values_from (put f p a) from n ≡ values_from f from n
+  values-below : (f : ℕ → A) (from n p : ℕ) (a : A) → p < from → values_from (put f p a) from n ≡ values_from f from n
   values-below f from zero p a h = refl
   values-below f from (suc n) p a h =
       let one : put f p a from ≡ f from = put_else f p a from (λ clash. absurd (omega arith)) in
@@ -136,7 +87,7 @@ module _ {A : Type 0} where
       cc
 
   -- a value that is put at a place is set in the list of values
-  pub values-put : (f : ℕ → A) (from n p j : ℕ) (a : A) → p ≡ from + j → values_from (put f p a) from n ≡ slice_set (values_from f from n) j a
+  values-put : (f : ℕ → A) (from n p j : ℕ) (a : A) → p ≡ from + j → values_from (put f p a) from n ≡ slice_set (values_from f from n) j a
   values-put f from zero p j a e = refl
   values-put f from (suc n) p zero a e =
       let same : from ≡ p = omega arith in
@@ -168,11 +119,11 @@ module _ {A : Type 0} where
 -- the words, at one word changed
 module _ {n number behind holder : ℕ} {tracker token : ℕ → ℕ} {ws : List ℕ} where
   -- a word that is stored as it was leaves all that the words say
-  pub words_unchanged : (i : ℕ) → Words n number behind holder tracker token ws → Words n number behind holder tracker token (slice_set ws i (slice_index ws i))
-  words_unchanged i w = subst (λ (xs : List ℕ). Words n number behind holder tracker token xs) (sym (set_found ws i 0)) w
+  pub words_unchanged : (i : ℕ) → LockWords n number behind holder tracker token ws → LockWords n number behind holder tracker token (slice_set ws i (slice_index ws i))
+  words_unchanged i w = subst (λ (xs : List ℕ). LockWords n number behind holder tracker token xs) (sym (set-get_or ws i 0)) w
 
   -- words that show some trackers and tokens show any that agree with these
-  pub words_like : (tracker' token' : ℕ → ℕ) → ((k : ℕ) → tracker' k ≡ tracker k) → ((k : ℕ) → token' k ≡ token k) → Words n number behind holder tracker token ws → Words n number behind holder tracker' token' ws
+  pub words_like : (tracker' token' : ℕ → ℕ) → ((k : ℕ) → tracker' k ≡ tracker k) → ((k : ℕ) → token' k ≡ token k) → LockWords n number behind holder tracker token ws → LockWords n number behind holder tracker' token' ws
   words_like tracker' token' t u w = record {
     size = w.size;
     number_is = w.number_is;
@@ -184,81 +135,81 @@ module _ {n number behind holder : ℕ} {tracker token : ℕ → ℕ} {ws : List
   }
 
   -- another published number in its word leaves what the others say
-  pub words_number : (x : ℕ) → Words n number behind holder tracker token ws → Words n x behind holder tracker token (slice_set ws number_index x)
+  pub words_number : (x : ℕ) → LockWords n number behind holder tracker token ws → LockWords n x behind holder tracker token (slice_set ws number_index x)
   words_number x w = record {
     size = length-set ws number_index x ∙ w.size;
-    number_is = index_here ws number_index x 0 (let s = w.size in omega arith);
-    behind_is = index_else ws number_index behind_index x 0 (λ clash. absurd (omega arith)) ∙ w.behind_is;
-    book_is = index_else ws number_index book_index x 0 (λ clash. absurd (omega arith)) ∙ w.book_is;
-    trackers = λ k low high. index_else ws number_index (tracker_index k) x 0 (λ clash. absurd (omega arith)) ∙ w.trackers k low high;
-    tokens = λ k low high. index_else ws number_index (token_index n k) x 0 (λ clash. absurd (omega arith)) ∙ w.tokens k low high;
-    between = λ word k inside low high. index_else ws number_index (index_of_word word + k) x 0 (λ clash. absurd (omega arith)) ∙ w.between word k inside low high;
+    number_is = get_or-set_same ws number_index x 0 (let s = w.size in omega arith);
+    behind_is = get_or-set_other ws number_index behind_index x 0 (λ clash. absurd (omega arith)) ∙ w.behind_is;
+    book_is = get_or-set_other ws number_index book_index x 0 (λ clash. absurd (omega arith)) ∙ w.book_is;
+    trackers = λ k low high. get_or-set_other ws number_index (tracker_index k) x 0 (λ clash. absurd (omega arith)) ∙ w.trackers k low high;
+    tokens = λ k low high. get_or-set_other ws number_index (token_index n k) x 0 (λ clash. absurd (omega arith)) ∙ w.tokens k low high;
+    between = λ word k inside low high. get_or-set_other ws number_index (index_of_word word + k) x 0 (λ clash. absurd (omega arith)) ∙ w.between word k inside low high;
   }
 
   -- another holder of the lock behind in its word leaves what the others say
-  pub words_behind : (x : ℕ) → Words n number behind holder tracker token ws → Words n number x holder tracker token (slice_set ws behind_index x)
+  pub words_behind : (x : ℕ) → LockWords n number behind holder tracker token ws → LockWords n number x holder tracker token (slice_set ws behind_index x)
   words_behind x w = record {
     size = length-set ws behind_index x ∙ w.size;
-    number_is = index_else ws behind_index number_index x 0 (λ clash. absurd (omega arith)) ∙ w.number_is;
-    behind_is = index_here ws behind_index x 0 (let s = w.size in omega arith);
-    book_is = index_else ws behind_index book_index x 0 (λ clash. absurd (omega arith)) ∙ w.book_is;
-    trackers = λ k low high. index_else ws behind_index (tracker_index k) x 0 (λ clash. absurd (omega arith)) ∙ w.trackers k low high;
-    tokens = λ k low high. index_else ws behind_index (token_index n k) x 0 (λ clash. absurd (omega arith)) ∙ w.tokens k low high;
-    between = λ word k inside low high. index_else ws behind_index (index_of_word word + k) x 0 (λ clash. absurd (omega arith)) ∙ w.between word k inside low high;
+    number_is = get_or-set_other ws behind_index number_index x 0 (λ clash. absurd (omega arith)) ∙ w.number_is;
+    behind_is = get_or-set_same ws behind_index x 0 (let s = w.size in omega arith);
+    book_is = get_or-set_other ws behind_index book_index x 0 (λ clash. absurd (omega arith)) ∙ w.book_is;
+    trackers = λ k low high. get_or-set_other ws behind_index (tracker_index k) x 0 (λ clash. absurd (omega arith)) ∙ w.trackers k low high;
+    tokens = λ k low high. get_or-set_other ws behind_index (token_index n k) x 0 (λ clash. absurd (omega arith)) ∙ w.tokens k low high;
+    between = λ word k inside low high. get_or-set_other ws behind_index (index_of_word word + k) x 0 (λ clash. absurd (omega arith)) ∙ w.between word k inside low high;
   }
 
   -- another holder of the book in its word leaves what the others say
-  pub words_book : (x : ℕ) → Words n number behind holder tracker token ws → Words n number behind x tracker token (slice_set ws book_index x)
+  pub words_book : (x : ℕ) → LockWords n number behind holder tracker token ws → LockWords n number behind x tracker token (slice_set ws book_index x)
   words_book x w = record {
     size = length-set ws book_index x ∙ w.size;
-    number_is = index_else ws book_index number_index x 0 (λ clash. absurd (omega arith)) ∙ w.number_is;
-    behind_is = index_else ws book_index behind_index x 0 (λ clash. absurd (omega arith)) ∙ w.behind_is;
-    book_is = index_here ws book_index x 0 (let s = w.size in omega arith);
-    trackers = λ k low high. index_else ws book_index (tracker_index k) x 0 (λ clash. absurd (omega arith)) ∙ w.trackers k low high;
-    tokens = λ k low high. index_else ws book_index (token_index n k) x 0 (λ clash. absurd (omega arith)) ∙ w.tokens k low high;
-    between = λ word k inside low high. index_else ws book_index (index_of_word word + k) x 0 (λ clash. absurd (omega arith)) ∙ w.between word k inside low high;
+    number_is = get_or-set_other ws book_index number_index x 0 (λ clash. absurd (omega arith)) ∙ w.number_is;
+    behind_is = get_or-set_other ws book_index behind_index x 0 (λ clash. absurd (omega arith)) ∙ w.behind_is;
+    book_is = get_or-set_same ws book_index x 0 (let s = w.size in omega arith);
+    trackers = λ k low high. get_or-set_other ws book_index (tracker_index k) x 0 (λ clash. absurd (omega arith)) ∙ w.trackers k low high;
+    tokens = λ k low high. get_or-set_other ws book_index (token_index n k) x 0 (λ clash. absurd (omega arith)) ∙ w.tokens k low high;
+    between = λ word k inside low high. get_or-set_other ws book_index (index_of_word word + k) x 0 (λ clash. absurd (omega arith)) ∙ w.between word k inside low high;
   }
 
   -- another tracker of one processor in its word leaves what the others say
-  pub words_tracker : (p x : ℕ) (tracker' : ℕ → ℕ) → 0 < p → p ≤ n → tracker' p ≡ x → ((k : ℕ) → k ≢ p → tracker' k ≡ tracker k) → Words n number behind holder tracker token ws → Words n number behind holder tracker' token (slice_set ws (tracker_index p) x)
+  pub words_tracker : (p x : ℕ) (tracker' : ℕ → ℕ) → 0 < p → p ≤ n → tracker' p ≡ x → ((k : ℕ) → k ≢ p → tracker' k ≡ tracker k) → LockWords n number behind holder tracker token ws → LockWords n number behind holder tracker' token (slice_set ws (tracker_index p) x)
   words_tracker p x tracker' above within here rest_of w = record {
     size = length-set ws (tracker_index p) x ∙ w.size;
-    number_is = index_else ws (tracker_index p) number_index x 0 (λ clash. absurd (omega arith)) ∙ w.number_is;
-    behind_is = index_else ws (tracker_index p) behind_index x 0 (λ clash. absurd (omega arith)) ∙ w.behind_is;
-    book_is = index_else ws (tracker_index p) book_index x 0 (λ clash. absurd (omega arith)) ∙ w.book_is;
+    number_is = get_or-set_other ws (tracker_index p) number_index x 0 (λ clash. absurd (omega arith)) ∙ w.number_is;
+    behind_is = get_or-set_other ws (tracker_index p) behind_index x 0 (λ clash. absurd (omega arith)) ∙ w.behind_is;
+    book_is = get_or-set_other ws (tracker_index p) book_index x 0 (λ clash. absurd (omega arith)) ∙ w.book_is;
     trackers = λ k low high. elim (eqb_tells k p) as (λ _. slice_index (slice_set ws (tracker_index p) x) (tracker_index k) ≡ tracker' k) [
       | inl same ↦
           ap (λ (j : ℕ). slice_index (slice_set ws (tracker_index p) x) (tracker_index j)) same.1
-          ∙ index_here ws (tracker_index p) x 0 (let s = w.size in omega arith)
+          ∙ get_or-set_same ws (tracker_index p) x 0 (let s = w.size in omega arith)
           ∙ sym here
           ∙ ap tracker' (sym same.1)
-      | inr other ↦ index_else ws (tracker_index p) (tracker_index k) x 0 (λ clash. other.1 (omega arith)) ∙ w.trackers k low high ∙ sym (rest_of k other.1)
+      | inr other ↦ get_or-set_other ws (tracker_index p) (tracker_index k) x 0 (λ clash. other.1 (omega arith)) ∙ w.trackers k low high ∙ sym (rest_of k other.1)
     ];
-    tokens = λ k low high. index_else ws (tracker_index p) (token_index n k) x 0 (λ clash. absurd (omega arith)) ∙ w.tokens k low high;
-    between = λ word k inside low high. index_else ws (tracker_index p) (index_of_word word + k) x 0 (λ clash. absurd (omega arith)) ∙ w.between word k inside low high;
+    tokens = λ k low high. get_or-set_other ws (tracker_index p) (token_index n k) x 0 (λ clash. absurd (omega arith)) ∙ w.tokens k low high;
+    between = λ word k inside low high. get_or-set_other ws (tracker_index p) (index_of_word word + k) x 0 (λ clash. absurd (omega arith)) ∙ w.between word k inside low high;
   }
 
   -- another token of one processor in its word leaves what the others say
-  pub words_token : (p x : ℕ) (token' : ℕ → ℕ) → 0 < p → p ≤ n → token' p ≡ x → ((k : ℕ) → k ≢ p → token' k ≡ token k) → Words n number behind holder tracker token ws → Words n number behind holder tracker token' (slice_set ws (token_index n p) x)
+  pub words_token : (p x : ℕ) (token' : ℕ → ℕ) → 0 < p → p ≤ n → token' p ≡ x → ((k : ℕ) → k ≢ p → token' k ≡ token k) → LockWords n number behind holder tracker token ws → LockWords n number behind holder tracker token' (slice_set ws (token_index n p) x)
   words_token p x token' above within here rest_of w = record {
     size = length-set ws (token_index n p) x ∙ w.size;
-    number_is = index_else ws (token_index n p) number_index x 0 (λ clash. absurd (omega arith)) ∙ w.number_is;
-    behind_is = index_else ws (token_index n p) behind_index x 0 (λ clash. absurd (omega arith)) ∙ w.behind_is;
-    book_is = index_else ws (token_index n p) book_index x 0 (λ clash. absurd (omega arith)) ∙ w.book_is;
+    number_is = get_or-set_other ws (token_index n p) number_index x 0 (λ clash. absurd (omega arith)) ∙ w.number_is;
+    behind_is = get_or-set_other ws (token_index n p) behind_index x 0 (λ clash. absurd (omega arith)) ∙ w.behind_is;
+    book_is = get_or-set_other ws (token_index n p) book_index x 0 (λ clash. absurd (omega arith)) ∙ w.book_is;
     tokens = λ k low high. elim (eqb_tells k p) as (λ _. slice_index (slice_set ws (token_index n p) x) (token_index n k) ≡ token' k) [
       | inl same ↦
           ap (λ (j : ℕ). slice_index (slice_set ws (token_index n p) x) (token_index n j)) same.1
-          ∙ index_here ws (token_index n p) x 0 (let s = w.size in omega arith)
+          ∙ get_or-set_same ws (token_index n p) x 0 (let s = w.size in omega arith)
           ∙ sym here
           ∙ ap token' (sym same.1)
-      | inr other ↦ index_else ws (token_index n p) (token_index n k) x 0 (λ clash. other.1 (omega arith)) ∙ w.tokens k low high ∙ sym (rest_of k other.1)
+      | inr other ↦ get_or-set_other ws (token_index n p) (token_index n k) x 0 (λ clash. other.1 (omega arith)) ∙ w.tokens k low high ∙ sym (rest_of k other.1)
     ];
-    trackers = λ k low high. index_else ws (token_index n p) (tracker_index k) x 0 (λ clash. absurd (omega arith)) ∙ w.trackers k low high;
-    between = λ word k inside low high. index_else ws (token_index n p) (index_of_word word + k) x 0 (λ clash. absurd (omega arith)) ∙ w.between word k inside low high;
+    trackers = λ k low high. get_or-set_other ws (token_index n p) (tracker_index k) x 0 (λ clash. absurd (omega arith)) ∙ w.trackers k low high;
+    between = λ word k inside low high. get_or-set_other ws (token_index n p) (index_of_word word + k) x 0 (λ clash. absurd (omega arith)) ∙ w.between word k inside low high;
   }
 
 -- the lock's core that a Core shows
-module _ {E B T L I : Type 0} (c : Core E B T L I) where
+module _ {E B T L I : Type 0} (c : WholeState E B T L I) where
   -- the lock's core has the processor of each place up to their count
   pub there : (k : ℕ) → 0 < k → k ≤ c.count → processor_of (core_of c) k ≡ Some (c.state k)
   there k low high =
@@ -291,7 +242,7 @@ module _ {A : Type 0} where
   index_from (y ∷ ys) (suc i) x d e = index_from ys i x d e
 
   -- the values at one number more end with the value at the last
-  pub values-snoc : (f : ℕ → A) (from n : ℕ) → values_from f from (suc n) ≡ values_from f from n ++ f (from + n) ∷ []
+  values-snoc : (f : ℕ → A) (from n : ℕ) → values_from f from (suc n) ≡ values_from f from n ++ f (from + n) ∷ []
   values-snoc f from zero = let e : from ≡ from + 0 = omega arith in ap (λ (k : ℕ). f k ∷ []) e
   values-snoc f from (suc n) = let e : suc from + n ≡ from + suc n = omega arith in
       ap (λ (ys : List A). f from ∷ ys) (values-snoc f (suc from) n ∙ ap (λ (k : ℕ). values_from f (suc from) n ++ f k ∷ []) e)
@@ -334,7 +285,7 @@ module _ {A : Type 0} where
   taken_at xs ys i x same found = sym (ap (λ (zs : List A). slice_get zs i) same) ∙ at_slice xs i x found
 
 -- a flag that was cleared is clear
-pub cleared_here : (fs : List Bool) (i : ℕ) → slice_index_or (slice_set fs i false) i false ≡ false
+cleared_here : (fs : List Bool) (i : ℕ) → slice_index_or (slice_set fs i false) i false ≡ false
 cleared_here [] i = refl
 cleared_here (f ∷ fs) zero = refl
 cleared_here (f ∷ fs) (suc i) = cleared_here fs i
@@ -344,5 +295,5 @@ pub cleared : (fs : List Bool) (i k : ℕ) → (k ≢ i → slice_index_or fs k 
 cleared fs i k others =
     elim (eqb_tells k i) as (λ _. slice_index_or (slice_set fs i false) k false ≡ false) [
       | inl same ↦ subst (λ (j : ℕ). slice_index_or (slice_set fs i false) j false ≡ false) (sym same.1) (cleared_here fs i)
-      | inr other ↦ index_else fs i k false false other.1 ∙ others other.1
+      | inr other ↦ get_or-set_other fs i k false false other.1 ∙ others other.1
     ]

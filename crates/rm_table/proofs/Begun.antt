@@ -5,11 +5,11 @@ use Rattle.rm_table.specs.declared.part.Part.{Part}
 use Rattle.rm_table.specs.Meanings.{Meanings, values_from}
 use Rattle.rm_table.specs.Ends.{first_part}
 use Rattle.rm_table.specs.Seats.{Unbegun}
-use Rattle.rm_table.specs.declared.role.Role.{Role}
-use Rattle.rm_table.specs.declared.role.Role.TheVariants.{Spent, Processor, Operator, Receipt}
+use Rattle.rm_table.specs.declared.view.Role.{Role}
+use Rattle.rm_table.specs.declared.view.Role.TheVariants.{Spent, Processor, Operator, Receipt}
 use Rattle.rm_table.specs.declared.view.View.{View}
 use Rattle.rm_table.specs.Layout.{tracker_word}
-use Rattle.rm_table.specs.Moves.{joined, joined_by}
+use Rattle.rm_table.specs.Moves.{joined_view, joined_by}
 
 -- what stands in a list with one value taken away stood there before
 stood_before : {A : Type 0} (xs : List (Option A)) (p k : ℕ) (a : A) → slice_get (slice_set xs p None) k ≡ Some (Some a) → slice_get xs k ≡ Some (Some a)
@@ -31,7 +31,7 @@ module _ {E L I : Type 0} where
   unbegun_split closing kept place h opening k part is = h opening k part (stood_before kept place k part is)
 
   -- once a seat was joined, nothing is said of sections that were begun
-  pub unbegun_joined : (kept : List (Option (Part E L I))) → Unbegun true kept
+  unbegun_joined : (kept : List (Option (Part E L I))) → Unbegun true kept
   unfolding Unbegun
   unbegun_joined kept opening = absurd cc
 
@@ -63,6 +63,6 @@ pub record JoinedSame {E B T L I : Type 0} (v u : View E B T L I) : Type 0 where
 -- a join leaves role, count, place, number and tracker of the seat that another is joined into
 pub joined_same : {E B T L I : Type 0} (r : Role) (v w : View E B T L I) → Unbegun v.closing v.kept → JoinedSame v (joined_by r v w)
 joined_same Spent v w h = record { role = refl; count = refl; place = refl; number = refl; tracker = refl; unbegun = h }
-joined_same Processor v w h = record { role = refl; count = refl; place = refl; number = refl; tracker = refl; unbegun = unbegun_joined (joined v w).kept }
+joined_same Processor v w h = record { role = refl; count = refl; place = refl; number = refl; tracker = refl; unbegun = unbegun_joined (joined_view v w).kept }
 joined_same Operator v w h = record { role = refl; count = refl; place = refl; number = refl; tracker = refl; unbegun = h }
 joined_same Receipt v w h = record { role = refl; count = refl; place = refl; number = refl; tracker = refl; unbegun = h }

@@ -6,23 +6,23 @@ use mathlib.Core.Option as at
 use lib.ListN.{get_elem?}
 use Rattle.atomic_table.specs.Table.{State, stepped, takes, gives}
 use Rattle.atomic_table.proofs.Lists.{at_set}
-use Rattle.rm_core.specs.declared.phase.Phase.TheVariants.{In}
+use Rattle.rm_core.specs.declared.processor_state.Phase.TheVariants.{In}
 use Rattle.rm_core.specs.declared.event.Event.TheVariants.{ReadNumber}
 use Rattle.rm_core.specs.declared.processor_state.ProcessorState.{ProcessorState}
-use Rattle.rm_table.specs.declared.role.Role.TheVariants.{Processor, Operator}
-use Rattle.rm_table.specs.declared.slot.Slot.{Slot}
-use Rattle.rm_table.specs.declared.slot.Slot.TheVariants.{Book}
+use Rattle.rm_table.specs.declared.view.Role.TheVariants.{Processor, Operator}
+use Rattle.rm_table.specs.declared.padded_slot.Slot.{Slot}
+use Rattle.rm_table.specs.declared.padded_slot.Slot.TheVariants.{Book}
 use Rattle.rm_table.specs.declared.part.Part.{Part}
 use Rattle.rm_table.specs.declared.view.View.{View}
 use Rattle.rm_table.specs.Layout.{book_index, tracker_word, holder_word}
 use Rattle.rm_table.specs.Meanings.{Meanings, put, BeginsWith}
-use Rattle.rm_table.specs.Rule.{Core, lent, Words, tracker_of, token_of, Slots, Desk, Lists, Live, Keeps, Shows}
-use Rattle.rm_table.specs.Moves.{Hand, noted, book_part, book_taken, given_part, book_given, FoundBy, LeftBy, LeftByOperator, AllDrained, IsOperator, IsWorking}
+use Rattle.rm_table.specs.Rule.{WholeState, lent, LockWords, tracker_of, token_of, Slots, Desk, Lists, Live, OperatorKeeps, Shows}
+use Rattle.rm_table.specs.Moves.{Hand, with_step, book_part, book_taken, given_part, book_given, FoundBy, LeftBy, LeftByOperator, AllDrained, IsOperator, IsWorking}
 use Rattle.rm_table.proofs.Base.{put_here, put_else, at_put, put_keeps, at_slice, slice_at, words_like, words_book}
 use Rattle.rm_table.proofs.Keeping.{Beside, begins_same, each_after, every_seat_after}
 use Rattle.rm_table.proofs.Own.{numbers_after}
 use Rattle.rm_table.proofs.Slots.{book_at_home}
-use Rattle.rm_table.proofs.Locks.{no_receipt, working_live, nothing_kept, operator_keeps}
+use Rattle.rm_table.proofs.Locks.{no_receipt, working_live, book_holder, nothing_kept, operator_keeps}
 use Rattle.rm_table.proofs.Writer.{last_known}
 use Rattle.rm_table.proofs.Publishing.{nobody_in}
 
@@ -30,12 +30,12 @@ pos_of_ne : (n : ℕ) → n ≢ 0 → 0 < n
 pos_of_ne n other = grind (arith, other)
 
 -- what a step on the book changes
-abbrev pub desk_core : {E B T L I : Type 0} → Core E B T L I → ℕ → ℕ → B → Bool → Bool → Part E L I → Core E B T L I
+abbrev pub desk_core : {E B T L I : Type 0} → WholeState E B T L I → ℕ → ℕ → B → Bool → Bool → Part E L I → WholeState E B T L I
 desk_core c p holder book stale ready a = record c { holder = holder; book = book; stale = stale; ready = ready; part = put c.part p a }
 
 module _ {E B T L I : Type 0} (m : Meanings E B T L I) where
   -- the book is taken
-  pub slots_book_taken : {number n : ℕ} {state : ℕ → ProcessorState} {name : L} {tag : T} {holder : ℕ} {book : B} {homes : List (at.Option (Slot E B))} (p : ℕ) → 0 < p
+  slots_book_taken : {number n : ℕ} {state : ℕ → ProcessorState} {name : L} {tag : T} {holder : ℕ} {book : B} {homes : List (at.Option (Slot E B))} (p : ℕ) → 0 < p
       → Slots m number n state name tag holder book homes → Slots m number n state name tag p book (slice_set homes 0 at.none)
   slots_book_taken {homes = homes} p low s = record {
     size = length-set homes 0 at.none ∙ s.size;
@@ -46,7 +46,7 @@ module _ {E B T L I : Type 0} (m : Meanings E B T L I) where
   }
 
   -- the book is given back
-  pub slots_book_given : {number n : ℕ} {state : ℕ → ProcessorState} {name : L} {tag : T} {holder : ℕ} {book : B} {homes : List (at.Option (Slot E B))} (holder' : ℕ) (y : B)
+  slots_book_given : {number n : ℕ} {state : ℕ → ProcessorState} {name : L} {tag : T} {holder : ℕ} {book : B} {homes : List (at.Option (Slot E B))} (holder' : ℕ) (y : B)
       → Slots m number n state name tag holder book homes → Slots m number n state name tag holder' y (slice_set homes 0 (at.some (Book (Some y))))
   slots_book_given {homes = homes} holder' y s = record {
     size = length-set homes 0 (at.some (Book (Some y))) ∙ s.size;
@@ -56,12 +56,12 @@ module _ {E B T L I : Type 0} (m : Meanings E B T L I) where
     book_away = λ is. ⊎_elim (λ same. absurd (at.some-ne-none (Book (Some y)) same.1)) (λ other. absurd (other.0 refl)) (at_set homes 0 0 (at.some (Book (Some y))) at.none is);
   }
 
-  module _ (c : Core E B T L I) (t : State (Slot E B) (View E B T L I)) (id : ℕ) (v : View E B T L I) (shows : Shows m c t) (is_at : get_elem? t.views id ≡ at.some v) (working : IsWorking v) where
+  module _ (c : WholeState E B T L I) (t : State (Slot E B) (View E B T L I)) (id : ℕ) (v : View E B T L I) (shows : Shows m c t) (is_at : get_elem? t.views id ≡ at.some v) (working : IsWorking v) where
     w_live : Live m c id v
     w_live = working_live m c t id v shows is_at working
 
     -- a step on the book
-    pub desk_shows : (holder : ℕ) (book : B) (stale ready : Bool) (a : Part E L I) (lends : Option B) (now_ready now_stale : Bool) (steps : List (ℕ × ℕ)) (x : ℕ) (homes : List (at.Option (Slot E B)))
+    desk_shows : (holder : ℕ) (book : B) (stale ready : Bool) (a : Part E L I) (lends : Option B) (now_ready now_stale : Bool) (steps : List (ℕ × ℕ)) (x : ℕ) (homes : List (at.Option (Slot E B)))
         → x ≡ holder
         → Slots m c.number c.count c.state c.name c.tag holder book homes
         → Desk m c.number c.count c.state c.tag holder book stale
@@ -79,7 +79,7 @@ module _ {E B T L I : Type 0} (m : Meanings E B T L I) where
         })
     desk_shows holder book stale ready a lends now_ready now_stale steps x homes is slots_are desk_is lists_are ready_is others lends_is sections held refusal read reading pairs quiet now =
         let p : ℕ = v.place in
-        let d : Core E B T L I = desk_core c p holder book stale ready a in
+        let d : WholeState E B T L I = desk_core c p holder book stale ready a in
         let w : View E B T L I = record v { book = lends; ready = now_ready; stale = now_stale; part = a; steps = steps } in
         let l : Live m c id v = w_live in
         let was : v.part ≡ c.part p = l.part in
@@ -107,7 +107,7 @@ module _ {E B T L I : Type 0} (m : Meanings E B T L I) where
         record {
           words = words_like (tracker_of c.state d.part) (token_of c.state)
               (λ k. ap (λ (n : ℕ). tracker_word n (c.state k).phase) (put_keeps (λ (y : Part E L I). y.sections) c.part p a (sections ∙ ap (λ (y : Part E L I). y.sections) was) k)) (λ k. refl)
-              (subst (λ (n : ℕ). Words c.count c.number (holder_word c.behind) n (tracker_of c.state c.part) (token_of c.state) (slice_set t.words book_index x)) is (words_book x shows.words));
+              (subst (λ (n : ℕ). LockWords c.count c.number (holder_word c.behind) n (tracker_of c.state c.part) (token_of c.state) (slice_set t.words book_index x)) is (words_book x shows.words));
           sound = shows.sound;
           past = shows.past;
           slots = slots_are;
@@ -138,7 +138,7 @@ module _ {E B T L I : Type 0} (m : Meanings E B T L I) where
               book = lends_is;
             };
             processor = (shows.each id v is_at).processor;
-            operator = λ role. let k : Keeps m c id v = operator_keeps m c t id v shows is_at working role in record {
+            operator = λ role. let k : OperatorKeeps m c id v = operator_keeps m c t id v shows is_at working role in record {
               place = k.place;
               number = k.number;
               opened = k.opened;
@@ -156,18 +156,6 @@ module _ {E B T L I : Type 0} (m : Meanings E B T L I) where
             receipt = λ receipt. absurd (no_receipt m c t id v shows is_at working receipt);
           });
         }
-
-    -- who has the book is its holder
-    pub book_holder : (book : B) → v.book ≡ Some book → (c.holder ≡ v.place) × (c.book ≡ book)
-    book_holder book has = by_test (c.holder == v.place) refl
-      where
-        by_test : (b : Bool) → (c.holder == v.place) ≡ b → (c.holder ≡ v.place) × (c.book ≡ book)
-        by_test true is =
-            let e : v.book ≡ Some c.book = w_live.book ∙ ap (λ (b : Bool). if b then Some c.book else None) is in
-            (eqb-true c.holder v.place is, cc)
-        by_test false is =
-            let e : v.book ≡ None = w_live.book ∙ ap (λ (b : Bool). if b then Some c.book else None) is in
-            absurd cc
 
     -- nobody that isn't the operator has published since it took the book
     pub fresh : c.holder ≢ c.count + 1 → c.stale ≡ false
@@ -192,7 +180,7 @@ module _ {E B T L I : Type 0} (m : Meanings E B T L I) where
 
     -- once a free book is taken the table shows a state by the rule
     pub take_book_shows : (hand : Hand E B) (found : ℕ) → c.holder ≡ 0 → (v.role ≡ Processor → v.phase ≡ In)
-        → Shows m (desk_core c v.place v.place c.book c.stale c.ready (book_part v.part)) (stepped t book_index v.place id hand (noted (book_taken v c.book) book_index found) (takes 0 (Book (Some c.book))))
+        → Shows m (desk_core c v.place v.place c.book c.stale c.ready (book_part v.part)) (stepped t book_index v.place id hand (with_step (book_taken v c.book) book_index found) (takes 0 (Book (Some c.book))))
     take_book_shows hand found free inside =
         let l : Live m c id v = w_live in
         let a : Part E L I = book_part v.part in
@@ -214,7 +202,7 @@ module _ {E B T L I : Type 0} (m : Meanings E B T L I) where
         shows.readiness
         (λ k other above. lent_else v.place c.book k (λ e. other (sym e)) ∙ sym (lent_else c.holder c.book k (λ e. absurd (omega arith))))
         (sym (lent_here v.place c.book)) refl refl refl refl refl refl (λ other. (refl, refl))
-        (λ role. let k : Keeps m c id v = operator_keeps m c t id v shows is_at working role in (k.ready, k.stale))
+        (λ role. let k : OperatorKeeps m c id v = operator_keeps m c t id v shows is_at working role in (k.ready, k.stale))
       where
         by_role : v.place ≢ 0 → v.place ≢ c.count + 1 → (v.place ≤ c.count) × ((c.state v.place).phase ≡ In)
         by_role taken processor =
@@ -234,7 +222,7 @@ module _ {E B T L I : Type 0} (m : Meanings E B T L I) where
               let got = shows.insides.reading v.place l.low ((shows.each id v is_at).processor role) (sym l.phase ∙ inside role) in
               (got.0, ap (λ (y : Part E L I). y.reading) l.part ∙ got.1, shows.desk.number_is new ∙ sym got.2.number_is, shows.desk.tag_is new ∙ sym got.2.tag_is);
           operator = λ role.
-              let k : Keeps m c id v = operator_keeps m c t id v shows is_at working role in
+              let k : OperatorKeeps m c id v = operator_keeps m c t id v shows is_at working role in
               let writer : IsOperator v = record { role = role; split = nothing_kept m c t id v shows is_at working role } in
               record {
                 number = shows.desk.number_is new ∙ sym k.number;
@@ -252,7 +240,7 @@ module _ {E B T L I : Type 0} (m : Meanings E B T L I) where
         by_holder : (b : Bool) → (c.holder == 0) ≡ b → c.holder ≡ 0
         by_holder true is = eqb-true c.holder 0 is
         by_holder false is =
-            let k : Keeps m c id v = operator_keeps m c t id v shows is_at working role in
+            let k : OperatorKeeps m c id v = operator_keeps m c t id v shows is_at working role in
             let writer : IsOperator v = record { role = role; split = nothing_kept m c t id v shows is_at working role } in
             let not_operator : c.holder ≢ c.count + 1 = λ same.
             let mine : v.book ≡ Some c.book = w_live.book ∙ ap (λ (b : Bool). if b then Some c.book else None) (eq-eqb c.holder v.place (same ∙ sym k.place)) in
@@ -263,13 +251,13 @@ module _ {E B T L I : Type 0} (m : Meanings E B T L I) where
 
     -- give book, by a processor
     pub give_processor_shows : (hand : Hand E B) (y : B) (taken : B) → v.role ≡ Processor → v.book ≡ Some taken → LeftBy m v.place taken y
-        → Shows m (desk_core c v.place 0 y c.stale c.ready (given_part m v.part v.place y)) (stepped t book_index 0 id ((0, Book (Some y)) ∷ hand) (noted (book_given m v y) book_index 0) gives)
+        → Shows m (desk_core c v.place 0 y c.stale c.ready (given_part m v.part v.place y)) (stepped t book_index 0 id ((0, Book (Some y)) ∷ hand) (with_step (book_given m v y) book_index 0) gives)
     give_processor_shows hand y taken role has left =
         let l : Live m c id v = w_live in
         let p : ℕ = v.place in
         let a : Part E L I = given_part m v.part p y in
         let high : p ≤ c.count = (shows.each id v is_at).processor role in
-        let mine = book_holder taken has in
+        let mine = book_holder m c t id v shows is_at working taken has in
         let same : c.book ≡ taken = mine.1 in
         let new : c.stale ≡ false = fresh (λ e. let h = mine.0 in absurd (omega arith)) in
         let low : 0 < p = l.low in
@@ -294,13 +282,13 @@ module _ {E B T L I : Type 0} (m : Meanings E B T L I) where
 
     -- give book, by the operator
     pub give_operator_shows : (hand : Hand E B) (y : B) (taken : B) → v.role ≡ Operator → v.book ≡ Some taken → LeftByOperator m v taken y
-        → Shows m (desk_core c v.place 0 y false (m.book_ready y) (given_part m v.part v.place y)) (stepped t book_index 0 id ((0, Book (Some y)) ∷ hand) (noted (book_given m v y) book_index 0) gives)
+        → Shows m (desk_core c v.place 0 y false (m.book_ready y) (given_part m v.part v.place y)) (stepped t book_index 0 id ((0, Book (Some y)) ∷ hand) (with_step (book_given m v y) book_index 0) gives)
     give_operator_shows hand y taken role has left =
         let l : Live m c id v = w_live in
         let p : ℕ = v.place in
         let a : Part E L I = given_part m v.part p y in
-        let k : Keeps m c id v = operator_keeps m c t id v shows is_at working role in
-        let mine = book_holder taken has in
+        let k : OperatorKeeps m c id v = operator_keeps m c t id v shows is_at working role in
+        let mine = book_holder m c t id v shows is_at working taken has in
         let same : c.book ≡ taken = mine.1 in
         let low : 0 < p = l.low in
         desk_shows 0 y false (m.book_ready y) a None (m.book_ready y) false (v.steps ++ (book_index, 0) ∷ []) 0 (slice_set t.homes 0 (at.some (Book (Some y)))) refl
@@ -324,12 +312,12 @@ module _ {E B T L I : Type 0} (m : Meanings E B T L I) where
       where
         tag_of : (b : Bool) → c.stale ≡ b → m.book_tag y ≡ c.tag
         tag_of true is =
-            let k : Keeps m c id v = operator_keeps m c t id v shows is_at working role in
+            let k : OperatorKeeps m c id v = operator_keeps m c t id v shows is_at working role in
             let got = left.tag_published (k.stale ∙ is) in
             let there : get_elem? c.history (c.number - c.opened) ≡ at.some (got.0, m.book_tag y) =
             ap (λ (n : ℕ). get_elem? c.history (n - c.opened)) (sym k.number) ∙ ap (λ (n : ℕ). get_elem? c.history (v.number - n)) (sym k.opened) ∙ ap (λ (xs : List (L × T)). get_elem? xs (v.number - v.opened)) (sym k.history)
             ∙ slice_at v.history (v.number - v.opened) (got.0, m.book_tag y) got.1 in
             ap (λ (z : L × T). z.1) (at.some-injective (got.0, m.book_tag y) (c.name, c.tag) (sym there ∙ shows.past.last))
         tag_of false is =
-            let k : Keeps m c id v = operator_keeps m c t id v shows is_at working role in
-            left.tag (k.stale ∙ is) ∙ ap m.book_tag (sym (book_holder taken has).1) ∙ shows.desk.tag_is is
+            let k : OperatorKeeps m c id v = operator_keeps m c t id v shows is_at working role in
+            left.tag (k.stale ∙ is) ∙ ap m.book_tag (sym (book_holder m c t id v shows is_at working taken has).1) ∙ shows.desk.tag_is is

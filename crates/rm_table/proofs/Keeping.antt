@@ -5,12 +5,12 @@ use mathlib.Core.Option as at
 use lib.ListN.{get_elem?}
 use Rattle.std.proofs.lemmas.Bool.Decides.{eqb_tells}
 use Rattle.atomic_table.proofs.Lists.{at_set, set_here, set_else}
-use Rattle.rm_table.specs.declared.role.Role.TheVariants.{Operator}
+use Rattle.rm_table.specs.declared.view.Role.TheVariants.{Operator}
 use Rattle.rm_table.specs.declared.part.Part.{Part}
 use Rattle.rm_table.specs.declared.view.View.{View}
 use Rattle.rm_table.specs.Layout.{is_held_by}
 use Rattle.rm_table.specs.Meanings.{Meanings, BeginsWith}
-use Rattle.rm_table.specs.Rule.{Core, lent, Live, KeptAt, Keeps, IsSeatOf, EverySeat, Agrees}
+use Rattle.rm_table.specs.Rule.{WholeState, lent, Live, KeptAt, OperatorKeeps, IsSeatOf, EverySeat, Agrees}
 use Rattle.rm_table.proofs.Base.{get_within}
 
 module _ {A : Type 0} where
@@ -19,11 +19,11 @@ module _ {A : Type 0} where
   begins_same xs = ([], sym (append-nil xs))
 
   -- what begins with a list that begins with xs begins with xs
-  pub begins_longer : (zs ys xs : List A) → BeginsWith zs ys → BeginsWith ys xs → BeginsWith zs xs
+  begins_longer : (zs ys xs : List A) → BeginsWith zs ys → BeginsWith ys xs → BeginsWith zs xs
   begins_longer zs ys xs longer shorter = (shorter.0 ++ longer.0, longer.1 ∙ ap (λ (l : List A). l ++ longer.0) shorter.1 ∙ append_assoc xs shorter.0 longer.0)
 
 -- what the operator keeps, where another makes the step
-pub record Quiet {E B T L I : Type 0} (c d : Core E B T L I) (p : ℕ) : Type 0 where
+pub record Quiet {E B T L I : Type 0} (c d : WholeState E B T L I) (p : ℕ) : Type 0 where
   pub number : d.number ≡ c.number
   pub opened : d.opened ≡ c.opened
   pub history : d.history ≡ c.history
@@ -35,7 +35,7 @@ pub record Quiet {E B T L I : Type 0} (c d : Core E B T L I) (p : ℕ) : Type 0 
   pub token : (k : ℕ) → k ≢ p → (d.state k).token ≡ (c.state k).token
 
 -- what nobody but the seat with place p may see changed
-pub record Beside {E B T L I : Type 0} (c d : Core E B T L I) (p : ℕ) : Type 0 where
+pub record Beside {E B T L I : Type 0} (c d : WholeState E B T L I) (p : ℕ) : Type 0 where
   pub count : d.count ≡ c.count
   pub opened : d.opened ≡ c.opened
   pub history : BeginsWith d.history c.history
@@ -48,7 +48,7 @@ pub record Beside {E B T L I : Type 0} (c d : Core E B T L I) (p : ℕ) : Type 0
 
 module _ {E B T L I : Type 0} (m : Meanings E B T L I) where
   -- what a seat with another place knows of itself stays so
-  pub live_stays : (c d : Core E B T L I) (p j : ℕ) (u : View E B T L I) → Beside c d p → u.place ≢ p → Live m c j u → Live m d j u
+  live_stays : (c d : WholeState E B T L I) (p j : ℕ) (u : View E B T L I) → Beside c d p → u.place ≢ p → Live m c j u → Live m d j u
   live_stays c d p j u b other l = record {
     count = l.count ∙ sym b.count;
     low = l.low;
@@ -61,7 +61,7 @@ module _ {E B T L I : Type 0} (m : Meanings E B T L I) where
   }
 
   -- what the operator keeps of a processor with another place stays so
-  pub kept_stays : (c d : Core E B T L I) (p j k : ℕ) (closing : Bool) (part : Part E L I) → Beside c d p → Quiet c d p → k ≢ p → KeptAt m c j closing k part → KeptAt m d j closing k part
+  kept_stays : (c d : WholeState E B T L I) (p j k : ℕ) (closing : Bool) (part : Part E L I) → Beside c d p → Quiet c d p → k ≢ p → KeptAt m c j closing k part → KeptAt m d j closing k part
   kept_stays c d p j k closing part b q other l = record {
     low = l.low;
     high = let h = l.high in let e = b.count in omega arith;
@@ -73,7 +73,7 @@ module _ {E B T L I : Type 0} (m : Meanings E B T L I) where
   }
 
   -- what the operator keeps stays so where another seat makes the step
-  pub keeps_stays : (c d : Core E B T L I) (p j : ℕ) (u : View E B T L I) → Beside c d p → Quiet c d p → c.seat p ≢ j → Keeps m c j u → Keeps m d j u
+  keeps_stays : (c d : WholeState E B T L I) (p j : ℕ) (u : View E B T L I) → Beside c d p → Quiet c d p → c.seat p ≢ j → OperatorKeeps m c j u → OperatorKeeps m d j u
   keeps_stays c d p j u b q apart l = record {
     place = let e = l.place in let f = b.count in omega arith;
     number = l.number ∙ sym q.number;
@@ -91,20 +91,20 @@ module _ {E B T L I : Type 0} (m : Meanings E B T L I) where
   }
 
   -- what another seat's view says stays so
-  pub agrees_stays : (c d : Core E B T L I) (p id j : ℕ) (u : View E B T L I) → Beside c d p → c.seat p ≡ id → j ≢ id → Agrees m c j u → Agrees m d j u
+  agrees_stays : (c d : WholeState E B T L I) (p id j : ℕ) (u : View E B T L I) → Beside c d p → c.seat p ≡ id → j ≢ id → Agrees m c j u → Agrees m d j u
   agrees_stays c d p id j u b seat apart a = record {
     live = λ role. let l = a.live role in live_stays c d p j u b (λ same. apart (sym l.seat ∙ ap c.seat same ∙ seat)) l;
     processor = λ role. let h = a.processor role in let e = b.count in omega arith;
     operator = λ role.
         let l : Live m c j u = a.live (inr role) in
-        let k : Keeps m c j u = a.operator role in
+        let k : OperatorKeeps m c j u = a.operator role in
         let other : p ≢ c.count + 1 = λ same. apart (sym l.seat ∙ ap c.seat (k.place ∙ sym same) ∙ seat) in
         keeps_stays c d p j u b (b.operator other) (λ same. apart (sym same ∙ seat)) k;
     receipt = λ role. let r = a.receipt role in record { opened_is = r.opened_is ∙ sym b.opened; prefix = begins_longer d.history c.history u.history b.history r.prefix; begun = r.begun; counts = r.counts };
   }
 
   -- the views after a step of the seat that has place p
-  pub each_after : (c d : Core E B T L I) (p id : ℕ) (w : View E B T L I) (views : List (View E B T L I))
+  pub each_after : (c d : WholeState E B T L I) (p id : ℕ) (w : View E B T L I) (views : List (View E B T L I))
       → ((j : ℕ) (u : View E B T L I) → get_elem? views j ≡ at.some u → Agrees m c j u) → c.seat p ≡ id → Beside c d p → Agrees m d id w
       → (j : ℕ) (u : View E B T L I) → get_elem? (slice_set views id w) j ≡ at.some u → Agrees m d j u
   each_after c d p id w views each seat b own j u is =

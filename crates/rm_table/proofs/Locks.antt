@@ -1,6 +1,7 @@
 -- The steps on the lock behind, the reading of the number, and a try that finds another holder.
 use Rattle.std.proofs.Common.{◌≡◌, ◌≢◌, ℕ, zero, suc, ◌+◌, ◌-◌, ◌<◌, ◌≤◌, ◌⊎◌, inl, inr, Bool, true, false, Option, Some, None, List, [], ◌∷◌, ◌++◌, length, refl, sym, ◌∙◌, ap, arith, subst, ⊎_elim, eq-eqb, ne_eqb}
-use Rattle.std.specs.Prelude.{slice_set, slice_index, if◌then◌else◌, All}
+use Rattle.std.specs.Prelude.{slice_set, slice_index, if◌then◌else◌, All, ◌==◌}
+use Rattle.std.proofs.lemmas.Bool.{eqb-true}
 use Rattle.std.proofs.lemmas.Bool.Decides.{eqb_tells}
 use mathlib.Core.Option as at
 use lib.ListN.{get_elem?}
@@ -8,22 +9,22 @@ use Rattle.atomic_table.specs.Table.{State, stepped, keeps}
 use Rattle.atomic_table.proofs.Lists.{at_longer}
 use Rattle.rm_core.specs.declared.event.Event.{Event}
 use Rattle.rm_core.specs.declared.event.Event.TheVariants.{TakeBack, GiveBack, ReadNumber}
-use Rattle.rm_core.specs.CoreState.{Allowed, after}
+use Rattle.rm_core.specs.CoreState.{MayCome, after}
 use Rattle.rm_core.specs.Runs.{is_regain_of}
-use Rattle.rm_table.specs.declared.role.Role.TheVariants.{Processor, Operator, Receipt}
-use Rattle.rm_table.specs.declared.slot.Slot.{Slot}
+use Rattle.rm_table.specs.declared.view.Role.TheVariants.{Processor, Operator, Receipt}
+use Rattle.rm_table.specs.declared.padded_slot.Slot.{Slot}
 use Rattle.rm_table.specs.declared.part.Part.{Part}
 use Rattle.rm_table.specs.declared.view.View.{View}
 use Rattle.rm_table.specs.Layout.{behind_index, tracker_word, holder_word, is_held_by}
 use Rattle.rm_table.specs.Meanings.{Meanings, numbered, put, BeginsWith}
-use Rattle.rm_table.specs.Rule.{Core, core_of, Words, tracker_of, token_of, InHistory, Live, Keeps, Shows}
-use Rattle.rm_table.specs.Moves.{Hand, noted, behind_part, behind_taken, unread_part, behind_given, read_part, number_read, informed_part, informed, AllSplit, IsWorking, NoneRevoked}
+use Rattle.rm_table.specs.Rule.{WholeState, core_of, LockWords, tracker_of, token_of, InHistory, Live, OperatorKeeps, Shows}
+use Rattle.rm_table.specs.Moves.{Hand, with_step, behind_part, behind_taken, unread_part, behind_given, read_part, number_read, informed_part, informed_view, AllSplit, IsWorking, NoneRevoked}
 use Rattle.rm_table.proofs.Base.{put_here, put_else, at_put, put_keeps, at_slice, all_values, length-values, words_unchanged, words_like, words_behind}
 use Rattle.rm_table.proofs.Keeping.{Beside, begins_same, each_after, every_seat_after}
 use Rattle.rm_table.proofs.Own.{sound_after, numbers_after}
 
 -- what a step on the lock behind changes
-abbrev pub lock_core : {E B T L I : Type 0} → Core E B T L I → ℕ → Option ℕ → Part E L I → Core E B T L I
+abbrev pub lock_core : {E B T L I : Type 0} → WholeState E B T L I → ℕ → Option ℕ → Part E L I → WholeState E B T L I
 lock_core c p b a = record c { behind = b; part = put c.part p a }
 
 -- a part that shows the same but for what was read, for pairs seen and for counts
@@ -36,7 +37,7 @@ pub record SamePart {E L I : Type 0} (a b : Part E L I) : Type 0 where
   pub first : a.first ≡ b.first
 
 module _ {E B T L I : Type 0} (m : Meanings E B T L I) where
-  module _ (c : Core E B T L I) (t : State (Slot E B) (View E B T L I)) (id : ℕ) (v : View E B T L I) (shows : Shows m c t) (is_at : get_elem? t.views id ≡ at.some v) (working : IsWorking v) where
+  module _ (c : WholeState E B T L I) (t : State (Slot E B) (View E B T L I)) (id : ℕ) (v : View E B T L I) (shows : Shows m c t) (is_at : get_elem? t.views id ≡ at.some v) (working : IsWorking v) where
     -- who works is a processor or the operator
     pub somebody : (v.role ≡ Processor) ⊎ (v.role ≡ Operator)
     somebody = ⊎_elim (λ processor. inl processor) (λ operator. inr operator.role) working
@@ -49,12 +50,24 @@ module _ {E B T L I : Type 0} (m : Meanings E B T L I) where
     pub working_live : Live m c id v
     working_live = (shows.each id v is_at).live somebody
 
+    -- who has the book is its holder
+    pub book_holder : (book : B) → v.book ≡ Some book → (c.holder ≡ v.place) × (c.book ≡ book)
+    book_holder book has = by_test (c.holder == v.place) refl
+      where
+        by_test : (b : Bool) → (c.holder == v.place) ≡ b → (c.holder ≡ v.place) × (c.book ≡ book)
+        by_test true is =
+            let e : v.book ≡ Some c.book = working_live.book ∙ ap (λ (b : Bool). if b then Some c.book else None) is in
+            (eqb-true c.holder v.place is, cc)
+        by_test false is =
+            let e : v.book ≡ None = working_live.book ∙ ap (λ (b : Bool). if b then Some c.book else None) is in
+            absurd cc
+
     -- nothing is kept of any processor
     pub nothing_kept : v.role ≡ Operator → AllSplit v
     nothing_kept role = ⊎_elim (λ processor. let clash : Processor ≡ Operator = sym processor ∙ role in absurd cc) (λ operator. operator.split) working
 
     -- what the operator at work keeps is so
-    pub operator_keeps : v.role ≡ Operator → Keeps m c id v
+    pub operator_keeps : v.role ≡ Operator → OperatorKeeps m c id v
     operator_keeps role = (shows.each id v is_at).operator role
 
     -- the view after the step, where it differs in these fields alone
@@ -62,15 +75,15 @@ module _ {E B T L I : Type 0} (m : Meanings E B T L I) where
     moved behind a steps = record v { behind = behind; part = a; steps = steps }
 
     -- after a step on the lock behind the table shows a state by the rule
-    pub lock_shows : (e : Event) (b : Option ℕ) (behind : Bool) (a : Part E L I) (steps : List (ℕ × ℕ)) (words : List ℕ) → core_of (lock_core c v.place b a) ≡ after (core_of c) e → Allowed (core_of c) e
+    lock_shows : (e : Event) (b : Option ℕ) (behind : Bool) (a : Part E L I) (steps : List (ℕ × ℕ)) (words : List ℕ) → core_of (lock_core c v.place b a) ≡ after (core_of c) e → MayCome (core_of c) e
         → behind ≡ is_held_by b v.place → ((k : ℕ) → k ≢ v.place → is_held_by b k ≡ is_held_by c.behind k) → ((k : ℕ) → k ≢ v.place → b ≡ Some k → c.behind ≡ Some k) → ((h : ℕ) → b ≡ Some h → (0 < h) × (h ≤ c.count + 1))
         → ((k : ℕ) → is_regain_of k e ≡ false) → SamePart a v.part → ((x : ℕ) → v.place ≤ c.count → b ≡ Some v.place → a.read ≡ Some x → x ≡ c.number)
         → (v.place ≤ c.count → (j x : ℕ) (l : L) → get_elem? a.pairs j ≡ at.some (x, l) → InHistory c.opened c.history x l)
-        → Words c.count c.number (holder_word b) c.holder (tracker_of c.state c.part) (token_of c.state) words
+        → LockWords c.count c.number (holder_word b) c.holder (tracker_of c.state c.part) (token_of c.state) words
         → Shows m (lock_core c v.place b a) (record { words = words; homes = t.homes; views = slice_set t.views id (moved behind a steps) })
     lock_shows e b behind a steps words core_is may behind_is others others_some bounds unregained same read pairs words_are =
         let p : ℕ = v.place in
-        let d : Core E B T L I = lock_core c p b a in
+        let d : WholeState E B T L I = lock_core c p b a in
         let l : Live m c id v = working_live in
         let part_is : put c.part p a p ≡ a = put_here c.part p a in
         let was : v.part ≡ c.part p = l.part in
@@ -123,7 +136,7 @@ module _ {E B T L I : Type 0} (m : Meanings E B T L I) where
               book = l.book;
             };
             processor = (shows.each id v is_at).processor;
-            operator = λ role. let k : Keeps m c id v = operator_keeps role in record {
+            operator = λ role. let k : OperatorKeeps m c id v = operator_keeps role in record {
               place = k.place;
               number = k.number;
               opened = k.opened;
@@ -147,12 +160,12 @@ module _ {E B T L I : Type 0} (m : Meanings E B T L I) where
     same_pairs within j x l is = shows.insides.pairs v.place working_live.low within j x l (ap (λ (y : Part E L I). get_elem? y.pairs j) (sym working_live.part) ∙ is)
 
     -- take back, where nobody holds it
-    pub take_back_may : c.behind ≡ None → Allowed (core_of c) (TakeBack v.place)
+    pub take_back_may : c.behind ≡ None → MayCome (core_of c) (TakeBack v.place)
     take_back_may free = ((working_live.low, let h = working_live.high in let e = length-values c.state 1 c.count in omega arith), free)
 
     -- once the free lock behind is taken the table shows a state by the rule
     pub take_back_shows : (hand : Hand E B) (found : ℕ) → c.behind ≡ None
-        → Shows m (lock_core c v.place (Some v.place) (behind_part v.part)) (stepped t behind_index v.place id hand (noted (behind_taken v) behind_index found) keeps)
+        → Shows m (lock_core c v.place (Some v.place) (behind_part v.part)) (stepped t behind_index v.place id hand (with_step (behind_taken v) behind_index found) keeps)
     take_back_shows hand found free =
         lock_shows (TakeBack v.place) (Some v.place) true (behind_part v.part) (v.steps ++ (behind_index, found) ∷ []) (slice_set t.words behind_index v.place) refl (take_back_may free)
         (sym (eq-eqb v.place v.place refl))
@@ -174,7 +187,7 @@ module _ {E B T L I : Type 0} (m : Meanings E B T L I) where
         holder_of (Some h) is = ⊎_elim (λ same. ap (λ (n : ℕ). Some n) same.1) (λ other. let clash : true ≡ false = sym is ∙ other.0 in absurd cc) (eqb_tells h v.place)
 
     -- give back
-    pub give_back_may : v.behind ≡ true → (v.role ≡ Operator → NoneRevoked v) → Allowed (core_of c) (GiveBack v.place)
+    pub give_back_may : v.behind ≡ true → (v.role ≡ Operator → NoneRevoked v) → MayCome (core_of c) (GiveBack v.place)
     give_back_may held unrevoked = (
       (working_live.low, let h = working_live.high in let e = length-values c.state 1 c.count in omega arith),
       held_behind held,
@@ -185,13 +198,13 @@ module _ {E B T L I : Type 0} (m : Meanings E B T L I) where
         none_revoked same =
             let n : length (core_of c).processors ≡ c.count = length-values c.state 1 c.count in
             let role : v.role ≡ Operator = ⊎_elim (λ processor. let high = (shows.each id v is_at).processor processor in absurd (omega arith)) (λ operator. operator.role) working in
-            let k : Keeps m c id v = operator_keeps role in
+            let k : OperatorKeeps m c id v = operator_keeps role in
             all_values (λ p. p.revoked ≡ false) c.state 1 c.count
             (λ j low within. sym (k.revoked j (omega arith) (omega arith)) ∙ unrevoked role j (omega arith) (let e = working_live.count in omega arith))
 
     -- once the lock behind is given back the table shows a state by the rule
     pub give_back_shows : (hand : Hand E B) → v.behind ≡ true → (v.role ≡ Operator → NoneRevoked v)
-        → Shows m (lock_core c v.place None (unread_part v.part)) (stepped t behind_index 0 id hand (noted (behind_given v) behind_index 0) keeps)
+        → Shows m (lock_core c v.place None (unread_part v.part)) (stepped t behind_index 0 id hand (with_step (behind_given v) behind_index 0) keeps)
     give_back_shows hand held unrevoked =
         let was : c.behind ≡ Some v.place = held_behind held in
         lock_shows (GiveBack v.place) None false (unread_part v.part) (v.steps ++ (behind_index, 0) ∷ []) (slice_set t.words behind_index 0) refl (give_back_may held unrevoked)
@@ -220,7 +233,7 @@ module _ {E B T L I : Type 0} (m : Meanings E B T L I) where
 
     -- once the number is read the table shows a state by the rule
     pub read_number_shows : (i number : ℕ) (hand : Hand E B) → number ≡ c.number
-        → Shows m (lock_core c v.place c.behind (read_part v.behind v.part number)) (stepped t i (slice_index t.words i) id hand (noted (number_read v number) i (slice_index t.words i)) keeps)
+        → Shows m (lock_core c v.place c.behind (read_part v.behind v.part number)) (stepped t i (slice_index t.words i) id hand (with_step (number_read v number) i (slice_index t.words i)) keeps)
     read_number_shows i number hand is =
         lock_shows ReadNumber c.behind v.behind (read_part v.behind v.part number) (v.steps ++ (i, slice_index t.words i) ∷ []) (slice_set t.words i (slice_index t.words i)) refl tt
         working_live.behind (λ k other. refl) (λ k other is. is) shows.sound.holder (λ k. refl) (read_part_same v.behind number)
@@ -228,14 +241,14 @@ module _ {E B T L I : Type 0} (m : Meanings E B T L I) where
 
     -- a try that finds another holder changes nothing
     pub missed_shows : (i found : ℕ) (words : List ℕ) → words ≡ t.words
-        → Shows m (lock_core c v.place c.behind v.part) (record { words = words; homes = t.homes; views = slice_set t.views id (noted v i found) })
+        → Shows m (lock_core c v.place c.behind v.part) (record { words = words; homes = t.homes; views = slice_set t.views id (with_step v i found) })
     missed_shows i found words same =
         lock_shows ReadNumber c.behind v.behind v.part (v.steps ++ (i, found) ∷ []) words refl tt
         working_live.behind (λ k other. refl) (λ k other is. is) shows.sound.holder (λ k. refl)
         (record { sections = refl; held = refl; refusal = refl; reading = refl; own = refl; first = refl })
         (λ x within holds read. shows.numbers.read v.place x within holds (ap (λ (y : Part E L I). y.read) (sym working_live.part) ∙ read))
         same_pairs
-        (subst (λ (xs : List ℕ). Words c.count c.number (holder_word c.behind) c.holder (tracker_of c.state c.part) (token_of c.state) xs) (sym same) shows.words)
+        (subst (λ (xs : List ℕ). LockWords c.count c.number (holder_word c.behind) c.holder (tracker_of c.state c.part) (token_of c.state) xs) (sym same) shows.words)
 
   -- a receipt's names in the pairs of the processor that has heard it
   numbered_at : (from : ℕ) (history : List (L × T)) (i x : ℕ) (l : L) → get_elem? (numbered from history) i ≡ at.some (x, l) → (x ≡ from + i) × ((tag : T) × (get_elem? history i ≡ at.some (l, tag)))
@@ -253,8 +266,8 @@ module _ {E B T L I : Type 0} (m : Meanings E B T L I) where
   at_append (x ∷ xs) ys (suc j) a is = at_append xs ys j a is
 
   -- join seat, of a receipt: what the processor has heard is in the history
-  pub hear_shows : (c : Core E B T L I) (t : State (Slot E B) (View E B T L I)) (id other : ℕ) (v w : View E B T L I) → Shows m c t → get_elem? t.views id ≡ at.some v → v.role ≡ Processor → get_elem? t.views other ≡ at.some w → w.role ≡ Receipt
-      → Shows m (lock_core c v.place c.behind (informed_part v.part w.opened w.history)) (record { words = t.words; homes = t.homes; views = slice_set t.views id (informed v w) })
+  pub hear_shows : (c : WholeState E B T L I) (t : State (Slot E B) (View E B T L I)) (id other : ℕ) (v w : View E B T L I) → Shows m c t → get_elem? t.views id ≡ at.some v → v.role ≡ Processor → get_elem? t.views other ≡ at.some w → w.role ≡ Receipt
+      → Shows m (lock_core c v.place c.behind (informed_part v.part w.opened w.history)) (record { words = t.words; homes = t.homes; views = slice_set t.views id (informed_view v w) })
   hear_shows c t id other v w shows is_at role there receipt =
       let l : Live m c id v = working_live c t id v shows is_at (inl role) in
       let r = (shows.each other w there).receipt receipt in

@@ -5,23 +5,23 @@ use Rattle.std.proofs.lemmas.Bool.{eqb-true}
 use mathlib.Core.Option as at
 use lib.ListN.{get_elem?}
 use Rattle.atomic_table.specs.Table.{State}
-use Rattle.rm_core.specs.declared.phase.Phase.TheVariants.{Out, In}
+use Rattle.rm_core.specs.declared.processor_state.Phase.TheVariants.{Out, In}
 use Rattle.rm_core.proofs.Changes.{All-processor_of}
-use Rattle.rm_table.specs.declared.role.Role.TheVariants.{Processor, Operator}
-use Rattle.rm_table.specs.declared.slot.Slot.{Slot}
+use Rattle.rm_table.specs.declared.view.Role.TheVariants.{Processor, Operator}
+use Rattle.rm_table.specs.declared.padded_slot.Slot.{Slot}
 use Rattle.rm_table.specs.declared.part.Part.{Part}
 use Rattle.rm_table.specs.declared.view.View.{View}
 use Rattle.rm_table.specs.Layout.{number_index, behind_index, holder_word, is_held_by}
 use Rattle.rm_table.specs.Meanings.{Meanings, numbered, BeginsWith}
 use Rattle.rm_table.specs.Moves.{IsLast}
-use Rattle.rm_table.specs.Rule.{Core, core_of, Live, KeptAt, Keeps, IsSeatOf, Shows}
-use Rattle.rm_table.specs.Moments.{HasSeat, IsReader, IsCountedOut, ReadsPublished, ReadingLaw, StayingLaw, HomeLaw, AwayLaw, ApartLaw, SeatLaw, OperatorLaw, PlaceLaw, BehindLaw, BookLaw, SeenLaw, ToldLaw, HeardLaw}
+use Rattle.rm_table.specs.Rule.{WholeState, core_of, Live, KeptAt, OperatorKeeps, IsSeatOf, Shows}
+use Rattle.rm_table.specs.Moments.{HasSeat, IsReader, IsCountedOut, ReadsPublished, ReadingLaw, StayingLaw, HomeLaw, AwayLaw, ApartLaw, SeatLaw, OperatorLaw, PlaceLaw, BehindLaw, BookLaw, SeenLaw, PrefixLaw, HeardLaw}
 use Rattle.rm_table.proofs.Base.{there, get_within, at_slice, slice_at}
 use Rattle.rm_table.proofs.Own.{in_history}
 
 module _ {L T : Type 0} where
   -- the last pair of a numbered history
-  pub last_numbered : (from : ℕ) (history : List (L × T)) (number : ℕ) → from + length history ≡ number + 1 → 0 < length history → (j : ℕ) × (name : L) × (slice_get (numbered from history) j ≡ Some (number, name))
+  last_numbered : (from : ℕ) (history : List (L × T)) (number : ℕ) → from + length history ≡ number + 1 → 0 < length history → (j : ℕ) × (name : L) × (slice_get (numbered from history) j ≡ Some (number, name))
   last_numbered from [] number counts some = absurd (omega arith)
   last_numbered from (x ∷ []) number counts some = let e : from ≡ number = omega arith in (0, x.0, ap (λ (n : ℕ). Some (n, x.0)) e)
   last_numbered from (x ∷ y ∷ ys) number counts some = let got = last_numbered (from + 1) (y ∷ ys) number (omega arith) (omega arith) in (suc got.0, got.1, got.2)
@@ -32,7 +32,7 @@ get_behind {A} [] ys j a is = let e : length {A = A} [] + j ≡ j = omega arith 
 get_behind (x ∷ xs) ys j a is = let e : length (x ∷ xs) + j ≡ suc (length xs + j) = omega arith in ap (λ (k : ℕ). slice_get (x ∷ (xs ++ ys)) k) e ∙ get_behind xs ys j a is
 
 module _ {E B T L I : Type 0} (m : Meanings E B T L I) where
-  module _ (c : Core E B T L I) (t : State (Slot E B) (View E B T L I)) (shows : Shows m c t) where
+  module _ (c : WholeState E B T L I) (t : State (Slot E B) (View E B T L I)) (shows : Shows m c t) where
     -- the published number is word 0
     number_word : c.number ≡ slice_index t.words number_index
     number_word = sym shows.words.number_is
@@ -43,12 +43,12 @@ module _ {E B T L I : Type 0} (m : Meanings E B T L I) where
     within_at : (id : ℕ) (v : View E B T L I) → HasSeat t id v → v.role ≡ Processor → v.place ≤ c.count
     within_at id v is_at role = (shows.each id v is_at).processor role
 
-    keeps_at : (id : ℕ) (o : View E B T L I) → HasSeat t id o → o.role ≡ Operator → Keeps m c id o
+    keeps_at : (id : ℕ) (o : View E B T L I) → HasSeat t id o → o.role ≡ Operator → OperatorKeeps m c id o
     keeps_at id o is_at role = (shows.each id o is_at).operator role
 
     last_at : (id : ℕ) (o : View E B T L I) → HasSeat t id o → o.role ≡ Operator → IsLast o c.name c.tag
     last_at id o is_at role =
-        let k : Keeps m c id o = keeps_at id o is_at role in
+        let k : OperatorKeeps m c id o = keeps_at id o is_at role in
         ap (λ (xs : List (L × T)). slice_get xs (o.number - o.opened)) k.history ∙ ap (λ (n : ℕ). slice_get c.history (n - o.opened)) k.number ∙ ap (λ (n : ℕ). slice_get c.history (c.number - n)) k.opened
         ∙ at_slice c.history (c.number - c.opened) (c.name, c.tag) shows.past.last
 
@@ -68,7 +68,7 @@ module _ {E B T L I : Type 0} (m : Meanings E B T L I) where
         }
 
     -- a processor of the core that is in has its own seat
-    pub reader_at : (k : ℕ) → 0 < k → k ≤ c.count → (c.state k).phase ≡ In → IsReader t k
+    reader_at : (k : ℕ) → 0 < k → k ≤ c.count → (c.state k).phase ≡ In → IsReader t k
     reader_at k low high inside =
         let got = shows.seats.processors k low high in
         ⊎_elim
@@ -97,7 +97,7 @@ module _ {E B T L I : Type 0} (m : Meanings E B T L I) where
         All-processor_of (λ q. q.drained ≡ true → q.phase ≢ In) (core_of c) k (c.state k) shows.sound.safe.outside (there c k low high) flag inside
 
     -- the seat that a word names
-    pub named : (k : ℕ) → 0 < k → k ≤ c.count + 1 → (id : ℕ) × (v : View E B T L I) × HasSeat t id v × (((v.role ≡ Operator) × (v.place ≡ k)) ⊎ ((k ≤ c.count) × IsSeatOf v k))
+    named : (k : ℕ) → 0 < k → k ≤ c.count + 1 → (id : ℕ) × (v : View E B T L I) × HasSeat t id v × (((v.role ≡ Operator) × (v.place ≡ k)) ⊎ ((k ≤ c.count) × IsSeatOf v k))
     named k low high = by_operator (k == c.count + 1) refl
       where
         by_operator : (b : Bool) → (k == c.count + 1) ≡ b → (id : ℕ) × (v : View E B T L I) × HasSeat t id v × (((v.role ≡ Operator) × (v.place ≡ k)) ⊎ ((k ≤ c.count) × IsSeatOf v k))
@@ -189,7 +189,7 @@ module _ {E B T L I : Type 0} (m : Meanings E B T L I) where
   pub operator_holds : OperatorLaw m
   operator_holds t whole =
       let o = whole.1.seats.operator in
-      let k : Keeps m whole.0 ((whole.0).seat ((whole.0).count + 1)) o.0 = (whole.1.each ((whole.0).seat ((whole.0).count + 1)) o.0 o.1).operator o.2 in
+      let k : OperatorKeeps m whole.0 ((whole.0).seat ((whole.0).count + 1)) o.0 = (whole.1.each ((whole.0).seat ((whole.0).count + 1)) o.0 o.1).operator o.2 in
       ((whole.0).seat ((whole.0).count + 1), o.0, o.1, o.2, k.place ∙ sym whole.1.slots.size)
 
   -- no place has two seats
@@ -216,9 +216,9 @@ module _ {E B T L I : Type 0} (m : Meanings E B T L I) where
   -- each number and name that a processor has seen is in the operator's history and published
   pub seen_holds : SeenLaw m
   seen_holds t whole id i v o v_at o_at v_role o_role j x name is =
-      let c : Core E B T L I = whole.0 in
+      let c : WholeState E B T L I = whole.0 in
       let l : Live m c id v = (whole.1.each id v v_at).live (inl v_role) in
-      let k : Keeps m c i o = (whole.1.each i o o_at).operator o_role in
+      let k : OperatorKeeps m c i o = (whole.1.each i o o_at).operator o_role in
       let found = whole.1.insides.pairs v.place l.low ((whole.1.each id v v_at).processor v_role) j x name (ap (λ (p : Part E L I). get_elem? p.pairs j) (sym l.part) ∙ slice_at v.part.pairs j (x, name) is) in
       let most : x ≤ c.number = in_history m c t whole.1 x name found in (
         let e = k.opened in let low = found.0 in omega arith,
@@ -227,10 +227,10 @@ module _ {E B T L I : Type 0} (m : Meanings E B T L I) where
       )
 
   -- the operator's history begins with that of each receipt
-  pub told_holds : ToldLaw m
+  pub told_holds : PrefixLaw m
   told_holds t whole id i r o r_at o_at r_role o_role =
-      let c : Core E B T L I = whole.0 in
-      let k : Keeps m c i o = (whole.1.each i o o_at).operator o_role in
+      let c : WholeState E B T L I = whole.0 in
+      let k : OperatorKeeps m c i o = (whole.1.each i o o_at).operator o_role in
       let p = (whole.1.each id r r_at).receipt r_role in
       (p.opened_is ∙ sym k.opened, p.begun, p.counts, subst (λ (h : List (L × T)). BeginsWith h r.history) (sym k.history) p.prefix)
 

@@ -4,32 +4,32 @@ use Rattle.std.specs.Prelude.{slice_set, if◌then◌else◌}
 use mathlib.Core.Option as at
 use lib.ListN.{get_elem?}
 use Rattle.atomic_table.specs.Table.{State}
-use Rattle.rm_core.specs.declared.phase.Phase.TheVariants.{In}
-use Rattle.rm_core.specs.declared.token.Token.TheVariants.{Held, Revoked}
+use Rattle.rm_core.specs.declared.processor_state.Phase.TheVariants.{In}
+use Rattle.rm_core.specs.declared.processor_state.Token.TheVariants.{Held, Revoked}
 use Rattle.rm_core.specs.declared.event.Event.{Event}
 use Rattle.rm_core.specs.declared.processor_state.ProcessorState.{ProcessorState}
-use Rattle.rm_core.specs.CoreState.{CoreState, Allowed, after, Safe, Fits, processor_of}
+use Rattle.rm_core.specs.CoreState.{CoreState, MayCome, after, Safe, Fits, processor_of}
 use Rattle.rm_core.specs.Runs.{is_regain_of}
-use Rattle.rm_core.specs.declared.token.Token.{Token}
+use Rattle.rm_core.specs.declared.processor_state.Token.{Token}
 use Rattle.rm_core.proofs.Changes.{All-processor_of}
 use Rattle.rm_core.proofs.Steps.{Safe-after}
 use Rattle.rm_core.proofs.Fitting.{Fits-after}
 use Rattle.rm_core.proofs.Numbers.{KnowsAt, Knows, Knows-after}
 use Rattle.rm_core.proofs.OneRun.{Pending-after}
-use Rattle.rm_table.specs.declared.role.Role.TheVariants.{Processor, Operator, Receipt}
-use Rattle.rm_table.specs.declared.slot.Slot.{Slot}
+use Rattle.rm_table.specs.declared.view.Role.TheVariants.{Processor, Operator, Receipt}
+use Rattle.rm_table.specs.declared.padded_slot.Slot.{Slot}
 use Rattle.rm_table.specs.declared.part.Part.{Part}
 use Rattle.rm_table.specs.declared.view.View.{View}
 use Rattle.rm_table.specs.Layout.{holder_word, is_held_by}
 use Rattle.rm_table.specs.Meanings.{Meanings, put, BeginsWith}
-use Rattle.rm_table.specs.Rule.{Core, core_of, lent, Words, tracker_of, token_of, Sound, IsPending, InHistory, Current, Slots, Numbers, Live, Shows}
+use Rattle.rm_table.specs.Rule.{WholeState, core_of, lent, LockWords, tracker_of, token_of, Sound, IsPending, InHistory, Current, Slots, Numbers, Live, Shows}
 use Rattle.rm_table.specs.Moves.{SeenUpTo}
 use Rattle.rm_table.proofs.Base.{put_here, put_else, at_put, put_keeps, there, get_within, slice_at}
 use Rattle.rm_table.proofs.Keeping.{Beside, begins_same, each_after, every_seat_after}
 
 module _ {E B T L I : Type 0} where
   -- an event keeps the core sound
-  pub sound_after : (c d : Core E B T L I) (e : Event) → core_of d ≡ after (core_of c) e → d.count ≡ c.count → Allowed (core_of c) e
+  pub sound_after : (c d : WholeState E B T L I) (e : Event) → core_of d ≡ after (core_of c) e → d.count ≡ c.count → MayCome (core_of c) e
       → ((h : ℕ) → d.behind ≡ Some h → (0 < h) × (h ≤ d.count + 1)) → Sound c.count (core_of c) → Sound d.count (core_of d)
   sound_after c d e is same may holder s = record {
     safe = subst Safe (sym is) (Safe-after (core_of c) e s.safe may);
@@ -37,11 +37,11 @@ module _ {E B T L I : Type 0} where
     holder = holder;
   }
 
-  knows_of : (c : Core E B T L I) → Numbers c.count (core_of c) c.part → (k : ℕ) → Knows (core_of c) k (c.part k).held
+  knows_of : (c : WholeState E B T L I) → Numbers c.count (core_of c) c.part → (k : ℕ) → Knows (core_of c) k (c.part k).held
   knows_of c n k p is = record { held = n.held k p is; revoked = n.revoked k p is }
 
   -- and it keeps the numbers, where they change as the event has it
-  pub numbers_after : (c d : Core E B T L I) (e : Event) → core_of d ≡ after (core_of c) e → Allowed (core_of c) e → Sound c.count (core_of c)
+  pub numbers_after : (c d : WholeState E B T L I) (e : Event) → core_of d ≡ after (core_of c) e → MayCome (core_of c) e → Sound c.count (core_of c)
       → ((k : ℕ) → (d.part k).held ≡ (if is_regain_of k e then c.number else (c.part k).held))
       → ((k x : ℕ) → k ≤ d.count → d.behind ≡ Some k → (d.part k).read ≡ Some x → x ≡ d.number)
       → ((k x : ℕ) → (d.part k).refusal ≡ Some x → ((c.part k).refusal ≡ Some x) ⊎ IsPending (core_of d) k x)
@@ -59,12 +59,12 @@ module _ {E B T L I : Type 0} where
           (subst (λ (x : ℕ). Knows (after (core_of c) e) k x) (sym (helds k)) (Knows-after (core_of c) e k (c.part k).held s.safe may (knows_of c n k)))
 
 -- what a step of a processor on its own state and part changes
-abbrev pub own_core : {E B T L I : Type 0} → Core E B T L I → ℕ → ProcessorState → Part E L I → Core E B T L I
+abbrev pub own_core : {E B T L I : Type 0} → WholeState E B T L I → ℕ → ProcessorState → Part E L I → WholeState E B T L I
 own_core c p r a = record c { state = put c.state p r; part = put c.part p a }
 
 module _ {E B T L I : Type 0} (m : Meanings E B T L I) where
   -- a processor's step on its own state changes nothing that other seats may see
-  pub own_beside : (c : Core E B T L I) (p : ℕ) (r : ProcessorState) (a : Part E L I) → r.revoked ≡ (c.state p).revoked → r.drained ≡ (c.state p).drained → Beside c (own_core c p r a) p
+  own_beside : (c : WholeState E B T L I) (p : ℕ) (r : ProcessorState) (a : Part E L I) → r.revoked ≡ (c.state p).revoked → r.drained ≡ (c.state p).drained → Beside c (own_core c p r a) p
   own_beside c p r a revoked drained = record {
     count = refl;
     opened = refl;
@@ -88,7 +88,7 @@ module _ {E B T L I : Type 0} (m : Meanings E B T L I) where
   }
 
   -- the number that a processor knows is at most the published one
-  pub known_number : (c : Core E B T L I) (t : State (Slot E B) (View E B T L I)) → Shows m c t → (k : ℕ) → 0 < k → k ≤ c.count → (c.part k).held ≤ c.number
+  pub known_number : (c : WholeState E B T L I) (t : State (Slot E B) (View E B T L I)) → Shows m c t → (k : ℕ) → 0 < k → k ≤ c.count → (c.part k).held ≤ c.number
   known_number c t shows k low high = by_token (c.state k).token refl
     where
       by_token : (token : Token) → (c.state k).token ≡ token → (c.part k).held ≤ c.number
@@ -105,7 +105,7 @@ module _ {E B T L I : Type 0} (m : Meanings E B T L I) where
               let below = shows.numbers.revoked k (c.state k) (there c k low high) s is in omega arith
 
   -- a number of the history is published
-  pub in_history : (c : Core E B T L I) (t : State (Slot E B) (View E B T L I)) → Shows m c t → (x : ℕ) (name : L) → InHistory c.opened c.history x name → x ≤ c.number
+  pub in_history : (c : WholeState E B T L I) (t : State (Slot E B) (View E B T L I)) → Shows m c t → (x : ℕ) (name : L) → InHistory c.opened c.history x name → x ≤ c.number
   in_history c t shows x name found =
       let inside = get_within c.history (x - c.opened) (name, found.1.0) found.1.1 in
       let counts = shows.past.counts in
@@ -113,19 +113,19 @@ module _ {E B T L I : Type 0} (m : Meanings E B T L I) where
       omega arith
 
   -- no pair that a processor saw is past the published number
-  pub seen_published : (c : Core E B T L I) (t : State (Slot E B) (View E B T L I)) → Shows m c t → (k : ℕ) → 0 < k → k ≤ c.count → SeenUpTo (c.part k) c.number
+  pub seen_published : (c : WholeState E B T L I) (t : State (Slot E B) (View E B T L I)) → Shows m c t → (k : ℕ) → 0 < k → k ≤ c.count → SeenUpTo (c.part k) c.number
   seen_published c t shows k low high j x name is = in_history c t shows x name (shows.insides.pairs k low high j x name (slice_at (c.part k).pairs j (x, name) is))
 
   -- What a processor's step has to bring: r and a are its state and part after it, w its view.
-  pub record OwnStep (c : Core E B T L I) (t : State (Slot E B) (View E B T L I)) (id : ℕ) (v : View E B T L I) (e : Event) (r : ProcessorState) (a : Part E L I) (w : View E B T L I) (words : List ℕ) (homes : List (at.Option (Slot E B))) : Type 0 where
+  pub record OwnStep (c : WholeState E B T L I) (t : State (Slot E B) (View E B T L I)) (id : ℕ) (v : View E B T L I) (e : Event) (r : ProcessorState) (a : Part E L I) (w : View E B T L I) (words : List ℕ) (homes : List (at.Option (Slot E B))) : Type 0 where
     pub shows : Shows m c t
     pub is_at : get_elem? t.views id ≡ at.some v
     pub role : v.role ≡ Processor
     pub core_is : core_of (own_core c v.place r a) ≡ after (core_of c) e
-    pub may : Allowed (core_of c) e
+    pub may : MayCome (core_of c) e
     pub revoked : r.revoked ≡ (c.state v.place).revoked
     pub drained : r.drained ≡ (c.state v.place).drained
-    pub words_are : Words c.count c.number (holder_word c.behind) c.holder (tracker_of (put c.state v.place r) (put c.part v.place a)) (token_of (put c.state v.place r)) words
+    pub words_are : LockWords c.count c.number (holder_word c.behind) c.holder (tracker_of (put c.state v.place r) (put c.part v.place a)) (token_of (put c.state v.place r)) words
     pub slots_are : Slots m c.number c.count (put c.state v.place r) c.name c.tag c.holder c.book homes
     pub reading : r.phase ≡ In → (x : E) × (a.reading ≡ Some x) × Current m c.number c.name c.tag x
     pub pairs : (j x : ℕ) (l : L) → get_elem? a.pairs j ≡ at.some (x, l) → InHistory c.opened c.history x l
@@ -144,15 +144,15 @@ module _ {E B T L I : Type 0} (m : Meanings E B T L I) where
     pub now_book : w.book ≡ v.book
 
   -- what a processor's seat knows of itself is so
-  pub processor_live : (c : Core E B T L I) (t : State (Slot E B) (View E B T L I)) (id : ℕ) (v : View E B T L I) → Shows m c t → get_elem? t.views id ≡ at.some v → v.role ≡ Processor → Live m c id v
+  pub processor_live : (c : WholeState E B T L I) (t : State (Slot E B) (View E B T L I)) (id : ℕ) (v : View E B T L I) → Shows m c t → get_elem? t.views id ≡ at.some v → v.role ≡ Processor → Live m c id v
   processor_live c t id v shows is_at role = (shows.each id v is_at).live (inl role)
 
   -- after a processor's step on its own state the table shows a state by the rule
-  pub own_shows : (c : Core E B T L I) (t : State (Slot E B) (View E B T L I)) (id : ℕ) (v : View E B T L I) (e : Event) (r : ProcessorState) (a : Part E L I) (w : View E B T L I) (words : List ℕ) (homes : List (at.Option (Slot E B)))
+  pub own_shows : (c : WholeState E B T L I) (t : State (Slot E B) (View E B T L I)) (id : ℕ) (v : View E B T L I) (e : Event) (r : ProcessorState) (a : Part E L I) (w : View E B T L I) (words : List ℕ) (homes : List (at.Option (Slot E B)))
       → OwnStep c t id v e r a w words homes → Shows m (own_core c v.place r a) (record { words = words; homes = homes; views = slice_set t.views id w })
   own_shows c t id v e r a w words homes o =
       let p : ℕ = v.place in
-      let d : Core E B T L I = own_core c p r a in
+      let d : WholeState E B T L I = own_core c p r a in
       let l : Live m c id v = processor_live c t id v o.shows o.is_at o.role in
       let high : p ≤ c.count = (o.shows.each id v o.is_at).processor o.role in
       let b : Beside c d p = own_beside c p r a o.revoked o.drained in

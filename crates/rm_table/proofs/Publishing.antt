@@ -8,22 +8,22 @@ use mathlib.Core.Option as at
 use lib.ListN.{get_elem?}
 use Rattle.atomic_table.specs.Table.{State, gives, rest, Valid, homes_after, carried_after}
 use Rattle.atomic_table.proofs.Lists.{at_set, at_longer, at_last}
-use Rattle.rm_core.specs.declared.phase.Phase.TheVariants.{In}
+use Rattle.rm_core.specs.declared.processor_state.Phase.TheVariants.{In}
 use Rattle.rm_core.specs.declared.event.Event.TheVariants.{Publish}
 use Rattle.rm_core.specs.declared.processor_state.ProcessorState.{ProcessorState}
-use Rattle.rm_core.specs.CoreState.{Allowed, after, operator_of, after_publication}
+use Rattle.rm_core.specs.CoreState.{MayCome, after, operator_of, with_flags_cleared}
 use Rattle.rm_core.proofs.Changes.{All-processor_of}
-use Rattle.rm_table.specs.declared.slot.Slot.{Slot}
-use Rattle.rm_table.specs.declared.slot.Slot.TheVariants.{Edition}
+use Rattle.rm_table.specs.declared.padded_slot.Slot.{Slot}
+use Rattle.rm_table.specs.declared.padded_slot.Slot.TheVariants.{Edition}
 use Rattle.rm_table.specs.declared.view.View.{View}
 use Rattle.rm_table.specs.Layout.{number_index, holder_word}
 use Rattle.rm_table.specs.Meanings.{Meanings, values_from}
-use Rattle.rm_table.specs.Rule.{Core, core_of, Words, tracker_of, token_of, Current, Live, Keeps, Shows}
-use Rattle.rm_table.specs.Moves.{Hand, noted, published_as, published, HasNext, gives_first, rest_from, editions_from, AllDrained, IsOperator}
+use Rattle.rm_table.specs.Rule.{WholeState, core_of, LockWords, tracker_of, token_of, Current, Live, OperatorKeeps, Shows}
+use Rattle.rm_table.specs.Moves.{Hand, with_step, published_as, published_view, HasNext, gives_first, rest_from, editions_from, AllDrained, IsOperator}
 use Rattle.rm_table.proofs.Base.{all_values, values-map, length-values, there, at_slice, words_like, words_number}
 use Rattle.rm_table.proofs.Keeping.{Beside, each_after, every_seat_after}
 use Rattle.rm_table.proofs.Own.{sound_after, numbers_after}
-use Rattle.rm_table.proofs.Locks.{no_receipt}
+use Rattle.rm_table.proofs.Locks.{no_receipt, book_holder}
 use Rattle.rm_table.proofs.Writer.{writer_live, writer_keeps, holds_behind}
 
 -- a false flag at each place
@@ -52,12 +52,12 @@ module _ {E B : Type 0} where
   carried_gives (suc k) hand = carried_gives k (rest hand)
 
   -- giving editions home leaves the number of slots
-  pub gave_size : (es : List E) (from : ℕ) (homes : List (at.Option (Slot E B))) (hand : Hand E B) → length (homes_after homes (editions_from from es hand) (gives_first (length es))) ≡ length homes
+  gave_size : (es : List E) (from : ℕ) (homes : List (at.Option (Slot E B))) (hand : Hand E B) → length (homes_after homes (editions_from from es hand) (gives_first (length es))) ≡ length homes
   gave_size [] from homes hand = refl
   gave_size (e ∷ es) from homes hand = gave_size es (from + 1) (slice_set homes from (at.some (Edition (Some e)))) hand ∙ length-set homes from (at.some (Edition (Some e)))
 
   -- what a slot has after the editions were given
-  pub gave_at : (P : E → Type 0) (es : List E) (from : ℕ) (homes : List (at.Option (Slot E B))) (hand : Hand E B) → ((j : ℕ) (e : E) → slice_get es j ≡ Some e → P e)
+  gave_at : (P : E → Type 0) (es : List E) (from : ℕ) (homes : List (at.Option (Slot E B))) (hand : Hand E B) → ((j : ℕ) (e : E) → slice_get es j ≡ Some e → P e)
       → (k : ℕ) (h : at.Option (Slot E B)) → get_elem? (homes_after homes (editions_from from es hand) (gives_first (length es))) k ≡ at.some h
       → ((from ≤ k) × (k < from + length es) × ((e : E) × (h ≡ at.some (Edition (Some e))) × P e)) ⊎ (((k < from) ⊎ (from + length es ≤ k)) × (get_elem? homes k ≡ at.some h))
   gave_at P [] from homes hand all k h is = inr (apart_from k from, is)
@@ -75,10 +75,10 @@ module _ {E B : Type 0} where
 
 module _ {E B T L I : Type 0} (m : Meanings E B T L I) where
   -- what a publication changes
-  abbrev pub published_core : Core E B T L I → L → T → Core E B T L I
+  abbrev pub published_core : WholeState E B T L I → L → T → WholeState E B T L I
   published_core c name tag = record c {
     number = c.number + 1;
-    state = λ k. after_publication (c.state k);
+    state = λ k. with_flags_cleared (c.state k);
     stale = true;
     ready = false;
     history = c.history ++ (name, tag) ∷ [];
@@ -88,32 +88,32 @@ module _ {E B T L I : Type 0} (m : Meanings E B T L I) where
   }
 
   -- a publication is of the name and tag that the editions in hand have
-  pub published_is : (v : View E B T L I) (hand : Hand E B) (h : HasNext m v hand) → 0 < v.count → published m v hand ≡ published_as m v h.name h.tag
+  pub published_is : (v : View E B T L I) (hand : Hand E B) (h : HasNext m v hand) → 0 < v.count → published_view m v hand ≡ published_as m v h.name h.tag
   published_is v hand h some = by_first h.editions refl
     where
-      by_first : (es : List E) → h.editions ≡ es → published m v hand ≡ published_as m v h.name h.tag
+      by_first : (es : List E) → h.editions ≡ es → published_view m v hand ≡ published_as m v h.name h.tag
       by_first [] is = let c = h.count in let n : length h.editions ≡ 0 = ap length is in absurd (omega arith)
       by_first (e ∷ es) is =
           let front : hand ≡ (1, Edition (Some e)) ∷ editions_from (1 + 1) es h.others = h.hand_is ∙ ap (λ (xs : List E). editions_from 1 xs h.others) is in
           let same = h.same 0 e (ap (λ (xs : List E). slice_get xs 0) is) in
-          ap (published m v) front ∙ ap (λ (l : L). published_as m v l (m.tag e)) same.1 ∙ ap (λ (g : T). published_as m v h.name g) same.2
+          ap (published_view m v) front ∙ ap (λ (l : L). published_as m v l (m.tag e)) same.1 ∙ ap (λ (g : T). published_as m v h.name g) same.2
 
-  module _ (c : Core E B T L I) (t : State (Slot E B) (View E B T L I)) (id : ℕ) (v : View E B T L I) (shows : Shows m c t) (is_at : get_elem? t.views id ≡ at.some v) (writer : IsOperator v) where
+  module _ (c : WholeState E B T L I) (t : State (Slot E B) (View E B T L I)) (id : ℕ) (v : View E B T L I) (shows : Shows m c t) (is_at : get_elem? t.views id ≡ at.some v) (writer : IsOperator v) where
     o_live : Live m c id v
     o_live = writer_live m c t id v shows is_at writer
 
-    o_keeps : Keeps m c id v
+    o_keeps : OperatorKeeps m c id v
     o_keeps = writer_keeps m c t id v shows is_at writer
 
     -- the state after a publication is what its event makes of the lock's core
     pub publish_event : (name : L) (tag : T) → core_of (published_core c name tag) ≡ after (core_of c) Publish
-    publish_event name tag = ap (λ (ps : List ProcessorState). record (core_of c) { number = c.number + 1; processors = ps }) (values-map after_publication c.state 1 c.count)
+    publish_event name tag = ap (λ (ps : List ProcessorState). record (core_of c) { number = c.number + 1; processors = ps }) (values-map with_flags_cleared c.state 1 c.count)
 
     each_drained : AllDrained v → (k : ℕ) → 0 < k → k ≤ c.count → (c.state k).drained ≡ true
     each_drained drained k low high = sym (o_keeps.drained k low high) ∙ drained k low (let e = o_live.count in omega arith)
 
     -- the lock's core allows a publication once all are drained and the lock behind is held
-    pub publish_may : AllDrained v → v.behind ≡ true → Allowed (core_of c) Publish
+    pub publish_may : AllDrained v → v.behind ≡ true → MayCome (core_of c) Publish
     publish_may drained behind = (
       holds_behind m c t id v shows is_at writer behind,
       all_values (λ p. p.drained ≡ true) c.state 1 c.count (λ k low high. each_drained drained k (omega arith) (omega arith)),
@@ -123,35 +123,23 @@ module _ {E B T L I : Type 0} (m : Meanings E B T L I) where
     pub nobody_in : AllDrained v → (k : ℕ) → 0 < k → k ≤ c.count → (c.state k).phase ≢ In
     nobody_in drained k low high = All-processor_of (λ q. q.drained ≡ true → q.phase ≢ In) (core_of c) k (c.state k) shows.sound.safe.outside (there c k low high) (each_drained drained k low high)
 
-    -- who has the book is the holder
-    pub book_holder : (book : B) → v.book ≡ Some book → (c.holder ≡ v.place) × (c.book ≡ book)
-    book_holder book has = by_test (c.holder == v.place) refl
-      where
-        by_test : (b : Bool) → (c.holder == v.place) ≡ b → (c.holder ≡ v.place) × (c.book ≡ book)
-        by_test true is =
-            let e : v.book ≡ Some c.book = o_live.book ∙ ap (λ (b : Bool). if b then Some c.book else None) is in
-            (eqb-true c.holder v.place is, cc)
-        by_test false is =
-            let e : v.book ≡ None = o_live.book ∙ ap (λ (b : Bool). if b then Some c.book else None) is in
-            absurd cc
-
     -- after a publication the table shows a state by the rule
     pub publish_shows : (hand : Hand E B) (h : HasNext m v hand) (x : ℕ) (book : B) → AllDrained v → v.behind ≡ true → v.book ≡ Some book → x ≡ v.number + 1
         → Shows m (published_core c h.name h.tag) (record {
           words = slice_set t.words number_index x;
           homes = homes_after t.homes (editions_from 1 h.editions h.others) (gives_first (length h.editions));
-          views = slice_set t.views id (noted (published_as m v h.name h.tag) number_index x);
+          views = slice_set t.views id (with_step (published_as m v h.name h.tag) number_index x);
         })
     publish_shows hand h x book drained behind has is =
-        let d : Core E B T L I = published_core c h.name h.tag in
-        let w : View E B T L I = noted (published_as m v h.name h.tag) number_index x in
+        let d : WholeState E B T L I = published_core c h.name h.tag in
+        let w : View E B T L I = with_step (published_as m v h.name h.tag) number_index x in
         let l : Live m c id v = o_live in
-        let o : Keeps m c id v = o_keeps in
+        let o : OperatorKeeps m c id v = o_keeps in
         let n : v.count ≡ c.count = l.count in
         let number : v.number + 1 ≡ c.number + 1 = ap (λ (k : ℕ). k + 1) o.number in
         let P : E → Type 0 = Current m (c.number + 1) h.name h.tag in
         let all : (j : ℕ) (e : E) → slice_get h.editions j ≡ Some e → P e = λ j e got. let same = h.same j e got in record { number_is = same.0 ∙ number; name_is = same.1; tag_is = same.2 } in
-        let holder : c.holder ≡ c.count + 1 = (book_holder book has).0 ∙ o.place in
+        let holder : c.holder ≡ c.count + 1 = (book_holder m c t id v shows is_at (inr writer) book has).0 ∙ o.place in
         let beside : Beside c d v.place = record {
           count = refl;
           opened = refl;
@@ -164,7 +152,7 @@ module _ {E B T L I : Type 0} (m : Meanings E B T L I) where
           operator = λ other. absurd (other o.place);
         } in
         record {
-          words = subst (λ (k : ℕ). Words c.count (c.number + 1) (holder_word c.behind) c.holder (tracker_of d.state c.part) (token_of d.state) (slice_set t.words number_index k)) (sym (is ∙ number))
+          words = subst (λ (k : ℕ). LockWords c.count (c.number + 1) (holder_word c.behind) c.holder (tracker_of d.state c.part) (token_of d.state) (slice_set t.words number_index k)) (sym (is ∙ number))
               (words_like (tracker_of d.state c.part) (token_of d.state) (λ k. refl) (λ k. refl) (words_number (c.number + 1) shows.words));
           sound = sound_after c d Publish (publish_event h.name h.tag) refl (publish_may drained behind) shows.sound.holder shows.sound;
           past = record {

@@ -3,21 +3,22 @@ use Rattle.std.proofs.Common.{◌≡◌, ◌⊎◌, inl, inr, ℕ, zero, suc, �
 use Rattle.std.specs.Prelude.{slice_get, slice_set, replicate}
 use Rattle.std.proofs.lemmas.List.{length-replicate}
 use Rattle.std.proofs.lemmas.Bool.Decides.{eqb_tells}
+use Rattle.rm_core.proofs.Changes.{get_set_here, get_set_else, same_of-replicate}
 use Rattle.atomic_table.specs.Table.{Me}
-use Rattle.rm_table.specs.declared.role.Role.TheVariants.{Operator}
-use Rattle.rm_table.specs.declared.slot.Slot.{Slot}
+use Rattle.rm_table.specs.declared.view.Role.TheVariants.{Operator}
+use Rattle.rm_table.specs.declared.padded_slot.Slot.{Slot}
 use Rattle.rm_table.specs.declared.part.Part.{Part}
 use Rattle.rm_table.specs.declared.view.View.{View}
 use Rattle.rm_table.specs.Meanings.{Meanings, put}
-use Rattle.rm_table.specs.Moves.{Hand, IsKept, kept_at, split_off, right_of, processor_view, joined, AllSplit, AllJoined, NoneRevoked, NoneDrained}
-use Rattle.rm_table.specs.Ends.{first_part, first_view, Opens}
+use Rattle.rm_table.specs.Moves.{Hand, KeepsPart, kept_at, split_off, right_of, processor_view, joined_view, AllSplit, AllJoined, NoneRevoked, NoneDrained}
+use Rattle.rm_table.specs.Ends.{first_part, first_view, OpensTable}
 use Rattle.rm_table.specs.Rests.{IsIdle, IsAtRest, IsOpening, IsClosing, IsRejoined, OpensFrom, IsRejoinedFrom}
-use Rattle.rm_table.proofs.Base.{at_put, get_set_here, get_set_else, length-values, values_at}
+use Rattle.rm_table.proofs.Base.{at_put, length-values, values_at}
 use Rattle.rm_table.proofs.Publishing.{flag_of-replicate}
 
 module _ {E B T L I : Type 0} where
   -- a split leaves the parts of the others
-  pub opening_splits : (next : ℕ) (parts : ℕ → Part E L I) (v : View E B T L I) (hand : Hand E B) → 0 < next → next ≤ v.count → IsOpening next parts v hand → IsOpening (next + 1) parts (split_off v next) hand
+  opening_splits : (next : ℕ) (parts : ℕ → Part E L I) (v : View E B T L I) (hand : Hand E B) → 0 < next → next ≤ v.count → IsOpening next parts v hand → IsOpening (next + 1) parts (split_off v next) hand
   opening_splits next parts v hand low high o = record {
     operator = o.operator;
     opening = o.opening;
@@ -73,12 +74,12 @@ module _ {E B T L I : Type 0} where
       beyond (x ∷ xs) (suc k) h = beyond xs k (omega arith)
 
   -- the first join, and each later one: the part of the seat joined is kept beside those that were
-  pub closing_joins : (next : ℕ) (parts : ℕ → Part E L I) (v w : View E B T L I) → v.role ≡ Operator → w.place ≡ next → next ≤ v.count → length v.kept ≡ v.count + 1 → ((k : ℕ) → next < k → k ≤ v.count → kept_at v k ≡ Some (Some (parts k))) → v.book ≡ None → NoneRevoked v → NoneDrained v
-      → IsClosing next (put parts next w.part) (joined v w)
+  closing_joins : (next : ℕ) (parts : ℕ → Part E L I) (v w : View E B T L I) → v.role ≡ Operator → w.place ≡ next → next ≤ v.count → length v.kept ≡ v.count + 1 → ((k : ℕ) → next < k → k ≤ v.count → kept_at v k ≡ Some (Some (parts k))) → v.book ≡ None → NoneRevoked v → NoneDrained v
+      → IsClosing next (put parts next w.part) (joined_view v w)
   closing_joins next parts v w operator place within size kept bookless unrevoked undrained = record {
     operator = operator;
     closing = refl;
-    kept = at_put (λ k part. next ≤ k → k ≤ v.count → kept_at (joined v w) k ≡ Some (Some part)) parts next w.part
+    kept = at_put (λ k part. next ≤ k → k ≤ v.count → kept_at (joined_view v w) k ≡ Some (Some part)) parts next w.part
         (λ above inside. ap (λ (p : ℕ). slice_get (slice_set v.kept p (Some w.part)) next) place ∙ get_set_here v.kept next (Some w.part) (omega arith))
         (λ k other above inside. get_set_else v.kept w.place k (Some w.part) (λ e. other (e ∙ place)) ∙ kept k (grind (arith, other)) inside);
     kept_size = length-set v.kept w.place (Some w.part) ∙ size;
@@ -96,15 +97,8 @@ module _ {E B T L I : Type 0} where
   after_split place old new is low high o = (o.0, opening_after place o.0 old new is low high o.1)
 
   -- the seat of the next place may be split off
-  pub may_split : (place : ℕ) (v : View E B T L I) (hand : Hand E B) → place ≤ v.count → OpensFrom place v hand → IsKept v place
+  pub may_split : (place : ℕ) (v : View E B T L I) (hand : Hand E B) → place ≤ v.count → OpensFrom place v hand → KeepsPart v place
   may_split place v hand within o = (o.0 place, (o.1).kept place (omega arith) within)
-
-  -- the seat that was split off is idle
-  pub split_is_idle : (place : ℕ) (old : Me (Slot E B) (View E B T L I)) (seat : Me (Slot E B) (View E B T L I)) → seat ≡ (right_of old.0 place (kept_at old.0 place), []) → place ≤ old.0.count → OpensFrom place old.0 old.1 → IsIdle seat.0 seat.1 × (seat.0.place ≡ place)
-  split_is_idle place old seat is within o =
-      let kept = (o.1).kept place (omega arith) within in
-      let view : seat ≡ (processor_view old.0 place (o.0 place), []) = is ∙ ap (λ (k : Option (Option (Part E L I))). (right_of old.0 place k, [])) kept in
-      subst (λ (s : Me (Slot E B) (View E B T L I)). IsIdle s.0 s.1 × (s.0.place ≡ place)) (sym view) (record { processor = refl; out = refl; unheld = refl; bookless = refl; empty_hand = refl }, refl)
 
   -- once every place is split off, none is joined again yet
   pub after_all_splits : (next : ℕ) (v : View E B T L I) (hand : Hand E B) → v.count < next → OpensFrom next v hand → IsRejoinedFrom next v hand
@@ -118,16 +112,16 @@ module _ {E B T L I : Type 0} where
       by_end (inl rest) = (rest.1.operator.role, inr rest.1.operator.split)
       by_end (inr closing) = (closing.operator, inl closing.closing)
 
-  joined_after : (place : ℕ) (parts : ℕ → Part E L I) (v w : View E B T L I) (hand : Hand E B) → w.place ≡ place → place ≤ v.count → IsRejoined (place + 1) parts v hand → IsClosing place (put parts place w.part) (joined v w)
+  joined_after : (place : ℕ) (parts : ℕ → Part E L I) (v w : View E B T L I) (hand : Hand E B) → w.place ≡ place → place ≤ v.count → IsRejoined (place + 1) parts v hand → IsClosing place (put parts place w.part) (joined_view v w)
   joined_after place parts v w hand is within (inl rest) = closing_joins place parts v w rest.1.operator.role is within rest.1.kept_size (λ k above inside. absurd (let past = rest.0 in omega arith)) rest.1.bookless rest.1.unrevoked rest.1.undrained
   joined_after place parts v w hand is within (inr c) = closing_joins place parts v w c.operator is within c.kept_size (λ k above inside. c.kept k (omega arith) inside) c.bookless c.unrevoked c.undrained
 
   -- a join adds the part of the seat joined
-  pub rejoined_after : (place : ℕ) (parts : ℕ → Part E L I) (old new : Me (Slot E B) (View E B T L I)) (w : View E B T L I) → new ≡ (joined old.0 w, old.1) → w.place ≡ place → place ≤ old.0.count → IsRejoined (place + 1) parts old.0 old.1 → IsRejoined place (put parts place w.part) new.0 new.1
+  rejoined_after : (place : ℕ) (parts : ℕ → Part E L I) (old new : Me (Slot E B) (View E B T L I)) (w : View E B T L I) → new ≡ (joined_view old.0 w, old.1) → w.place ≡ place → place ≤ old.0.count → IsRejoined (place + 1) parts old.0 old.1 → IsRejoined place (put parts place w.part) new.0 new.1
   rejoined_after place parts old new w is at within r = subst (λ (s : Me (Slot E B) (View E B T L I)). IsRejoined place (put parts place w.part) s.0 s.1) (sym is) (inr (joined_after place parts old.0 w old.1 at within r))
 
   -- once a place is joined, those from it on are
-  pub after_join : (place : ℕ) (old new : Me (Slot E B) (View E B T L I)) (w : View E B T L I) → new ≡ (joined old.0 w, old.1) → w.place ≡ place → place ≤ old.0.count → IsRejoinedFrom (place + 1) old.0 old.1 → IsRejoinedFrom place new.0 new.1
+  pub after_join : (place : ℕ) (old new : Me (Slot E B) (View E B T L I)) (w : View E B T L I) → new ≡ (joined_view old.0 w, old.1) → w.place ≡ place → place ≤ old.0.count → IsRejoinedFrom (place + 1) old.0 old.1 → IsRejoinedFrom place new.0 new.1
   after_join place old new w is at within r = (put r.0 place w.part, rejoined_after place r.0 old new w is at within r.1)
 
   -- once the first place is joined, the operator keeps a part of each place
@@ -172,20 +166,19 @@ module _ {E B T L I : Type 0} where
 pub opens_me : {E B T L I : Type 0} (m : Meanings E B T L I) (n : ℕ) (edition : E) (book : B) (me : Me (Slot E B) (View E B T L I)) → 0 < n → me ≡ (first_view m n edition book, []) → OpensFrom 1 me.0 me.1
 opens_me {E} {B} {T} {L} {I} m n edition book me some is = (first_part m book, subst (λ (s : Me (Slot E B) (View E B T L I)). IsOpening 1 (first_part m book) s.0 s.1) (sym is) (opens_first m n edition book some))
 
--- each of many copies is the one that was copied
-pub same_of-replicate : {A : Type 0} (a b : A) (n j : ℕ) → slice_get (replicate n a) j ≡ Some b → b ≡ a
-same_of-replicate a b zero j is = absurd cc
-same_of-replicate a b (suc n) zero is = cc
-same_of-replicate a b (suc n) (suc j) is = same_of-replicate a b n j is
-
 -- the first of some copies is the one that was copied
 pub first_of-replicate : {A : Type 0} (a : A) (n : ℕ) → 0 < n → slice_get (replicate n a) 0 ≡ Some a
 first_of-replicate a zero h = absurd (omega arith)
 first_of-replicate a (suc n) h = refl
 
 -- editions that are all one open a lock
-pub opens_alike : {E B T L I : Type 0} (m : Meanings E B T L I) (n : ℕ) (edition : E) (book : B) → 0 < n → m.number edition ≡ m.book_number book → m.tag edition ≡ m.book_tag book → Opens m (replicate n edition) edition book
+pub opens_alike : {E B T L I : Type 0} (m : Meanings E B T L I) (n : ℕ) (edition : E) (book : B) → 0 < n → m.number edition ≡ m.book_number book → m.tag edition ≡ m.book_tag book → OpensTable m (replicate n edition) edition book
 opens_alike m n edition book some number tag = record {
   some_there = let e = length-replicate n edition in omega arith;
   same = λ j e is. let alike = same_of-replicate edition e n j is in (ap m.number alike ∙ number, ap m.name alike, ap m.tag alike ∙ tag);
 }
+
+-- copies of one edition meet what opening asks of the editions
+pub opens_copies : {E B T L I : Type 0} (m : Meanings E B T L I) (n : ℕ) (edition : E) (book : B) (editions : List E) → 0 < n → editions ≡ replicate n edition → m.number edition ≡ m.book_number book → m.tag edition ≡ m.book_tag book
+    → (e : E) × (slice_get editions 0 ≡ Some e) × OpensTable m editions e book
+opens_copies m n edition book editions some are number tag = rw are (edition, first_of-replicate edition n some, opens_alike m n edition book some number tag)

@@ -3,18 +3,19 @@ use Rattle.std.proofs.Common.{◌≡◌, ◌≢◌, ℕ, zero, suc, ◌+◌, ◌
 use Rattle.std.specs.Prelude.{slice_set, slice_get, if◌then◌else◌}
 use mathlib.Core.Option as at
 use Rattle.std.proofs.lemmas.Bool.Decides.{eqb_tells}
+use Rattle.rm_core.proofs.Changes.{get_set_here, get_set_else}
 use lib.ListN.{get_elem?}
 use Rattle.atomic_table.specs.Table.{State}
 use Rattle.atomic_table.proofs.Lists.{at_set, set_here, set_else, set_again, at_longer, at_last}
-use Rattle.rm_core.specs.declared.phase.Phase.TheVariants.{Out, In}
-use Rattle.rm_table.specs.declared.role.Role.TheVariants.{Processor, Operator, Receipt}
-use Rattle.rm_table.specs.declared.slot.Slot.{Slot}
+use Rattle.rm_core.specs.declared.processor_state.Phase.TheVariants.{Out, In}
+use Rattle.rm_table.specs.declared.view.Role.TheVariants.{Processor, Operator, Receipt}
+use Rattle.rm_table.specs.declared.padded_slot.Slot.{Slot}
 use Rattle.rm_table.specs.declared.part.Part.{Part}
 use Rattle.rm_table.specs.declared.view.View.{View}
 use Rattle.rm_table.specs.Meanings.{Meanings, put, BeginsWith}
-use Rattle.rm_table.specs.Rule.{Core, lent, Live, KeptAt, Keeps, IsSeatOf, EverySeat, Agrees, Shows}
-use Rattle.rm_table.specs.Moves.{split_off, processor_view, receipt_view, spent_view, joined}
-use Rattle.rm_table.proofs.Base.{put_here, put_else, get_within, get_set_here, get_set_else, slice_at}
+use Rattle.rm_table.specs.Rule.{WholeState, lent, Live, KeptAt, OperatorKeeps, IsSeatOf, EverySeat, Agrees, Shows}
+use Rattle.rm_table.specs.Moves.{split_off, processor_view, receipt_view, spent_view, joined_view}
+use Rattle.rm_table.proofs.Base.{put_here, put_else, get_within, slice_at}
 use Rattle.rm_table.proofs.Keeping.{begins_same, every_seat_after}
 
 at_end : {A : Type 0} (l : List A) (a b : A) (j : ℕ) → get_elem? (l ++ a ∷ []) j ≡ at.some b → (get_elem? l j ≡ at.some b) ⊎ ((j ≡ length l) × (a ≡ b))
@@ -24,12 +25,12 @@ at_end (x ∷ xs) a b zero e = inl e
 at_end (x ∷ xs) a b (suc j) e = ⊎_elim (λ old. inl old) (λ new. inr (ap suc new.0, new.1)) (at_end xs a b j e)
 
 -- what changes where a place gets another seat
-abbrev pub seat_core : {E B T L I : Type 0} → Core E B T L I → ℕ → ℕ → Core E B T L I
+abbrev pub seat_core : {E B T L I : Type 0} → WholeState E B T L I → ℕ → ℕ → WholeState E B T L I
 seat_core c k id = record c { seat = put c.seat k id }
 
 module _ {E B T L I : Type 0} (m : Meanings E B T L I) where
-  module _ (c : Core E B T L I) (k id : ℕ) where
-    abbrev moved_core : Core E B T L I
+  module _ (c : WholeState E B T L I) (k id : ℕ) where
+    abbrev moved_core : WholeState E B T L I
     moved_core = seat_core c k id
 
     live_moved : (j : ℕ) (u : View E B T L I) → u.place ≢ k → Live m c j u → Live m moved_core j u
@@ -56,8 +57,8 @@ module _ {E B T L I : Type 0} (m : Meanings E B T L I) where
     }
 
     keeps_moved : (j : ℕ) (u w : View E B T L I) (kept : List (Option (Part E L I))) (closing : Bool) → w ≡ record u { kept = kept; closing = closing } → length kept ≡ length u.kept
-        → ((i : ℕ) (part : Part E L I) → get_elem? kept i ≡ at.some (Some part) → KeptAt m moved_core j closing i part) → Keeps m c j u → Keeps m moved_core j w
-    keeps_moved j u w kept closing is size all l = subst (λ (x : View E B T L I). Keeps m moved_core j x) (sym is) (record {
+        → ((i : ℕ) (part : Part E L I) → get_elem? kept i ≡ at.some (Some part) → KeptAt m moved_core j closing i part) → OperatorKeeps m c j u → OperatorKeeps m moved_core j w
+    keeps_moved j u w kept closing is size all l = subst (λ (x : View E B T L I). OperatorKeeps m moved_core j x) (sym is) (record {
       place = l.place;
       number = l.number;
       opened = l.opened;
@@ -83,11 +84,11 @@ module _ {E B T L I : Type 0} (m : Meanings E B T L I) where
           keeps_moved j u u u.kept u.closing refl refl (λ i part got. let q = l.kept i part got in kept_moved j i u.closing part (λ same. apart (sym q.seat ∙ ap c.seat same ∙ seat)) q) l;
     }
 
-  module _ (c : Core E B T L I) (t : State (Slot E B) (View E B T L I)) (id : ℕ) (v : View E B T L I) (shows : Shows m c t) (is_at : get_elem? t.views id ≡ at.some v) (role : v.role ≡ Operator) where
+  module _ (c : WholeState E B T L I) (t : State (Slot E B) (View E B T L I)) (id : ℕ) (v : View E B T L I) (shows : Shows m c t) (is_at : get_elem? t.views id ≡ at.some v) (role : v.role ≡ Operator) where
     operator_live : Live m c id v
     operator_live = (shows.each id v is_at).live (inr role)
 
-    operator_here : Keeps m c id v
+    operator_here : OperatorKeeps m c id v
     operator_here = (shows.each id v is_at).operator role
 
     -- no other view is the operator's seat
@@ -161,7 +162,7 @@ module _ {E B T L I : Type 0} (m : Meanings E B T L I) where
         → Shows m (seat_core c k (length t.views)) (record { words = t.words; homes = t.homes; views = slice_set t.views id (split_off v k) ++ processor_view v k part ∷ [] })
     split_shows k part kept =
         let l : Live m c id v = operator_live in
-        let o : Keeps m c id v = operator_here in
+        let o : OperatorKeeps m c id v = operator_here in
         let q : KeptAt m c id v.closing k part = o.kept k part (slice_at v.kept k (Some part) kept) in
         let new : ℕ = length t.views in
         let low : 0 < k = q.low in
@@ -197,14 +198,14 @@ module _ {E B T L I : Type 0} (m : Meanings E B T L I) where
         (at_end (slice_set t.views id (split_off v k)) (processor_view v k part) u j is))
 
     -- every seat exists after a join: the operator's keeps the place
-    seats_join : (other : ℕ) (w : View E B T L I) → ¬ (other ≡ id) → get_elem? t.views other ≡ at.some w → w.role ≡ Processor → w.place ≤ c.count → EverySeat c.count (put c.seat w.place id) (slice_set (slice_set t.views id (joined v w)) other spent_view)
+    seats_join : (other : ℕ) (w : View E B T L I) → ¬ (other ≡ id) → get_elem? t.views other ≡ at.some w → w.role ≡ Processor → w.place ≤ c.count → EverySeat c.count (put c.seat w.place id) (slice_set (slice_set t.views id (joined_view v w)) other spent_view)
     seats_join other w apart there processor high = record {
       processors = λ j low within. elim (eqb_tells j k) as (λ _. (u : View E B T L I) × (get_elem? now (put c.seat k id j) ≡ at.some u) × IsSeatOf u j) [
-        | inl same ↦ (joined v w, ap (get_elem? now) (ap (put c.seat k id) same.1 ∙ put_here c.seat k id) ∙ mine, inr (role, (w.part, ap (slice_get (slice_set v.kept k (Some w.part))) same.1 ∙ get_set_here v.kept k (Some w.part) (let e = operator_here.kept_size in omega arith))))
+        | inl same ↦ (joined_view v w, ap (get_elem? now) (ap (put c.seat k id) same.1 ∙ put_here c.seat k id) ∙ mine, inr (role, (w.part, ap (slice_get (slice_set v.kept k (Some w.part))) same.1 ∙ get_set_here v.kept k (Some w.part) (let e = operator_here.kept_size in omega arith))))
         | inr else' ↦ let got = shows.seats.processors j low within in moved j else'.1 got.0 got.1 got.2
       ];
       operator = (
-        joined v w,
+        joined_view v w,
         ap (get_elem? now) (put_else c.seat k id (c.count + 1) (λ same. absurd (omega arith)) ∙ ap c.seat (sym operator_here.place) ∙ operator_live.seat) ∙ mine,
         role,
       );
@@ -214,20 +215,20 @@ module _ {E B T L I : Type 0} (m : Meanings E B T L I) where
         k = w.place
 
         left : List (View E B T L I)
-        left = slice_set t.views id (joined v w)
+        left = slice_set t.views id (joined_view v w)
 
         now : List (View E B T L I)
         now = slice_set left other spent_view
 
-        mine : get_elem? now id ≡ at.some (joined v w)
-        mine = set_else left other id spent_view (λ same. apart (sym same)) ∙ set_here t.views id (joined v w) (get_within t.views id v is_at)
+        mine : get_elem? now id ≡ at.some (joined_view v w)
+        mine = set_else left other id spent_view (λ same. apart (sym same)) ∙ set_here t.views id (joined_view v w) (get_within t.views id v is_at)
 
         moved : (j : ℕ) → j ≢ k → (u : View E B T L I) → get_elem? t.views (c.seat j) ≡ at.some u → IsSeatOf u j → (u : View E B T L I) × (get_elem? now (put c.seat k id j) ≡ at.some u) × IsSeatOf u j
         moved j else' u found seat = elim (eqb_tells (c.seat j) id) as (λ _. (u : View E B T L I) × (get_elem? now (put c.seat k id j) ≡ at.some u) × IsSeatOf u j) [
           | inl here ↦
               let is : u ≡ v = operator_only j u here.1 found in
               let kept : IsSeatOf v j = subst (λ (x : View E B T L I). IsSeatOf x j) is seat in (
-                joined v w,
+                joined_view v w,
                 ap (get_elem? now) (put_else c.seat k id j else' ∙ here.1) ∙ mine,
                 ⊎_elim
                     (λ mine. let clash : Operator ≡ Processor = sym role ∙ mine.0 in absurd cc)
@@ -238,20 +239,20 @@ module _ {E B T L I : Type 0} (m : Meanings E B T L I) where
               let is : u ≡ w = at.some-injective u w (sym found ∙ ap (get_elem? t.views) same ∙ there) in
               let mine : IsSeatOf w j = subst (λ (x : View E B T L I). IsSeatOf x j) is seat in
               absurd (⊎_elim (λ processor. else' (sym processor.1)) (λ operator. let clash : Processor ≡ Operator = sym processor ∙ operator.0 in absurd cc) mine) in
-              (u, ap (get_elem? now) (put_else c.seat k id j else') ∙ set_else left other (c.seat j) spent_view no_spent ∙ set_else t.views id (c.seat j) (joined v w) elsewhere.1 ∙ found, seat)
+              (u, ap (get_elem? now) (put_else c.seat k id j else') ∙ set_else left other (c.seat j) spent_view no_spent ∙ set_else t.views id (c.seat j) (joined_view v w) elsewhere.1 ∙ found, seat)
         ]
 
     -- join seat
     pub join_shows : (other : ℕ) (w : View E B T L I) → ¬ (other ≡ id) → get_elem? t.views other ≡ at.some w → w.role ≡ Processor → w.phase ≡ Out → w.behind ≡ false
-        → Shows m (seat_core c w.place id) (record { words = t.words; homes = t.homes; views = slice_set (slice_set t.views id (joined v w)) other spent_view })
+        → Shows m (seat_core c w.place id) (record { words = t.words; homes = t.homes; views = slice_set (slice_set t.views id (joined_view v w)) other spent_view })
     join_shows other w apart there processor out unheld =
         let l : Live m c id v = operator_live in
-        let o : Keeps m c id v = operator_here in
+        let o : OperatorKeeps m c id v = operator_here in
         let a : Live m c other w = (shows.each other w there).live (inl processor) in
         let k : ℕ = w.place in
         let high : k ≤ c.count = (shows.each other w there).processor processor in
         let low : 0 < k = a.low in
-        seats_changed k id (slice_set (slice_set t.views id (joined v w)) other spent_view) (seats_join other w apart there processor high)
+        seats_changed k id (slice_set (slice_set t.views id (joined_view v w)) other spent_view) (seats_join other w apart there processor high)
         (λ j u is. ⊎_elim
         (λ spent. subst (λ (x : View E B T L I). Agrees m (seat_core c k id) j x) spent.1 (record {
           live = λ never. ⊎_elim (λ one. absurd cc) (λ one. absurd cc) never;
@@ -264,7 +265,7 @@ module _ {E B T L I : Type 0} (m : Meanings E B T L I) where
           live = λ _. let e = live_moved c k id id v (λ same. let p = o.place in absurd (omega arith)) l in record { count = e.count; low = e.low; high = e.high; seat = e.seat; phase = e.phase; part = e.part; behind = e.behind; book = e.book };
           processor = (shows.each id v is_at).processor;
           receipt = λ receipt. let clash : Operator ≡ Receipt = sym role ∙ receipt in absurd cc;
-          operator = λ _. keeps_moved c k id id v (joined v w) (slice_set v.kept k (Some w.part)) true refl (length-set v.kept k (Some w.part))
+          operator = λ _. keeps_moved c k id id v (joined_view v w) (slice_set v.kept k (Some w.part)) true refl (length-set v.kept k (Some w.part))
               (λ i part got. ⊎_elim
               (λ same.
               let part_same : w.part ≡ part = let e : Some w.part ≡ Some part = same.1 in cc in
@@ -281,13 +282,13 @@ module _ {E B T L I : Type 0} (m : Meanings E B T L I) where
               (at_set v.kept k i (Some w.part) (Some part) got)) o;
         })))
         (λ else'. agrees_moved c k id other j u a.seat rest.0 (shows.each j u else'.1))
-        (at_set t.views id j (joined v w) u rest.1))
-        (at_set (slice_set t.views id (joined v w)) other j spent_view u is))
+        (at_set t.views id j (joined_view v w) u rest.1))
+        (at_set (slice_set t.views id (joined_view v w)) other j spent_view u is))
 
     -- split seat, at place 0: one more seat, a receipt's
     pub receipt_shows : Shows m c (record { words = t.words; homes = t.homes; views = slice_set t.views id v ++ receipt_view v ∷ [] })
     receipt_shows =
-        let o : Keeps m c id v = operator_here in
+        let o : OperatorKeeps m c id v = operator_here in
         let more : List (View E B T L I) = receipt_view v ∷ [] in
         subst (λ (us : List (View E B T L I)). Shows m c (record { words = t.words; homes = t.homes; views = us ++ more })) (sym (set_again t.views id v is_at)) (record {
           words = shows.words;
@@ -315,7 +316,7 @@ module _ {E B T L I : Type 0} (m : Meanings E B T L I) where
         })
 
   -- join seat, of a receipt: its seat is spent
-  pub spent_shows : (c : Core E B T L I) (t : State (Slot E B) (View E B T L I)) (other : ℕ) (w : View E B T L I) → Shows m c t → get_elem? t.views other ≡ at.some w → w.role ≡ Receipt
+  pub spent_shows : (c : WholeState E B T L I) (t : State (Slot E B) (View E B T L I)) (other : ℕ) (w : View E B T L I) → Shows m c t → get_elem? t.views other ≡ at.some w → w.role ≡ Receipt
       → Shows m c (record { words = t.words; homes = t.homes; views = slice_set t.views other spent_view })
   spent_shows c t other w shows there receipt = record {
     words = shows.words;

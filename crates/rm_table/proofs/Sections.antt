@@ -6,31 +6,31 @@ use mathlib.Core.Option as at
 use lib.ListN.{get_elem?}
 use Rattle.atomic_table.specs.Table.{State, stepped, keeps, takes, gives}
 use Rattle.atomic_table.proofs.Lists.{at_snoc}
-use Rattle.rm_core.specs.declared.phase.Phase.TheVariants.{Out, Raised, In}
-use Rattle.rm_core.specs.declared.token.Token.{Token}
-use Rattle.rm_core.specs.declared.token.Token.TheVariants.{Held, Revoked}
-use Rattle.rm_core.specs.declared.heard.Heard.TheVariants.{Revoked as HeardRevoked}
+use Rattle.rm_core.specs.declared.processor_state.Phase.TheVariants.{Out, Raised, In}
+use Rattle.rm_core.specs.declared.processor_state.Token.{Token}
+use Rattle.rm_core.specs.declared.processor_state.Token.TheVariants.{Held, Revoked}
+use Rattle.rm_core.specs.declared.event.Heard.TheVariants.{Revoked as HeardRevoked}
 use Rattle.rm_core.specs.declared.event.Event.TheVariants.{Raise, Check, Lower, Regain}
 use Rattle.rm_core.specs.declared.processor_state.ProcessorState.{ProcessorState}
-use Rattle.rm_core.specs.CoreState.{CoreState, Allowed, after, heard, after_check, with_token_read, token_heard}
+use Rattle.rm_core.specs.CoreState.{CoreState, MayCome, after, step_answer, after_check, with_token_read, token_answer}
 use Rattle.rm_core.proofs.Changes.{All-processor_of}
-use Rattle.rm_core.proofs.Numbers.{heard-check}
+use Rattle.rm_core.proofs.Numbers.{step_answer-check}
 use Rattle.rm_core.proofs.OneRun.{pending_check, pending_regain, Pending-after}
-use Rattle.rm_table.specs.declared.role.Role.TheVariants.{Processor}
-use Rattle.rm_table.specs.declared.slot.Slot.{Slot}
-use Rattle.rm_table.specs.declared.slot.Slot.TheVariants.{Edition}
+use Rattle.rm_table.specs.declared.view.Role.TheVariants.{Processor}
+use Rattle.rm_table.specs.declared.padded_slot.Slot.{Slot}
+use Rattle.rm_table.specs.declared.padded_slot.Slot.TheVariants.{Edition}
 use Rattle.rm_table.specs.declared.part.Part.{Part}
 use Rattle.rm_table.specs.declared.view.View.{View}
 use Rattle.rm_table.specs.Layout.{tracker_index, token_index, tracker_word, token_word, holder_word, is_held_by}
 use Rattle.rm_table.specs.Meanings.{Meanings, put}
-use Rattle.rm_table.specs.Rule.{Core, core_of, Words, tracker_of, token_of, IsPending, InHistory, Current, Slots, Live, Shows}
-use Rattle.rm_table.specs.Moves.{Hand, noted, begun, raised, greater_refusal, refused_part, refused, left_part, lowered, regained_part, regained, entered_part, entered}
+use Rattle.rm_table.specs.Rule.{WholeState, core_of, LockWords, tracker_of, token_of, IsPending, InHistory, Current, Slots, Live, Shows}
+use Rattle.rm_table.specs.Moves.{Hand, with_step, begun_part, raised_view, greater_refusal, refused_part, refused_view, left_part, lowered_view, regained_part, regained_view, entered_part, entered_view}
 use Rattle.rm_table.proofs.Base.{put_here, put_else, at_put, put_keeps, is_there, there, core-put, words_unchanged, words_like, words_tracker, words_token}
 use Rattle.rm_table.proofs.Own.{own_core, own_shows, processor_live}
 use Rattle.rm_table.proofs.Slots.{IsAway, slots_stay, slots_take, slots_give}
 
 -- the greater refusal is the one that stood, or the new one
-pub greater_is : (standing : Option ℕ) (number x : ℕ) → Some (greater_refusal standing number) ≡ Some x → (standing ≡ Some x) ⊎ (number ≡ x)
+greater_is : (standing : Option ℕ) (number x : ℕ) → Some (greater_refusal standing number) ≡ Some x → (standing ≡ Some x) ⊎ (number ≡ x)
 greater_is None number x is = let same : number ≡ x = cc in inr same
 greater_is (Some t) number x is =
     let same : max t number ≡ x = cc in
@@ -41,14 +41,9 @@ greater_is (Some t) number x is =
     greater_of (suc a) zero = inl (omega arith)
     greater_of (suc a) (suc b) = elim (greater_of a b) as (λ _. (max (suc a) (suc b) ≡ suc a) ⊎ (max (suc a) (suc b) ≡ suc b)) [ inl e ↦ inl (omega (arith, e)) | inr e ↦ inr (omega (arith, e)) ]
 
--- a new refusal is at most the greater one, and so is the one that stood
-pub greater_least : (standing : Option ℕ) (number : ℕ) → (number ≤ greater_refusal standing number) × ((t : ℕ) → standing ≡ Some t → t ≤ greater_refusal standing number)
-greater_least None number = (omega arith, λ t is. absurd cc)
-greater_least (Some s) number = (omega arith, λ t is. let same : s ≡ t = cc in omega (arith, same))
-
 module _ {E B T L I : Type 0} (m : Meanings E B T L I) where
   -- whoever isn't revoked isn't drained, so whoever holds its token isn't
-  pub held_not_drained : (c : Core E B T L I) (t : State (Slot E B) (View E B T L I)) → Shows m c t → (p : ℕ) → 0 < p → p ≤ c.count → (c.state p).token ≡ Held → (c.state p).drained ≡ true → ⊥
+  pub held_not_drained : (c : WholeState E B T L I) (t : State (Slot E B) (View E B T L I)) → Shows m c t → (p : ℕ) → 0 < p → p ≤ c.count → (c.state p).token ≡ Held → (c.state p).drained ≡ true → ⊥
   held_not_drained c t shows p low high held drained =
       let s : CoreState = core_of c in
       let is = there c p low high in
@@ -57,7 +52,7 @@ module _ {E B T L I : Type 0} (m : Meanings E B T L I) where
       let clash : Held ≡ Revoked (c.number + 1) = sym held ∙ gone in
       absurd cc
 
-  module _ (c : Core E B T L I) (t : State (Slot E B) (View E B T L I)) (id : ℕ) (v : View E B T L I) (shows : Shows m c t) (is_at : get_elem? t.views id ≡ at.some v) (role : v.role ≡ Processor) where
+  module _ (c : WholeState E B T L I) (t : State (Slot E B) (View E B T L I)) (id : ℕ) (v : View E B T L I) (shows : Shows m c t) (is_at : get_elem? t.views id ≡ at.some v) (role : v.role ≡ Processor) where
     high_of : v.place ≤ c.count
     high_of = (shows.each id v is_at).processor role
 
@@ -93,11 +88,11 @@ module _ {E B T L I : Type 0} (m : Meanings E B T L I) where
     others_away : (r : ProcessorState) (k : ℕ) → k ≢ v.place → IsAway (c.state k) → IsAway (put c.state v.place r k)
     others_away r k other was = subst IsAway (sym (put_else c.state v.place r k other)) was
 
-    abbrev raised_state : ProcessorState
+    abbrev pub raised_state : ProcessorState
     raised_state = record (c.state v.place) { phase = Raised }
 
     tracker_set : (r : ProcessorState) (a : Part E L I) (x : ℕ) → r.token ≡ (c.state v.place).token → x ≡ tracker_word a.sections r.phase
-        → Words c.count c.number (holder_word c.behind) c.holder (tracker_of (put c.state v.place r) (put c.part v.place a)) (token_of (put c.state v.place r)) (slice_set t.words (tracker_index v.place) x)
+        → LockWords c.count c.number (holder_word c.behind) c.holder (tracker_of (put c.state v.place r) (put c.part v.place a)) (token_of (put c.state v.place r)) (slice_set t.words (tracker_index v.place) x)
     tracker_set r a x token is =
         let p : ℕ = v.place in
         words_like (tracker_of (put c.state p r) (put c.part p a)) (token_of (put c.state p r)) (λ k. refl)
@@ -108,15 +103,15 @@ module _ {E B T L I : Type 0} (m : Meanings E B T L I) where
         shows.words)
 
     -- raise
-    pub raise_event : v.phase ≡ Out → core_of (own_core c v.place raised_state (begun v.part)) ≡ after (core_of c) (Raise v.place)
+    pub raise_event : v.phase ≡ Out → core_of (own_core c v.place raised_state (begun_part v.part)) ≡ after (core_of c) (Raise v.place)
     raise_event out = core-put c v.place (λ q. record q { phase = Raised }) live_of.low high_of
 
     -- after a raise the table shows a state by the rule
     pub raise_shows : (x : ℕ) (hand : Hand E B) → v.phase ≡ Out → x ≡ tracker_word (v.part.sections + 1) Raised
-        → Shows m (own_core c v.place raised_state (begun v.part)) (stepped t (tracker_index v.place) x id hand (noted (raised v) (tracker_index v.place) x) keeps)
+        → Shows m (own_core c v.place raised_state (begun_part v.part)) (stepped t (tracker_index v.place) x id hand (with_step (raised_view v) (tracker_index v.place) x) keeps)
     raise_shows x hand out is =
         let was : (c.state v.place).phase ≡ Out = sym live_of.phase ∙ out in
-        own_shows m c t id v (Raise v.place) raised_state (begun v.part) (noted (raised v) (tracker_index v.place) x) (slice_set t.words (tracker_index v.place) x) t.homes
+        own_shows m c t id v (Raise v.place) raised_state (begun_part v.part) (with_step (raised_view v) (tracker_index v.place) x) (slice_set t.words (tracker_index v.place) x) t.homes
         (record {
           shows = shows;
           is_at = is_at;
@@ -125,14 +120,14 @@ module _ {E B T L I : Type 0} (m : Meanings E B T L I) where
           may = is_there c (λ q. q.phase ≡ Out) v.place live_of.low high_of was;
           revoked = refl;
           drained = refl;
-          words_are = tracker_set raised_state (begun v.part) x refl is;
+          words_are = tracker_set raised_state (begun_part v.part) x refl is;
           slots_are = slots_stay m (put c.state v.place raised_state) (same_away raised_state (λ inside. let clash : Out ≡ In = sym was ∙ inside in absurd cc) refl) shows.slots;
           reading = λ never. absurd cc;
           pairs = same_pairs;
           desk = λ here. absurd (not_at_desk (λ inside. let clash : Out ≡ In = sym was ∙ inside in absurd cc) here);
           own = refl;
           first = refl;
-          helds = same_held (begun v.part) refl;
+          helds = same_held (begun_part v.part) refl;
           read = same_read;
           refusal = λ x told. inl told;
           now_role = role;
@@ -146,7 +141,7 @@ module _ {E B T L I : Type 0} (m : Meanings E B T L I) where
 
     -- a check changes no tracker word and no token word
     words_loaded : (r : ProcessorState) (a : Part E L I) (i : ℕ) → a.sections ≡ v.part.sections → r.token ≡ (c.state v.place).token → tracker_word v.part.sections r.phase ≡ tracker_word v.part.sections (c.state v.place).phase
-        → Words c.count c.number (holder_word c.behind) c.holder (tracker_of (put c.state v.place r) (put c.part v.place a)) (token_of (put c.state v.place r)) (slice_set t.words i (slice_index t.words i))
+        → LockWords c.count c.number (holder_word c.behind) c.holder (tracker_of (put c.state v.place r) (put c.part v.place a)) (token_of (put c.state v.place r)) (slice_set t.words i (slice_index t.words i))
     words_loaded r a i sections token phase =
         let p : ℕ = v.place in
         let same : a.sections ≡ (c.part p).sections = sections ∙ ap (λ (y : Part E L I). y.sections) live_of.part in
@@ -161,7 +156,7 @@ module _ {E B T L I : Type 0} (m : Meanings E B T L I) where
         (words_unchanged i shows.words)
 
     -- check, where the token is held
-    abbrev in_state : ProcessorState
+    abbrev pub in_state : ProcessorState
     in_state = record (c.state v.place) { phase = In }
 
     -- a check of a held token makes of the state what its event makes of the lock's core
@@ -172,11 +167,11 @@ module _ {E B T L I : Type 0} (m : Meanings E B T L I) where
 
     -- after a check that found the token held the table shows a state by the rule
     pub check_held_shows : (i : ℕ) (hand : Hand E B) (e : E) → v.phase ≡ Raised → (c.state v.place).token ≡ Held → get_elem? t.homes v.place ≡ at.some (at.some (Edition (Some e))) → Current m c.number c.name c.tag e
-        → Shows m (own_core c v.place in_state (entered_part m v.part e)) (stepped t i (slice_index t.words i) id hand (noted (entered m v e) i (slice_index t.words i)) (takes v.place (Edition (Some e))))
+        → Shows m (own_core c v.place in_state (entered_part m v.part e)) (stepped t i (slice_index t.words i) id hand (with_step (entered_view m v e) i (slice_index t.words i)) (takes v.place (Edition (Some e))))
     check_held_shows i hand e raised held home current =
         let was : (c.state v.place).phase ≡ Raised = sym live_of.phase ∙ raised in
         let a : Part E L I = entered_part m v.part e in
-        own_shows m c t id v (Check v.place) in_state a (noted (entered m v e) i (slice_index t.words i)) (slice_set t.words i (slice_index t.words i)) (slice_set t.homes v.place at.none)
+        own_shows m c t id v (Check v.place) in_state a (with_step (entered_view m v e) i (slice_index t.words i)) (slice_set t.words i (slice_index t.words i)) (slice_set t.homes v.place at.none)
         (record {
           shows = shows;
           is_at = is_at;
@@ -218,15 +213,15 @@ module _ {E B T L I : Type 0} (m : Meanings E B T L I) where
 
     -- after a check that found the token revoked the table shows a state by the rule
     pub check_refused_shows : (i number : ℕ) (hand : Hand E B) → v.phase ≡ Raised → (c.state v.place).token ≡ Revoked number
-        → Shows m (own_core c v.place (c.state v.place) (refused_part v.part number)) (stepped t i (slice_index t.words i) id hand (noted (refused v number) i (slice_index t.words i)) keeps)
+        → Shows m (own_core c v.place (c.state v.place) (refused_part v.part number)) (stepped t i (slice_index t.words i) id hand (with_step (refused_view v number) i (slice_index t.words i)) keeps)
     check_refused_shows i number hand raised revoked =
         let was : (c.state v.place).phase ≡ Raised = sym live_of.phase ∙ raised in
         let a : Part E L I = refused_part v.part number in
-        let may : Allowed (core_of c) (Check v.place) = is_there c (λ q. q.phase ≡ Raised) v.place live_of.low high_of was in
+        let may : MayCome (core_of c) (Check v.place) = is_there c (λ q. q.phase ≡ Raised) v.place live_of.low high_of was in
         let outside : (c.state v.place).phase ≢ In = λ inside. let clash : Raised ≡ In = sym was ∙ inside in absurd cc in
-        let hears : heard (core_of c) (Check v.place) ≡ HeardRevoked number = heard-check (core_of c) v.place (c.state v.place) (there c v.place live_of.low high_of) ∙ ap token_heard revoked in
+        let hears : step_answer (core_of c) (Check v.place) ≡ HeardRevoked number = step_answer-check (core_of c) v.place (c.state v.place) (there c v.place live_of.low high_of) ∙ ap token_answer revoked in
         let pending : IsPending (core_of c) v.place number = pending_check (core_of c) v.place number shows.sound.safe may hears in
-        own_shows m c t id v (Check v.place) (c.state v.place) a (noted (refused v number) i (slice_index t.words i)) (slice_set t.words i (slice_index t.words i)) t.homes
+        own_shows m c t id v (Check v.place) (c.state v.place) a (with_step (refused_view v number) i (slice_index t.words i)) (slice_set t.words i (slice_index t.words i)) t.homes
         (record {
           shows = shows;
           is_at = is_at;
@@ -258,7 +253,7 @@ module _ {E B T L I : Type 0} (m : Meanings E B T L I) where
         })
 
     -- lower
-    abbrev out_state : ProcessorState
+    abbrev pub out_state : ProcessorState
     out_state = record (c.state v.place) { phase = Out }
 
     -- a lowering makes of the state what its event makes of the lock's core
@@ -273,12 +268,12 @@ module _ {E B T L I : Type 0} (m : Meanings E B T L I) where
         (λ other. other.1 here) (eqb_tells c.holder v.place)
 
     -- after a lowering that leaves the slots by the rule the table shows a state by the rule
-    pub lower_shows : (x : ℕ) (homes : List (at.Option (Slot E B))) → (v.phase ≡ Raised) ⊎ (v.phase ≡ In) → v.book ≡ None → x ≡ tracker_word v.part.sections Out
+    lower_shows : (x : ℕ) (homes : List (at.Option (Slot E B))) → (v.phase ≡ Raised) ⊎ (v.phase ≡ In) → v.book ≡ None → x ≡ tracker_word v.part.sections Out
         → Slots m c.number c.count (put c.state v.place out_state) c.name c.tag c.holder c.book homes
-        → Shows m (own_core c v.place out_state (left_part v.part)) (record { words = slice_set t.words (tracker_index v.place) x; homes = homes; views = slice_set t.views id (noted (lowered v) (tracker_index v.place) x) })
+        → Shows m (own_core c v.place out_state (left_part v.part)) (record { words = slice_set t.words (tracker_index v.place) x; homes = homes; views = slice_set t.views id (with_step (lowered_view v) (tracker_index v.place) x) })
     lower_shows x homes begun none is slots =
         let e : v.phase ≡ (c.state v.place).phase = live_of.phase in
-        own_shows m c t id v (Lower v.place) out_state (left_part v.part) (noted (lowered v) (tracker_index v.place) x) (slice_set t.words (tracker_index v.place) x) homes
+        own_shows m c t id v (Lower v.place) out_state (left_part v.part) (with_step (lowered_view v) (tracker_index v.place) x) (slice_set t.words (tracker_index v.place) x) homes
         (record {
           shows = shows;
           is_at = is_at;
@@ -308,7 +303,7 @@ module _ {E B T L I : Type 0} (m : Meanings E B T L I) where
 
     -- after a refused processor's lowering the table shows a state by the rule
     pub lower_raised_shows : (x : ℕ) (hand : Hand E B) → v.phase ≡ Raised → v.book ≡ None → x ≡ tracker_word v.part.sections Out
-        → Shows m (own_core c v.place out_state (left_part v.part)) (stepped t (tracker_index v.place) x id hand (noted (lowered v) (tracker_index v.place) x) keeps)
+        → Shows m (own_core c v.place out_state (left_part v.part)) (stepped t (tracker_index v.place) x id hand (with_step (lowered_view v) (tracker_index v.place) x) keeps)
     lower_raised_shows x hand raised none is =
         let was : (c.state v.place).phase ≡ Raised = sym live_of.phase ∙ raised in
         lower_shows x t.homes (inl raised) none is
@@ -316,13 +311,13 @@ module _ {E B T L I : Type 0} (m : Meanings E B T L I) where
 
     -- after a lowering that gives the edition home the table shows a state by the rule
     pub lower_in_shows : (x : ℕ) (hand : Hand E B) (e : E) → v.phase ≡ In → v.book ≡ None → x ≡ tracker_word v.part.sections Out → Current m c.number c.name c.tag e
-        → Shows m (own_core c v.place out_state (left_part v.part)) (stepped t (tracker_index v.place) x id ((v.place, Edition (Some e)) ∷ hand) (noted (lowered v) (tracker_index v.place) x) gives)
+        → Shows m (own_core c v.place out_state (left_part v.part)) (stepped t (tracker_index v.place) x id ((v.place, Edition (Some e)) ∷ hand) (with_step (lowered_view v) (tracker_index v.place) x) gives)
     lower_in_shows x hand e inside none is current =
         lower_shows x (slice_set t.homes v.place (at.some (Edition (Some e)))) (inr inside) none is
         (slots_give m (put c.state v.place out_state) v.place e live_of.low current (others_away out_state) shows.slots)
 
     -- regain
-    abbrev held_state : ProcessorState
+    abbrev pub held_state : ProcessorState
     held_state = record (c.state v.place) { token = Held }
 
     -- a regain makes of the state what its event makes of the lock's core
@@ -338,7 +333,7 @@ module _ {E B T L I : Type 0} (m : Meanings E B T L I) where
         holder_of (Some h) is = ⊎_elim (λ same. ap (λ (n : ℕ). Some n) same.1) (λ other. let clash : true ≡ false = sym is ∙ other.0 in absurd cc) (eqb_tells h v.place)
 
     -- the lock's core allows a regain to a processor that is out and holds the lock behind
-    pub regain_may : v.phase ≡ Out → v.behind ≡ true → Allowed (core_of c) (Regain v.place)
+    pub regain_may : v.phase ≡ Out → v.behind ≡ true → MayCome (core_of c) (Regain v.place)
     regain_may out behind = (is_there c (λ q. q.phase ≡ Out) v.place live_of.low high_of (sym live_of.phase ∙ out), behind_of behind)
 
     -- a number that was read under the lock behind is the published one
@@ -352,14 +347,14 @@ module _ {E B T L I : Type 0} (m : Meanings E B T L I) where
 
     -- after a regain the table shows a state by the rule
     pub regain_shows : (number : ℕ) (hand : Hand E B) → v.phase ≡ Out → v.behind ≡ true → v.part.read ≡ Some number
-        → Shows m (own_core c v.place held_state (regained_part v.part number)) (stepped t (token_index v.count v.place) 0 id hand (noted (regained v number) (token_index v.count v.place) 0) keeps)
+        → Shows m (own_core c v.place held_state (regained_part v.part number)) (stepped t (token_index v.count v.place) 0 id hand (with_step (regained_view v number) (token_index v.count v.place) 0) keeps)
     regain_shows number hand out behind read =
         let p : ℕ = v.place in
         let a : Part E L I = regained_part v.part number in
         let was : (c.state p).phase ≡ Out = sym live_of.phase ∙ out in
         let outside : (c.state p).phase ≢ In = λ inside. let clash : Out ≡ In = sym was ∙ inside in absurd cc in
         let known : number ≡ c.number = number_read_is number behind read in
-        own_shows m c t id v (Regain p) held_state a (noted (regained v number) (token_index v.count p) 0) (slice_set t.words (token_index v.count p) 0) t.homes
+        own_shows m c t id v (Regain p) held_state a (with_step (regained_view v number) (token_index v.count p) 0) (slice_set t.words (token_index v.count p) 0) t.homes
         (record {
           shows = shows;
           is_at = is_at;
@@ -369,7 +364,7 @@ module _ {E B T L I : Type 0} (m : Meanings E B T L I) where
           revoked = refl;
           drained = refl;
           words_are =
-              subst (λ (n : ℕ). Words c.count c.number (holder_word c.behind) c.holder (tracker_of (put c.state p held_state) (put c.part p a)) (token_of (put c.state p held_state)) (slice_set t.words (token_index n p) 0)) (sym live_of.count)
+              subst (λ (n : ℕ). LockWords c.count c.number (holder_word c.behind) c.holder (tracker_of (put c.state p held_state) (put c.part p a)) (token_of (put c.state p held_state)) (slice_set t.words (token_index n p) 0)) (sym live_of.count)
               (words_like (tracker_of (put c.state p held_state) (put c.part p a)) (token_of (put c.state p held_state))
               (λ k.
               ap (λ (n : ℕ). tracker_word n (put c.state p held_state k).phase) (put_keeps (λ (y : Part E L I). y.sections) c.part p a (ap (λ (y : Part E L I). y.sections) live_of.part) k)

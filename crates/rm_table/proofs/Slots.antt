@@ -4,10 +4,10 @@ use Rattle.std.specs.Prelude.{slice_set}
 use mathlib.Core.Option as at
 use lib.ListN.{get_elem?}
 use Rattle.atomic_table.proofs.Lists.{at_set}
-use Rattle.rm_core.specs.declared.phase.Phase.TheVariants.{In}
+use Rattle.rm_core.specs.declared.processor_state.Phase.TheVariants.{In}
 use Rattle.rm_core.specs.declared.processor_state.ProcessorState.{ProcessorState}
-use Rattle.rm_table.specs.declared.slot.Slot.{Slot}
-use Rattle.rm_table.specs.declared.slot.Slot.TheVariants.{Edition, Book}
+use Rattle.rm_table.specs.declared.padded_slot.Slot.{Slot}
+use Rattle.rm_table.specs.declared.padded_slot.Slot.TheVariants.{Edition, Book}
 use Rattle.rm_table.specs.Meanings.{Meanings}
 use Rattle.rm_table.specs.Rule.{Current, Slots}
 use Rattle.rm_table.proofs.Base.{get_there}

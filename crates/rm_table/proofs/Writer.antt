@@ -1,32 +1,33 @@
 -- The steps of the operator that revoke a token and find a processor out.
 use Rattle.std.proofs.Common.{◌≡◌, ◌≢◌, ℕ, ◌+◌, ◌-◌, ◌%◌, ◌^◌, ◌<◌, ◌≤◌, ◌⊎◌, inl, inr, Bool, true, false, Some, List, [], ◌∷◌, ◌++◌, length, length-set, refl, sym, ◌∙◌, ap, arith, subst, ⊎_elim}
 use Rattle.std.specs.Prelude.{slice_get, slice_set, slice_index, slice_index_or, if◌then◌else◌}
+use Rattle.std.proofs.lemmas.List.{get_or-set_same, get_or-set_other}
 use mathlib.Core.Option as at
 use lib.ListN.{get_elem?}
 use Rattle.atomic_table.specs.Table.{State, stepped, keeps, takes}
-use Rattle.rm_core.specs.declared.phase.Phase.{Phase}
-use Rattle.rm_core.specs.declared.phase.Phase.TheVariants.{Out, Raised, In}
-use Rattle.rm_core.specs.declared.token.Token.TheVariants.{Revoked}
+use Rattle.rm_core.specs.declared.processor_state.Phase.{Phase}
+use Rattle.rm_core.specs.declared.processor_state.Phase.TheVariants.{Out, Raised, In}
+use Rattle.rm_core.specs.declared.processor_state.Token.TheVariants.{Revoked}
 use Rattle.rm_core.specs.declared.event.Event.{Event}
 use Rattle.rm_core.specs.declared.event.Event.TheVariants.{Revoke, Drain}
 use Rattle.rm_core.specs.declared.processor_state.ProcessorState.{ProcessorState}
-use Rattle.rm_core.specs.CoreState.{Allowed, after, operator_of, after_drain, with_tracker_read}
+use Rattle.rm_core.specs.CoreState.{MayCome, after, operator_of, after_drain, with_tracker_read}
 use Rattle.rm_core.specs.Runs.{is_regain_of}
-use Rattle.rm_table.specs.declared.slot.Slot.{Slot}
-use Rattle.rm_table.specs.declared.slot.Slot.TheVariants.{Edition}
+use Rattle.rm_table.specs.declared.padded_slot.Slot.{Slot}
+use Rattle.rm_table.specs.declared.padded_slot.Slot.TheVariants.{Edition}
 use Rattle.rm_table.specs.declared.view.View.{View}
 use Rattle.rm_table.specs.Layout.{token_index, tracker_word, token_word, holder_word}
 use Rattle.rm_table.specs.Meanings.{Meanings, put}
-use Rattle.rm_table.specs.Rule.{Core, core_of, Words, tracker_of, token_of, Current, Slots, Live, Keeps, Shows}
-use Rattle.rm_table.specs.Moves.{Hand, noted, revoked, drained, is_revoked, is_drained, IsLast, IsOperator}
-use Rattle.rm_table.proofs.Base.{put_here, put_else, at_put, put_keeps, at_slice, index_here, index_else, length-values, values_like, is_there, core-put, words_unchanged, words_like, words_token}
+use Rattle.rm_table.specs.Rule.{WholeState, core_of, LockWords, tracker_of, token_of, Current, Slots, Live, OperatorKeeps, Shows}
+use Rattle.rm_table.specs.Moves.{Hand, with_step, revoked_view, drained_view, is_revoked, is_drained, IsLast, IsOperator}
+use Rattle.rm_table.proofs.Base.{put_here, put_else, at_put, put_keeps, at_slice, length-values, values_like, is_there, core-put, words_unchanged, words_like, words_token}
 use Rattle.rm_table.proofs.Keeping.{Beside, begins_same, each_after, every_seat_after}
 use Rattle.rm_table.proofs.Own.{sound_after, numbers_after}
 use Rattle.rm_table.proofs.Locks.{no_receipt, working_live, operator_keeps, held_behind}
 use Rattle.rm_table.proofs.Slots.{IsAway, slots_stay, slots_take, at_home}
 
 -- what a revocation and a drain change
-abbrev pub state_core : {E B T L I : Type 0} → Core E B T L I → ℕ → ProcessorState → Core E B T L I
+abbrev pub state_core : {E B T L I : Type 0} → WholeState E B T L I → ℕ → ProcessorState → WholeState E B T L I
 state_core c k r = record c { state = put c.state k r }
 
 -- the words of a tracker are even where its processor is out
@@ -36,13 +37,13 @@ even_word sections Raised = inr ((λ clash. absurd cc), omega arith)
 even_word sections In = inr ((λ clash. absurd cc), omega arith)
 
 module _ {E B T L I : Type 0} (m : Meanings E B T L I) where
-  module _ (c : Core E B T L I) (t : State (Slot E B) (View E B T L I)) (id : ℕ) (v : View E B T L I) (shows : Shows m c t) (is_at : get_elem? t.views id ≡ at.some v) (writer : IsOperator v) where
+  module _ (c : WholeState E B T L I) (t : State (Slot E B) (View E B T L I)) (id : ℕ) (v : View E B T L I) (shows : Shows m c t) (is_at : get_elem? t.views id ≡ at.some v) (writer : IsOperator v) where
     -- what the operator's seat knows of itself is so
     pub writer_live : Live m c id v
     writer_live = working_live m c t id v shows is_at (inr writer)
 
     -- what the operator keeps is so
-    pub writer_keeps : Keeps m c id v
+    pub writer_keeps : OperatorKeeps m c id v
     writer_keeps = operator_keeps m c t id v shows is_at (inr writer) writer.role
 
     -- the flags of one processor set
@@ -50,22 +51,22 @@ module _ {E B T L I : Type 0} (m : Meanings E B T L I) where
         → ((j : ℕ) → 0 < j → j ≤ c.count → slice_index_or xs j false ≡ f (state j)) → (j : ℕ) → 0 < j → j ≤ c.count → slice_index_or (slice_set xs k true) j false ≡ f (put state k r j)
     flag_set xs state f k r inside is flags =
         at_put (λ j x. 0 < j → j ≤ c.count → slice_index_or (slice_set xs k true) j false ≡ f x) state k r
-        (λ low high. index_here xs k true false inside ∙ sym is)
-        (λ j other low high. index_else xs k j true false other ∙ flags j low high)
+        (λ low high. get_or-set_same xs k true false inside ∙ sym is)
+        (λ j other low high. get_or-set_other xs k j true false other ∙ flags j low high)
 
     -- a step of the operator on one processor's token or flags
-    writer_shows : (e : Event) (k : ℕ) (r : ProcessorState) (rs ds : List Bool) (steps : List (ℕ × ℕ)) (words : List ℕ) (homes : List (at.Option (Slot E B))) → core_of (state_core c k r) ≡ after (core_of c) e → Allowed (core_of c) e
+    writer_shows : (e : Event) (k : ℕ) (r : ProcessorState) (rs ds : List Bool) (steps : List (ℕ × ℕ)) (words : List ℕ) (homes : List (at.Option (Slot E B))) → core_of (state_core c k r) ≡ after (core_of c) e → MayCome (core_of c) e
         → r.phase ≡ (c.state k).phase → ((j : ℕ) → is_regain_of j e ≡ false)
-        → Words c.count c.number (holder_word c.behind) c.holder (tracker_of (put c.state k r) c.part) (token_of (put c.state k r)) words
+        → LockWords c.count c.number (holder_word c.behind) c.holder (tracker_of (put c.state k r) c.part) (token_of (put c.state k r)) words
         → Slots m c.number c.count (put c.state k r) c.name c.tag c.holder c.book homes
         → length rs ≡ c.count + 1 → length ds ≡ c.count + 1
         → ((j : ℕ) → 0 < j → j ≤ c.count → slice_index_or rs j false ≡ (put c.state k r j).revoked)
         → ((j : ℕ) → 0 < j → j ≤ c.count → slice_index_or ds j false ≡ (put c.state k r j).drained)
         → Shows m (state_core c k r) (record { words = words; homes = homes; views = slice_set t.views id (record v { revoked = rs; drained = ds; steps = steps }) })
     writer_shows e k r rs ds steps words homes core_is may phase unregained words_are slots_are rs_size ds_size rs_are ds_are =
-        let d : Core E B T L I = state_core c k r in
+        let d : WholeState E B T L I = state_core c k r in
         let l : Live m c id v = writer_live in
-        let o : Keeps m c id v = writer_keeps in
+        let o : OperatorKeeps m c id v = writer_keeps in
         let phases : (j : ℕ) → (put c.state k r j).phase ≡ (c.state j).phase = put_keeps (λ (x : ProcessorState). x.phase) c.state k r phase in
         let beside : Beside c d v.place = record {
           count = refl;
@@ -129,7 +130,7 @@ module _ {E B T L I : Type 0} (m : Meanings E B T L I) where
         }
 
     -- revoke
-    abbrev revoked_state : ℕ → ProcessorState
+    abbrev pub revoked_state : ℕ → ProcessorState
     revoked_state k = record (c.state k) { token = Revoked (c.number + 1); revoked = true }
 
     -- a revocation makes of the state what its event makes of the lock's core
@@ -143,17 +144,17 @@ module _ {E B T L I : Type 0} (m : Meanings E B T L I) where
         held_behind m c t id v shows is_at (inr writer) behind ∙ ap (λ (n : ℕ). Some n) e
 
     -- the lock's core allows the operator that holds the lock behind to revoke a token that isn't yet
-    pub revoke_may : (k : ℕ) → 0 < k → k ≤ v.count → v.behind ≡ true → is_revoked v k ≡ false → v.number < 2 ^ 64 - 1 → Allowed (core_of c) (Revoke k)
+    pub revoke_may : (k : ℕ) → 0 < k → k ≤ v.count → v.behind ≡ true → is_revoked v k ≡ false → v.number < 2 ^ 64 - 1 → MayCome (core_of c) (Revoke k)
     revoke_may k low high behind unrevoked room =
         let within : k ≤ c.count = let e = writer_live.count in omega arith in
         (is_there c (λ q. q.revoked ≡ false) k low within (sym (writer_keeps.revoked k low within) ∙ unrevoked), holds_behind behind, let e = writer_keeps.number in omega arith)
 
     -- after a revocation the table shows a state by the rule
     pub revoke_shows : (k x : ℕ) (hand : Hand E B) → 0 < k → k ≤ v.count → v.behind ≡ true → is_revoked v k ≡ false → v.number < 2 ^ 64 - 1 → x ≡ v.number + 1
-        → Shows m (state_core c k (revoked_state k)) (stepped t (token_index v.count k) x id hand (noted (revoked v k) (token_index v.count k) x) keeps)
+        → Shows m (state_core c k (revoked_state k)) (stepped t (token_index v.count k) x id hand (with_step (revoked_view v k) (token_index v.count k) x) keeps)
     revoke_shows k x hand low high behind unrevoked room is =
         let l : Live m c id v = writer_live in
-        let o : Keeps m c id v = writer_keeps in
+        let o : OperatorKeeps m c id v = writer_keeps in
         let within : k ≤ c.count = let e = l.count in omega arith in
         let r : ProcessorState = revoked_state k in
         let number : x ≡ c.number + 1 = is ∙ ap (λ (n : ℕ). n + 1) o.number in
@@ -162,7 +163,7 @@ module _ {E B T L I : Type 0} (m : Meanings E B T L I) where
         (revoke_event k low within)
         (is_there c (λ q. q.revoked ≡ false) k low within was, holds_behind behind, let e = o.number in omega arith)
         refl (λ j. refl)
-        (subst (λ (n : ℕ). Words c.count c.number (holder_word c.behind) c.holder (tracker_of (put c.state k r) c.part) (token_of (put c.state k r)) (slice_set t.words (token_index n k) x)) (sym l.count)
+        (subst (λ (n : ℕ). LockWords c.count c.number (holder_word c.behind) c.holder (tracker_of (put c.state k r) c.part) (token_of (put c.state k r)) (slice_set t.words (token_index n k) x)) (sym l.count)
         (words_like (tracker_of (put c.state k r) c.part) (token_of (put c.state k r))
         (λ j. ap (tracker_word (c.part j).sections) (put_keeps (λ (y : ProcessorState). y.phase) c.state k r refl j)) (λ j. refl)
         (words_token k x (token_of (put c.state k r)) low within (ap (λ (y : ProcessorState). token_word y.token) (put_here c.state k r) ∙ sym number)
@@ -173,13 +174,13 @@ module _ {E B T L I : Type 0} (m : Meanings E B T L I) where
         (λ j low' within'. o.drained j low' within' ∙ sym (put_keeps (λ (y : ProcessorState). y.drained) c.state k r refl j))
 
     -- drain
-    pub drain_may : (k : ℕ) → 0 < k → k ≤ v.count → is_revoked v k ≡ true → is_drained v k ≡ false → Allowed (core_of c) (Drain k)
+    pub drain_may : (k : ℕ) → 0 < k → k ≤ v.count → is_revoked v k ≡ true → is_drained v k ≡ false → MayCome (core_of c) (Drain k)
     drain_may k low high revoked undrained =
         let within : k ≤ c.count = let e = writer_live.count in omega arith in
         is_there c (λ q. (q.revoked ≡ true) × (q.drained ≡ false)) k low within
         (sym (writer_keeps.revoked k low within) ∙ revoked, sym (writer_keeps.drained k low within) ∙ undrained)
 
-    abbrev drained_state : ℕ → ProcessorState
+    abbrev pub drained_state : ℕ → ProcessorState
     drained_state k = record (c.state k) { drained = true }
 
     -- a drain of a processor that is out makes of the state what its event makes of the lock's core
@@ -211,9 +212,9 @@ module _ {E B T L I : Type 0} (m : Meanings E B T L I) where
 
     -- after a drain that found the processor out the table shows a state by the rule
     pub drain_shows : (i k : ℕ) (hand : Hand E B) (e : E) → 0 < k → k ≤ v.count → is_revoked v k ≡ true → is_drained v k ≡ false → (c.state k).phase ≡ Out
-        → Shows m (state_core c k (drained_state k)) (stepped t i (slice_index t.words i) id hand (noted (drained v k) i (slice_index t.words i)) (takes k (Edition (Some e))))
+        → Shows m (state_core c k (drained_state k)) (stepped t i (slice_index t.words i) id hand (with_step (drained_view v k) i (slice_index t.words i)) (takes k (Edition (Some e))))
     drain_shows i k hand e low high revoked undrained out =
-        let o : Keeps m c id v = writer_keeps in
+        let o : OperatorKeeps m c id v = writer_keeps in
         let within : k ≤ c.count = let e = writer_live.count in omega arith in
         let r : ProcessorState = drained_state k in
         writer_shows (Drain k) k r v.revoked (slice_set v.drained k true) (v.steps ++ (i, slice_index t.words i) ∷ []) (slice_set t.words i (slice_index t.words i)) (slice_set t.homes k at.none)
@@ -230,7 +231,7 @@ module _ {E B T L I : Type 0} (m : Meanings E B T L I) where
     -- what the operator knows to be last is the last of the history
     pub last_known : (name : L) (tag : T) → name ≡ c.name → tag ≡ c.tag → IsLast v name tag
     last_known name tag name_is tag_is =
-        let o : Keeps m c id v = writer_keeps in
+        let o : OperatorKeeps m c id v = writer_keeps in
         ap (λ (xs : List (L × T)). slice_get xs (v.number - v.opened)) o.history ∙ ap (λ (n : ℕ). slice_get c.history (n - v.opened)) o.number ∙ ap (λ (n : ℕ). slice_get c.history (c.number - n)) o.opened
         ∙ at_slice c.history (c.number - c.opened) (c.name, c.tag) shows.past.last
         ∙ ap (λ (l : L). Some (l, c.tag)) (sym name_is) ∙ ap (λ (g : T). Some (name, g)) (sym tag_is)

@@ -2,23 +2,24 @@
 use Rattle.std.proofs.Common.{◌≡◌, ◌≢◌, inl, ℕ, zero, suc, ◌+◌, ◌-◌, ◌<◌, Some, None, Option, List, [], ◌∷◌, ◌++◌, length, refl, sym, ◌∙◌, ap, subst, arith}
 use Rattle.std.specs.Prelude.{slice_get, replicate}
 use Rattle.std.proofs.lemmas.List.{length-replicate}
+use Rattle.rm_core.proofs.Changes.{same_of-replicate}
 use Rattle.atomic_table.specs.Table.{Me, rest, turned}
-use Rattle.rm_core.specs.declared.heard.Heard.{Heard}
-use Rattle.rm_core.specs.declared.heard.Heard.TheVariants.{Held, Drained}
-use Rattle.rm_table.specs.declared.role.Role.TheVariants.{Operator}
-use Rattle.rm_table.specs.declared.tried.Tried.{Tried}
-use Rattle.rm_table.specs.declared.tried.Tried.TheVariants.{Taken}
-use Rattle.rm_table.specs.declared.slot.Slot.{Slot}
-use Rattle.rm_table.specs.declared.slot.Slot.TheVariants.{Edition, Book}
+use Rattle.rm_core.specs.declared.event.Heard.{Heard}
+use Rattle.rm_core.specs.declared.event.Heard.TheVariants.{Held, Drained}
+use Rattle.rm_table.specs.declared.view.Role.TheVariants.{Operator}
+use Rattle.rm_table.specs.declared.lock_steps.Tried.{Tried}
+use Rattle.rm_table.specs.declared.lock_steps.Tried.TheVariants.{Taken}
+use Rattle.rm_table.specs.declared.padded_slot.Slot.{Slot}
+use Rattle.rm_table.specs.declared.padded_slot.Slot.TheVariants.{Edition, Book}
 use Rattle.rm_table.specs.declared.view.View.{View}
 use Rattle.rm_table.specs.Meanings.{Meanings}
-use Rattle.rm_table.specs.Moves.{Hand, noted, published, published_as, joined, rest_from, editions_from, HasNext, HasBook, LeftByOperator, AllJoined}
-use Rattle.rm_table.specs.Answers.{Checked, Looked, TriedBook}
+use Rattle.rm_table.specs.Moves.{Hand, with_step, published_view, published_as, joined_view, rest_from, editions_from, HasNext, HasBook, LeftByOperator, AllJoined}
+use Rattle.rm_table.specs.Answers.{AnswersCheck, AnswersDrain, AnswersBookTry}
 use Rattle.rm_table.specs.Rests.{IsAtRest, IsRejoinedFrom}
-use Rattle.rm_table.proofs.Resting.{same_of-replicate, after_join, rejoined_closing, all_joined}
+use Rattle.rm_table.proofs.Resting.{after_join, rejoined_closing, all_joined}
 
 -- the last of a list with one more at its end
-pub last_of : {A : Type 0} (xs : List A) (x : A) (i : ℕ) → length xs ≡ i → slice_get (xs ++ x ∷ []) i ≡ Some x
+last_of : {A : Type 0} (xs : List A) (x : A) (i : ℕ) → length xs ≡ i → slice_get (xs ++ x ∷ []) i ≡ Some x
 last_of [] x zero is = refl
 last_of [] x (suc i) is = absurd (omega arith)
 last_of (y ∷ ys) x zero is = absurd (omega arith)
@@ -35,13 +36,13 @@ module _ {E B T L I : Type 0} where
   joined_all v hand some r = let c = rejoined_closing v hand some r in all_joined v c.0 c.1
 
   -- with one processor, one join joins all
-  pub join_one : (old new : Me (Slot E B) (View E B T L I)) (w : View E B T L I) → new ≡ (joined old.0 w, old.1) → w.place ≡ 1 → old.0.count ≡ 1 → IsAtRest old.0 old.1 → AllJoined new.0
+  pub join_one : (old new : Me (Slot E B) (View E B T L I)) (w : View E B T L I) → new ≡ (joined_view old.0 w, old.1) → w.place ≡ 1 → old.0.count ≡ 1 → IsAtRest old.0 old.1 → AllJoined new.0
   join_one old new w is at one rests =
-      let all : AllJoined (joined old.0 w) = joined_all (joined old.0 w) old.1 (omega (arith, one)) (after_join 1 old (joined old.0 w, old.1) w refl at (omega (arith, one)) (λ _. w.part, inl (omega (arith, one), rests))) in
+      let all : AllJoined (joined_view old.0 w) = joined_all (joined_view old.0 w) old.1 (omega (arith, one)) (after_join 1 old (joined_view old.0 w, old.1) w refl at (omega (arith, one)) (λ _. w.part, inl (omega (arith, one), rests))) in
       subst (λ (s : Me (Slot E B) (View E B T L I)). AllJoined s.0) (sym is) all
 
   -- the second processor's seat is joined, and then the first's
-  pub join_two : (old mid new : Me (Slot E B) (View E B T L I)) (second first : View E B T L I) → mid ≡ (joined old.0 second, old.1) → new ≡ (joined mid.0 first, mid.1) → second.place ≡ 2 → first.place ≡ 1 → old.0.count ≡ 2 → IsAtRest old.0 old.1 → AllJoined new.0
+  pub join_two : (old mid new : Me (Slot E B) (View E B T L I)) (second first : View E B T L I) → mid ≡ (joined_view old.0 second, old.1) → new ≡ (joined_view mid.0 first, mid.1) → second.place ≡ 2 → first.place ≡ 1 → old.0.count ≡ 2 → IsAtRest old.0 old.1 → AllJoined new.0
   join_two old mid new second first is_mid is at_second at_first two rests =
       let count : mid.0.count ≡ 2 = ap (λ (s : Me (Slot E B) (View E B T L I)). s.0.count) is_mid ∙ two in
       let r : IsRejoinedFrom 2 mid.0 mid.1 = after_join 2 old mid second is_mid at_second (omega (arith, two)) (λ _. second.part, inl (omega (arith, two), rests)) in
@@ -51,21 +52,15 @@ module _ {E B T L I : Type 0} where
 
   module _ (m : Meanings E B T L I) where
     -- a drain that found the processor out brought its edition on top of the hand
-    pub edition_on_top : (me : Me (Slot E B) (View E B T L I)) (place : ℕ) (heard : Heard) (after : Me (Slot E B) (View E B T L I)) → heard ≡ Drained → Looked m me place heard after → (old : Option E) × (after.1 ≡ (place, Edition old) ∷ rest after.1)
+    pub edition_on_top : (me : Me (Slot E B) (View E B T L I)) (place : ℕ) (heard : Heard) (after : Me (Slot E B) (View E B T L I)) → heard ≡ Drained → AnswersDrain m me place heard after → (old : Option E) × (after.1 ≡ (place, Edition old) ∷ rest after.1)
     edition_on_top me place heard after is looked =
-        let d : Looked m me place Drained after = subst (λ (h : Heard). Looked m me place h after) is looked in
+        let d : AnswersDrain m me place Drained after = subst (λ (h : Heard). AnswersDrain m me place h after) is looked in
         (Some d.1, subst (λ (s : Me (Slot E B) (View E B T L I)). s.1 ≡ (place, Edition (Some d.1)) ∷ rest s.1) (sym d.3) refl)
 
-    -- the same of a check that found the token held
-    pub checked_on_top : (me : Me (Slot E B) (View E B T L I)) (heard : Heard) (after : Me (Slot E B) (View E B T L I)) → heard ≡ Held → Checked m me heard after → (old : Option E) × (after.1 ≡ (me.0.place, Edition old) ∷ rest after.1)
-    checked_on_top me heard after is checked =
-        let d : Checked m me Held after = subst (λ (h : Heard). Checked m me h after) is checked in
-        (Some d.0, subst (λ (s : Me (Slot E B) (View E B T L I)). s.1 ≡ (me.0.place, Edition (Some d.0)) ∷ rest s.1) (sym d.1) refl)
-
     -- a try that took the book brought it on top of the hand
-    pub book_on_top : (me : Me (Slot E B) (View E B T L I)) (tried : Tried) (after : Me (Slot E B) (View E B T L I)) → tried ≡ Taken → TriedBook m me tried after → (old : Option B) × (after.1 ≡ (0, Book old) ∷ rest after.1)
+    pub book_on_top : (me : Me (Slot E B) (View E B T L I)) (tried : Tried) (after : Me (Slot E B) (View E B T L I)) → tried ≡ Taken → AnswersBookTry m me tried after → (old : Option B) × (after.1 ≡ (0, Book old) ∷ rest after.1)
     book_on_top me tried after is step =
-        let d : TriedBook m me Taken after = subst (λ (t : Tried). TriedBook m me t after) is step in
+        let d : AnswersBookTry m me Taken after = subst (λ (t : Tried). AnswersBookTry m me t after) is step in
         (Some d.0, subst (λ (s : Me (Slot E B) (View E B T L I)). s.1 ≡ (0, Book (Some d.0)) ∷ rest s.1) (sym d.1) refl)
 
     -- one edition in the slots of all k processors
@@ -82,13 +77,13 @@ module _ {E B T L I : Type 0} where
 
     -- the seat after the publication
     pub published_of : (s : Me (Slot E B) (View E B T L I)) (v : View E B T L I) (n : E) (b : B) (k : ℕ) (others : Hand E B) (i x : ℕ) (new : Me (Slot E B) (View E B T L I)) → s ≡ (v, (1, Edition (Some n)) ∷ others) → rest_from k ((1, Edition (Some n)) ∷ others) ≡ (0, Book (Some b)) ∷ [] → v.count ≡ k
-        → new ≡ (noted (published m s.0 s.1) i x, rest_from s.0.count s.1) → new ≡ (noted (published_as m v (m.name n) (m.tag n)) i x, (0, Book (Some b)) ∷ [])
-    published_of s v n b k others i x new is left count e = e ∙ ap (λ (s : Me (Slot E B) (View E B T L I)). (noted (published m s.0 s.1) i x, rest_from s.0.count s.1)) is ∙ ap (λ (k : ℕ). (noted (published_as m v (m.name n) (m.tag n)) i x, rest_from k ((1, Edition (Some n)) ∷ others))) count
-        ∙ ap (λ (h : Hand E B). (noted (published_as m v (m.name n) (m.tag n)) i x, h)) left
+        → new ≡ (with_step (published_view m s.0 s.1) i x, rest_from s.0.count s.1) → new ≡ (with_step (published_as m v (m.name n) (m.tag n)) i x, (0, Book (Some b)) ∷ [])
+    published_of s v n b k others i x new is left count e = e ∙ ap (λ (s : Me (Slot E B) (View E B T L I)). (with_step (published_view m s.0 s.1) i x, rest_from s.0.count s.1)) is ∙ ap (λ (k : ℕ). (with_step (published_as m v (m.name n) (m.tag n)) i x, rest_from k ((1, Edition (Some n)) ∷ others))) count
+        ∙ ap (λ (h : Hand E B). (with_step (published_as m v (m.name n) (m.tag n)) i x, h)) left
 
     -- a book that has taken the publication in
     left_written : (v : View E B T L I) (n : E) (taken b : B) (i x : ℕ) → v.opened + length v.history ≡ v.number + 1 → m.book_number b ≡ v.number + 1 → m.tag n ≡ m.book_tag b → m.of taken 0 ≡ v.own → m.of b 0 ≡ m.of taken 0 ++ m.item (m.tag n) ∷ []
-        → ((k : ℕ) → k ≢ 0 → m.of b k ≡ m.of taken k) → LeftByOperator m (noted (published_as m v (m.name n) (m.tag n)) i x) taken b
+        → ((k : ℕ) → k ≢ 0 → m.of b k ≡ m.of taken k) → LeftByOperator m (with_step (published_as m v (m.name n) (m.tag n)) i x) taken b
     left_written v n taken b i x counts number tag own item others = record {
       number = number;
       tag = λ fresh. absurd cc;
@@ -99,7 +94,7 @@ module _ {E B T L I : Type 0} where
     }
 
     -- after its publication the operator has in hand a book that has taken it in
-    pub has_written : (v : View E B T L I) (n : E) (taken b : B) (i x : ℕ) (new : Me (Slot E B) (View E B T L I)) → new ≡ (noted (published_as m v (m.name n) (m.tag n)) i x, (0, Book (Some b)) ∷ []) → v.role ≡ Operator → v.book ≡ Some taken
+    pub has_written : (v : View E B T L I) (n : E) (taken b : B) (i x : ℕ) (new : Me (Slot E B) (View E B T L I)) → new ≡ (with_step (published_as m v (m.name n) (m.tag n)) i x, (0, Book (Some b)) ∷ []) → v.role ≡ Operator → v.book ≡ Some taken
         → v.opened + length v.history ≡ v.number + 1 → m.book_number b ≡ v.number + 1 → m.tag n ≡ m.book_tag b → m.of taken 0 ≡ v.own → m.of b 0 ≡ m.of taken 0 ++ m.item (m.tag n) ∷ []
         → ((k : ℕ) → k ≢ 0 → m.of b k ≡ m.of taken k) → HasBook m new.0 new.1
     has_written v n taken b i x new e role has counts number tag own item others = subst (λ (s : Me (Slot E B) (View E B T L I)). HasBook m s.0 s.1) (sym e) (record {

@@ -1,18 +1,18 @@
 -- The table as it opens, and what its operator knows as it closes.
 use Rattle.std.specs.Prelude.{◌≡◌, ℕ, ◌+◌, ◌-◌, ◌*◌, ◌%◌, ◌^◌, ◌<◌, ◌≤◌, true, false, Some, None, List, [], ◌∷◌, length, map, slice_get, slice_set, slice_index, replicate}
-use Rattle.rm_core.specs.declared.phase.Phase.TheVariants.{Out}
-use Rattle.rm_table.specs.declared.role.Role.TheVariants.{Operator}
-use Rattle.rm_table.specs.declared.slot.Slot.{Slot}
-use Rattle.rm_table.specs.declared.slot.Slot.TheVariants.{Edition, Book}
+use Rattle.rm_core.specs.declared.processor_state.Phase.TheVariants.{Out}
+use Rattle.rm_table.specs.declared.view.Role.TheVariants.{Operator}
+use Rattle.rm_table.specs.declared.padded_slot.Slot.{Slot}
+use Rattle.rm_table.specs.declared.padded_slot.Slot.TheVariants.{Edition, Book}
 use Rattle.rm_table.specs.declared.part.Part.{Part}
 use Rattle.rm_table.specs.declared.view.View.{View}
-use Rattle.rm_table.specs.Layout.{words_of, number_index, tracker_index}
+use Rattle.rm_table.specs.Layout.{word_count, number_index, tracker_index}
 use Rattle.rm_table.specs.Meanings.{Meanings, values_from, BeginsWith}
 use Rattle.rm_table.specs.Moves.{NoneRevoked, IsLast}
 
 -- the words at the opening: the number, and zeros
 abbrev pub first_words : ℕ → ℕ → List ℕ
-first_words n number = slice_set (replicate (words_of n) 0) number_index number
+first_words n number = slice_set (replicate (word_count n) 0) number_index number
 
 -- the slots at the opening
 abbrev pub first_slots : {E B : Type 0} → B → List E → List (Slot E B)
@@ -58,7 +58,7 @@ module _ {E B T L I : Type 0} (m : Meanings E B T L I) where
   }
 
   -- The editions that a lock is opened with: all have the number and the tag of the book, and one name.
-  pub record Opens (editions : List E) (edition : E) (book : B) : Type 0 where
+  pub record OpensTable (editions : List E) (edition : E) (book : B) : Type 0 where
     pub some_there : 0 < length editions
     pub same : (j : ℕ) (e : E) → slice_get editions j ≡ Some e → (m.number e ≡ m.book_number book) × (m.name e ≡ m.name edition) × (m.tag e ≡ m.book_tag book)
 

@@ -4,18 +4,18 @@ use mathlib.Core.Option as at
 use lib.ListN.{get_elem?}
 use prog.Atomic.{either}
 use Rattle.atomic_table.specs.Table.{State, step, stepped, Act, Valid, carried_after}
-use Rattle.rm_core.specs.declared.phase.Phase.TheVariants.{Out, Raised, In}
+use Rattle.rm_core.specs.declared.processor_state.Phase.TheVariants.{Out, Raised, In}
 use Rattle.rm_core.specs.declared.event.Event.TheVariants.{Raise, Check, Lower, TakeBack, GiveBack, Regain, Revoke, Drain, ReadNumber, Publish}
-use Rattle.rm_core.specs.CoreState.{CoreState, Allowed, after}
-use Rattle.rm_table.specs.declared.role.Role.TheVariants.{Processor, Operator, Receipt}
-use Rattle.rm_table.specs.declared.slot.Slot.{Slot}
+use Rattle.rm_core.specs.CoreState.{CoreState, MayCome, after}
+use Rattle.rm_table.specs.declared.view.Role.TheVariants.{Processor, Operator, Receipt}
+use Rattle.rm_table.specs.declared.padded_slot.Slot.{Slot}
 use Rattle.rm_table.specs.declared.part.Part.{Part}
 use Rattle.rm_table.specs.declared.view.View.{View}
 use Rattle.rm_table.specs.Layout.{number_index, behind_index, book_index, tracker_index, token_index, tracker_word}
 use Rattle.rm_table.specs.Meanings.{Meanings}
-use Rattle.rm_table.specs.Rule.{Core, core_of, Shows, Whole}
-use Rattle.rm_table.specs.Moves.{HasEdition, HasNext, HasBook, IsOperator, IsWorking, NoneRevoked, AllDrained, is_revoked, is_drained, split_off, right_of, kept_at, joined, receipt_view, informed, spent_view}
-use Rattle.rm_table.specs.Plays.{Seated, Raises, Checks, Lowers, Regains, TakesBehind, GivesBehind, Revokes, Drains, ReadsNumber, Publishes, TakesBook, GivesBook}
+use Rattle.rm_table.specs.Rule.{WholeState, core_of, Shows, Whole}
+use Rattle.rm_table.specs.Moves.{HasEdition, HasNext, HasBook, IsOperator, IsWorking, NoneRevoked, AllDrained, is_revoked, is_drained, split_off, right_of, kept_at, joined_view, receipt_view, informed_view, spent_view}
+use Rattle.rm_table.specs.Plays.{Seated, TellsRaise, TellsCheck, TellsLower, TellsRegain, TellsTakeBehind, TellsGiveBehind, TellsRevoke, TellsDrain, TellsNumber, TellsPublish, TellsTakeBook, TellsGiveBook}
 
 -- How the lock's core goes on at a step that found this number.
 abbrev pub Going : Type 1
@@ -27,78 +27,78 @@ module _ {E B T L I : Type 0} (m : Meanings E B T L I) where
   abbrev pub Makes : ℕ → ℕ → Seated m → ℕ → (ℕ → ℕ) → Going → (ℕ → Seated m → Type 0) → Type 0
   Makes slots id me i f going then = (t : State (Slot E B) (View E B T L I)) (whole : Whole m t) → length t.homes ≡ slots → get_elem? t.views id ≡ at.some me.0 → slice_index t.words i < 18446744073709551616
       → (w : View E B T L I) × (a : Act (Slot E B)) × Valid t.homes me.1 a
-      × ((d : Core E B T L I) × Shows m d (stepped t i (f (slice_index t.words i)) id me.1 w a) × going (core_of whole.0) (slice_index t.words i) (core_of d))
+      × ((d : WholeState E B T L I) × Shows m d (stepped t i (f (slice_index t.words i)) id me.1 w a) × going (core_of whole.0) (slice_index t.words i) (core_of d))
       × then (slice_index t.words i) (w, carried_after me.1 a)
 
   abbrev pub RaiseLaw : Type 0
   RaiseLaw = (slots id : ℕ) (me : Seated m) (i x : ℕ) → i ≡ tracker_index me.0.place → me.0.role ≡ Processor → me.0.phase ≡ Out → x ≡ tracker_word (me.0.part.sections + 1) Raised
-      → Makes slots id me i (λ _. x) (λ s found after_it. Allowed s (Raise me.0.place) × (after_it ≡ after s (Raise me.0.place))) (λ _. Raises m (step slots i x 0 at.none) me x)
+      → Makes slots id me i (λ _. x) (λ s found after_it. MayCome s (Raise me.0.place) × (after_it ≡ after s (Raise me.0.place))) (λ _. TellsRaise m (step slots i x 0 at.none) me x)
 
   abbrev pub CheckLaw : Type 0
   CheckLaw = (slots id : ℕ) (me : Seated m) (i : ℕ) → i ≡ token_index me.0.count me.0.place → me.0.role ≡ Processor → me.0.phase ≡ Raised
-      → Makes slots id me i (λ n. n) (λ s found after_it. Allowed s (Check me.0.place) × (after_it ≡ after s (Check me.0.place))) (Checks m (step slots i 0 0 at.none) me)
+      → Makes slots id me i (λ n. n) (λ s found after_it. MayCome s (Check me.0.place) × (after_it ≡ after s (Check me.0.place))) (TellsCheck m (step slots i 0 0 at.none) me)
 
   abbrev pub LowerLaw : Type 0
   LowerLaw = (slots id : ℕ) (me : Seated m) (i x : ℕ) → i ≡ tracker_index me.0.place → me.0.role ≡ Processor → (me.0.phase ≡ Raised) ⊎ (me.0.phase ≡ In) → me.0.book ≡ None → (me.0.phase ≡ In → HasEdition m me.0 me.1) → x ≡ tracker_word me.0.part.sections Out
-      → Makes slots id me i (λ _. x) (λ s found after_it. Allowed s (Lower me.0.place) × (after_it ≡ after s (Lower me.0.place))) (λ _. Lowers m (step slots i x 0 at.none) me x)
+      → Makes slots id me i (λ _. x) (λ s found after_it. MayCome s (Lower me.0.place) × (after_it ≡ after s (Lower me.0.place))) (λ _. TellsLower m (step slots i x 0 at.none) me x)
 
   abbrev pub RegainLaw : Type 0
   RegainLaw = (slots id : ℕ) (me : Seated m) (i number : ℕ) → i ≡ token_index me.0.count me.0.place → me.0.role ≡ Processor → me.0.phase ≡ Out → me.0.behind ≡ true → me.0.part.read ≡ Some number
-      → Makes slots id me i (λ _. 0) (λ s found after_it. Allowed s (Regain me.0.place) × (after_it ≡ after s (Regain me.0.place))) (λ _. Regains m (step slots i 0 0 at.none) me 0)
+      → Makes slots id me i (λ _. 0) (λ s found after_it. MayCome s (Regain me.0.place) × (after_it ≡ after s (Regain me.0.place))) (λ _. TellsRegain m (step slots i 0 0 at.none) me 0)
 
   -- a try that finds another holder is no event
   abbrev pub TakeBackLaw : Type 0
   TakeBackLaw = (slots id : ℕ) (me : Seated m) (i x : ℕ) → i ≡ behind_index → IsWorking me.0 → x ≡ me.0.place
-      → Makes slots id me i (λ n. either (n == 0) x n) (λ s found after_it. MatchBool (found == 0) (Allowed s (TakeBack me.0.place) × (after_it ≡ after s (TakeBack me.0.place))) (after_it ≡ s)) (TakesBehind m (step slots i 0 x at.none) me)
+      → Makes slots id me i (λ n. either (n == 0) x n) (λ s found after_it. MatchBool (found == 0) (MayCome s (TakeBack me.0.place) × (after_it ≡ after s (TakeBack me.0.place))) (after_it ≡ s)) (TellsTakeBehind m (step slots i 0 x at.none) me)
 
   abbrev pub GiveBackLaw : Type 0
   GiveBackLaw = (slots id : ℕ) (me : Seated m) (i : ℕ) → i ≡ behind_index → IsWorking me.0 → me.0.behind ≡ true → (me.0.role ≡ Operator → NoneRevoked me.0)
-      → Makes slots id me i (λ _. 0) (λ s found after_it. Allowed s (GiveBack me.0.place) × (after_it ≡ after s (GiveBack me.0.place))) (λ _. GivesBehind m (step slots i 0 0 at.none) me 0)
+      → Makes slots id me i (λ _. 0) (λ s found after_it. MayCome s (GiveBack me.0.place) × (after_it ≡ after s (GiveBack me.0.place))) (λ _. TellsGiveBehind m (step slots i 0 0 at.none) me 0)
 
   abbrev pub ReadNumberLaw : Type 0
   ReadNumberLaw = (slots id : ℕ) (me : Seated m) (i : ℕ) → i ≡ number_index → IsWorking me.0
-      → Makes slots id me i (λ n. n) (λ s found after_it. (found ≡ s.number) × (after_it ≡ after s ReadNumber)) (ReadsNumber m (step slots i 0 0 at.none) me)
+      → Makes slots id me i (λ n. n) (λ s found after_it. (found ≡ s.number) × (after_it ≡ after s ReadNumber)) (TellsNumber m (step slots i 0 0 at.none) me)
 
   abbrev pub RevokeLaw : Type 0
   RevokeLaw = (slots id : ℕ) (me : Seated m) (i k x : ℕ) → i ≡ token_index me.0.count k → IsOperator me.0 → 0 < k → k ≤ me.0.count → me.0.behind ≡ true → is_revoked me.0 k ≡ false → me.0.number < 2 ^ 64 - 1 → x ≡ me.0.number + 1
-      → Makes slots id me i (λ _. x) (λ s found after_it. Allowed s (Revoke k) × (after_it ≡ after s (Revoke k))) (λ _. Revokes m (step slots i x 0 at.none) me x)
+      → Makes slots id me i (λ _. x) (λ s found after_it. MayCome s (Revoke k) × (after_it ≡ after s (Revoke k))) (λ _. TellsRevoke m (step slots i x 0 at.none) me x)
 
   abbrev pub DrainLaw : Type 0
   DrainLaw = (slots id : ℕ) (me : Seated m) (i k : ℕ) → i ≡ tracker_index k → IsOperator me.0 → 0 < k → k ≤ me.0.count → is_revoked me.0 k ≡ true → is_drained me.0 k ≡ false
-      → Makes slots id me i (λ n. n) (λ s found after_it. Allowed s (Drain k) × (after_it ≡ after s (Drain k))) (Drains m (step slots i 0 0 at.none) me)
+      → Makes slots id me i (λ n. n) (λ s found after_it. MayCome s (Drain k) × (after_it ≡ after s (Drain k))) (TellsDrain m (step slots i 0 0 at.none) me)
 
   abbrev pub PublishLaw : Type 0
   PublishLaw = (slots id : ℕ) (me : Seated m) (i x : ℕ) (book : B) → i ≡ number_index → IsOperator me.0 → HasNext m me.0 me.1 → AllDrained me.0 → me.0.behind ≡ true → me.0.book ≡ Some book → 0 < me.0.count → x ≡ me.0.number + 1
-      → Makes slots id me i (λ _. x) (λ s found after_it. Allowed s Publish × (after_it ≡ after s Publish)) (λ _. Publishes m (step slots i x 0 at.none) me x)
+      → Makes slots id me i (λ _. x) (λ s found after_it. MayCome s Publish × (after_it ≡ after s Publish)) (λ _. TellsPublish m (step slots i x 0 at.none) me x)
 
   -- a book step: the lock's core stays
   abbrev pub TakeBookLaw : Type 0
   TakeBookLaw = (slots id : ℕ) (me : Seated m) (i x : ℕ) → i ≡ book_index → IsWorking me.0 → (me.0.role ≡ Processor → me.0.phase ≡ In) → x ≡ me.0.place
-      → Makes slots id me i (λ n. either (n == 0) x n) (λ s found after_it. after_it ≡ s) (TakesBook m (step slots i 0 x at.none) me)
+      → Makes slots id me i (λ n. either (n == 0) x n) (λ s found after_it. after_it ≡ s) (TellsTakeBook m (step slots i 0 x at.none) me)
 
   abbrev pub GiveBookLaw : Type 0
   GiveBookLaw = (slots id : ℕ) (me : Seated m) (i : ℕ) → i ≡ book_index → IsWorking me.0 → HasBook m me.0 me.1
-      → Makes slots id me i (λ _. 0) (λ s found after_it. after_it ≡ s) (λ _. GivesBook m (step slots i 0 0 at.none) me 0)
+      → Makes slots id me i (λ _. 0) (λ s found after_it. after_it ≡ s) (λ _. TellsGiveBook m (step slots i 0 0 at.none) me 0)
 
   -- splitting and joining seats is no event: the words stay, and so does the lock's core. A processor's seat is split off the opening seat, and
   -- joined into the operator's
   abbrev pub SplitLaw : Type 0
   SplitLaw = (id k : ℕ) (v : View E B T L I) (part : Part E L I) → v.role ≡ Operator → slice_get v.kept k ≡ Some (Some part)
       → (t : State (Slot E B) (View E B T L I)) (whole : Whole m t) → get_elem? t.views id ≡ at.some v
-      → (d : Core E B T L I) × Shows m d (record { words = t.words; homes = t.homes; views = slice_set t.views id (split_off v k) ++ right_of v k (kept_at v k) ∷ [] }) × (core_of d ≡ core_of whole.0)
+      → (d : WholeState E B T L I) × Shows m d (record { words = t.words; homes = t.homes; views = slice_set t.views id (split_off v k) ++ right_of v k (kept_at v k) ∷ [] }) × (core_of d ≡ core_of whole.0)
 
   abbrev pub JoinLaw : Type 0
   JoinLaw = (id other : ℕ) (v w : View E B T L I) → v.role ≡ Operator → w.role ≡ Processor → w.phase ≡ Out → w.behind ≡ false
-      → (t : State (Slot E B) (View E B T L I)) (whole : Whole m t) → get_elem? t.views id ≡ at.some v → ¬ (other ≡ id) → get_elem? (slice_set t.views id (joined v w)) other ≡ at.some w
-      → (d : Core E B T L I) × Shows m d (record { words = t.words; homes = t.homes; views = slice_set (slice_set t.views id (joined v w)) other spent_view }) × (core_of d ≡ core_of whole.0)
+      → (t : State (Slot E B) (View E B T L I)) (whole : Whole m t) → get_elem? t.views id ≡ at.some v → ¬ (other ≡ id) → get_elem? (slice_set t.views id (joined_view v w)) other ≡ at.some w
+      → (d : WholeState E B T L I) × Shows m d (record { words = t.words; homes = t.homes; views = slice_set (slice_set t.views id (joined_view v w)) other spent_view }) × (core_of d ≡ core_of whole.0)
 
   -- a receipt's seat is split off the operator's, and joined into a processor's
   abbrev pub ReceiptLaw : Type 0
   ReceiptLaw = (id : ℕ) (v : View E B T L I) → v.role ≡ Operator
       → (t : State (Slot E B) (View E B T L I)) (whole : Whole m t) → get_elem? t.views id ≡ at.some v
-      → (d : Core E B T L I) × Shows m d (record { words = t.words; homes = t.homes; views = slice_set t.views id v ++ receipt_view v ∷ [] }) × (core_of d ≡ core_of whole.0)
+      → (d : WholeState E B T L I) × Shows m d (record { words = t.words; homes = t.homes; views = slice_set t.views id v ++ receipt_view v ∷ [] }) × (core_of d ≡ core_of whole.0)
 
   abbrev pub HearLaw : Type 0
   HearLaw = (id other : ℕ) (v w : View E B T L I) → v.role ≡ Processor → w.role ≡ Receipt
-      → (t : State (Slot E B) (View E B T L I)) (whole : Whole m t) → get_elem? t.views id ≡ at.some v → ¬ (other ≡ id) → get_elem? (slice_set t.views id (informed v w)) other ≡ at.some w
-      → (d : Core E B T L I) × Shows m d (record { words = t.words; homes = t.homes; views = slice_set (slice_set t.views id (informed v w)) other spent_view }) × (core_of d ≡ core_of whole.0)
+      → (t : State (Slot E B) (View E B T L I)) (whole : Whole m t) → get_elem? t.views id ≡ at.some v → ¬ (other ≡ id) → get_elem? (slice_set t.views id (informed_view v w)) other ≡ at.some w
+      → (d : WholeState E B T L I) × Shows m d (record { words = t.words; homes = t.homes; views = slice_set (slice_set t.views id (informed_view v w)) other spent_view }) × (core_of d ≡ core_of whole.0)

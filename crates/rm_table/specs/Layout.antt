@@ -2,30 +2,30 @@
 -- index 8 w, so that no two of them share a cache line of 64 bytes: a reader writes words of its own processor only,
 -- and on a shared line each reader would still wait for the others.
 use Rattle.std.specs.Prelude.{ℕ, ◌+◌, ◌-◌, ◌*◌, ◌%◌, ◌^◌, ◌==◌, Bool, false, Option, Some, None}
-use Rattle.rm_core.specs.declared.phase.Phase.{Phase}
-use Rattle.rm_core.specs.declared.phase.Phase.TheVariants.{Out, Raised, In}
-use Rattle.rm_core.specs.declared.token.Token.{Token}
-use Rattle.rm_core.specs.declared.token.Token.TheVariants.{Held, Revoked}
+use Rattle.rm_core.specs.declared.processor_state.Phase.{Phase}
+use Rattle.rm_core.specs.declared.processor_state.Phase.TheVariants.{Out, Raised, In}
+use Rattle.rm_core.specs.declared.processor_state.Token.{Token}
+use Rattle.rm_core.specs.declared.processor_state.Token.TheVariants.{Held, Revoked}
 
 -- where word w stands in the table
 abbrev pub index_of_word : ℕ → ℕ
 index_of_word w = 8 * w
 
 -- how many words the table has, those between included
-abbrev pub words_of : ℕ → ℕ
-words_of n = index_of_word (2 * n + 3)
+abbrev pub word_count : ℕ → ℕ
+word_count n = index_of_word (2 * n + 3)
 
 -- word 0: the published number
 abbrev pub number_index : ℕ
-number_index = 0
+number_index = index_of_word 0
 
 -- word 1: who holds the lock behind
 abbrev pub behind_index : ℕ
-behind_index = 8
+behind_index = index_of_word 1
 
 -- word 2: who holds the book
 abbrev pub book_index : ℕ
-book_index = 16
+book_index = index_of_word 2
 
 -- words 3 to n + 2: the trackers
 abbrev pub tracker_index : ℕ → ℕ

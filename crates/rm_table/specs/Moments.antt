@@ -3,14 +3,14 @@ use Rattle.std.specs.Prelude.{◌≡◌, ◌≢◌, ◌⊎◌, ℕ, ◌+◌, ◌
 use mathlib.Core.Option as at
 use lib.ListN.{get_elem?}
 use Rattle.atomic_table.specs.Table.{State}
-use Rattle.rm_core.specs.declared.phase.Phase.TheVariants.{In}
-use Rattle.rm_table.specs.declared.role.Role.TheVariants.{Processor, Operator, Receipt}
-use Rattle.rm_table.specs.declared.slot.Slot.{Slot}
-use Rattle.rm_table.specs.declared.slot.Slot.TheVariants.{Edition}
+use Rattle.rm_core.specs.declared.processor_state.Phase.TheVariants.{In}
+use Rattle.rm_table.specs.declared.view.Role.TheVariants.{Processor, Operator, Receipt}
+use Rattle.rm_table.specs.declared.padded_slot.Slot.{Slot}
+use Rattle.rm_table.specs.declared.padded_slot.Slot.TheVariants.{Edition}
 use Rattle.rm_table.specs.declared.view.View.{View}
 use Rattle.rm_table.specs.Layout.{number_index, behind_index, book_index}
 use Rattle.rm_table.specs.Meanings.{Meanings, BeginsWith}
-use Rattle.rm_table.specs.Moves.{IsLast, SeenUpTo, informed, is_drained}
+use Rattle.rm_table.specs.Moves.{IsLast, SeenUpTo, informed_view, is_drained}
 use Rattle.rm_table.specs.Rule.{IsSeatOf, Whole}
 
 module _ {E B T L I : Type 0} where
@@ -83,11 +83,11 @@ module _ {E B T L I : Type 0} (m : Meanings E B T L I) where
       → (j x : ℕ) (name : L) → slice_get v.part.pairs j ≡ Some (x, name) → (o.opened ≤ x) × (x ≤ slice_index t.words number_index) × ((tag : T) × (slice_get o.history (x - o.opened) ≡ Some (name, tag)))
 
   -- the operator's history begins with a receipt's, which has the names from the opening one to that of the receipt's number
-  abbrev pub ToldLaw : Type 0
-  ToldLaw = (t : State (Slot E B) (View E B T L I)) → Whole m t → (id i : ℕ) (r o : View E B T L I) → HasSeat t id r → HasSeat t i o → r.role ≡ Receipt → o.role ≡ Operator
+  abbrev pub PrefixLaw : Type 0
+  PrefixLaw = (t : State (Slot E B) (View E B T L I)) → Whole m t → (id i : ℕ) (r o : View E B T L I) → HasSeat t id r → HasSeat t i o → r.role ≡ Receipt → o.role ≡ Operator
       → (r.opened ≡ o.opened) × (r.opened ≤ r.number) × (r.opened + length r.history ≡ r.number + 1) × BeginsWith o.history r.history
 
   -- A processor that has heard a receipt has seen the receipt's number: what no pair that it saw is past is that number or a later one. With the
   -- answers of a check and of a regain: it reads that edition or a later one.
   abbrev pub HeardLaw : Type 0
-  HeardLaw = (v r : View E B T L I) (number : ℕ) → r.opened ≤ r.number → r.opened + length r.history ≡ r.number + 1 → SeenUpTo (informed v r).part number → r.number ≤ number
+  HeardLaw = (v r : View E B T L I) (number : ℕ) → r.opened ≤ r.number → r.opened + length r.history ≡ r.number + 1 → SeenUpTo (informed_view v r).part number → r.number ≤ number

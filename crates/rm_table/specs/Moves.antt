@@ -1,12 +1,12 @@
 -- What each kind of atomic step does to the view and the slots of the seat that makes it.
 use Rattle.std.specs.Prelude.{◌≡◌, ◌≢◌, ◌⊎◌, ℕ, zero, suc, ◌+◌, ◌-◌, ◌<◌, ◌≤◌, max, Bool, true, false, Option, Some, None, List, [], ◌∷◌, ◌++◌, length, slice_get, slice_set, slice_index_or, replicate}
 use Rattle.atomic_table.specs.Table.{Act, keeps, gives, chain, rest}
-use Rattle.rm_core.specs.declared.phase.Phase.{Phase}
-use Rattle.rm_core.specs.declared.phase.Phase.TheVariants.{Out, Raised, In}
-use Rattle.rm_table.specs.declared.role.Role.{Role}
-use Rattle.rm_table.specs.declared.role.Role.TheVariants.{Spent, Processor, Operator, Receipt}
-use Rattle.rm_table.specs.declared.slot.Slot.{Slot}
-use Rattle.rm_table.specs.declared.slot.Slot.TheVariants.{Edition, Book}
+use Rattle.rm_core.specs.declared.processor_state.Phase.{Phase}
+use Rattle.rm_core.specs.declared.processor_state.Phase.TheVariants.{Out, Raised, In}
+use Rattle.rm_table.specs.declared.view.Role.{Role}
+use Rattle.rm_table.specs.declared.view.Role.TheVariants.{Spent, Processor, Operator, Receipt}
+use Rattle.rm_table.specs.declared.padded_slot.Slot.{Slot}
+use Rattle.rm_table.specs.declared.padded_slot.Slot.TheVariants.{Edition, Book}
 use Rattle.rm_table.specs.declared.part.Part.{Part}
 use Rattle.rm_table.specs.declared.view.View.{View}
 use Rattle.rm_table.specs.Meanings.{Meanings, numbered, BeginsWith}
@@ -21,8 +21,8 @@ greater_refusal None number = number
 greater_refusal (Some standing) number = max standing number
 
 module _ {E L I : Type 0} where
-  abbrev pub begun : Part E L I → Part E L I
-  begun part = record part { sections = part.sections + 1 }
+  abbrev pub begun_part : Part E L I → Part E L I
+  begun_part part = record part { sections = part.sections + 1 }
 
   -- check, where the token is revoked for the publication of that number: the greater refusal stands until the token is regained
   abbrev pub refused_part : Part E L I → ℕ → Part E L I
@@ -87,18 +87,18 @@ module _ {E B : Type 0} where
 
 module _ {E B T L I : Type 0} where
   -- one more step on a word was made, which found or stored this
-  abbrev pub noted : View E B T L I → ℕ → ℕ → View E B T L I
-  noted v index found = record v { steps = v.steps ++ (index, found) ∷ [] }
+  abbrev pub with_step : View E B T L I → ℕ → ℕ → View E B T L I
+  with_step v index found = record v { steps = v.steps ++ (index, found) ∷ [] }
 
   -- raise: a section has begun
-  abbrev pub raised : View E B T L I → View E B T L I
-  raised v = record v { phase = Raised; part = begun v.part }
+  abbrev pub raised_view : View E B T L I → View E B T L I
+  raised_view v = record v { phase = Raised; part = begun_part v.part }
 
-  abbrev pub refused : View E B T L I → ℕ → View E B T L I
-  refused v number = record v { part = refused_part v.part number }
+  abbrev pub refused_view : View E B T L I → ℕ → View E B T L I
+  refused_view v number = record v { part = refused_part v.part number }
 
-  abbrev pub lowered : View E B T L I → View E B T L I
-  lowered v = record v { phase = Out; part = left_part v.part }
+  abbrev pub lowered_view : View E B T L I → View E B T L I
+  lowered_view v = record v { phase = Out; part = left_part v.part }
 
   abbrev pub behind_taken : View E B T L I → View E B T L I
   behind_taken v = record v { behind = true; part = behind_part v.part }
@@ -106,16 +106,16 @@ module _ {E B T L I : Type 0} where
   abbrev pub behind_given : View E B T L I → View E B T L I
   behind_given v = record v { behind = false; part = unread_part v.part }
 
-  abbrev pub regained : View E B T L I → ℕ → View E B T L I
-  regained v number = record v { part = regained_part v.part number }
+  abbrev pub regained_view : View E B T L I → ℕ → View E B T L I
+  regained_view v number = record v { part = regained_part v.part number }
 
   -- revoke
-  abbrev pub revoked : View E B T L I → ℕ → View E B T L I
-  revoked v place = record v { revoked = slice_set v.revoked place true }
+  abbrev pub revoked_view : View E B T L I → ℕ → View E B T L I
+  revoked_view v place = record v { revoked = slice_set v.revoked place true }
 
   -- drain, where the processor is out
-  abbrev pub drained : View E B T L I → ℕ → View E B T L I
-  drained v place = record v { drained = slice_set v.drained place true }
+  abbrev pub drained_view : View E B T L I → ℕ → View E B T L I
+  drained_view v place = record v { drained = slice_set v.drained place true }
 
   abbrev pub number_read : View E B T L I → ℕ → View E B T L I
   number_read v number = record v { part = read_part v.behind v.part number }
@@ -204,23 +204,23 @@ module _ {E B T L I : Type 0} where
   right_of v place None = spent_view
 
   -- the seat of that place isn't split off yet, or was joined again
-  abbrev pub IsKept : View E B T L I → ℕ → Type 0
-  IsKept v place = (part : Part E L I) × (kept_at v place ≡ Some (Some part))
+  abbrev pub KeepsPart : View E B T L I → ℕ → Type 0
+  KeepsPart v place = (part : Part E L I) × (kept_at v place ≡ Some (Some part))
 
   -- join seat, of a processor: the operator keeps its part
-  abbrev pub joined : View E B T L I → View E B T L I → View E B T L I
-  joined v w = record v { closing = true; kept = slice_set v.kept w.place (Some w.part) }
+  abbrev pub joined_view : View E B T L I → View E B T L I → View E B T L I
+  joined_view v w = record v { closing = true; kept = slice_set v.kept w.place (Some w.part) }
 
   -- join seat, of a receipt: the processor has heard it
-  abbrev pub informed : View E B T L I → View E B T L I → View E B T L I
-  informed v w = record v { part = informed_part v.part w.opened w.history }
+  abbrev pub informed_view : View E B T L I → View E B T L I → View E B T L I
+  informed_view v w = record v { part = informed_part v.part w.opened w.history }
 
   -- join seat, by whose seat is joined
   abbrev pub joined_by : Role → View E B T L I → View E B T L I → View E B T L I
   joined_by Spent v w = v
-  joined_by Processor v w = joined v w
+  joined_by Processor v w = joined_view v w
   joined_by Operator v w = v
-  joined_by Receipt v w = informed v w
+  joined_by Receipt v w = informed_view v w
 
   -- no place is kept: every seat is split off, and none was joined
   abbrev pub AllSplit : View E B T L I → Type 0
@@ -266,8 +266,8 @@ module _ {E B T L I : Type 0} where
     abbrev pub entered_part : Part E L I → E → Part E L I
     entered_part part e = record part { reading = Some e; pairs = part.pairs ++ (m.number e, m.name e) ∷ [] }
 
-    abbrev pub entered : View E B T L I → E → View E B T L I
-    entered v e = record v { phase = In; part = entered_part v.part e }
+    abbrev pub entered_view : View E B T L I → E → View E B T L I
+    entered_view v e = record v { phase = In; part = entered_part v.part e }
 
     -- who lowers its tracker in a section that it entered has its slot on top, with an edition of the number, name and tag that it read
     pub record HasEdition (v : View E B T L I) (hand : Hand E B) : Type 0 where
@@ -291,9 +291,9 @@ module _ {E B T L I : Type 0} where
       drained = replicate (v.count + 1) false;
     }
 
-    abbrev pub published : View E B T L I → Hand E B → View E B T L I
-    published v ((k, Edition (Some e)) ∷ hand) = published_as v (m.name e) (m.tag e)
-    published v _ = v
+    abbrev pub published_view : View E B T L I → Hand E B → View E B T L I
+    published_view v ((k, Edition (Some e)) ∷ hand) = published_as v (m.name e) (m.tag e)
+    published_view v _ = v
 
     -- The first slots of the hand are the editions of all processors in order, all of the next number, of one name and tag.
     pub record HasNext (v : View E B T L I) (hand : Hand E B) : Type 0 where

@@ -1,8 +1,8 @@
 -- Seats between two sections and between two writes, and the operator's at the opening and the closing.
 use Rattle.std.specs.Prelude.{◌≡◌, ◌⊎◌, ℕ, ◌+◌, ◌<◌, ◌≤◌, true, false, Some, None, [], ◌∷◌, length}
-use Rattle.rm_core.specs.declared.phase.Phase.TheVariants.{Out, In}
-use Rattle.rm_table.specs.declared.role.Role.TheVariants.{Processor, Operator, Receipt}
-use Rattle.rm_table.specs.declared.slot.Slot.TheVariants.{Edition}
+use Rattle.rm_core.specs.declared.processor_state.Phase.TheVariants.{Out, In}
+use Rattle.rm_table.specs.declared.view.Role.TheVariants.{Processor, Operator, Receipt}
+use Rattle.rm_table.specs.declared.padded_slot.Slot.TheVariants.{Edition}
 use Rattle.rm_table.specs.declared.part.Part.{Part}
 use Rattle.rm_table.specs.declared.view.View.{View}
 use Rattle.rm_table.specs.Moves.{Hand, kept_at, IsOperator, NoneRevoked, NoneDrained}
@@ -17,7 +17,7 @@ module _ {E B T L I : Type 0} where
     pub empty_hand : hand ≡ []
 
   -- a processor's seat in a section that it has entered: it holds neither lock, and has in its hand the edition that it reads
-  pub record IsInside (v : View E B T L I) (hand : Hand E B) : Type 0 where
+  pub record IsInSection (v : View E B T L I) (hand : Hand E B) : Type 0 where
     pub processor : v.role ≡ Processor
     pub inside : v.phase ≡ In
     pub unheld : v.behind ≡ false

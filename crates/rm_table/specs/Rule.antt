@@ -3,23 +3,23 @@ use Rattle.std.specs.Prelude.{◌≡◌, ◌≢◌, ◌⊎◌, ℕ, ◌+◌, ◌
 use mathlib.Core.Option as at
 use lib.ListN.{get_elem?}
 use Rattle.atomic_table.specs.Table.{State}
-use Rattle.rm_core.specs.declared.phase.Phase.TheVariants.{Out, In}
-use Rattle.rm_core.specs.declared.token.Token.TheVariants.{Held, Revoked}
+use Rattle.rm_core.specs.declared.processor_state.Phase.TheVariants.{Out, In}
+use Rattle.rm_core.specs.declared.processor_state.Token.TheVariants.{Held, Revoked}
 use Rattle.rm_core.specs.CoreState.{CoreState, Safe, Fits, IsProcessor, processor_of}
 use Rattle.rm_core.specs.declared.processor_state.ProcessorState.{ProcessorState}
-use Rattle.rm_table.specs.declared.role.Role.TheVariants.{Processor, Operator, Receipt}
-use Rattle.rm_table.specs.declared.slot.Slot.{Slot}
-use Rattle.rm_table.specs.declared.slot.Slot.TheVariants.{Edition, Book}
+use Rattle.rm_table.specs.declared.view.Role.TheVariants.{Processor, Operator, Receipt}
+use Rattle.rm_table.specs.declared.padded_slot.Slot.{Slot}
+use Rattle.rm_table.specs.declared.padded_slot.Slot.TheVariants.{Edition, Book}
 use Rattle.rm_table.specs.declared.part.Part.{Part}
 use Rattle.rm_table.specs.declared.view.View.{View}
-use Rattle.rm_table.specs.Layout.{index_of_word, words_of, number_index, behind_index, book_index, tracker_index, token_index, tracker_word, token_word, holder_word, is_held_by}
+use Rattle.rm_table.specs.Layout.{index_of_word, word_count, number_index, behind_index, book_index, tracker_index, token_index, tracker_word, token_word, holder_word, is_held_by}
 use Rattle.rm_table.specs.Meanings.{Meanings, values_from, BeginsWith}
-use Rattle.rm_table.specs.Moves.{IsKept}
+use Rattle.rm_table.specs.Moves.{KeepsPart}
 
 -- The state that words, slots and views show together. Of the lock's core: the published number N, the number n of processors, who holds
 -- the lock behind, and each processor by its place. Beside it: which seat has each place, what is kept of each processor, the
 -- book's holder (0: nobody), the book at home or as its holder took it, and what the operator keeps. Place n + 1 is the operator's.
-pub record Core (E B T L I : Type 0) : Type 0 where
+pub record WholeState (E B T L I : Type 0) : Type 0 where
   pub number : ℕ
   pub count : ℕ
   pub behind : Option ℕ
@@ -37,7 +37,7 @@ pub record Core (E B T L I : Type 0) : Type 0 where
   pub own : List I
 
 -- the state of the lock's core
-abbrev pub core_of : {E B T L I : Type 0} → Core E B T L I → CoreState
+abbrev pub core_of : {E B T L I : Type 0} → WholeState E B T L I → CoreState
 core_of c = record { number = c.number; holder = c.behind; processors = values_from c.state 1 c.count }
 
 -- the book, where this place has it
@@ -45,8 +45,8 @@ abbrev pub lent : {B : Type 0} → ℕ → B → ℕ → Option B
 lent holder book place = if holder == place then Some book else None
 
 -- Part 1, the words: the number, who holds the two locks, and of each processor tracker and token. The unused words between them are 0.
-pub record Words (n number behind holder : ℕ) (tracker token : ℕ → ℕ) (words : List ℕ) : Type 0 where
-  pub size : length words ≡ words_of n
+pub record LockWords (n number behind holder : ℕ) (tracker token : ℕ → ℕ) (words : List ℕ) : Type 0 where
+  pub size : length words ≡ word_count n
   pub number_is : slice_index words number_index ≡ number
   pub behind_is : slice_index words behind_index ≡ behind
   pub book_is : slice_index words book_index ≡ holder
@@ -100,7 +100,7 @@ module _ {E B T L I : Type 0} where
 
   -- the view is that of the processor at that place, or the operator's, which keeps it
   abbrev pub IsSeatOf : View E B T L I → ℕ → Type 0
-  IsSeatOf v k = ((v.role ≡ Processor) × (v.place ≡ k)) ⊎ ((v.role ≡ Operator) × IsKept v k)
+  IsSeatOf v k = ((v.role ≡ Processor) × (v.place ≡ k)) ⊎ ((v.role ≡ Operator) × KeepsPart v k)
 
   -- Every seat exists: each processor has a seat of its own, or the operator's keeps its place, and there is the operator's.
   pub record EverySeat (n : ℕ) (seat : ℕ → ℕ) (views : List (View E B T L I)) : Type 0 where
@@ -149,7 +149,7 @@ module _ {E B T L I : Type 0} (m : Meanings E B T L I) where
   Ready book ready = ready ≡ true → m.book_ready book ≡ true
 
   -- What the seat of a processor or of the operator knows is so.
-  pub record Live (c : Core E B T L I) (id : ℕ) (v : View E B T L I) : Type 0 where
+  pub record Live (c : WholeState E B T L I) (id : ℕ) (v : View E B T L I) : Type 0 where
     pub count : v.count ≡ c.count
     pub low : 0 < v.place
     pub high : v.place ≤ c.count + 1
@@ -161,7 +161,7 @@ module _ {E B T L I : Type 0} (m : Meanings E B T L I) where
 
   -- A processor whose seat isn't split off yet, or was joined again: it is out and holds no lock. Before it is split off, it has begun
   -- no section and holds its token.
-  pub record KeptAt (c : Core E B T L I) (id : ℕ) (closing : Bool) (k : ℕ) (part : Part E L I) : Type 0 where
+  pub record KeptAt (c : WholeState E B T L I) (id : ℕ) (closing : Bool) (k : ℕ) (part : Part E L I) : Type 0 where
     pub low : 0 < k
     pub high : k ≤ c.count
     pub seat : c.seat k ≡ id
@@ -171,7 +171,7 @@ module _ {E B T L I : Type 0} (m : Meanings E B T L I) where
     pub fresh : closing ≡ false → (part.sections ≡ 0) × ((c.state k).token ≡ Held)
 
   -- what the operator keeps
-  pub record Keeps (c : Core E B T L I) (id : ℕ) (v : View E B T L I) : Type 0 where
+  pub record OperatorKeeps (c : WholeState E B T L I) (id : ℕ) (v : View E B T L I) : Type 0 where
     pub place : v.place ≡ c.count + 1
     pub number : v.number ≡ c.number
     pub opened : v.opened ≡ c.opened
@@ -187,15 +187,15 @@ module _ {E B T L I : Type 0} (m : Meanings E B T L I) where
     pub kept : (k : ℕ) (part : Part E L I) → get_elem? v.kept k ≡ at.some (Some part) → KeptAt c id v.closing k part
 
   -- A spent seat knows nothing.
-  pub record Agrees (c : Core E B T L I) (id : ℕ) (v : View E B T L I) : Type 0 where
+  pub record Agrees (c : WholeState E B T L I) (id : ℕ) (v : View E B T L I) : Type 0 where
     pub live : (v.role ≡ Processor) ⊎ (v.role ≡ Operator) → Live c id v
     pub processor : v.role ≡ Processor → v.place ≤ c.count
-    pub operator : v.role ≡ Operator → Keeps c id v
+    pub operator : v.role ≡ Operator → OperatorKeeps c id v
     pub receipt : v.role ≡ Receipt → KeepsPrefix c.opened c.history v
 
   -- The whole rule, at the state that is shown.
-  pub record Shows (c : Core E B T L I) (t : State (Slot E B) (View E B T L I)) : Type 0 where
-    pub words : Words c.count c.number (holder_word c.behind) c.holder (tracker_of c.state c.part) (token_of c.state) t.words
+  pub record Shows (c : WholeState E B T L I) (t : State (Slot E B) (View E B T L I)) : Type 0 where
+    pub words : LockWords c.count c.number (holder_word c.behind) c.holder (tracker_of c.state c.part) (token_of c.state) t.words
     pub sound : Sound c.count (core_of c)
     pub past : Past c.number c.opened c.history c.name c.tag
     pub slots : Slots c.number c.count c.state c.name c.tag c.holder c.book t.homes
@@ -208,4 +208,4 @@ module _ {E B T L I : Type 0} (m : Meanings E B T L I) where
     pub each : (id : ℕ) (v : View E B T L I) → get_elem? t.views id ≡ at.some v → Agrees c id v
 
   abbrev pub Whole : State (Slot E B) (View E B T L I) → Type 0
-  Whole t = (c : Core E B T L I) × Shows c t
+  Whole t = (c : WholeState E B T L I) × Shows c t

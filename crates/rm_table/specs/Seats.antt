@@ -2,11 +2,11 @@
 use Rattle.std.specs.Prelude.{◌≡◌, ℕ, ◌+◌, ◌<◌, ◌≤◌, Bool, false, Option, Some, List, [], slice_get}
 use Rattle.atomic_table.specs.Table.{Me}
 use Rattle.atomic_table.specs.Seated.{TableId}
-use Rattle.rm_table.specs.declared.role.Role.TheVariants.{Processor}
-use Rattle.rm_table.specs.declared.slot.Slot.{Slot}
+use Rattle.rm_table.specs.declared.view.Role.TheVariants.{Processor}
+use Rattle.rm_table.specs.declared.padded_slot.Slot.{Slot}
 use Rattle.rm_table.specs.declared.part.Part.{Part}
 use Rattle.rm_table.specs.declared.view.View.{View}
-use Rattle.rm_table.specs.Layout.{tracker_word, words_of}
+use Rattle.rm_table.specs.Layout.{tracker_word, word_count}
 
 -- A seat: its table, and what it knows beside the slots that it has in its hand, the last one taken first.
 pub record SeatState (E B T L I : Type 0) : Type 0 where
@@ -16,7 +16,7 @@ pub record SeatState (E B T L I : Type 0) : Type 0 where
 -- the table has the words and slots of that many processors
 pub record IsSized (processors : ℕ) (table : TableId) : Type 0 where
   pub few : (0 < processors) × (processors ≤ 64)
-  pub words : table.words ≡ words_of processors
+  pub words : table.words ≡ word_count processors
   pub slots : table.slots ≡ processors + 1
 
 -- before the first join, a processor whose seat isn't split off yet has begun no section
@@ -35,7 +35,7 @@ pub record StoresBy {E B T L I : Type 0} (processors place number tracker : ℕ)
   pub unbegun : Unbegun v.closing v.kept
 
 -- the memory that closing a lock of that many processors takes
-pub record HasRoom {E : Type 0} (processors : ℕ) (trackers : List ℕ) (tracker_room : ℕ) (editions : List E) (edition_room : ℕ) : Type 0 where
+pub record HasClosingRoom {E : Type 0} (processors : ℕ) (trackers : List ℕ) (tracker_room : ℕ) (editions : List E) (edition_room : ℕ) : Type 0 where
   pub no_trackers : trackers ≡ []
   pub for_trackers : processors ≤ tracker_room
   pub no_editions : editions ≡ []

@@ -2,14 +2,14 @@ ghost use Rattle.std.specs.Prelude.{◌≡◌, ℕ, ◌∷◌, Option, Some, Non
 ghost use Rattle.atomic_table.specs.Table.{rest, turned};
 ghost use Rattle.rm_table.specs.Layout.{book_index};
 ghost use Rattle.rm_table.specs.Meanings.{meanings};
-ghost use Rattle.rm_table.specs.Moves.{noted, book_given, IsWorking, HasBook, AllDrained};
-ghost use Rattle.rm_table.specs.Answers.{TriedBook};
-ghost use Rattle.rm_table.specs.declared.slot.Slot.TheVariants.{Edition, Book};
+ghost use Rattle.rm_table.specs.Moves.{with_step, book_given, IsWorking, HasBook, AllDrained};
+ghost use Rattle.rm_table.specs.Answers.{AnswersBookTry};
+ghost use Rattle.rm_table.specs.declared.padded_slot.Slot.TheVariants.{Edition, Book};
 
 use crate::padded_slot::PaddedSlot;
 use crate::plays::{GiveBook, TakeBook};
 use crate::rule::{LockRule, LockView, Opening};
-use crate::table::index_at;
+use crate::table::book_at;
 use crate::{RmSeat, RmTable, Role, Tried};
 use atomic_table::{Seat, Shared};
 use fw_base::{Kept, Numbered};
@@ -57,7 +57,7 @@ impl<E: Numbered<Tag = B::Facts>, B: Kept> RmTable<E, B> {
         requires working { IsWorking seat.old.me.0 }
         requires inside { seat.old.me.0.role ≡ Role.Processor → seat.old.me.0.phase ≡ Phase.In }
         ensures table { seat.new.table_id ≡ seat.old.table_id }
-        ensures step { TriedBook
+        ensures step { AnswersBookTry
             (meanings E.number E.tag E.name B.number B.tag B.ready B.of B.facts_item) seat.old.me
             result seat.new.me }
         ensures free { seat.old.me.0.role ≡ Role.Operator → AllDrained seat.old.me.0
@@ -67,7 +67,7 @@ impl<E: Numbered<Tag = B::Facts>, B: Kept> RmTable<E, B> {
         let found = self
             .table
             .shared
-            .compare_exchange::<TakeBook>(&mut seat.seat, index_at(2), 0, place);
+            .compare_exchange::<TakeBook>(&mut seat.seat, book_at(), 0, place);
         if found == 0 {
             Tried::Taken
         } else {
@@ -88,7 +88,7 @@ impl<E: Numbered<Tag = B::Facts>, B: Kept> RmTable<E, B> {
         ensures step { (book : B) → seat.old.me.1 ≡ (0, Book (Some book)) ∷ rest seat.old.me.1
             → seat.new.me
             ≡ (
-              noted (book_given
+              with_step (book_given
                   (meanings E.number E.tag E.name B.number B.tag B.ready B.of B.facts_item) seat.old.me.0
                   book) book_index 0,
               rest seat.old.me.1,
@@ -96,7 +96,7 @@ impl<E: Numbered<Tag = B::Facts>, B: Kept> RmTable<E, B> {
     {
         self.table
             .shared
-            .store::<GiveBook>(&mut seat.seat, index_at(2), 0);
+            .store::<GiveBook>(&mut seat.seat, book_at(), 0);
     }
 
     /// Puts an edition into the processor's slot, or nothing, and answers what it held. The slot lies on top

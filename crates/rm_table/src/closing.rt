@@ -1,10 +1,10 @@
 ghost use Rattle.std.specs.Prelude.{◌≡◌, ◌≢◌, ℕ, ◌*◌, ◌+◌, ◌-◌, ◌<◌, ◌≤◌, [], None, Some, true, false, length, slice_get, slice_index, slice_index_or, IsTrue, vec_len, vec_capacity};
 ghost use Rattle.std.specs.Slots.{slots_items, slots_filled, slots_len, IsFull};
-ghost use Rattle.rm_table.specs.Layout.{words_of, tracker_index};
+ghost use Rattle.rm_table.specs.Layout.{word_count, tracker_index};
 ghost use Rattle.rm_table.specs.Meanings.{meanings};
 ghost use Rattle.rm_table.specs.Moves.{AllJoined, NoneDrained};
 ghost use Rattle.rm_table.specs.Ends.{ClosesWith};
-ghost use Rattle.rm_table.specs.declared.slot.Slot.TheVariants.{Edition, Book};
+ghost use Rattle.rm_table.specs.declared.padded_slot.Slot.TheVariants.{Edition, Book};
 
 use crate::padded_slot::PaddedSlot;
 use crate::table::tracker_at;
@@ -51,7 +51,7 @@ fn trackers_of<S>(
 ) -> Vec<u64>
     requires few { processors ≤ 64 }
     requires full { IsFull closed.now.words }
-    requires size { slots_len closed.now.words ≡ words_of processors }
+    requires size { slots_len closed.now.words ≡ word_count processors }
     requires empty { trackers.items ≡ [] }
     requires room { processors ≤ vec_capacity trackers }
     ensures count { vec_len result ≡ processors }

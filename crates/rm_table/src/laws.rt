@@ -3,7 +3,7 @@
 
 ghost use Rattle.rm_table.specs.Meanings.{meanings};
 ghost use Rattle.rm_table.specs.Laws.{RaiseLaw, CheckLaw, LowerLaw, RegainLaw, TakeBackLaw, GiveBackLaw, ReadNumberLaw, RevokeLaw, DrainLaw, PublishLaw, TakeBookLaw, GiveBookLaw, SplitLaw, JoinLaw, ReceiptLaw, HearLaw};
-ghost use Rattle.rm_table.specs.Moments.{ReadingLaw, StayingLaw, HomeLaw, AwayLaw, ApartLaw, SeatLaw, OperatorLaw, PlaceLaw, BehindLaw, BookLaw, SeenLaw, ToldLaw, HeardLaw};
+ghost use Rattle.rm_table.specs.Moments.{ReadingLaw, StayingLaw, HomeLaw, AwayLaw, ApartLaw, SeatLaw, OperatorLaw, PlaceLaw, BehindLaw, BookLaw, SeenLaw, PrefixLaw, HeardLaw};
 
 use fw_base::{Kept, Numbered};
 
@@ -85,7 +85,7 @@ pub fn holders_are_seats<E: Numbered<Tag = B::Facts>, B: Kept>()
 pub fn what_is_seen_is_published<E: Numbered<Tag = B::Facts>, B: Kept>()
     ensures seen { SeenLaw
         (meanings E.number E.tag E.name B.number B.tag B.ready B.of B.facts_item) }
-    ensures told { ToldLaw
+    ensures told { PrefixLaw
         (meanings E.number E.tag E.name B.number B.tag B.ready B.of B.facts_item) }
     ensures heard { HeardLaw
         (meanings E.number E.tag E.name B.number B.tag B.ready B.of B.facts_item) }

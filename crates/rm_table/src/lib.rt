@@ -3,15 +3,14 @@
 #![tactic(auto)]
 
 pub use closing::Closed;
+pub use lock_steps::Tried;
 pub use opening::OpenTable;
+pub use padded_slot::Slot;
 pub use part::Part;
-pub use role::Role;
 pub use rule::{LockRule, LockView, Opening};
 pub use seat::RmSeat;
-pub use slot::Slot;
 pub use table::RmTable;
-pub use tried::Tried;
-pub use view::View;
+pub use view::{Role, View};
 
 mod book_steps;
 mod closing;
@@ -22,14 +21,11 @@ mod padded_slot;
 mod part;
 mod plays;
 mod reader_steps;
-mod role;
 mod rule;
 mod seat;
 mod seat_steps;
-mod slot;
 mod table;
 #[cfg(test)]
 mod tests;
-mod tried;
 mod view;
 mod writer_steps;

@@ -1,13 +1,22 @@
 ghost use Rattle.std.specs.Prelude.{◌≡◌, ℕ, true};
 ghost use Rattle.rm_table.specs.Layout.{behind_index};
 ghost use Rattle.rm_table.specs.Meanings.{meanings};
-ghost use Rattle.rm_table.specs.Moves.{noted, behind_given, IsWorking, NoneRevoked};
-ghost use Rattle.rm_table.specs.Answers.{TriedBehind, NumberRead};
+ghost use Rattle.rm_table.specs.Moves.{with_step, behind_given, IsWorking, NoneRevoked};
+ghost use Rattle.rm_table.specs.Answers.{AnswersBehindTry, AnswersNumberRead};
 
 use crate::plays::{GiveBack, ReadNumber, TakeBack};
-use crate::table::index_at;
-use crate::{RmSeat, RmTable, Role, Tried};
+use crate::table::{behind_at, number_at};
+use crate::{RmSeat, RmTable, Role};
 use fw_base::{Kept, Numbered};
+
+/// What one try for a lock answers.
+#[derive(Clone, Copy, Debug, PartialEq, Eq)]
+pub enum Tried {
+    Taken,
+    /// The holder that the try saw in the word: a processor's place, or one past the last for the
+    /// operator.
+    HeldBy(u32),
+}
 
 impl<E: Numbered<Tag = B::Facts>, B: Kept> RmTable<E, B> {
     /// A processor or the operator tries once to take the lock behind. Where another holds it nothing
@@ -16,7 +25,7 @@ impl<E: Numbered<Tag = B::Facts>, B: Kept> RmTable<E, B> {
         requires table { seat.old.table_id ≡ self.now }
         requires working { IsWorking seat.old.me.0 }
         ensures table { seat.new.table_id ≡ seat.old.table_id }
-        ensures step { TriedBehind
+        ensures step { AnswersBehindTry
             (meanings E.number E.tag E.name B.number B.tag B.ready B.of B.facts_item) seat.old.me
             result seat.new.me }
     {
@@ -24,7 +33,7 @@ impl<E: Numbered<Tag = B::Facts>, B: Kept> RmTable<E, B> {
         let found = self
             .table
             .shared
-            .compare_exchange::<TakeBack>(&mut seat.seat, index_at(1), 0, place);
+            .compare_exchange::<TakeBack>(&mut seat.seat, behind_at(), 0, place);
         if found == 0 {
             Tried::Taken
         } else {
@@ -41,11 +50,11 @@ impl<E: Numbered<Tag = B::Facts>, B: Kept> RmTable<E, B> {
         requires unrevoked { seat.old.me.0.role ≡ Role.Operator → NoneRevoked seat.old.me.0 }
         ensures table { seat.new.table_id ≡ seat.old.table_id }
         ensures step { seat.new.me
-            ≡ (noted (behind_given seat.old.me.0) behind_index 0, seat.old.me.1) }
+            ≡ (with_step (behind_given seat.old.me.0) behind_index 0, seat.old.me.1) }
     {
         self.table
             .shared
-            .store::<GiveBack>(&mut seat.seat, index_at(1), 0);
+            .store::<GiveBack>(&mut seat.seat, behind_at(), 0);
     }
 
     /// A processor or the operator reads the published number. One load.
@@ -53,12 +62,12 @@ impl<E: Numbered<Tag = B::Facts>, B: Kept> RmTable<E, B> {
         requires table { seat.old.table_id ≡ self.now }
         requires working { IsWorking seat.old.me.0 }
         ensures table { seat.new.table_id ≡ seat.old.table_id }
-        ensures step { NumberRead
+        ensures step { AnswersNumberRead
             (meanings E.number E.tag E.name B.number B.tag B.ready B.of B.facts_item) seat.old.me
             result seat.new.me }
     {
         self.table
             .shared
-            .load::<ReadNumber>(&mut seat.seat, index_at(0))
+            .load::<ReadNumber>(&mut seat.seat, number_at())
     }
 }

@@ -1,10 +1,11 @@
 ghost use Rattle.std.specs.Prelude.{◌≡◌, ℕ, ◌*◌, ◌+◌, ◌<◌, ◌≤◌, [], Some, IfOk, slice_get, slice_set, replicate, vec_len, vec_capacity, length};
-ghost use Rattle.rm_table.specs.Layout.{words_of};
+ghost use Rattle.rm_table.specs.Layout.{word_count};
 ghost use Rattle.rm_table.specs.Meanings.{meanings};
-ghost use Rattle.rm_table.specs.Ends.{first_words, first_slots, first_view, Opens};
+ghost use Rattle.rm_table.specs.Ends.{first_words, first_slots, first_view, OpensTable};
 
 use crate::padded_slot::PaddedSlot;
 use crate::rule::Opening;
+use crate::table::{index_at, number_at};
 use crate::{RmSeat, RmTable, Slot};
 use atomic_table::Table;
 use fw_base::{Kept, Numbered, OutOfMemory};
@@ -23,8 +24,8 @@ fn words_at_opening(alloc: Global, processors: u32, number: u64) -> Result<Vec<u
     requires { processors ≤ 64 }
     ensures { IfOk result (λ words. words.items ≡ first_words processors number) }
 {
-    let mut words = vec![in alloc; 0u64; 8 * (2 * processors as usize + 3)]?;
-    words[0] = number;
+    let mut words = vec![in alloc; 0u64; index_at(2 * processors + 3)]?;
+    words[number_at()] = number;
     Ok(words)
 }
 
@@ -51,7 +52,7 @@ impl<E: Numbered<Tag = B::Facts>, B: Kept> RmTable<E, B> {
     pub fn open(alloc: Global, editions: Vec<E>, book: B) -> Result<OpenTable<E, B>, OutOfMemory>
         requires most { vec_len editions ≤ 64 }
         requires opens { (edition : E) × (slice_get editions.items 0 ≡ Some edition)
-            × Opens (meanings E.number E.tag E.name B.number B.tag B.ready B.of B.facts_item)
+            × OpensTable (meanings E.number E.tag E.name B.number B.tag B.ready B.of B.facts_item)
             editions.items edition book }
         ensures table { IfOk result (λ o. o.seat.table_id ≡ o.table) }
         ensures seat { IfOk result (λ o. (edition : E) → slice_get editions.items 0 ≡ Some edition

@@ -1,10 +1,17 @@
 ghost use Rattle.std.specs.Prelude.{◌≡◌, Option};
-ghost use Rattle.rm_table.specs.declared.slot.Slot.TheVariants.{Edition, Book};
+ghost use Rattle.rm_table.specs.declared.padded_slot.Slot.TheVariants.{Edition, Book};
 
-use crate::Slot;
 use crossbeam_utils::CachePadded;
 use std::marker::Model;
 use std::mem;
+
+/// What a slot of the table holds: slot 0 the book, slot i the edition of processor i, or nothing while its
+/// value is out.
+#[derive(Debug, Drop)]
+pub enum Slot<E, B> {
+    Edition(Option<E>),
+    Book(Option<B>),
+}
 
 /// A slot with at least 64 unused bytes between its value and that of any other slot: a reader takes its
 /// edition out of its slot and puts it back, and on a shared cache line it would wait for other readers.
@@ -16,7 +23,7 @@ pub struct PaddedSlot<E, B> {
 
 impl<E, B> Model for PaddedSlot<E, B> {
     ghost use Rattle.crossbeam_utils.specs.Padded.{padded_value};
-    ghost use Rattle.rm_table.specs.declared.slot.Slot.{Slot};
+    ghost use Rattle.rm_table.specs.declared.padded_slot.Slot.{Slot};
 
     ghost Value = { Slot E B };
 

@@ -1,5 +1,5 @@
 ghost use Rattle.rm_table.specs.Meanings.{meanings};
-ghost use Rattle.rm_table.specs.Plays.{Raises, Checks, Lowers, TakesBehind, GivesBehind, Regains, Revokes, Drains, ReadsNumber, Publishes, TakesBook, GivesBook};
+ghost use Rattle.rm_table.specs.Plays.{TellsRaise, TellsCheck, TellsLower, TellsTakeBehind, TellsGiveBehind, TellsRegain, TellsRevoke, TellsDrain, TellsNumber, TellsPublish, TellsTakeBook, TellsGiveBook};
 
 use crate::padded_slot::PaddedSlot;
 use crate::rule::LockView;
@@ -10,83 +10,83 @@ use fw_base::{Kept, Numbered};
 pub(crate) struct Raise;
 
 impl<E: Numbered<Tag = B::Facts>, B: Kept> Play<PaddedSlot<E, B>, LockView<E, B>> for Raise {
-    ghost then = { Raises
+    ghost then = { TellsRaise
         (meanings E.number E.tag E.name B.number B.tag B.ready B.of B.facts_item) };
 }
 
 pub(crate) struct Check;
 
 impl<E: Numbered<Tag = B::Facts>, B: Kept> Play<PaddedSlot<E, B>, LockView<E, B>> for Check {
-    ghost then = { Checks
+    ghost then = { TellsCheck
         (meanings E.number E.tag E.name B.number B.tag B.ready B.of B.facts_item) };
 }
 
 pub(crate) struct Lower;
 
 impl<E: Numbered<Tag = B::Facts>, B: Kept> Play<PaddedSlot<E, B>, LockView<E, B>> for Lower {
-    ghost then = { Lowers
+    ghost then = { TellsLower
         (meanings E.number E.tag E.name B.number B.tag B.ready B.of B.facts_item) };
 }
 
 pub(crate) struct TakeBack;
 
 impl<E: Numbered<Tag = B::Facts>, B: Kept> Play<PaddedSlot<E, B>, LockView<E, B>> for TakeBack {
-    ghost then = { TakesBehind
+    ghost then = { TellsTakeBehind
         (meanings E.number E.tag E.name B.number B.tag B.ready B.of B.facts_item) };
 }
 
 pub(crate) struct GiveBack;
 
 impl<E: Numbered<Tag = B::Facts>, B: Kept> Play<PaddedSlot<E, B>, LockView<E, B>> for GiveBack {
-    ghost then = { GivesBehind
+    ghost then = { TellsGiveBehind
         (meanings E.number E.tag E.name B.number B.tag B.ready B.of B.facts_item) };
 }
 
 pub(crate) struct Regain;
 
 impl<E: Numbered<Tag = B::Facts>, B: Kept> Play<PaddedSlot<E, B>, LockView<E, B>> for Regain {
-    ghost then = { Regains
+    ghost then = { TellsRegain
         (meanings E.number E.tag E.name B.number B.tag B.ready B.of B.facts_item) };
 }
 
 pub(crate) struct Revoke;
 
 impl<E: Numbered<Tag = B::Facts>, B: Kept> Play<PaddedSlot<E, B>, LockView<E, B>> for Revoke {
-    ghost then = { Revokes
+    ghost then = { TellsRevoke
         (meanings E.number E.tag E.name B.number B.tag B.ready B.of B.facts_item) };
 }
 
 pub(crate) struct Drain;
 
 impl<E: Numbered<Tag = B::Facts>, B: Kept> Play<PaddedSlot<E, B>, LockView<E, B>> for Drain {
-    ghost then = { Drains
+    ghost then = { TellsDrain
         (meanings E.number E.tag E.name B.number B.tag B.ready B.of B.facts_item) };
 }
 
 pub(crate) struct ReadNumber;
 
 impl<E: Numbered<Tag = B::Facts>, B: Kept> Play<PaddedSlot<E, B>, LockView<E, B>> for ReadNumber {
-    ghost then = { ReadsNumber
+    ghost then = { TellsNumber
         (meanings E.number E.tag E.name B.number B.tag B.ready B.of B.facts_item) };
 }
 
 pub(crate) struct Publish;
 
 impl<E: Numbered<Tag = B::Facts>, B: Kept> Play<PaddedSlot<E, B>, LockView<E, B>> for Publish {
-    ghost then = { Publishes
+    ghost then = { TellsPublish
         (meanings E.number E.tag E.name B.number B.tag B.ready B.of B.facts_item) };
 }
 
 pub(crate) struct TakeBook;
 
 impl<E: Numbered<Tag = B::Facts>, B: Kept> Play<PaddedSlot<E, B>, LockView<E, B>> for TakeBook {
-    ghost then = { TakesBook
+    ghost then = { TellsTakeBook
         (meanings E.number E.tag E.name B.number B.tag B.ready B.of B.facts_item) };
 }
 
 pub(crate) struct GiveBook;
 
 impl<E: Numbered<Tag = B::Facts>, B: Kept> Play<PaddedSlot<E, B>, LockView<E, B>> for GiveBook {
-    ghost then = { GivesBook
+    ghost then = { TellsGiveBook
         (meanings E.number E.tag E.name B.number B.tag B.ready B.of B.facts_item) };
 }

@@ -1,8 +1,8 @@
 ghost use Rattle.std.specs.Prelude.{◌≡◌, ℕ, ◌+◌, ◌⊎◌, true, None, IsSome};
 ghost use Rattle.rm_table.specs.Layout.{tracker_index, tracker_word};
 ghost use Rattle.rm_table.specs.Meanings.{meanings};
-ghost use Rattle.rm_table.specs.Moves.{noted, raised, lowered, hand_left, HasEdition};
-ghost use Rattle.rm_table.specs.Answers.{Checked, Regained};
+ghost use Rattle.rm_table.specs.Moves.{with_step, raised_view, lowered_view, hand_left, HasEdition};
+ghost use Rattle.rm_table.specs.Answers.{AnswersCheck, AnswersRegain};
 
 use crate::plays::{Check, Lower, Raise, Regain};
 use crate::table::{token_at, tracker_at};
@@ -19,7 +19,7 @@ impl<E: Numbered<Tag = B::Facts>, B: Kept> RmTable<E, B> {
         ensures table { seat.new.table_id ≡ seat.old.table_id }
         ensures step { seat.new.me
             ≡ (
-              noted (raised seat.old.me.0) (tracker_index seat.old.me.0.place)
+              with_step (raised_view seat.old.me.0) (tracker_index seat.old.me.0.place)
                   (tracker_word (seat.old.me.0.part.sections + 1) Phase.Raised),
               seat.old.me.1,
             ) }
@@ -38,7 +38,7 @@ impl<E: Numbered<Tag = B::Facts>, B: Kept> RmTable<E, B> {
         requires processor { seat.old.me.0.role ≡ Role.Processor }
         requires raised { seat.old.me.0.phase ≡ Phase.Raised }
         ensures table { seat.new.table_id ≡ seat.old.table_id }
-        ensures step { Checked
+        ensures step { AnswersCheck
             (meanings E.number E.tag E.name B.number B.tag B.ready B.of B.facts_item) seat.old.me
             result seat.new.me }
     {
@@ -64,7 +64,7 @@ impl<E: Numbered<Tag = B::Facts>, B: Kept> RmTable<E, B> {
         ensures table { seat.new.table_id ≡ seat.old.table_id }
         ensures step { seat.new.me
             ≡ (
-              noted (lowered seat.old.me.0) (tracker_index seat.old.me.0.place)
+              with_step (lowered_view seat.old.me.0) (tracker_index seat.old.me.0.place)
                   (tracker_word seat.old.me.0.part.sections Phase.Out),
               hand_left seat.old.me.0.phase seat.old.me.1,
             ) }
@@ -85,7 +85,7 @@ impl<E: Numbered<Tag = B::Facts>, B: Kept> RmTable<E, B> {
         requires behind { seat.old.me.0.behind ≡ true }
         requires read { IsSome seat.old.me.0.part.read }
         ensures table { seat.new.table_id ≡ seat.old.table_id }
-        ensures step { Regained
+        ensures step { AnswersRegain
             (meanings E.number E.tag E.name B.number B.tag B.ready B.of B.facts_item) seat.old.me
             seat.new.me }
     {

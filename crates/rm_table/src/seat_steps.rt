@@ -1,5 +1,5 @@
 ghost use Rattle.std.specs.Prelude.{◌≡◌, ℕ, ◌<◌, ◌≤◌, [], None, Some, true, false, Option, ◌⊎◌, slice_get, IsSome};
-ghost use Rattle.rm_table.specs.Moves.{IsKept, split_off, right_of, kept_at, receipt_view, joined, informed, joined_by, spent_view, AllSplit};
+ghost use Rattle.rm_table.specs.Moves.{KeepsPart, split_off, right_of, kept_at, receipt_view, joined_view, informed_view, joined_by, spent_view, AllSplit};
 ghost use Rattle.rm_table.specs.Rests.{IsIdle, IsReceipt};
 
 use crate::rule::LockView;
@@ -56,7 +56,7 @@ impl<E: Numbered<Tag = B::Facts>, B: Kept> RmTable<E, B> {
         requires opening { seat.old.me.0.closing ≡ false }
         requires above { 0 < place }
         requires within { place ≤ seat.old.me.0.count }
-        requires kept { IsKept seat.old.me.0 place }
+        requires kept { KeepsPart seat.old.me.0 place }
         ensures table { (seat.new.table_id ≡ seat.old.table_id)
             × (result.table_id ≡ seat.old.table_id) }
         ensures left { seat.new.me ≡ (split_off seat.old.me.0 place, seat.old.me.1) }
@@ -98,7 +98,7 @@ impl<E: Numbered<Tag = B::Facts>, B: Kept> RmTable<E, B> {
         requires operator { seat.old.me.0.role ≡ Role.Operator }
         requires opening { 0 < place → seat.old.me.0.closing ≡ false }
         requires within { place ≤ seat.old.me.0.count }
-        requires kept { 0 < place → IsKept seat.old.me.0 place }
+        requires kept { 0 < place → KeepsPart seat.old.me.0 place }
         ensures table { (seat.new.table_id ≡ seat.old.table_id)
             × (result.table_id ≡ seat.old.table_id) }
         ensures left { 0 < place → seat.new.me ≡ (split_off seat.old.me.0 place, seat.old.me.1) }
@@ -126,9 +126,9 @@ impl<E: Numbered<Tag = B::Facts>, B: Kept> RmTable<E, B> {
             → (into.old.me.0.closing ≡ true) ⊎ AllSplit into.old.me.0 }
         ensures table { into.new.table_id ≡ into.old.table_id }
         ensures both { into.old.me.0.role ≡ Role.Operator
-            → into.new.me ≡ (joined into.old.me.0 spent.me.0, into.old.me.1) }
+            → into.new.me ≡ (joined_view into.old.me.0 spent.me.0, into.old.me.1) }
         ensures heard { into.old.me.0.role ≡ Role.Processor
-            → into.new.me ≡ (informed into.old.me.0 spent.me.0, into.old.me.1) }
+            → into.new.me ≡ (informed_view into.old.me.0 spent.me.0, into.old.me.1) }
     {
         let RmSeat {
             seat,

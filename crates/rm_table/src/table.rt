@@ -1,5 +1,5 @@
 ghost use Rattle.std.specs.Prelude.{◌≡◌, ℕ, ◌+◌, ◌*◌, ◌<◌, ◌≤◌};
-ghost use Rattle.rm_table.specs.Layout.{index_of_word, tracker_index, token_index};
+ghost use Rattle.rm_table.specs.Layout.{index_of_word, number_index, behind_index, book_index, tracker_index, token_index};
 
 use crate::padded_slot::PaddedSlot;
 use crate::rule::{LockRule, LockView, Opening};
@@ -21,7 +21,7 @@ pub struct RmTable<E: Numbered<Tag = B::Facts>, B: Kept> {
 impl<E: Numbered<Tag = B::Facts>, B: Kept> Model for RmTable<E, B> {
     ghost use Rattle.std.specs.Prelude.{vec_capacity};
     ghost use Rattle.atomic_table.specs.Seated.{TableId, table_id_coded};
-    ghost use Rattle.rm_table.specs.Seats.{IsSized, HasRoom};
+    ghost use Rattle.rm_table.specs.Seats.{IsSized, HasClosingRoom};
 
     ghost Value = { TableId };
 
@@ -30,7 +30,7 @@ impl<E: Numbered<Tag = B::Facts>, B: Kept> Model for RmTable<E, B> {
     ghost view = { λ t. t.table.shared.table_id };
 
     ghost invariant = { λ t. IsSized t.processors t.table.shared.table_id
-        × HasRoom t.processors t.trackers.items (vec_capacity t.trackers) t.editions.items
+        × HasClosingRoom t.processors t.trackers.items (vec_capacity t.trackers) t.editions.items
         (vec_capacity t.editions) };
 }
 
@@ -39,6 +39,24 @@ pub(crate) fn index_at(word: u32) -> usize
     ensures { result ≡ index_of_word word }
 {
     8 * word as usize
+}
+
+pub(crate) fn number_at() -> usize
+    ensures { result ≡ number_index }
+{
+    index_at(0)
+}
+
+pub(crate) fn behind_at() -> usize
+    ensures { result ≡ behind_index }
+{
+    index_at(1)
+}
+
+pub(crate) fn book_at() -> usize
+    ensures { result ≡ book_index }
+{
+    index_at(2)
 }
 
 pub(crate) fn tracker_at(place: u32) -> usize

@@ -1,6 +1,19 @@
-use crate::{Part, Role};
+use crate::Part;
 use rm_core::Phase;
 use std::collections::LinkedList;
+
+/// Whose seat it is.
+#[derive(Clone, Copy, Debug, PartialEq, Eq)]
+pub enum Role {
+    /// Nobody's any more: it was joined into another.
+    Spent,
+    /// A processor's.
+    Processor,
+    /// The operator's, the one writer's. It is the opening seat too.
+    Operator,
+    /// A receipt's: it has the history that the operator had when it was made.
+    Receipt,
+}
 
 /// What a seat knows. No value of it is made: it stands in the table's rule, for proofs. `E` and `B` are
 /// the edition and the book, `T` the facts that a publication is made with, `L` an edition's name and

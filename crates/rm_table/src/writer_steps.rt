@@ -1,11 +1,11 @@
 ghost use Rattle.std.specs.Prelude.{◌≡◌, ℕ, ◌+◌, ◌-◌, ◌^◌, ◌<◌, ◌≤◌, true, false, IsSome};
 ghost use Rattle.rm_table.specs.Layout.{number_index, token_index};
 ghost use Rattle.rm_table.specs.Meanings.{meanings};
-ghost use Rattle.rm_table.specs.Moves.{noted, revoked, is_revoked, is_drained, published, rest_from, IsOperator, AllDrained, HasNext};
-ghost use Rattle.rm_table.specs.Answers.{Looked};
+ghost use Rattle.rm_table.specs.Moves.{with_step, revoked_view, is_revoked, is_drained, published_view, rest_from, IsOperator, AllDrained, HasNext};
+ghost use Rattle.rm_table.specs.Answers.{AnswersDrain};
 
 use crate::plays::{Drain, Publish, Revoke};
-use crate::table::{index_at, token_at, tracker_at};
+use crate::table::{number_at, token_at, tracker_at};
 use crate::{RmSeat, RmTable};
 use fw_base::{Kept, Numbered};
 use rm_core::Heard;
@@ -24,7 +24,7 @@ impl<E: Numbered<Tag = B::Facts>, B: Kept> RmTable<E, B> {
         ensures table { seat.new.table_id ≡ seat.old.table_id }
         ensures step { seat.new.me
             ≡ (
-              noted (revoked seat.old.me.0 processor) (token_index seat.old.me.0.count processor)
+              with_step (revoked_view seat.old.me.0 processor) (token_index seat.old.me.0.count processor)
                   (seat.old.me.0.number + 1),
               seat.old.me.1,
             ) }
@@ -46,7 +46,7 @@ impl<E: Numbered<Tag = B::Facts>, B: Kept> RmTable<E, B> {
         requires revoked { is_revoked seat.old.me.0 processor ≡ true }
         requires undrained { is_drained seat.old.me.0 processor ≡ false }
         ensures table { seat.new.table_id ≡ seat.old.table_id }
-        ensures step { Looked
+        ensures step { AnswersDrain
             (meanings E.number E.tag E.name B.number B.tag B.ready B.of B.facts_item) seat.old.me
             processor result seat.new.me }
     {
@@ -76,7 +76,7 @@ impl<E: Numbered<Tag = B::Facts>, B: Kept> RmTable<E, B> {
         ensures table { seat.new.table_id ≡ seat.old.table_id }
         ensures step { seat.new.me
             ≡ (
-              noted (published
+              with_step (published_view
                   (meanings E.number E.tag E.name B.number B.tag B.ready B.of B.facts_item) seat.old.me.0
                   seat.old.me.1) number_index (seat.old.me.0.number + 1),
               rest_from seat.old.me.0.count seat.old.me.1,
@@ -85,7 +85,7 @@ impl<E: Numbered<Tag = B::Facts>, B: Kept> RmTable<E, B> {
         let next = seat.number + 1;
         self.table
             .shared
-            .store::<Publish>(&mut seat.seat, index_at(0), next);
+            .store::<Publish>(&mut seat.seat, number_at(), next);
         seat.number = next;
     }
 }

@@ -1,1 +1,2 @@
+-- what a processor was told of, over many calls
 pub mod ToldNumbers

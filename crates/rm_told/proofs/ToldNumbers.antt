@@ -3,15 +3,15 @@ use Rattle.std.proofs.Common.{◌≡◌, ℕ, zero, suc, ◌≤◌, Some, List, 
 use Rattle.std.specs.Prelude.{slice_get}
 use Rattle.rm_table.specs.declared.view.View.{View}
 use Rattle.rm_table.specs.Meanings.{Meanings, numbered}
-use Rattle.rm_lock.specs.Tokens.{TokenState, told_number, greatest_number}
+use Rattle.rm_lock.specs.Tokens.{TokenState, told_number, greatest_pair_number}
 use Rattle.rm_lock.specs.Calls.{Enters}
-use Rattle.rm_lock.specs.declared.entry.Entry.TheVariants as entry
+use Rattle.rm_lock.specs.declared.reader_calls.Entry.TheVariants as entry
 use Rattle.rm_lock.proofs.Told.{told_at_most}
 use Rattle.rm_told.specs.DeepState.{DeepState}
 use Rattle.rm_told.specs.Laws.{Call, Enter, Refusal, Leave, Regain, LostTry, TakeBook, GiveBook, Hear, CallsThrough, Nests, NestsThrough, last_token, ToldLaw, DepthLaw}
 
 module _ {L : Type 0} where
-  grows : (xs ys : List (ℕ × L)) → greatest_number xs ≤ greatest_number (xs ++ ys)
+  grows : (xs ys : List (ℕ × L)) → greatest_pair_number xs ≤ greatest_pair_number (xs ++ ys)
   grows [] ys = omega arith
   grows (x ∷ xs) ys = let e = grows xs ys in omega arith
 

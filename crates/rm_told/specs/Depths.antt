@@ -2,13 +2,13 @@
 use Rattle.std.specs.Prelude.{◌≡◌, ◌+◌, ◌-◌, ◌<◌, ◌≤◌, Some}
 use Rattle.rm_table.specs.Meanings.{Meanings}
 use Rattle.rm_lock.specs.Tokens.{TokenState, told_number}
-use Rattle.rm_lock.specs.Calls.{Enters, ended}
-use Rattle.rm_lock.specs.declared.entry.Entry.TheVariants as entry
+use Rattle.rm_lock.specs.Calls.{Enters, after_lower}
+use Rattle.rm_lock.specs.declared.reader_calls.Entry.TheVariants as entry
 use Rattle.rm_told.specs.DeepState.{DeepState}
-use Rattle.rm_told.specs.declared.deep_entry.DeepEntry.{DeepEntry}
-use Rattle.rm_told.specs.declared.deep_entry.DeepEntry.TheVariants.{In, Revoked}
-use Rattle.rm_told.specs.declared.left.Left.{Left}
-use Rattle.rm_told.specs.declared.left.Left.TheVariants.{Still, Out}
+use Rattle.rm_told.specs.declared.told.DeepEntry.{DeepEntry}
+use Rattle.rm_told.specs.declared.told.DeepEntry.TheVariants.{In, Revoked}
+use Rattle.rm_told.specs.declared.told.Left.{Left}
+use Rattle.rm_told.specs.declared.told.Left.TheVariants.{Still, Out}
 
 module _ {E B T L I : Type 0} where
   -- A call to enter does what the lock's own does. In: the section lies in no other.
@@ -29,4 +29,4 @@ module _ {E B T L I : Type 0} where
   -- does, with one store that lowers the tracker.
   abbrev pub Leaves : DeepState E B T L I → Left E B L T I → Type 0
   Leaves before (Still d) = (1 < before.depth) × (d ≡ record before { depth = before.depth - 1 })
-  Leaves before (Out p) = (before.depth ≡ 1) × (p.table_id ≡ before.reading.table_id) × (p.view ≡ ended before.reading.view)
+  Leaves before (Out p) = (before.depth ≡ 1) × (p.table_id ≡ before.reading.table_id) × (p.view ≡ after_lower before.reading.view)

@@ -1,19 +1,19 @@
 -- What holds of a processor over many calls, whatever threads call in between.
 use Rattle.std.specs.Prelude.{◌≡◌, ◌⊎◌, ℕ, ◌≤◌, max, Some, List, [], ◌∷◌, slice_get}
 use Rattle.rm_table.specs.Meanings.{Meanings}
-use Rattle.rm_table.specs.Moves.{informed}
-use Rattle.rm_lock.specs.declared.entry.Entry.TheVariants as entry
+use Rattle.rm_table.specs.Moves.{informed_view}
+use Rattle.rm_lock.specs.declared.reader_calls.Entry.TheVariants as entry
 use Rattle.rm_lock.specs.Tokens.{TokenState, told_number}
-use Rattle.rm_lock.specs.Calls.{Enters, Regains, FoundHeld, TakesBook, gave_book, ended}
+use Rattle.rm_lock.specs.Calls.{Enters, Regains, FindsHeld, TakesBook, after_giving_book, after_lower}
 use Rattle.rm_told.specs.DeepState.{DeepState}
 use Rattle.rm_told.specs.Depths.{EntersAtOne, Leaves, deeper}
-use Rattle.rm_told.specs.declared.deep_entry.DeepEntry.TheVariants.{In}
-use Rattle.rm_told.specs.declared.left.Left.TheVariants.{Still}
+use Rattle.rm_told.specs.declared.told.DeepEntry.TheVariants.{In}
+use Rattle.rm_told.specs.declared.told.Left.TheVariants.{Still}
 
 module _ {E B T L I : Type 0} where
   -- a processor heard that receipt
   pub record Hears (before receipt after : TokenState E B T L I) : Type 0 where
-    pub heard : after.view ≡ informed before.view receipt.view
+    pub heard : after.view ≡ informed_view before.view receipt.view
     pub told : told_number after.view ≡ max (told_number before.view) receipt.view.number
 
   -- In a section: one that lies in it begins, or one that lies in another ends.
@@ -30,11 +30,11 @@ module _ {E B T L I : Type 0} where
     pub data Call (before after : TokenState E B T L I) : Type 0 where
       Enter : Enters m before (entry.In after) → Call before after
       Refusal : (number : ℕ) → Enters m before (entry.Revoked after number) → Call before after
-      Leave : after.view ≡ ended before.view → Call before after
+      Leave : after.view ≡ after_lower before.view → Call before after
       Regain : Regains before.view after.view → Call before after
-      LostTry : (index holder : ℕ) → FoundHeld before after index holder → Call before after
+      LostTry : (index holder : ℕ) → FindsHeld before after index holder → Call before after
       TakeBook : (book : B) → TakesBook m before.view after.view book → Call before after
-      GiveBook : (book : B) → after.view ≡ gave_book m before.view book → Call before after
+      GiveBook : (book : B) → after.view ≡ after_giving_book m before.view book → Call before after
       Hear : (receipt : TokenState E B T L I) → Hears before receipt after → Call before after
 
     -- each of these is what one call makes of the one before it

@@ -2,10 +2,34 @@ ghost use Rattle.std.specs.Prelude.{◌≡◌, ◌↔◌, IfOk, IfErr, IsErr};
 ghost use Rattle.rm_table.specs.Meanings.{meanings};
 ghost use Rattle.rm_told.specs.Depths.{EntersAtOne, MeetsTold, Leaves, deeper};
 
-use crate::{Deep, DeepEntry, Left, MOST_DEPTH, TooDeep};
+use crate::{Deep, MOST_DEPTH};
 use fw_base::{Kept, Numbered};
 use rm_lock::{Entry, Processor, RmLock};
 use std::marker::Model;
+
+/// What `enter` answers.
+#[derive(Drop)]
+pub enum DeepEntry<E: Numbered<Tag = B::Facts>, B: Kept> {
+    /// The processor is in, at depth 1, and reads its edition.
+    In(Deep<E, B>),
+    /// The processor was refused: its token is revoked for the publication of that number.
+    Revoked(Processor<E, B>, u64),
+}
+
+/// The section is at the greatest depth, and is given back as it was.
+#[derive(Drop)]
+pub struct TooDeep<E: Numbered<Tag = B::Facts>, B: Kept> {
+    pub back: Deep<E, B>,
+}
+
+/// What `leave` answers.
+#[derive(Drop)]
+pub enum Left<E: Numbered<Tag = B::Facts>, B: Kept> {
+    /// The processor is still in, in the section round the one that ended.
+    Still(Deep<E, B>),
+    /// The outermost section has ended.
+    Out(Processor<E, B>),
+}
 
 /// A lock whose readers may begin a section in a section. Contracts see its lock's table.
 #[derive(Drop)]
@@ -49,8 +73,10 @@ impl<E: Numbered<Tag = B::Facts>, B: Kept> Told<E, B> {
     /// number is at least `told` of the processor. It waits for nobody.
     pub fn enter(&self, p: Processor<E, B>) -> DeepEntry<E, B>
         requires lock { p.table_id ≡ self.now }
-        ensures entry { EntersAtOne (meanings E.number E.tag E.name B.number B.tag B.ready B.of B.facts_item) p result }
-        ensures told { MeetsTold (meanings E.number E.tag E.name B.number B.tag B.ready B.of B.facts_item) p result }
+        ensures entry { EntersAtOne
+            (meanings E.number E.tag E.name B.number B.tag B.ready B.of B.facts_item) p result }
+        ensures told { MeetsTold
+            (meanings E.number E.tag E.name B.number B.tag B.ready B.of B.facts_item) p result }
     {
         match self.lock.enter(p) {
             Entry::In(reading) => DeepEntry::In(Deep { reading, depth: 1 }),

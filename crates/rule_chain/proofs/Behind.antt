@@ -2,10 +2,9 @@
 use Rattle.std.proofs.Common.{◌≡◌, ◌≢◌, ℕ, zero, suc, ◌-◌, ◌≤◌, ◌<◌, Bool, true, false, nat_eq, List, [], ◌∷◌, length, get_or, refl, sym, ap, inl, inr, arith}
 use Rattle.std.specs.Prelude.{◌==◌}
 use Rattle.std.specs.List.{list_any}
-use Rattle.std.proofs.lemmas.Bool.{cases_order}
+use Rattle.std.proofs.lemmas.Bool.{cases_order, or_right}
 use Rattle.std.proofs.lemmas.Bool.Decides.{nat_tests}
 use Rattle.rule_chain.specs.Behind.{IsPlaceBehind}
-use Rattle.rule_chain.proofs.Lists.{or_true}
 
 none_passes : {X : Type 0} (p : X → Bool) (xs : List X) → ((k : ℕ) (d : X) → k < length xs → p (get_or xs k d) ≡ false) → list_any p xs ≡ false
 none_passes p [] fails = refl
@@ -16,7 +15,7 @@ none_passes p (x ∷ xs) fails =
 one_passes : {X : Type 0} (p : X → Bool) (xs : List X) (k : ℕ) (d : X) → k < length xs → p (get_or xs k d) ≡ true → list_any p xs ≡ true
 one_passes p [] k d within is = absurd (omega arith)
 one_passes p (x ∷ xs) zero d within is = rw is refl
-one_passes p (x ∷ xs) (suc k) d within is = let rest = one_passes p xs k d (omega arith) is in rw rest (or_true (p x))
+one_passes p (x ∷ xs) (suc k) d within is = let rest = one_passes p xs k d (omega arith) is in rw rest (or_right (p x) true refl)
 
 differ : (a b : ℕ) → a ≢ b → (a == b) ≡ false
 differ a b other = grind (arith, nat_tests)

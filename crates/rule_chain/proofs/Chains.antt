@@ -61,7 +61,8 @@ renumber_keeps test a n (r ∷ s ∷ rules) h =
       | false ↦ put_first a r (renumber test n (s ∷ rules)) h.0 h.1 (renumber_keeps test r.number n (s ∷ rules) h.2)
     ]
 
-number_of_last : (k : ℕ) (r : Rule) → r ≡ last_rule k → r.number ≡ 65535
+-- the number of the last rule
+pub number_of_last : (k : ℕ) (r : Rule) → r ≡ last_rule k → r.number ≡ 65535
 number_of_last k r is = ap (λ (x : Rule). x.number) is
 
 -- a rule that is inserted leaves the rules in their order, with rule 65535 at the end

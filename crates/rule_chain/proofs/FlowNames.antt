@@ -1,8 +1,8 @@
 -- The flow names of a configuration: their numbers stay, and a new one is unlike all others.
-use Rattle.std.proofs.Common.{◌≡◌, ◌≢◌, ℕ, zero, suc, ◌+◌, ◌<◌, ◌≤◌, Bool, true, false, cond, not, ◌||◌, nat_eq, nat_lt, nat_le, if◌then◌else◌, Option, Some, None, IfSome, Ok, Err, List, [], ◌∷◌, ◌++◌, length, get_or, refl, sym, ap, ◌∙◌, inl, inr, arith, length-append}
+use Rattle.std.proofs.Common.{◌≡◌, ◌≢◌, ℕ, suc, ◌+◌, ◌<◌, ◌≤◌, Bool, true, false, cond, not, ◌||◌, nat_eq, nat_lt, nat_le, if◌then◌else◌, Option, Some, None, IfSome, Ok, Err, List, [], ◌∷◌, ◌++◌, length, get_or, refl, sym, ◌∙◌, inl, inr, arith, length-append}
 use Rattle.std.specs.Bool.{Decides}
 use Rattle.std.specs.Cmp.Lexicographic.{pointwise}
-use Rattle.std.specs.List.{list_any, position_or_len, AllByRecursion}
+use Rattle.std.specs.List.{list_any, position_or_len}
 use Rattle.std.proofs.Math.ListN.{get_or-append}
 use Rattle.std.proofs.Math.Seq.{get_or-append_seam}
 use Rattle.std.proofs.Math.Dec.{eqb}
@@ -14,7 +14,6 @@ use Rattle.std.proofs.lemmas.Slice.Eq.{slice_eq-Decides}
 use Rattle.fw_rule.specs.declared.rule.Rule.{Rule}
 use Rattle.rule_chain.specs.Names.{number_of, is_listed, with_name, with_name_of, name_of, IsNamed, AreNames}
 use Rattle.rule_chain.specs.declared.apply_fault.ApplyFault.TheVariants.{TooManyNames}
-use Rattle.rule_chain.proofs.Lists.{all-weaker}
 
 -- equal names have equal bytes
 pub name_same : (a b : List ℕ) → Decides (pointwise nat_eq a b) (a ≡ b)

@@ -2,11 +2,9 @@
 use Rattle.std.proofs.Common.{◌≡◌, ℕ, suc, ◌-◌, ◌≤◌, ◌<◌, true, false, cond, nat_lt, max, List, [], ◌∷◌, length, get_or, map, refl, ap, ◌∙◌, arith}
 use Rattle.fw_rule.specs.declared.rule.Rule.{Rule}
 use Rattle.rule_chain.specs.Chain.{AscendsFrom}
-use Rattle.rule_chain.specs.Rules.{last_rule, greatest_number}
+use Rattle.rule_chain.specs.Rules.{greatest_number}
 use Rattle.rule_chain.proofs.Lists.{map_length, map_get}
-
-number_of_last : (k : ℕ) (r : Rule) → r ≡ last_rule k → r.number ≡ 65535
-number_of_last k r is = ap (λ (x : Rule). x.number) is
+use Rattle.rule_chain.proofs.Chains.{number_of_last}
 
 -- of rule 65535 alone the greatest number is 0
 pub greatest_alone : (a : ℕ) (r : Rule) → AscendsFrom a (r ∷ []) → greatest_number (r ∷ []) ≡ 0

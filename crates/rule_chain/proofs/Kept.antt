@@ -5,6 +5,7 @@ use Rattle.std.specs.Option.{option_or}
 use Rattle.std.proofs.lemmas.Bool.Decides.{nat_tests}
 use Rattle.std.proofs.lemmas.Nat.{or_lt, and_le_l}
 use Rattle.std.specs.List.{filter, AllByRecursion}
+use Rattle.fw_base.proofs.Lists.{all_weaker}
 use Rattle.fw_rule.specs.WellFormed.{IsSet, IsDraft}
 use Rattle.fw_rule.specs.declared.rule.Rule.{Rule}
 use Rattle.fw_rule.specs.declared.rule_draft.RuleDraft.{RuleDraft}
@@ -18,7 +19,7 @@ use Rattle.rule_chain.specs.Rules.{last_rule, rule_of, insert_rule, renumber, co
 use Rattle.rule_chain.proofs.Chains.{filter_keeps, move_keeps, renumber_keeps, insert_keeps}
 use Rattle.rule_chain.proofs.FlowNames.{Keeps, stays_named}
 use Rattle.rule_chain.proofs.InPlaces.{stand_in_order, own_identities, own_counters}
-use Rattle.rule_chain.proofs.Lists.{length-filter_le, all-filter, all-map, all-weaker}
+use Rattle.rule_chain.proofs.Lists.{length-filter_le, all-filter, all-map}
 use Rattle.rule_chain.proofs.Own.{filter_own, move_own, renumber_ids, renumber_counters, insert_ids, insert_counters}
 
 -- where rules go, but not rule 65535, what holds in every configuration holds still
@@ -194,14 +195,14 @@ add_kept c d rule less new_id new_counter is room counters made named rules ids 
     record {
       ordered = rw rules ordered;
       rules = rw (rules, ids, greatest) (all_inserted (IsRule (c.greatest_id + 1) (c.greatest_counter + 1)) rule is c.rules
-          (all-weaker (IsRule c.greatest_id c.greatest_counter) (IsRule (c.greatest_id + 1) (c.greatest_counter + 1)) (rule_within c.greatest_id (c.greatest_id + 1) c.greatest_counter (c.greatest_counter + 1) (omega arith) (omega arith)) c.rules h.rules));
+          (all_weaker (IsRule c.greatest_id c.greatest_counter) (IsRule (c.greatest_id + 1) (c.greatest_counter + 1)) (rule_within c.greatest_id (c.greatest_id + 1) c.greatest_counter (c.greatest_counter + 1) (omega arith) (omega arith)) c.rules h.rules));
       distinct = rw rules distinct;
       counted = rw rules counted;
       in_order = rw rules (stand_in_order (insert_rule rule c.rules) ordered);
       identities = rw rules (own_identities (insert_rule rule c.rules) distinct);
       own_counters = rw rules (own_counters (insert_rule rule c.rules) counted);
       names = made.lawful;
-      named = rw rules (all_inserted (IsNamed d.names) rule named c.rules (all-weaker (IsNamed c.names) (IsNamed d.names) (stays_named c.names d.names made) c.rules h.named));
+      named = rw rules (all_inserted (IsNamed d.names) rule named c.rules (all_weaker (IsNamed c.names) (IsNamed d.names) (stays_named c.names d.names made) c.rules h.named));
       held = let more = length_inserted rule c.rules in rw rules (omega arith);
       ids = omega (arith, h.ids);
       counters = omega arith;

@@ -11,4 +11,5 @@ pub mod Lists
 pub mod Own
 pub mod Places
 pub mod Renumbered
+pub mod Untouched
 pub mod UsesInTurn

@@ -40,11 +40,6 @@ pub all-map : {X : Type 0} (P : X → Type 0) (f : X → X) → ((x : X) → P x
 all-map P f step [] all = tt
 all-map P f step (x ∷ xs) all = (step x all.0, all-map P f step xs all.1)
 
--- what follows from a fact of each element holds of each
-pub all-weaker : {X : Type 0} (P Q : X → Type 0) → ((x : X) → P x → Q x) → (xs : List X) → AllByRecursion P xs → AllByRecursion Q xs
-all-weaker P Q step [] all = tt
-all-weaker P Q step (x ∷ xs) all = (step x all.0, all-weaker P Q step xs all.1)
-
 -- tests that agree leave the same elements
 pub filter_same_test : {X : Type 0} (p q : X → Bool) → ((x : X) → p x ≡ q x) → (xs : List X) → filter p xs ≡ filter q xs
 filter_same_test p q same [] = refl
@@ -81,13 +76,3 @@ count_append test [] ys = omega arith
 count_append test (x ∷ xs) ys =
     let rest = count_append test xs ys in
     elim (test x) as (λ b. length (cond b (x ∷ filter test (xs ++ ys)) (filter test (xs ++ ys))) ≡ length (cond b (x ∷ filter test xs) (filter test xs)) + length (filter test ys)) [ true ↦ omega arith | false ↦ rest ]
-
--- one of two tests holds where the second does
-pub or_true : (b : Bool) → (b || true) ≡ true
-or_true true = refl
-or_true false = refl
-
--- one more behind them
-pub all_push : {X : Type 0} (P : X → Type 0) (xs : List X) (x : X) → AllByRecursion P xs → P x → AllByRecursion P (xs ++ x ∷ [])
-all_push P [] x all one = (one, tt)
-all_push P (y ∷ xs) x all one = (all.0, all_push P xs x all.1 one)

@@ -1,10 +1,11 @@
 -- No two rules have one identity, and no two one counter number: what keeps this.
-use Rattle.std.proofs.Common.{◌≡◌, ◌≢◌, ℕ, suc, ◌+◌, ◌<◌, ◌≤◌, Bool, true, false, cond, nat_lt, List, [], ◌∷◌, map, sym, ◌∙◌, arith}
+use Rattle.std.proofs.Common.{◌≡◌, ◌≢◌, ℕ, ◌+◌, ◌<◌, Bool, true, false, cond, nat_lt, List, [], ◌∷◌, map, sym, ◌∙◌, arith}
 use Rattle.std.specs.List.{filter, AllByRecursion}
+use Rattle.fw_base.proofs.Lists.{all_weaker}
 use Rattle.fw_rule.specs.declared.rule.Rule.{Rule}
 use Rattle.rule_chain.specs.Chain.{DifferBy, HaveOwnIds, DifferInCounters, IsRule}
 use Rattle.rule_chain.specs.Rules.{insert_rule, renumber, in_set_for}
-use Rattle.rule_chain.proofs.Lists.{all-filter, all-map, all-weaker}
+use Rattle.rule_chain.proofs.Lists.{all-filter, all-map}
 
 module _ (key : Rule → ℕ) where
   -- fewer rules differ by the key still
@@ -21,7 +22,7 @@ module _ (key : Rule → ℕ) where
   move_own set_for same [] h = tt
   move_own set_for same (r ∷ rules) h =
       let moved = all-map (λ other. key other ≢ key r) (in_set_for set_for) (λ x other is. other (sym (same x) ∙ is)) rules h.0 in
-      (all-weaker (λ other. key other ≢ key r) (λ other. key other ≢ key (in_set_for set_for r)) (λ x other is. other (is ∙ same r)) (map (in_set_for set_for) rules) moved, move_own set_for same rules h.1)
+      (all_weaker (λ other. key other ≢ key r) (λ other. key other ≢ key (in_set_for set_for r)) (λ x other is. other (is ∙ same r)) (map (in_set_for set_for) rules) moved, move_own set_for same rules h.1)
 
   others_inserted : (value : ℕ) (rule : Rule) (rules : List Rule) → key rule ≢ value → AllByRecursion (λ other. key other ≢ value) rules → AllByRecursion (λ other. key other ≢ value) (insert_rule rule rules)
   unfolding insert_rule
@@ -44,12 +45,12 @@ module _ (key : Rule → ℕ) where
 -- an identity above all others is an own one
 pub insert_ids : (id counter : ℕ) (rule : Rule) (rules : List Rule) → id < rule.id → AllByRecursion (IsRule id counter) rules → HaveOwnIds rules → HaveOwnIds (insert_rule rule rules)
 insert_ids id counter rule rules above all h =
-    insert_own (λ r. r.id) rule rules (all-weaker (IsRule id counter) (λ (other : Rule). other.id ≢ rule.id) (λ other is same. let low = is.id in omega arith) rules all) h
+    insert_own (λ r. r.id) rule rules (all_weaker (IsRule id counter) (λ (other : Rule). other.id ≢ rule.id) (λ other is same. let low = is.id in omega arith) rules all) h
 
 -- and so is a counter number
 pub insert_counters : (id counter : ℕ) (rule : Rule) (rules : List Rule) → counter < rule.counter → AllByRecursion (IsRule id counter) rules → DifferInCounters rules → DifferInCounters (insert_rule rule rules)
 insert_counters id counter rule rules above all h =
-    insert_own (λ r. r.counter) rule rules (all-weaker (IsRule id counter) (λ (other : Rule). other.counter ≢ rule.counter) (λ other is same. let low = is.counter in omega arith) rules all) h
+    insert_own (λ r. r.counter) rule rules (all_weaker (IsRule id counter) (λ (other : Rule). other.counter ≢ rule.counter) (λ other is same. let low = is.counter in omega arith) rules all) h
 
 others_renumbered : (test : Rule → Bool) (id n : ℕ) (rules : List Rule) → AllByRecursion (λ other. other.id ≢ id) rules → AllByRecursion (λ other. other.id ≢ id) (renumber test n rules)
 unfolding renumber
@@ -86,7 +87,7 @@ unfolding renumber
 renumber_counters test id counter n [] above all h = tt
 renumber_counters test id counter n (r ∷ rules) above all h =
     let low = all.0.counter in
-    let others = all-weaker (IsRule id counter) (λ (other : Rule). other.counter ≢ n) (λ other is same. let below = is.counter in omega arith) rules all.1 in
+    let others = all_weaker (IsRule id counter) (λ (other : Rule). other.counter ≢ n) (λ other is same. let below = is.counter in omega arith) rules all.1 in
     elim (test r) as (λ b. DifferInCounters (cond b (record r { counter = n } ∷ renumber test (n + 1) rules) (r ∷ renumber test n rules))) [
       | true ↦ (unused test n (n + 1) rules (omega arith) others, renumber_counters test id counter (n + 1) rules (omega arith) all.1 h.1)
       | false ↦ (unused test r.counter n rules (omega arith) h.0, renumber_counters test id counter n rules above all.1 h.1)

@@ -11,6 +11,7 @@ pub mod Apply
 pub mod Changing
 pub mod Lookups
 pub mod Moves
+pub mod Touching
 pub mod Words
 -- what lists keep beside them
 pub mod Addresses

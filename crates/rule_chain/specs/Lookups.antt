@@ -2,13 +2,13 @@
 use Rattle.std.specs.Prelude.{ℕ, Bool, true, false, if◌then◌else◌, is_some, Option, Some, None, Ok, Err, List, [], ◌∷◌}
 use Rattle.std.specs.Ordering.{nat_cmp}
 use Rattle.std.specs.List.{list_any}
-use Rattle.fw_rule.specs.declared.key.Key.{Key}
-use Rattle.fw_rule.specs.declared.key.Key.TheVariants.{Net, Number}
+use Rattle.fw_rule.specs.declared.table_command.Key.{Key}
+use Rattle.fw_rule.specs.declared.table_command.Key.TheVariants.{Net, Number}
 use Rattle.fw_rule.specs.declared.rule.Rule.{Rule}
 use Rattle.fw_rule.specs.declared.table_command.TableCommand.{TableCommand}
 use Rattle.fw_rule.specs.declared.table_command.TableCommand.TheVariants.{Create, Destroy, Add, Remove, Clear, SwapWith, ListEntries}
-use Rattle.fw_rule.specs.declared.table_type.TableType.{TableType}
-use Rattle.fw_rule.specs.declared.table_type.TableType.TheVariants.{Addresses, Numbers}
+use Rattle.fw_rule.specs.declared.table_command.TableType.{TableType}
+use Rattle.fw_rule.specs.declared.table_command.TableType.TheVariants.{Addresses, Numbers}
 use Rattle.lookup_tables.specs.AddrTable.{network_cmp}
 use Rattle.lookup_tables.specs.Entries.{value_of, with_entry, without_key}
 use Rattle.lookup_tables.specs.Tables.{NamedTables, name_cmp, table_named}

@@ -5,7 +5,7 @@ use Rattle.fw_rule.specs.declared.action.Action.TheVariants.{Deny}
 use Rattle.fw_rule.specs.declared.addr_item.AddrItem.TheVariants.{Any}
 use Rattle.fw_rule.specs.declared.addr_spec.AddrSpec.{AddrSpec}
 use Rattle.fw_rule.specs.declared.body.Body.{Body}
-use Rattle.fw_rule.specs.declared.family.Family.TheVariants.{AnyIp}
+use Rattle.fw_rule.specs.declared.body.Family.TheVariants.{AnyIp}
 use Rattle.fw_rule.specs.declared.rule.Rule.{Rule}
 use Rattle.fw_rule.specs.declared.rule_draft.RuleDraft.{RuleDraft}
 

@@ -6,12 +6,12 @@ use Rattle.std.specs.Cmp.Lexicographic.{pointwise}
 use Rattle.fw_rule.specs.declared.addr_item.AddrItem.{AddrItem}
 use Rattle.fw_rule.specs.declared.addr_item.AddrItem.TheVariants.{Any, Me, Net, Net6, InTable, TableValue}
 use Rattle.fw_rule.specs.declared.body.Body.{Body}
-use Rattle.fw_rule.specs.declared.field.Field.{Field}
-use Rattle.fw_rule.specs.declared.field.Field.TheVariants.{SrcIp, DstIp, SrcPort, DstPort}
+use Rattle.fw_rule.specs.declared.test.Field.{Field}
+use Rattle.fw_rule.specs.declared.test.Field.TheVariants.{SrcIp, DstIp, SrcPort, DstPort}
 use Rattle.fw_rule.specs.declared.opt.Opt.{Opt}
 use Rattle.fw_rule.specs.declared.rule.Rule.{Rule}
-use Rattle.fw_rule.specs.declared.table_type.TableType.{TableType}
-use Rattle.fw_rule.specs.declared.table_type.TableType.TheVariants.{Addresses, Numbers}
+use Rattle.fw_rule.specs.declared.table_command.TableType.{TableType}
+use Rattle.fw_rule.specs.declared.table_command.TableType.TheVariants.{Addresses, Numbers}
 use Rattle.fw_rule.specs.declared.test.Test.{Test}
 use Rattle.fw_rule.specs.declared.test.Test.TheVariants.{Inward, Outward, Established, Setup, Frag, Recv, Xmit, Via, TcpFlags, IcmpTypes, Icmp6Types, IpOptions, Lookup}
 

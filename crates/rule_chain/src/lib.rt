@@ -4,7 +4,9 @@
 pub use apply_fault::ApplyFault;
 pub use changing::is_changing;
 pub use config::{Config, LAST_NUMBER, LAST_SET, MOST_COUNTERS, MOST_RULES};
+pub use laws::untouched_rules_stay;
 pub use names::MOST_NAMES;
+pub use touching::touches_rules;
 
 mod add;
 mod address_list;
@@ -13,6 +15,7 @@ mod apply_fault;
 mod changing;
 mod config;
 mod delete;
+mod laws;
 mod locals;
 mod moves;
 mod names;
@@ -24,6 +27,7 @@ mod sets;
 mod table_changes;
 #[cfg(test)]
 mod tests;
+mod touching;
 mod uses;
 mod values;
 mod zero;

@@ -1,8 +1,8 @@
 ghost use Rattle.std.specs.Prelude.{◌≡◌, IfOk, OnOk, map};
 ghost use Rattle.std.specs.Arc.{arc_value};
 ghost use Rattle.std.specs.List.{list_any};
-ghost use Rattle.fw_rule.specs.declared.key.Key.TheVariants.{Net, Number};
-ghost use Rattle.fw_rule.specs.declared.table_type.TableType.TheVariants.{Addresses};
+ghost use Rattle.fw_rule.specs.declared.table_command.Key.TheVariants.{Net, Number};
+ghost use Rattle.fw_rule.specs.declared.table_command.TableType.TheVariants.{Addresses};
 ghost use Rattle.lookup_tables.specs.declared.table.Table.TheVariants.{Addresses as AddressTable, Numbers as NumberedTable};
 ghost use Rattle.lookup_tables.specs.Tables.{table_named};
 ghost use Rattle.rule_chain.specs.Answers.{Gives};

@@ -1,11 +1,12 @@
 -- Keys that a gate admits.
-use Rattle.std.proofs.Common.{◌≡◌, ℕ, zero, suc, ◌^◌, ◌<◌, Bool, true, false, ◌&&◌, List, [], ◌∷◌, ◌==◌, length, get_or, slice_index, refl, sym, ap, ◌∙◌, arith}
+use Rattle.std.proofs.Common.{◌≡◌, ℕ, zero, suc, ◌^◌, ◌<◌, Bool, true, ◌&&◌, List, [], ◌∷◌, ◌==◌, length, get_or, slice_index, refl, sym, ap, ◌∙◌, arith}
 use Rattle.std.proofs.Math.Nat.{mod-lt}
 use Rattle.std.proofs.lemmas.Nat.{pow_pos}
 use Rattle.std.proofs.lemmas.Bool.Decides.{nat_tests}
+use Rattle.std.proofs.lemmas.Bool.{and_parts}
 use Rattle.fw_rule.specs.declared.body.Body.{Body}
-use Rattle.fw_rule.specs.declared.family.Family.{Family}
-use Rattle.fw_rule.specs.declared.family.Family.TheVariants as family
+use Rattle.fw_rule.specs.declared.body.Family.{Family}
+use Rattle.fw_rule.specs.declared.body.Family.TheVariants as family
 use Rattle.fw_base.specs.declared.address.Addr.{Addr}
 use Rattle.fw_base.specs.declared.port.Port.{Port}
 use Rattle.ip6_headers.specs.Either.{protocol_of}
@@ -26,10 +27,6 @@ use Rattle.rule_gates.specs.declared.gate.Gate.{Gate}
 use Rattle.rule_gates.specs.declared.interval.Interval.{Interval}
 use Rattle.rule_gates.specs.declared.key.Key.{Key}
 use Rattle.rule_gates.specs.declared.port_gate.PortGate.{PortGate}
-
-both_true : (a b : Bool) → (a && b) ≡ true → (a ≡ true) × (b ≡ true)
-both_true true b is = (refl, is)
-both_true false b is = cc
 
 -- every number of thirty-two bits
 pub every_has : (interval : Interval) (n : ℕ) → interval.low ≡ 0 → interval.span ≡ 4294967295 → n < 2 ^ 32 → is_within interval n ≡ true
@@ -143,12 +140,12 @@ pub body_admits : (body : Body) (gate : Gate) (source destination : AddressGate)
     → IsGateOfBody body gate
 unfolding holds
 body_admits body gate source destination sources destinations source_ports destination_ports source_is source_at destination_is destination_at protocol family_is tables locals packet port key is held =
-    let by_version = both_true _ _ held in
-    let by_protocol = both_true _ _ by_version.1 in
-    let by_source = both_true _ _ by_protocol.1 in
-    let by_source_ports = both_true _ _ by_source.1 in
-    let by_destination = both_true _ _ by_source_ports.1 in
-    let by_destination_ports = both_true _ _ by_destination.1 in
+    let by_version = and_parts _ _ held in
+    let by_protocol = and_parts _ _ by_version.1 in
+    let by_source = and_parts _ _ by_protocol.1 in
+    let by_source_ports = and_parts _ _ by_source.1 in
+    let by_destination = and_parts _ _ by_source_ports.1 in
+    let by_destination_ports = and_parts _ _ by_destination.1 in
     let from = sources tables locals (source_of packet) by_source.0 in
     let to = destinations tables locals (destination_of packet) by_destination.0 in
     admits_by gate key
@@ -180,11 +177,11 @@ record IsAdmitted (gate : Gate) (key : Key) : Type 0 where
 admitted_by : (gate : Gate) (key : Key) → admits gate key ≡ true → IsAdmitted gate key
 unfolding admits
 admitted_by gate key admitted =
-    let by_source = both_true _ _ admitted in
-    let by_destination = both_true _ _ by_source.1 in
-    let by_destination_ports = both_true _ _ by_destination.1 in
-    let by_protocol = both_true _ _ by_destination_ports.1 in
-    let by_source_ports = both_true _ _ by_protocol.1 in
+    let by_source = and_parts _ _ admitted in
+    let by_destination = and_parts _ _ by_source.1 in
+    let by_destination_ports = and_parts _ _ by_destination.1 in
+    let by_protocol = and_parts _ _ by_destination_ports.1 in
+    let by_source_ports = and_parts _ _ by_protocol.1 in
     record {
       source = by_source.0;
       destination = by_destination.0;
@@ -261,10 +258,10 @@ pub body_exact : (body : Body) (gate : Gate) (source destination : AddressGate) 
     → IsExactGate body gate
 body_exact body gate source destination source_ports destination_ports sources destinations source_ports_of destination_ports_of source_is source_at destination_is destination_at source_ports_are destination_ports_are protocol version beside_source beside_destination exact tables locals packet port key all is fit admitted =
     let parts = admitted_by gate key admitted in
-    let by_source = both_true source.is_exact _ (sym exact ∙ all) in
-    let by_destination = both_true destination.is_exact _ by_source.1 in
-    let by_source_ports = both_true source_ports.is_exact _ by_destination.1 in
-    let by_destination_ports = both_true destination_ports.is_exact _ by_source_ports.1 in
+    let by_source = and_parts source.is_exact _ (sym exact ∙ all) in
+    let by_destination = and_parts destination.is_exact _ by_source.1 in
+    let by_source_ports = and_parts source_ports.is_exact _ by_destination.1 in
+    let by_destination_ports = and_parts destination_ports.is_exact _ by_source_ports.1 in
     let among = both_among body.family source.family destination.family (beside_source by_source.0) (beside_destination by_destination.0) in
     let of_version : admits_version (narrower body.family (narrower source.family destination.family)) (is_six packet) ≡ true = rw (← version, ← is.version) parts.version in
     holds_by body tables locals packet port

@@ -8,8 +8,8 @@ use Rattle.fw_rule.specs.declared.addr_item.AddrItem.{AddrItem}
 use Rattle.fw_rule.specs.declared.addr_item.AddrItem.TheVariants.{Net}
 use Rattle.fw_rule.specs.declared.addr_spec.AddrSpec.{AddrSpec}
 use Rattle.fw_rule.specs.declared.body.Body.{Body}
-use Rattle.fw_rule.specs.declared.family.Family.{Family}
-use Rattle.fw_rule.specs.declared.family.Family.TheVariants as family
+use Rattle.fw_rule.specs.declared.body.Family.{Family}
+use Rattle.fw_rule.specs.declared.body.Family.TheVariants as family
 use Rattle.fw_rule.specs.declared.port_list.PortList.{PortList}
 use Rattle.ip6_headers.specs.declared.any_ip.AnyIp.{AnyIp}
 use Rattle.lookup_tables.specs.Tables.{NamedTables}

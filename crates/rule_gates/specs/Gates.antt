@@ -3,8 +3,8 @@ use Rattle.std.specs.Prelude.{◌≡◌, ⊤, Bool, true, false, not, ◌&&◌, 
 use Rattle.fw_base.specs.declared.address.Addr.{Addr}
 use Rattle.fw_base.specs.declared.port.Port.{Port}
 use Rattle.fw_rule.specs.declared.body.Body.{Body}
-use Rattle.fw_rule.specs.declared.family.Family.{Family}
-use Rattle.fw_rule.specs.declared.family.Family.TheVariants as family
+use Rattle.fw_rule.specs.declared.body.Family.{Family}
+use Rattle.fw_rule.specs.declared.body.Family.TheVariants as family
 use Rattle.fw_rule.specs.declared.rule.Rule.{Rule}
 use Rattle.ip6_headers.specs.declared.any_ip.AnyIp.{AnyIp}
 use Rattle.lookup_tables.specs.Tables.{NamedTables}

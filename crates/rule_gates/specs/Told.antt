@@ -4,8 +4,8 @@ use Rattle.fw_rule.specs.declared.addr_item.AddrItem.{AddrItem}
 use Rattle.fw_rule.specs.declared.addr_item.AddrItem.TheVariants.{Any, Me, Net, Net6, InTable, TableValue}
 use Rattle.fw_rule.specs.declared.addr_spec.AddrSpec.{AddrSpec}
 use Rattle.fw_rule.specs.declared.body.Body.{Body}
-use Rattle.fw_rule.specs.declared.family.Family.{Family}
-use Rattle.fw_rule.specs.declared.family.Family.TheVariants as family
+use Rattle.fw_rule.specs.declared.body.Family.{Family}
+use Rattle.fw_rule.specs.declared.body.Family.TheVariants as family
 use Rattle.fw_rule.specs.declared.port_list.PortList.{PortList}
 use Rattle.fw_rule.specs.declared.rule.Rule.{Rule}
 use Rattle.rule_gates.specs.Stateful.{looks_up}

@@ -1,7 +1,7 @@
 -- What lookup tables answer for a rule (ipfw(8), "LOOKUP TABLES").
 use Rattle.std.specs.Prelude.{ℕ, Option, Some, None, List}
-use Rattle.fw_rule.specs.declared.field.Field.{Field}
-use Rattle.fw_rule.specs.declared.field.Field.TheVariants.{SrcIp, DstIp, SrcPort, DstPort}
+use Rattle.fw_rule.specs.declared.test.Field.{Field}
+use Rattle.fw_rule.specs.declared.test.Field.TheVariants.{SrcIp, DstIp, SrcPort, DstPort}
 use Rattle.lookup_tables.specs.AddrTable.{address_answer}
 use Rattle.lookup_tables.specs.NumberTable.{number_answer}
 use Rattle.lookup_tables.specs.Tables.{NamedTables, table_named}

@@ -2,8 +2,8 @@
 use Rattle.std.specs.Prelude.{◌≡◌, ℕ, ◌^◌, ◌<◌, ◌≤◌, false, ◌==◌, Ok, Some, None, List, ◌∷◌, ◌++◌, length, map, codes}
 use Rattle.std.specs.List.{AllByRecursion, join_with_byte}
 use Rattle.std.specs.Fmt.{decimal}
-use Rattle.fw_lex.specs.Words.{is_blank, words_of, before_comment, first_bad}
-use Rattle.ipfw_parser.specs.Reading.{word_of}
+use Rattle.fw_lex.specs.Words.{is_blank, tokens_of, before_comment, first_bad}
+use Rattle.ipfw_parser.specs.Reading.{word_at}
 use Rattle.ipfw_parser.specs.Numbers.{number}
 use Rattle.ipfw_parser.specs.Ports.{ranges}
 use Rattle.fw_base.specs.PortRange.{Ports}
@@ -14,7 +14,7 @@ use Rattle.fw_rule.specs.WellFormed.{IsRange}
 use Rattle.fw_rule.specs.declared.addr_item.AddrItem.{AddrItem}
 use Rattle.fw_rule.specs.Canonical.{item_text, signed_names, numbers_where, flag_names, option_names}
 use Rattle.fw_base.specs.Prefix6.{Network6, IsNetwork6}
-use Rattle.fw_rule.specs.Addr6Text.{groups_text, network6_text}
+use Rattle.fw_rule.specs.Address6Text.{groups_text, network6_text}
 use Rattle.fw_rule.specs.Bits.{has_bit}
 use Rattle.fw_rule.specs.TypeSet.{has_type}
 use Rattle.fw_rule.specs.declared.type_set.TypeSet.{TypeSet}
@@ -45,7 +45,7 @@ pub record IsWordText (text : List ℕ) : Type 0 where
 -- texts of words, written with one space between them, are read as these words
 abbrev pub WordsAreReadAgain : Type 0
 WordsAreReadAgain = (texts : List (List ℕ)) → AllByRecursion IsWordText texts
-    → map (λ token. (word_of (join_with_byte 32 texts) token).text) (words_of (join_with_byte 32 texts)) ≡ texts
+    → map (λ token. (word_at (join_with_byte 32 texts) token).text) (tokens_of (join_with_byte 32 texts)) ≡ texts
 
 -- a list of port ranges in its canonical text is read as these ranges
 abbrev pub PortListsAreReadAgain : Type 0
@@ -87,7 +87,7 @@ line_behind front rule = join_with_byte 32 (front ++ rule_words rule)
 -- a rule in its form is read again from its canonical words, whatever words stand before them
 abbrev pub RulesInFormAreReadAgain : Type 0
 RulesInFormAreReadAgain = (rule : Rule) (front : List (List ℕ)) → IsRuleForm rule → AllByRecursion IsWordText front
-    → rule_in (line_behind front rule) (words_of (line_behind front rule)) (length front) ≡ Ok (draft_of rule)
+    → rule_in (line_behind front rule) (tokens_of (line_behind front rule)) (length front) ≡ Ok (draft_of rule)
 
 -- two rules in their form with one canonical text are one rule, identity and counter aside
 abbrev pub TextsTellRulesApart : Type 0
@@ -108,7 +108,7 @@ add_line rule = codes "add " ++ rule_text rule
 -- each rule that the grammar yields, whatever its line, is read again from its canonical text behind `add`
 abbrev pub RulesAreReadAgain : Type 0
 RulesAreReadAgain = (line : List ℕ) (tokens : List Token) (skipped : ℕ) (draft : RuleDraft) (rule : Rule)
-    → rule_in line tokens skipped ≡ Ok draft → IsRuleOf draft rule → rule_in (add_line rule) (words_of (add_line rule)) 1 ≡ Ok (draft_of rule)
+    → rule_in line tokens skipped ≡ Ok draft → IsRuleOf draft rule → rule_in (add_line rule) (tokens_of (add_line rule)) 1 ≡ Ok (draft_of rule)
 
 -- no byte of it is one that may not stand in a script
 abbrev pub CanonicalTextsAreReadable : Type 0
@@ -117,4 +117,4 @@ CanonicalTextsAreReadable = (rule : Rule) → IsRuleForm rule → first_bad (bef
 -- the words of it are `add` and the rule's canonical words
 abbrev pub CanonicalTextsKeepTheirWords : Type 0
 CanonicalTextsKeepTheirWords = (rule : Rule) → IsRuleForm rule
-    → map (λ token. (word_of (add_line rule) token).text) (words_of (add_line rule)) ≡ codes "add" ∷ rule_words rule
+    → map (λ token. (word_at (add_line rule) token).text) (tokens_of (add_line rule)) ≡ codes "add" ∷ rule_words rule

@@ -1,1 +1,2 @@
+-- what is written in canonical form is read again
 pub mod Laws

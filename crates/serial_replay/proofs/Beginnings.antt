@@ -5,7 +5,7 @@ use Rattle.fw_report.specs.declared.capture_end.CaptureEnd.TheVariants.{Stopped}
 use Rattle.pcap_read.specs.Capture.{IsOpened, IsReading, link_of}
 use Rattle.pcap_read.specs.declared.capture.Capture.{Capture}
 use Rattle.pcap_read.specs.declared.capture_fault.CaptureFault.TheVariants.{OutOfMemory}
-use Rattle.pcap_read.specs.declared.open_fault.OpenFault.{OpenFault}
+use Rattle.pcap_read.specs.declared.capture_fault.OpenFault.{OpenFault}
 use Rattle.serial_replay.specs.Reading.{Origin, origin_of}
 use Rattle.serial_replay.specs.Tracks.{IsOpenTrack, StepsOn, Begins, BeginsRefused, held_in}
 use Rattle.serial_replay.specs.declared.open_track.OpenTrack.{OpenTrack}

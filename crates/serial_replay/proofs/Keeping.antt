@@ -3,10 +3,10 @@ use Rattle.std.proofs.Common.{◌≡◌, ℕ, Option, None, List, [], ◌∷◌,
 use Rattle.std.specs.Option.{option_map}
 use Rattle.serial_replay.specs.declared.live_world.LiveWorld.{LiveWorld}
 use Rattle.std.specs.List.{AllByRecursion}
-use Rattle.fw_command.specs.WellFormed.{IsStep, IsLine}
-use Rattle.fw_command.specs.declared.line.Line.{Line}
-use Rattle.fw_command.specs.declared.step.Step.{Step}
-use Rattle.fw_command.specs.declared.step.Step.TheVariants.{Run}
+use Rattle.fw_command.specs.WellFormed.{IsStepInRange, IsLine}
+use Rattle.fw_command.specs.declared.script.Line.{Line}
+use Rattle.fw_command.specs.declared.script.Step.{Step}
+use Rattle.fw_command.specs.declared.script.Step.TheVariants.{Run}
 use Rattle.pcap_read.specs.Reading.{Captured}
 use Rattle.serial_replay.specs.Commands.{after_line, after_lines}
 use Rattle.serial_replay.specs.Events.{ReplaysAll}
@@ -25,8 +25,8 @@ all-behind : {X : Type 0} (P : X → Type 0) (xs ys : List X) → AllByRecursion
 all-behind P [] ys all = all
 all-behind P (x ∷ xs) ys all = all-behind P xs ys all.1
 
-pub formed-last : (old new : List Step) → AreLast new old → AllByRecursion IsStep old → AllByRecursion IsStep new
-formed-last old new (passed, is) all = all-behind IsStep passed new (subst (λ steps. AllByRecursion IsStep steps) is all)
+pub formed-last : (old new : List Step) → AreLast new old → AllByRecursion IsStepInRange old → AllByRecursion IsStepInRange new
+formed-last old new (passed, is) all = all-behind IsStepInRange passed new (subst (λ steps. AllByRecursion IsStepInRange steps) is all)
 
 module _ {S : Type 0} (left : S → Option (List ℕ)) (faults : S → ℕ) where
   pub keeps-none : (run : Running S) → IsReady left faults run → Keeps left faults run run
@@ -67,7 +67,7 @@ module _ {S : Type 0} (left : S → Option (List ℕ)) (faults : S → ℕ) wher
       keeps-line old new line ready runs gives.all gives.last (λ rests fits. events-due old.taken (steps_of old.agenda) line (steps_of new.agenda) (in_order rests) gives ∙ ap (λ n. Ran line ∷ events_from n (steps_of new.agenda) (in_order rests)) (sym taken)) tracks taken
 
   -- only steps were passed over
-  keeps-same : (old new : Running S) → IsReady left faults old → all_lines (steps_of old.agenda) ≡ all_lines (steps_of new.agenda) → AllByRecursion IsStep (steps_of new.agenda)
+  keeps-same : (old new : Running S) → IsReady left faults old → all_lines (steps_of old.agenda) ≡ all_lines (steps_of new.agenda) → AllByRecursion IsStepInRange (steps_of new.agenda)
       → ((rests : List (List Captured)) → map next_of rests ≡ map held_of old.tracks → events_from old.taken (steps_of old.agenda) (in_order rests) ≡ events_from old.taken (steps_of new.agenda) (in_order rests))
       → new.live ≡ old.live → new.tracks ≡ old.tracks → new.taken ≡ old.taken → Keeps left faults old new
   keeps-same old new ready lines formed events live tracks taken = record {
@@ -105,7 +105,7 @@ module _ {S : Type 0} (left : S → Option (List ℕ)) (faults : S → ℕ) wher
   pub keeps-ended : (old new : Running S) → IsReady left faults old → first_of old.tracks ≡ None → NoneIsLeft (steps_of old.agenda) (steps_of new.agenda) → new.live ≡ old.live → new.tracks ≡ old.tracks → new.taken ≡ old.taken → Keeps left faults old new
   keeps-ended old new ready none nothing live tracks taken =
       let no_lines : all_lines (steps_of new.agenda) ≡ [] = ap all_lines nothing.steps in
-      keeps-same old new ready (nothing.all ∙ sym no_lines) (subst (λ steps. AllByRecursion IsStep steps) (sym nothing.steps) tt) (λ rests fits.
+      keeps-same old new ready (nothing.all ∙ sym no_lines) (subst (λ steps. AllByRecursion IsStepInRange steps) (sym nothing.steps) tt) (λ rests fits.
       let first = none_of_rests rests (map held_of old.tracks) fits none in
       events-ended old.taken (steps_of old.agenda) rests first ∙ events-none old.taken (steps_of old.agenda) nothing.all
       ∙ sym (events-ended old.taken (steps_of new.agenda) rests first ∙ events-none old.taken (steps_of new.agenda) no_lines)) live tracks taken
@@ -121,5 +121,5 @@ module _ {S : Type 0} (left : S → Option (List ℕ)) (faults : S → ℕ) wher
       ∙ ap (λ events. Ran line ∷ events) (sym (events-ended new.taken (steps_of new.agenda) rests first))) tracks taken
 
 -- a line that is given is well formed
-pub line-formed : (old new : List Step) (line : Line) → AreLast (Run line ∷ new) old → AllByRecursion IsStep old → IsLine line
+pub line-formed : (old new : List Step) (line : Line) → AreLast (Run line ∷ new) old → AllByRecursion IsStepInRange old → IsLine line
 line-formed old new line last all = (formed-last old (Run line ∷ new) last all).0

@@ -1,10 +1,10 @@
 -- A line that ran: what becomes of the world, its lanes and the answers.
 use Rattle.std.proofs.Common.{◌≡◌, ℕ, ◌+◌, ◌-◌, Some, None, Ok, Err, List, [], ◌∷◌, ◌++◌, length, refl, sym, ap, subst, ◌∙◌, arith, inl, inr, length-append, get_or}
-use Rattle.std.specs.Prelude.{◌⊎◌, slice_get, Result, IfOk, OnOk}
+use Rattle.std.specs.Prelude.{◌⊎◌, slice_get, Result, OnOk}
 use Rattle.std.specs.List.{AllByRecursion}
 use Rattle.std.proofs.Math.Seq.{get_or-append_seam}
 use Rattle.std.proofs.lemmas.Option.{slice_get_read}
-use Rattle.fw_command.specs.declared.line.Line.{Line}
+use Rattle.fw_command.specs.declared.script.Line.{Line}
 use Rattle.fw_report.specs.declared.answer.Answer.{Answer}
 use Rattle.fw_report.specs.declared.line_answer.LineAnswer.{LineAnswer}
 use Rattle.fw_report.specs.declared.answer.Answer.TheVariants.{Refused}
@@ -150,8 +150,3 @@ ok-then (Err e) P Q follows h = tt
 pub ok-two : {T E : Type 0} (r : Result T E) (P Q R : Type 0) → (P → Q → R) → OnOk r P → OnOk r Q → OnOk r R
 ok-two (Ok x) P Q R follows p q = follows p q
 ok-two (Err e) P Q R follows p q = tt
-
--- what follows of the value of a call that succeeds
-pub ok-with : {T E : Type 0} (r : Result T E) (P Q : T → Type 0) → ((x : T) → P x → Q x) → IfOk r P → IfOk r Q
-ok-with (Ok x) P Q follows h = follows x h
-ok-with (Err e) P Q follows h = tt

@@ -1,7 +1,6 @@
 -- A record of a lane that was replayed: what becomes of the world and the lanes.
-use Rattle.std.proofs.Common.{◌≡◌, ◌≢◌, ℕ, zero, suc, ◌+◌, ◌<◌, ◌≤◌, Some, List, [], ◌∷◌, ◌++◌, length, refl, sym, ap, subst, ◌∙◌, arith, get_or}
-use Rattle.std.specs.Prelude.{slice_get, slice_set, IfSome, All}
-use Rattle.fw_world.specs.Sections.{judged_editions}
+use Rattle.std.proofs.Common.{◌≡◌, ◌≢◌, ℕ, zero, suc, ◌+◌, ◌<◌, Some, List, [], ◌∷◌, ◌++◌, length, refl, sym, ap, subst, ◌∙◌, arith, get_or}
+use Rattle.std.specs.Prelude.{slice_get, slice_set}
 use Rattle.std.specs.List.{AllByRecursion}
 use Rattle.std.proofs.lemmas.Option.{slice_get_read}
 use Rattle.eval_engine.specs.declared.docket_entry.DocketEntry.{DocketEntry}
@@ -9,36 +8,18 @@ use Rattle.eval_engine.specs.declared.judgement.Judgement.{Judgement}
 use Rattle.fw_base.specs.declared.port.Port.{Port}
 use Rattle.ip6_headers.specs.declared.any_ip.AnyIp.{AnyIp}
 use Rattle.state_journal.specs.Items.{asks_of}
-use Rattle.fw_world.specs.Asks.{asks_in}
 use Rattle.fw_world.specs.Closing.{AreLanesFrom, EachStandsFor}
 use Rattle.fw_world.specs.Editions.{IsLastOf}
 use Rattle.fw_world.specs.Inputs.{Input, Packet}
 use Rattle.fw_world.specs.Lane.{LaneValue, with_entry}
-use Rattle.fw_world.specs.Legal.{lane_asks, StandFor}
 use Rattle.fw_world.specs.Steps.{Judges, ChangesAsksOf}
 use Rattle.fw_world.specs.World.{WorldValue, published, IsLaneOf, LaneStandsFor, DeskStandsFor}
+use Rattle.fw_world.proofs.Keeping.{is_lane_beside, stands_beside}
 use Rattle.rule_chain.specs.Configuration.{Configuration}
 use Rattle.serial_replay.specs.Commands.{Standing}
 use Rattle.serial_replay.specs.Events.{EntersAt, ReplaysInput, judged_lane}
 use Rattle.serial_replay.specs.Live.{state_of, IsClean, IsSound, IsLive, with_input, ReplaysARecord}
 use Rattle.serial_replay.specs.declared.live_world.LiveWorld.{LiveWorld}
-
-of-other : (place : ℕ) (old new : WorldValue) (lane : LaneValue) → ChangesAsksOf place old new → IsLaneOf old lane → IsLaneOf new lane
-of-other place old new lane changes h =
-    let same : published new ≡ published old = ap length changes.editions in
-    record {
-      first = h.first;
-      last = omega (arith, h.last, changes.lanes);
-      held = omega (arith, h.held, same);
-      heard = subst (λ n. IfSome lane.refusal (λ number. number ≤ n)) (sym same) h.heard;
-      judged = subst (λ n. All (λ number. number ≤ n) (judged_editions lane.docket.entries)) (sym same) h.judged;
-    }
-
-stands-other : (place : ℕ) (old new : WorldValue) (lane : LaneValue) (own : List Input) → ChangesAsksOf place old new → lane.place ≢ place → LaneStandsFor old lane own → LaneStandsFor new lane own
-stands-other place old new lane own changes other h =
-    let asks : lane_asks lane.place old.journal.entries ≡ lane_asks lane.place new.journal.entries = ap asks_in (sym (changes.others lane.place other)) in
-    subst (λ editions. StandFor editions (lane_asks lane.place new.journal.entries) lane.docket lane.tally own) (sym changes.editions)
-    (subst (λ a. StandFor old.editions a lane.docket lane.tally own) asks h)
 
 -- the lane at a place
 pub lane-at : (world : WorldValue) (place : ℕ) (lanes : List LaneValue) (k : ℕ) (lane : LaneValue) → AreLanesFrom world place lanes → slice_get lanes k ≡ Some lane → (lane.place ≡ place + k) × IsLaneOf world lane
@@ -60,13 +41,13 @@ all-set P (y ∷ xs) (suc k) x all one = (all.0, all-set P xs k x all.1 one)
 
 lanes-other : (at : ℕ) (old new : WorldValue) (place : ℕ) (lanes : List LaneValue) → ChangesAsksOf at old new → AreLanesFrom old place lanes → AreLanesFrom new place lanes
 lanes-other at old new place [] changes are = tt
-lanes-other at old new place (lane ∷ lanes) changes are = (are.0, of-other at old new lane changes are.1, lanes-other at old new (place + 1) lanes changes are.2)
+lanes-other at old new place (lane ∷ lanes) changes are = (are.0, is_lane_beside at old new lane changes are.1, lanes-other at old new (place + 1) lanes changes are.2)
 
 lanes-set : (at : ℕ) (old new : WorldValue) (place : ℕ) (lanes : List LaneValue) (k : ℕ) (after : LaneValue) → ChangesAsksOf at old new → after.place ≡ place + k → IsLaneOf new after → AreLanesFrom old place lanes → AreLanesFrom new place (slice_set lanes k after)
 lanes-set at old new place [] k after changes placed of are = tt
 lanes-set at old new place (lane ∷ lanes) zero after changes placed of are = (placed ∙ omega arith, of, lanes-other at old new (place + 1) lanes changes are.2)
 lanes-set at old new place (lane ∷ lanes) (suc k) after changes placed of are =
-    (are.0, of-other at old new lane changes are.1, lanes-set at old new (place + 1) lanes k after changes (placed ∙ omega arith) of are.2)
+    (are.0, is_lane_beside at old new lane changes are.1, lanes-set at old new (place + 1) lanes k after changes (placed ∙ omega arith) of are.2)
 
 stand-behind : (at : ℕ) (old new : WorldValue) (place : ℕ) (lanes : List LaneValue) (inputs : List (List Input)) → at < place → ChangesAsksOf at old new → AreLanesFrom old place lanes → EachStandsFor old lanes inputs → EachStandsFor new lanes inputs
 stand-behind at old new place [] [] less changes are stands = tt
@@ -74,7 +55,7 @@ stand-behind at old new place [] (own ∷ inputs) less changes are stands = absu
 stand-behind at old new place (lane ∷ lanes) [] less changes are stands = absurd stands
 stand-behind at old new place (lane ∷ lanes) (own ∷ inputs) less changes are stands =
     let other : lane.place ≢ at = omega (arith, are.0) in
-    (stands-other at old new lane own changes other stands.0, stand-behind at old new (place + 1) lanes inputs (omega arith) changes are.2 stands.1)
+    (stands_beside at old new lane own changes other stands.0, stand-behind at old new (place + 1) lanes inputs (omega arith) changes are.2 stands.1)
 
 stand-set : (old new : WorldValue) (place : ℕ) (lanes : List LaneValue) (k : ℕ) (lane after : LaneValue) (input : Input) (inputs : List (List Input)) → ChangesAsksOf (place + k) old new → slice_get lanes k ≡ Some lane
     → ((own : List Input) → LaneStandsFor old lane own → LaneStandsFor new after (own ++ input ∷ [])) → AreLanesFrom old place lanes → EachStandsFor old lanes inputs → EachStandsFor new (slice_set lanes k after) (with_input k input inputs)
@@ -87,7 +68,7 @@ stand-set old new place (first ∷ lanes) zero lane after input (own ∷ inputs)
 stand-set old new place (first ∷ lanes) (suc k) lane after input (own ∷ inputs) changes at one are stands =
     let other : first.place ≢ place + suc k = omega (arith, are.0) in
     let there : ChangesAsksOf (place + 1 + k) old new = let e : place + suc k ≡ place + 1 + k = omega arith in subst (λ n. ChangesAsksOf n old new) e changes in
-    (stands-other (place + suc k) old new first own changes other stands.0, stand-set old new (place + 1) lanes k lane after input inputs there at one are.2 stands.1)
+    (stands_beside (place + suc k) old new first own changes other stands.0, stand-set old new (place + 1) lanes k lane after input inputs there at one are.2 stands.1)
 
 length-set_lanes : (lanes : List LaneValue) (k : ℕ) (after : LaneValue) → length (slice_set lanes k after) ≡ length lanes
 length-set_lanes [] k after = refl

@@ -5,7 +5,7 @@ use Rattle.std.specs.Option.{option_map}
 use Rattle.std.specs.List.{AllByRecursion}
 use Rattle.std.proofs.lemmas.List.{map-append, map-set, length-map}
 use Rattle.std.proofs.lemmas.Option.{slice_get-map, slice_get_within}
-use Rattle.fw_command.specs.WellFormed.{IsStep}
+use Rattle.fw_command.specs.WellFormed.{IsStepInRange}
 use Rattle.fw_base.specs.declared.port.Port.{Port}
 use Rattle.fw_report.specs.declared.capture_end.CaptureEnd.{CaptureEnd}
 use Rattle.pcap_read.specs.Capture.{link_of, source_of}
@@ -159,7 +159,7 @@ module _ {S : Type 0} where
           keeps = record {
             ready = record {
               sound = replays.sound ready.sound;
-              formed = subst (λ steps. AllByRecursion IsStep steps) (sym agenda) ready.formed;
+              formed = subst (λ steps. AllByRecursion IsStepInRange steps) (sym agenda) ready.formed;
               matched = replays.lanes ∙ ready.matched ∙ sym (length-kept old.tracks k further.after) ∙ sym (ap length further.set);
               tracked = record {
                 limit = t.limit;

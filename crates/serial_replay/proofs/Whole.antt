@@ -3,8 +3,8 @@ use Rattle.std.proofs.Common.{◌≡◌, ℕ, zero, suc, ◌+◌, ◌*◌, ◌�
 use Rattle.std.specs.List.{AllByRecursion}
 use Rattle.std.proofs.Math.Nat.{mul-le-mul}
 use Rattle.std.proofs.lemmas.List.{length-map}
-use Rattle.fw_command.specs.WellFormed.{IsStep}
-use Rattle.fw_command.specs.declared.step.Step.{Step}
+use Rattle.fw_command.specs.WellFormed.{IsStepInRange}
+use Rattle.fw_command.specs.declared.script.Step.{Step}
 use Rattle.fw_world.specs.Closing.{AreLanesFrom, EachStandsFor}
 use Rattle.fw_world.specs.Editions.{IsLastOf}
 use Rattle.fw_world.specs.Lane.{LaneValue, first_lanes}
@@ -105,7 +105,7 @@ module _ {S : Type 0} (left : S → Option (List ℕ)) (faults : S → ℕ) wher
     pub taken : run.taken ≡ 0
     pub counted : count ≡ length captures
     pub few : (count ≤ 16) × (limit ≤ 4194304)
-    pub formed : AllByRecursion IsStep steps
+    pub formed : AllByRecursion IsStepInRange steps
 
   starts-sound : (config : Configuration) (steps : List Step) (limit : ℕ) (captures : List (OpenedCapture S)) (run : Running S) → Starts config steps limit captures run → IsSound run.live
   starts-sound config steps limit captures run h =
@@ -124,7 +124,7 @@ module _ {S : Type 0} (left : S → Option (List ℕ)) (faults : S → ℕ) wher
       let same = lengths limit captures run.tracks (map (λ (track : Track S). []) run.tracks) h.tracks.origins h.tracks.begun in
       record {
         sound = starts-sound config steps limit captures run h;
-        formed = subst (λ s. AllByRecursion IsStep s) (sym h.agenda) h.formed;
+        formed = subst (λ s. AllByRecursion IsStepInRange s) (sym h.agenda) h.formed;
         matched = ap length h.lanes ∙ length-first 1 h.count ∙ h.counted ∙ sym same.0;
         tracked = record { limit = limit; captures = captures; dones = map (λ (track : Track S). []) run.tracks; origins = h.tracks.origins; are = h.tracks.begun };
         few =

@@ -1,7 +1,7 @@
 -- The commands behind `live`: each is applied to the configuration that stands then, or refused; a listing
 -- is answered by the edition that stands then (ipfw(8)).
 use Rattle.std.specs.Prelude.{ℕ, ◌+◌, is_some, if◌then◌else◌, Option, Some, None, Ok, Err, List, [], ◌∷◌, ◌++◌}
-use Rattle.fw_command.specs.declared.line.Line.{Line}
+use Rattle.fw_command.specs.declared.script.Line.{Line}
 use Rattle.fw_report.specs.declared.answer.Answer.{Answer}
 use Rattle.fw_report.specs.declared.answer.Answer.TheVariants.{Refused, Listed}
 use Rattle.fw_report.specs.declared.line_answer.LineAnswer.{LineAnswer}

@@ -1,7 +1,7 @@
 -- A world with its desk, its lanes and the answers so far, and what its calls do.
 use Rattle.std.specs.Prelude.{◌≡◌, ℕ, zero, suc, None, List, [], ◌∷◌, ◌++◌, length}
 use Rattle.std.specs.List.{AllByRecursion}
-use Rattle.fw_command.specs.declared.line.Line.{Line}
+use Rattle.fw_command.specs.declared.script.Line.{Line}
 use Rattle.fw_report.specs.declared.answer.Answer.{Answer}
 use Rattle.fw_report.specs.declared.answer.Answer.TheVariants.{Refused}
 use Rattle.fw_report.specs.declared.line_answer.LineAnswer.{LineAnswer}

@@ -1,6 +1,6 @@
 -- A whole replay: captures, commands, and the record that they leave.
 use Rattle.std.specs.Prelude.{◌≡◌, ℕ, ◌/◌, min, Option, List, [], ◌∷◌, length, map}
-use Rattle.fw_command.specs.declared.step.Step.{Step}
+use Rattle.fw_command.specs.declared.script.Step.{Step}
 use Rattle.fw_world.specs.Lane.{first_lanes}
 use Rattle.fw_world.specs.Legal.{IsLegal}
 use Rattle.fw_world.specs.RecordValue.{RecordValue}

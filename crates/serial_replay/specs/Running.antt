@@ -2,8 +2,8 @@
 use Rattle.std.specs.Prelude.{◌≡◌, ℕ, zero, suc, ◌+◌, ◌^◌, ◌<◌, ◌≤◌, Option, None, List, [], ◌∷◌, ◌++◌, length, map}
 use Rattle.std.specs.List.{AllByRecursion}
 use Rattle.std.specs.Option.{option_map}
-use Rattle.fw_command.specs.WellFormed.{IsStep}
-use Rattle.fw_command.specs.declared.step.Step.{Step}
+use Rattle.fw_command.specs.WellFormed.{IsStepInRange}
+use Rattle.fw_command.specs.declared.script.Step.{Step}
 use Rattle.fw_world.specs.Inputs.{Input}
 use Rattle.pcap_read.specs.Reading.{Captured}
 use Rattle.rule_chain.specs.Configuration.{Configuration}
@@ -61,7 +61,7 @@ module _ {S : Type 0} where
     -- what every call needs
     pub record IsReady (run : Running S) : Type 0 where
       pub sound : IsSound run.live
-      pub formed : AllByRecursion IsStep (steps_of run.agenda)
+      pub formed : AllByRecursion IsStepInRange (steps_of run.agenda)
       pub matched : length run.live.lanes.items ≡ length run.tracks
       pub tracked : HaveTracks run.tracks
       pub few : run.taken + rooms_of run.tracks ≤ 2 ^ 32

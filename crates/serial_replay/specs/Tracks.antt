@@ -3,7 +3,7 @@ use Rattle.std.specs.Prelude.{◌≡◌, ℕ, suc, ◌+◌, ◌-◌, ◌*◌, le
 use Rattle.std.specs.Option.{option_to_list}
 use Rattle.fw_report.specs.declared.capture_end.CaptureEnd.{CaptureEnd}
 use Rattle.fw_report.specs.declared.capture_end.CaptureEnd.TheVariants.{Read}
-use Rattle.pcap_read.specs.declared.open_fault.OpenFault.{OpenFault}
+use Rattle.pcap_read.specs.declared.capture_fault.OpenFault.{OpenFault}
 use Rattle.pcap_read.specs.Capture.{IsReading, IsRefused, current_of, given_of, limit_of, link_of, source_of}
 use Rattle.pcap_read.specs.Reading.{Captured}
 use Rattle.serial_replay.specs.Reading.{Origin, origin_of, IsRead}

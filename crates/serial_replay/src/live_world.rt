@@ -1,6 +1,6 @@
 ghost use Rattle.std.specs.Prelude.{◌≡◌, ◌<◌, ◌≤◌, ◌⊎◌, length, IfOk, OnOk};
 ghost use Rattle.fw_command.specs.WellFormed.{IsLine};
-ghost use Rattle.pcap_read.specs.Capture.{captured};
+ghost use Rattle.pcap_read.specs.Capture.{captured_of};
 ghost use Rattle.rule_chain.specs.Changing.{IsChanging};
 ghost use Rattle.serial_replay.specs.Commands.{answered};
 ghost use Rattle.serial_replay.specs.Listings.{listing_in};
@@ -102,7 +102,7 @@ impl LiveWorld {
         requires small { length taken.bytes.now ≤ 262144 }
         requires sound { IsSound self.old }
         ensures { OnOk result
-            (ReplaysARecord capture (input_of link port.now (captured taken.entry)) self.old
+            (ReplaysARecord capture (input_of link port.now (captured_of taken.entry)) self.old
             self.new) }
     {
         let lane = &mut self.lanes[capture];

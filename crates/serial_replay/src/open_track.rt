@@ -1,6 +1,6 @@
 ghost use Rattle.std.specs.Prelude.{◌≡◌, None, IfOk, is_some, unwrap_or};
 ghost use Rattle.std.specs.Option.{option_map};
-ghost use Rattle.pcap_read.specs.Capture.{Advances, answered, captured, current_of, source_of};
+ghost use Rattle.pcap_read.specs.Capture.{Advances, answer_with, captured_of, current_of, source_of};
 ghost use Rattle.fw_report.specs.declared.capture_end.CaptureEnd.TheVariants.{Read};
 ghost use Rattle.serial_replay.specs.Tracks.{StepsOn, StepsOnOrEnded, held_in};
 ghost use Rattle.serial_schedule.specs.Order.{moment_of};
@@ -24,7 +24,7 @@ pub(crate) struct OpenTrack<S> {
 /// Goes on to the next record; answers whether there is one.
 fn next_record<S: Source>(capture: &mut Capture<S>) -> Result<bool, CaptureFault>
     ensures advances { Advances S.left S.faults capture.old capture.new
-        (answered result (current_of capture.new)) }
+        (answer_with result (current_of capture.new)) }
     ensures found { IfOk result (λ found. found ≡ is_some (current_of capture.new)) }
 {
     match capture.next() {

@@ -1,6 +1,6 @@
 ghost use Rattle.std.specs.Prelude.{◌≡◌, ◌≤◌, ◌*◌, IfOk, vec_len};
 ghost use Rattle.std.specs.List.{AllByRecursion};
-ghost use Rattle.fw_command.specs.WellFormed.{IsStep};
+ghost use Rattle.fw_command.specs.WellFormed.{IsStepInRange};
 ghost use Rattle.serial_replay.specs.Replay as replay;
 ghost use Rattle.serial_replay.specs.Replay.{IsReplay};
 
@@ -40,7 +40,7 @@ pub fn replay_serial<S: Source>(
 ) -> Result<Replayed<S>, OutOfMemory>
     requires some { 1 ≤ vec_len captures }
     requires few { vec_len captures ≤ 16 }
-    requires steps { AllByRecursion IsStep steps.now }
+    requires steps { AllByRecursion IsStepInRange steps.now }
     ensures { IfOk result (IsReplay S.left S.faults config steps.now captures.items) }
 {
     let count = captures.len() as u32;

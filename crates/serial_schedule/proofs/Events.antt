@@ -1,8 +1,8 @@
 -- The events of a replay, one after the other.
 use Rattle.std.proofs.Common.{refl, sym, subst, true, false, nat_le, if◌then◌else◌, ◌≡◌, ℕ, ◌+◌, ◌<◌, Some, None, List, [], ◌∷◌, ◌++◌, map, length, ap, ◌∙◌}
-use Rattle.fw_command.specs.declared.line.Line.{Line}
-use Rattle.fw_command.specs.declared.step.Step.{Step}
-use Rattle.fw_command.specs.declared.step.Step.TheVariants.{Run, After}
+use Rattle.fw_command.specs.declared.script.Line.{Line}
+use Rattle.fw_command.specs.declared.script.Step.{Step}
+use Rattle.fw_command.specs.declared.script.Step.TheVariants.{Run, After}
 use Rattle.pcap_read.specs.Reading.{Captured}
 use Rattle.serial_schedule.specs.Agenda.{due_lines, waiting_steps, all_lines, GivesDue, NoneIsDue, GivesRest}
 use Rattle.serial_schedule.specs.Order.{Turn, next_moment, first_capture, in_order}

@@ -1,8 +1,8 @@
 -- The steps that are passed over where the next line is sought.
 use Rattle.std.proofs.Common.{◌≡◌, ℕ, ◌≤◌, true, cond, nat_le, List, [], ◌∷◌, ◌++◌, sym, ap, ◌∙◌, append_assoc, arith}
 use Rattle.std.proofs.lemmas.Bool.Decides.{nat_tests}
-use Rattle.fw_command.specs.declared.step.Step.{Step}
-use Rattle.fw_command.specs.declared.step.Step.TheVariants.{After}
+use Rattle.fw_command.specs.declared.script.Step.{Step}
+use Rattle.fw_command.specs.declared.script.Step.TheVariants.{After}
 use Rattle.serial_schedule.specs.Agenda.{due_lines, waiting_steps, all_lines, AreLast}
 
 -- No line stands among the steps that were passed over, and none of them waits.

@@ -97,9 +97,10 @@ first_capture-there moments capture is =
           (head.moment, ap (slice_get moments) (sym place) ∙ there)
     ] refl is
 
-some_first : (head : Head) (other : Option Head) → earlier (Some head) other ≡ None → ⊥
-some_first head None same = cc
-some_first head (Some first) same = elim (is_before first.moment head.moment) as (λ b. (if b then Some first else Some head) ≡ None → ⊥) [ true ↦ λ e. cc | false ↦ λ e. cc ] same
+-- of a head and another there is an earlier one
+pub some_is_earlier : (head : Head) (other : Option Head) → earlier (Some head) other ≡ None → ⊥
+some_is_earlier head None same = cc
+some_is_earlier head (Some first) same = elim (is_before first.moment head.moment) as (λ b. (if b then Some first else Some head) ≡ None → ⊥) [ true ↦ λ e. cc | false ↦ λ e. cc ] same
 
 -- no record of a capture
 abbrev pub no_records : Option Captured → List Captured
@@ -109,7 +110,7 @@ no_head : (capture : ℕ) (held : List (Option Captured)) → first_head capture
 unfolding first_head
 no_head capture [] none = refl
 no_head capture (None ∷ held) none = ap (λ heads. None ∷ heads) (no_head (capture + 1) held none)
-no_head capture (Some r ∷ held) none = absurd (some_first (record { capture = capture; moment = moment_of r }) (first_head (capture + 1) (map (option_map moment_of) held)) none)
+no_head capture (Some r ∷ held) none = absurd (some_is_earlier (record { capture = capture; moment = moment_of r }) (first_head (capture + 1) (map (option_map moment_of) held)) none)
 
 -- where none of these next records comes first there are none
 pub none_first : (held : List (Option Captured)) → first_capture (map (option_map moment_of) held) ≡ None → map next_of (map no_records held) ≡ held

@@ -1,9 +1,9 @@
 -- The commands behind `live` between the records: they run in order; behind a line `after N` the next waits
 -- until N records in all were taken, and runs before the next record (this project's own).
 use Rattle.std.specs.Prelude.{◌≡◌, ℕ, nat_le, if◌then◌else◌, Option, Some, None, List, [], ◌∷◌, ◌++◌}
-use Rattle.fw_command.specs.declared.line.Line.{Line}
-use Rattle.fw_command.specs.declared.step.Step.{Step}
-use Rattle.fw_command.specs.declared.step.Step.TheVariants.{Run, After}
+use Rattle.fw_command.specs.declared.script.Line.{Line}
+use Rattle.fw_command.specs.declared.script.Step.{Step}
+use Rattle.fw_command.specs.declared.script.Step.TheVariants.{Run, After}
 
 -- the lines that run before the next record where so many were taken
 abbrev pub due_lines : ℕ → List Step → List Line

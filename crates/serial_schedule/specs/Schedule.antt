@@ -1,8 +1,8 @@
 -- The order of records and commands: the commands that are due run before the next record, and those that
 -- are left when all captures have ended run then (this project's own).
 use Rattle.std.specs.Prelude.{ℕ, ◌+◌, List, [], ◌∷◌, ◌++◌, map}
-use Rattle.fw_command.specs.declared.line.Line.{Line}
-use Rattle.fw_command.specs.declared.step.Step.{Step}
+use Rattle.fw_command.specs.declared.script.Line.{Line}
+use Rattle.fw_command.specs.declared.script.Step.{Step}
 use Rattle.pcap_read.specs.Reading.{Captured}
 use Rattle.serial_schedule.specs.Agenda.{due_lines, waiting_steps, all_lines}
 use Rattle.serial_schedule.specs.Order.{Turn, in_order}

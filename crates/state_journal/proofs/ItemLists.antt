@@ -7,7 +7,8 @@ use Rattle.state_journal.specs.Items.{asks_of, items_of, last_facts}
 use Rattle.state_journal.specs.Journal.{Journal, with_publication}
 
 -- a publication behind the entries is no ask
-asks_of-publication : (lane after number : ℕ) (entries : List Entry) → asks_of lane after (entries ++ Publish number ∷ []) ≡ asks_of lane after entries
+-- a publication is no lane's ask
+pub asks_of-publication : (lane after number : ℕ) (entries : List Entry) → asks_of lane after (entries ++ Publish number ∷ []) ≡ asks_of lane after entries
 asks_of-publication lane after number [] = refl
 asks_of-publication lane after number (Publish earlier ∷ entries) = asks_of-publication lane earlier number entries
 asks_of-publication lane after number (Ask by op reply at ∷ entries) = rw (asks_of-publication lane after number entries) refl

@@ -3,9 +3,9 @@ ghost use Rattle.dyn_states.specs.RuleLists.{has_id};
 ghost use Rattle.state_journal.specs.Journal.{NamesRuleOf};
 
 use crate::{Book, Entry};
-use dyn_states::{Facts, FlowName, Op, Reply, RuleRef, Way, is_ordered};
+use dyn_states::{Facts, FlowName, Identities, Op, Reply, RuleRef, Way, is_ordered};
 use fw_base::{Addr, Kept};
-use fw_rule::{Items, Settings, USUAL_MOST_STATES};
+use fw_rule::{Settings, USUAL_MOST_STATES};
 use packet_headers::Flow;
 use std::mem::size_of;
 use std::process::Abort;
@@ -47,13 +47,13 @@ fn install(second: u32) -> Op
     }
 }
 
-fn facts(rt: &impl Abort, number: u64, rules: Vec<u32>) -> Facts
+fn facts(rt: &impl Abort, number: u64, rules: Identities) -> Facts
     ensures { result.number ≡ number }
 {
-    assert!(rt; is_ordered(&rules));
+    assert!(rt; is_ordered(rules.as_slice()));
     Facts {
         number,
-        rules: Items::from_vec(rules),
+        rules,
         settings: Settings {
             ack: 300,
             syn: 20,
@@ -79,7 +79,8 @@ fn publish<B: Kept>(rt: &impl Abort, book: &mut B, number: u64, facts: B::Facts)
 
 #[test]
 fn publication_drops_states(rt: HostRuntime) -> Result<(), Fail> {
-    let first = facts(&rt, 1, vec![in rt.alloc(); 0, 1, 2]?);
+    let three = Identities::new(rt.alloc(), vec![in rt.alloc(); 0, 1, 2]?)?;
+    let first = facts(&rt, 1, three);
     let mut book = Book::open(rt.alloc(), 2, first)?;
     assert_eq!(rt; book.lanes(), 2);
     assert!(rt; !book.is_ready());
@@ -90,7 +91,8 @@ fn publication_drops_states(rt: HostRuntime) -> Result<(), Fail> {
     let found = Reply::Found(Way::Forward, RULE);
     assert_eq!(rt; book.ask(2, 1, lookup(101))?, found);
     assert_eq!(rt; book.states().count(), 1);
-    publish(&rt, &mut book, 2, facts(&rt, 2, vec![in rt.alloc(); 0, 1]?));
+    let two = Identities::new(rt.alloc(), vec![in rt.alloc(); 0, 1]?)?;
+    publish(&rt, &mut book, 2, facts(&rt, 2, two));
     assert!(rt; book.lanes() == 2);
     assert!(rt; !book.has_rule(2));
     assert_eq!(rt; book.ask(1, 2, lookup(101))?, Reply::NotFound);

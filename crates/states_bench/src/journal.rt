@@ -1,9 +1,8 @@
 use crate::flows::{lookup, settings};
 use crate::timing::{nanoseconds, print_mean};
 use anyhow::{Result, bail};
-use dyn_states::{Facts, is_ordered};
+use dyn_states::{Facts, Identities, is_ordered};
 use fw_base::OutOfMemory;
-use fw_rule::Items;
 use state_journal::{Book, Entry};
 use std::alloc::Global;
 use std::io::Print;
@@ -26,7 +25,7 @@ pub fn print_journal<R: Clock + Print>(rt: &R, alloc: Global, asks: u32) -> Resu
     }
     let facts = Facts {
         number: 1,
-        rules: Items::from_vec(rules),
+        rules: Identities::new(alloc, rules)?,
         settings: settings(10),
     };
     let mut book = Book::open(alloc, 1, facts)?;

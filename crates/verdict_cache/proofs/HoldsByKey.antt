@@ -6,10 +6,10 @@ use Rattle.fw_base.specs.declared.address.Addr.{Addr}
 use Rattle.fw_base.specs.declared.port.Port.{Port}
 use Rattle.fw_rule.specs.Canonical.{has_bit}
 use Rattle.fw_rule.specs.declared.body.Body.{Body}
-use Rattle.fw_rule.specs.declared.family.Family.{Family}
-use Rattle.fw_rule.specs.declared.family.Family.TheVariants as family
-use Rattle.fw_rule.specs.declared.field.Field.{Field}
-use Rattle.fw_rule.specs.declared.field.Field.TheVariants.{SrcIp, DstIp, SrcPort, DstPort}
+use Rattle.fw_rule.specs.declared.body.Family.{Family}
+use Rattle.fw_rule.specs.declared.body.Family.TheVariants as family
+use Rattle.fw_rule.specs.declared.test.Field.{Field}
+use Rattle.fw_rule.specs.declared.test.Field.TheVariants.{SrcIp, DstIp, SrcPort, DstPort}
 use Rattle.fw_rule.specs.declared.opt.Opt.{Opt}
 use Rattle.fw_rule.specs.declared.test.Test.{Test}
 use Rattle.fw_rule.specs.declared.test.Test.TheVariants.{Inward, Outward, Established, Setup, Frag, Recv, Xmit, Via, TcpFlags, IcmpTypes, Icmp6Types, IpOptions, Lookup}

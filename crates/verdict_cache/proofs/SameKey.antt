@@ -3,15 +3,10 @@ use Rattle.std.proofs.Common.{◌≡◌, ℕ, Bool, true, false, ◌==◌, Optio
 use Rattle.std.proofs.lemmas.Bool.{and_parts, and_from, eqb-true, eq-eqb}
 use Rattle.std.specs.Bool.{beq}
 use Rattle.std.specs.Option.{option_eq}
+use Rattle.fw_base.proofs.Logic.{same_by_beq}
 use Rattle.verdict_cache.specs.Key.{same_key, same_ports, same_options}
 use Rattle.verdict_cache.specs.declared.key.Key.{Key}
 use Rattle.verdict_cache.specs.declared.present_options.PresentOptions.{PresentOptions}
-
-beq-true : (a b : Bool) → beq a b ≡ true → a ≡ b
-beq-true true true h = refl
-beq-true true false h = cc
-beq-true false true h = cc
-beq-true false false h = refl
 
 beq-itself : (a : Bool) → beq a a ≡ true
 beq-itself true = refl
@@ -42,10 +37,10 @@ same_options-equal a b h =
     let loose = and_parts (beq a.loose_source_route b.loose_source_route) _ strict.1 in
     let last = and_parts (beq a.record_route b.record_route) (beq a.time_stamp b.time_stamp) loose.1 in
     λ i. record {
-      strict_source_route = beq-true a.strict_source_route b.strict_source_route strict.0 i;
-      loose_source_route = beq-true a.loose_source_route b.loose_source_route loose.0 i;
-      record_route = beq-true a.record_route b.record_route last.0 i;
-      time_stamp = beq-true a.time_stamp b.time_stamp last.1 i;
+      strict_source_route = same_by_beq a.strict_source_route b.strict_source_route strict.0 i;
+      loose_source_route = same_by_beq a.loose_source_route b.loose_source_route loose.0 i;
+      record_route = same_by_beq a.record_route b.record_route last.0 i;
+      time_stamp = same_by_beq a.time_stamp b.time_stamp last.1 i;
     }
 
 same_options-itself : (a : PresentOptions) → same_options a a ≡ true
@@ -67,7 +62,7 @@ same_key-equal a b h =
       source = record { 0 = eqb-true a.source.0 b.source.0 source.0 i };
       destination = record { 0 = eqb-true a.destination.0 b.destination.0 destination.0 i };
       protocol = eqb-true a.protocol b.protocol protocol.0 i;
-      is_offset_zero = beq-true a.is_offset_zero b.is_offset_zero offset.0 i;
+      is_offset_zero = same_by_beq a.is_offset_zero b.is_offset_zero offset.0 i;
       ports = option_eq-true same_ports same_ports-equal a.ports b.ports ports.0 i;
       tcp_flags = option_eq-true nat_eq eqb-true a.tcp_flags b.tcp_flags flags.0 i;
       icmp_type = option_eq-true nat_eq eqb-true a.icmp_type b.icmp_type type.0 i;

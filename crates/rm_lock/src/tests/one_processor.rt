@@ -3,8 +3,7 @@ ghost use Rattle.std.specs.Prelude.{◌≡◌, IfOk};
 use super::edition::Edition;
 use super::ledger::Ledger;
 use super::walks::{
-    Lock, Reader, Writer, made_ready, publish_next, refused, regained, regained_at_once, section,
-    section_with_entry,
+    Lock, Reader, Writer, made_ready, publish_next, refused, regained, section, section_with_entry,
 };
 use crate::{Opened, RmLock};
 use std::alloc::Global;
@@ -65,32 +64,6 @@ fn lock_of_one_processor(rt: HostRuntime) -> Result<(), Fail> {
     assert_eq!(rt; closed.trackers, vec![in rt.alloc(); 6; 1]?);
     assert_eq!(rt; closed.editions.len(), 1);
     assert_eq!(rt; (closed.book.number, closed.book.publications), (2, 2));
-    Ok(())
-}
-
-// A processor that was told of a publication is refused, and comes in at that publication.
-#[test]
-fn told_reader_meets_the_edition(rt: HostRuntime) -> Result<(), Fail> {
-    let Single {
-        lock,
-        processor,
-        operator,
-    } = open_single(&rt, rt.alloc())?;
-    assert_eq!(rt; processor.told(), 0);
-    let operator = made_ready(&rt, &lock, operator);
-    let editions = vec![in rt.alloc(); Edition { number: 2 }; 1]?;
-    let operator = publish_next(&rt, &lock, operator, editions, 2);
-    let (operator, receipt) = lock.receipt(operator);
-    assert_eq!(rt; receipt.number(), 2);
-    let processor = lock.hear(processor, receipt);
-    assert_eq!(rt; (processor.told(), processor.number()), (2, 1));
-    let processor = refused(&rt, &lock, processor, 2);
-    let processor = regained_at_once(&rt, &lock, processor, 2);
-    let processor = section(&rt, &lock, processor, 2);
-    let mut processors = Vec::with_capacity(rt.alloc(), 1)?;
-    processors.push_reserved(processor);
-    let closed = lock.close(processors, operator);
-    assert_eq!(rt; closed.trackers, vec![in rt.alloc(); 4; 1]?);
     Ok(())
 }
 

@@ -1,7 +1,7 @@
 ghost use Rattle.std.specs.Prelude.{◌≡◌, ℕ, ◌+◌, ◌-◌, ◌^◌, ◌<◌, true, false, None, [], ◌∷◌, length, replicate, IfOk};
 ghost use Rattle.rm_table.specs.Layout.{book_index};
-ghost use Rattle.rm_table.specs.Moves.{IsOperator, is_revoked, is_drained, noted, book_taken};
-ghost use Rattle.rm_table.specs.declared.slot.Slot.TheVariants.{Edition as Home, Book as Held};
+ghost use Rattle.rm_table.specs.Moves.{IsOperator, is_revoked, is_drained, with_step, book_taken};
+ghost use Rattle.rm_table.specs.declared.padded_slot.Slot.TheVariants.{Edition as Home, Book as Held};
 ghost use Rattle.rm_table.specs.Rests.{IsIdle, IsAtRest};
 
 use super::edition::Edition;
@@ -96,7 +96,7 @@ pub(crate) fn take_ledger(rt: &impl Abort, table: &LockTable, operator: &mut Sea
     ensures table { operator.new.table_id ≡ operator.old.table_id }
     ensures seat { operator.new.me
         ≡ (
-          noted (book_taken operator.old.me.0 result) book_index 0,
+          with_step (book_taken operator.old.me.0 result) book_index 0,
           (0, Held None) ∷ operator.old.me.1,
         ) }
     ensures number { result.number ≡ operator.old.me.0.number }

@@ -1,6 +1,6 @@
 ghost use Rattle.std.specs.Prelude.{◌≡◌, ℕ, ◌+◌, ◌<◌, ◌≤◌, true, false, None, [], ◌∷◌, length, slice_set};
 ghost use Rattle.rm_table.specs.Moves.{IsOperator, is_revoked, is_drained};
-ghost use Rattle.rm_table.specs.declared.slot.Slot.TheVariants.{Edition as Home};
+ghost use Rattle.rm_table.specs.declared.padded_slot.Slot.TheVariants.{Edition as Home};
 ghost use Rattle.rm_table.specs.Rests.{IsAtRest};
 
 use super::edition::Edition;

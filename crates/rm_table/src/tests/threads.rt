@@ -1,6 +1,6 @@
 ghost use Rattle.std.specs.Prelude.{◌≡◌, ℕ, ◌+◌, ◌-◌, ◌<◌, ◌≤◌};
 ghost use Rattle.std.specs.Thread.{IsSync};
-ghost use Rattle.rm_table.specs.Rests.{IsIdle, IsInside, OpensFrom, IsRejoinedFrom};
+ghost use Rattle.rm_table.specs.Rests.{IsIdle, IsInSection, OpensFrom, IsRejoinedFrom};
 
 use super::walks::{LockTable, Seat, open_lock};
 use crate::{OpenTable, Tried};
@@ -13,10 +13,10 @@ const SECTIONS: u32 = 1000;
 // In a section: takes the book where it is free, and gives it back as it was. Answers whether it had it.
 fn look_into_book(table: &LockTable, seat: &mut Seat) -> bool
     requires table { seat.old.table_id ≡ table.now }
-    requires inside { IsInside seat.old.me.0 seat.old.me.1 }
+    requires inside { IsInSection seat.old.me.0 seat.old.me.1 }
     ensures table { seat.new.table_id ≡ seat.old.table_id }
     ensures place { seat.new.me.0.place ≡ seat.old.me.0.place }
-    ensures inside { IsInside seat.new.me.0 seat.new.me.1 }
+    ensures inside { IsInSection seat.new.me.0 seat.new.me.1 }
 {
     match table.take_book(seat) {
         Tried::Taken => {

@@ -1,5 +1,5 @@
 ghost use Rattle.std.specs.Prelude.{◌≡◌};
-ghost use Rattle.rm_table.specs.Moves.{informed, receipt_view};
+ghost use Rattle.rm_table.specs.Moves.{informed_view, receipt_view};
 ghost use Rattle.rm_table.specs.Rests.{IsIdle, IsAtRest};
 
 use super::publication::{Single, open_single, publish_next, renew, take_token};
@@ -19,7 +19,7 @@ fn tell(table: &LockTable, operator: &mut Seat, processor: &mut Seat)
     ensures at_rest { IsAtRest operator.new.me.0 operator.new.me.1 }
     ensures place { processor.new.me.0.place ≡ processor.old.me.0.place }
     ensures told { processor.new.me.0
-        ≡ informed processor.old.me.0 (receipt_view operator.old.me.0) }
+        ≡ informed_view processor.old.me.0 (receipt_view operator.old.me.0) }
     ensures idle { IsIdle processor.new.me.0 processor.new.me.1 }
 {
     let receipt = table.split_seat(operator, 0);
@@ -28,7 +28,7 @@ fn tell(table: &LockTable, operator: &mut Seat, processor: &mut Seat)
 
 // A processor that was told of a publication is refused, and comes in at that publication.
 #[test]
-fn told_reader_meets_the_edition(rt: HostRuntime) -> Result<(), Fail> {
+fn told_seat_meets_the_edition(rt: HostRuntime) -> Result<(), Fail> {
     let Single {
         table,
         mut operator,

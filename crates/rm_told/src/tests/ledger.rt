@@ -22,7 +22,8 @@ impl Kept for Ledger {
 
     ghost ready = { λ b. nat_lt b.publications (2 ^ 64 - 1) };
 
-    ghost of = { λ b k. if k == 0 then replicate b.publications 0 else (if k == 1 then replicate b.entries 1 else replicate 0 2) };
+    ghost of = { λ b k. if k == 0 then replicate b.publications 0
+        else (if k == 1 then replicate b.entries 1 else replicate 0 2) };
 
     ghost facts_number = { λ f. f };
 

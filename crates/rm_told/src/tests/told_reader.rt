@@ -24,8 +24,10 @@ struct Single {
 }
 
 fn open_single(rt: &impl Abort, alloc: Global) -> Result<Single, Fail>
-    ensures processor { IfOk result (λ s. (s.processor.table_id ≡ s.told) × (s.processor.view.place ≡ 1)) }
-    ensures operator { IfOk result (λ s. (s.operator.table_id ≡ s.told) × (s.operator.view.count ≡ 1) × (s.operator.view.number ≡ 1)) }
+    ensures processor { IfOk result (λ s. (s.processor.table_id ≡ s.told)
+        × (s.processor.view.place ≡ 1)) }
+    ensures operator { IfOk result (λ s. (s.operator.table_id ≡ s.told)
+        × (s.operator.view.count ≡ 1) × (s.operator.view.number ≡ 1)) }
 {
     let editions = vec![in alloc; Edition { number: 1 }; 1]?;
     let book = Ledger {
@@ -171,6 +173,7 @@ fn told_reader_meets_the_edition(rt: HostRuntime) -> Result<(), Fail> {
         processor,
         operator,
     } = open_single(&rt, rt.alloc())?;
+    assert_eq!(rt; processor.told(), 0);
     let (operator, receipt) = publish_second(&rt, rt.alloc(), told.lock(), operator)?;
     let processor = come_to_second(&rt, &told, processor, receipt);
     let processor = three_deep(&rt, &told, processor);

@@ -1,6 +1,6 @@
 use super::after;
 use super::steps::{Step, command_of};
-use crate::{Config, is_changing};
+use crate::{Config, is_changing, touches_rules, untouched_rules_stay};
 use fw_base::Name;
 use fw_rule::{Command, TableCommand};
 use std::alloc::Global;
@@ -19,6 +19,9 @@ fn edited(alloc: Global, first: Config, count: u8) -> Result<Vec<Config>, Fail> 
             _ => Step::AddNumber(b'n', u32::from(edit)),
         };
         let command = command_of(alloc, step)?;
+        if touches_rules(&command) {
+            return Err("an edit of rules")?;
+        }
         let next = config.apply(alloc, &command)?;
         kept.push(config)?;
         config = next;
@@ -79,5 +82,7 @@ fn listings_change_nothing(rt: HostRuntime) -> Result<(), Fail> {
     assert!(rt; !is_changing(&Command::ListRules));
     assert!(rt; !is_changing(&Command::Table(name, TableCommand::ListEntries)));
     assert!(rt; is_changing(&Command::Flush));
+    assert!(rt; touches_rules(&Command::Flush));
+    untouched_rules_stay();
     Ok(())
 }

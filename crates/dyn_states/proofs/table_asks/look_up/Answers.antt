@@ -2,13 +2,13 @@ use Rattle.std.proofs.Common.{◌≡◌, ap, sym, ◌∙◌, Some, None, List, l
 use Rattle.std.proofs.Math.ListN.{set}
 use Rattle.std.specs.Prelude.{find}
 use Rattle.std.proofs.lemmas.List.Sums.{length-filter}
+use Rattle.std.proofs.lemmas.Bool.{and_parts}
 use Rattle.fw_rule.specs.Values.{values_of}
 use Rattle.dyn_states.specs.declared.state.State.{State}
 use Rattle.dyn_states.specs.Slots.{IsFirstPlace, slot, no_state, is_held, held_states}
 use Rattle.dyn_states.specs.StateObject.{StateObject, lookup_reply, after_lookup, found_reply, considers, touched, with_first}
 use Rattle.dyn_states.specs.StateTable.{slots_of, states_of, object_of}
 use Rattle.dyn_states.proofs.CountLaws.{live-touch}
-use Rattle.dyn_states.proofs.PlaceLaws.{both}
 use Rattle.dyn_states.proofs.SlotLaws.{find-none, find-held, with_first-held, with_first-none}
 use Rattle.dyn_states.proofs.table_asks.look_up.Goals as goal
 
@@ -58,7 +58,7 @@ returns-in-Some-clause-count c =
     let test = considers c.args.flow.now c.args.name in
     let slots : List State = slots_of c.make_room.new.self in
     let first : IsFirstPlace test slots (Some c.in-Some.place) = rw c.in-Some.is at c.place_of.ensures in
-    let held = (both (is_held (slot slots c.in-Some.place)) (test (slot slots c.in-Some.place)) first.1).0 in
+    let held = (and_parts (is_held (slot slots c.in-Some.place)) (test (slot slots c.in-Some.place)) first.1).0 in
     ap (λ (xs : List State). length (held_states xs)) c.touch.ensures.slots
     ∙ (length-filter is_held (set slots c.in-Some.place c.touched.result)
     ∙ (live-touch slots c.in-Some.place c.touched.result no_state first.0 (c.touched.ensures.held ∙ sym held)

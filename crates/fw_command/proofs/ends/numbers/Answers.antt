@@ -1,6 +1,6 @@
 use Rattle.std.proofs.lemmas.Result.{err_from_is_err_and}
-use Rattle.ipfw_parser.proofs.Listing.{fails_on}
-use Rattle.ipfw_parser.proofs.Placing.{no_words_is}
+use Rattle.ipfw_parser.proofs.Steps.Lists.{fails_on}
+use Rattle.ipfw_parser.proofs.Steps.Options.{no_words_is}
 use Rattle.fw_command.specs.Commands.{numbers}
 use Rattle.fw_command.proofs.WordLists.{opened, goes, breaks, ends, fewer}
 use Rattle.fw_command.proofs.ends.numbers.Goals as goal

@@ -1,5 +1,5 @@
 use Rattle.std.proofs.Common.{◌∙◌}
-use Rattle.fw_command.specs.Texts.{placed_text}
+use Rattle.fw_command.specs.FaultText.{placed_text}
 use Rattle.fw_command.proofs.fault_text.write_placed.Goals as goal
 
 pub returns : goal.returns

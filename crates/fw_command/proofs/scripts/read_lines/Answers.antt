@@ -1,7 +1,7 @@
 use Rattle.std.proofs.Common.{◌≡◌, [], sym, ◌∙◌, ap, arith, rules, drop_of_length-le}
 use Rattle.std.proofs.lemmas.Result.{err_from_is_err_and}
 use Rattle.fw_command.specs.Lines.{lines_of}
-use Rattle.fw_command.specs.declared.place.Place.{Place}
+use Rattle.fw_command.specs.declared.statement.Place.{Place}
 use Rattle.fw_command.proofs.LineEnds.{lines_of_none}
 use Rattle.fw_command.proofs.ScriptSteps.{goes, breaks, ends, fails_on, next_line, next_ran}
 use Rattle.fw_command.proofs.scripts.read_lines.Goals as goal

@@ -1,7 +1,7 @@
 use Rattle.std.proofs.Common.{refl, sym, ◌∙◌}
 use Rattle.std.proofs.lemmas.Result.{err_from_is_err_and}
-use Rattle.ipfw_parser.proofs.Listing.{fails_on}
-use Rattle.ipfw_parser.proofs.Placing.{some_words_is, no_words_is}
+use Rattle.ipfw_parser.proofs.Steps.Lists.{fails_on}
+use Rattle.ipfw_parser.proofs.Steps.Options.{some_words_is, no_words_is}
 use Rattle.fw_command.proofs.WordLists.{fewer}
 use Rattle.fw_command.proofs.SetSteps.{set_goes, set_breaks, sets_end, sets_done}
 use Rattle.fw_command.proofs.set_commands.more_sets.Goals as goal

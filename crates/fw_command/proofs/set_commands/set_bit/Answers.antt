@@ -1,7 +1,7 @@
 use Rattle.std.proofs.Common.{◌≤◌, arith, refl}
-use Rattle.ipfw_parser.proofs.Following.{of_ok}
-use Rattle.ipfw_parser.proofs.MaskSteps.{bit_fits}
-use Rattle.ipfw_parser.proofs.NumbersRead.{set_on}
+use Rattle.ipfw_parser.proofs.Forms.Following.{of_ok}
+use Rattle.ipfw_parser.proofs.Steps.Masks.{bit_fits}
+use Rattle.ipfw_parser.proofs.Forms.Numbers.{set_on}
 use Rattle.fw_command.specs.SetCommands.{set_bit}
 use Rattle.fw_command.proofs.set_commands.set_bit.Goals as goal
 

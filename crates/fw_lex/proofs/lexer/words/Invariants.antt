@@ -1,6 +1,6 @@
 use Rattle.std.proofs.Common.{◌≡◌, ◌++◌, drop, None}
-use Rattle.fw_lex.specs.Words.{words_from}
+use Rattle.fw_lex.specs.Words.{tokens_from}
 use Rattle.fw_lex.proofs.lexer.words.Given as goal
 
 abbrev pub invariant-loop-at : goal.invariant-loop-at
-invariant-loop-at l = l.found.items ++ words_from l.begun l.at (drop l.at l.part) ≡ words_from None 0 l.part
+invariant-loop-at l = l.found.items ++ tokens_from l.begun l.at (drop l.at l.part) ≡ tokens_from None 0 l.part

@@ -1,6 +1,6 @@
 use Rattle.std.proofs.Common.{sym, ap}
 use Rattle.fw_base.proofs.Texts.{starts}
-use Rattle.fw_rule.specs.Addr6Text.{address6_text, groups_text}
+use Rattle.fw_rule.specs.Address6Text.{address6_text, groups_text}
 use Rattle.fw_rule.proofs.WriteSteps.{finishes}
 use Rattle.fw_rule.proofs.address6_text.write_address6.Goals as goal
 

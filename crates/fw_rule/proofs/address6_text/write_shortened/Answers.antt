@@ -1,6 +1,6 @@
 use Rattle.std.proofs.Common.{refl, ◌+◌, ap}
 use Rattle.fw_base.proofs.Texts.{starts}
-use Rattle.fw_rule.specs.Addr6Text.{groups_joined}
+use Rattle.fw_rule.specs.Address6Text.{groups_joined}
 use Rattle.fw_rule.proofs.Runs.{rest_of}
 use Rattle.fw_rule.proofs.WriteSteps.{goes, breaks_off, finishes}
 use Rattle.fw_rule.proofs.address6_text.write_shortened.Goals as goal

@@ -1,7 +1,7 @@
 use Rattle.std.proofs.Common.{ap, ◌∙◌, codes}
 use Rattle.std.specs.List.{join_with_byte}
 use Rattle.fw_base.proofs.Texts.{starts}
-use Rattle.fw_rule.specs.Canonical.{spaced, test_words, numbers_where}
+use Rattle.fw_rule.specs.Canonical.{spaced_text, test_words, numbers_where}
 use Rattle.fw_rule.specs.TypeSet.{has_type}
 use Rattle.fw_rule.specs.declared.test.Test.{Test}
 use Rattle.fw_rule.proofs.Lists.{spaced-pair}
@@ -11,5 +11,5 @@ use Rattle.fw_rule.proofs.options.write_test.Goals as goal
 pub returns-in-Icmp6Types : goal.returns-in-Icmp6Types
 returns-in-Icmp6Types g c =
     finishes _ (starts _ _ _)
-    (ap (λ (t : Test). spaced (test_words t)) c.in-Icmp6Types.is ∙ spaced-pair (codes "icmp6types") (join_with_byte 44 (numbers_where (has_type c.in-Icmp6Types.types) 256 0)))
+    (ap (λ (t : Test). spaced_text (test_words t)) c.in-Icmp6Types.is ∙ spaced-pair (codes "icmp6types") (join_with_byte 44 (numbers_where (has_type c.in-Icmp6Types.types) 256 0)))
     c.write_type_numbers.ensures

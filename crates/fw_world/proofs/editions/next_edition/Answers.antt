@@ -27,15 +27,18 @@ cause_of editions command before fault.TooManyCounters last is = (before, last, 
 cause_of editions command before fault.TooManyNames last is = (before, last, is (λ e. cc))
 cause_of editions command before fault.OutOfMemory last is = tt
 
-pub returns-in_ok-build_behind-in-Ok-clause-next : goal.returns-in_ok-build_behind-in-Ok-clause-next
-returns-in_ok-build_behind-in-Ok-clause-next c =
+pub edition_after-requires : goal.edition_after-requires
+edition_after-requires c = ap (λ (k : Configuration). apply k c.args.command.now) (sym c.config.ensures.value) ∙ c.in-Ok.ensures
+
+pub returns-in_ok-edition_after-in-Ok-clause-next : goal.returns-in_ok-edition_after-in-Ok-clause-next
+returns-in_ok-edition_after-in-Ok-clause-next c =
     let count = ap (λ (n : ℕ). n + 1) (sym (length-map c.args.editions.now arc_value)) in
     record {
       before = c.last_edition-last.result.now;
       last = c.last_edition-last.ensures;
       made = c.in-Ok.config;
       applied = ap (λ (k : Configuration). apply k c.args.command.now) (sym c.config.ensures.value) ∙ c.in-Ok.ensures;
-      built = subst (λ (n : ℕ). IsBuilt n c.in-Ok.config (arc_value c.in_ok-build_behind-in-Ok.field-0)) count c.in_ok-build_behind-in-Ok.ensures;
+      built = subst (λ (n : ℕ). IsBuilt n c.in-Ok.config (arc_value c.in_ok-edition_after-in-Ok.field-0)) count c.in_ok-edition_after-in-Ok.ensures;
     }
 
 pub returns-in-Err : goal.returns-in-Err

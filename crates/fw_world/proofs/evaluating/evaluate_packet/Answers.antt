@@ -2,14 +2,15 @@ use Rattle.std.proofs.Common.{◌≡◌, ◌<◌, ℕ, length, refl, [], arith, 
 use Rattle.dyn_states.specs.RuleLists.{has_id}
 use Rattle.eval_engine.specs.Question.{Question}
 use Rattle.eval_engine.specs.declared.stage.Stage.{Stage}
-use Rattle.fw_world.proofs.Running.{IsReached, IsReached-ended, IsReached-answered, StandsAt-length, AsksSome-reached}
+use Rattle.eval_engine.proofs.Progressing.{stands-length}
+use Rattle.fw_world.proofs.Running.{IsReached, IsReached-ended, IsReached-answered, AsksSome-reached}
 use Rattle.fw_world.proofs.evaluating.evaluate_packet.Goals as goal
 
 pub loop-stage-init : goal.loop-stage-init
 loop-stage-init g c = record {
   serves = c.requires.lane;
   rules = c.requires.rules;
-  fitted = omega (arith, StandsAt-length _ _ _ _ _ _ c.begin-stage.ensures);
+  fitted = omega (arith, stands-length _ _ _ _ _ _ c.begin-stage.ensures);
   reached = record { asks = []; replies = []; stands = c.begin-stage.ensures; entered = refl };
 }
 
@@ -32,7 +33,7 @@ loop-stage-preserved g c =
     let reached = rw c.in-Asks.is at old.reached in
     let told = c.in_ok-reply-in-Asks.ensures in
     let now = IsReached-answered _ _ _ c.ask.new.self _ _ c.loop-stage.tally c.resume-stage.new.tally c.in-Asks.op c.in-Asks.paused c.in_ok-reply-in-Asks.reply c.resume-stage.result reached told.entered c.resume-stage.ensures in
-    let start : length c.resume-stage.new.tally ≡ length c.args.tally.now = StandsAt-length _ _ _ _ _ _ now.stands in
+    let start : length c.resume-stage.new.tally ≡ length c.args.tally.now = stands-length _ _ _ _ _ _ now.stands in
     record {
       serves = told.lanes _ old.serves;
       rules = λ id. ap (λ (rules : _). has_id rules id) told.rules ∙ old.rules id;

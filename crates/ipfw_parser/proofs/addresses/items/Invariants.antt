@@ -2,7 +2,7 @@ use Rattle.std.proofs.Common.{false}
 use Rattle.std.specs.Option.{option_copied}
 use Rattle.ipfw_parser.specs.Addresses.{item}
 use Rattle.ipfw_parser.specs.Lists.{elements_outside, elements_outside_left}
-use Rattle.ipfw_parser.proofs.Listing.{IsListing, left_len}
+use Rattle.ipfw_parser.proofs.Steps.Lists.{IsListing, left_len}
 use Rattle.ipfw_parser.proofs.addresses.items.Given as goal
 
 abbrev pub invariant-loop-rest : goal.invariant-loop-rest

@@ -1,5 +1,5 @@
 use Rattle.std.proofs.Common.{arith}
-use Rattle.ipfw_parser.proofs.Sides.{joined_fits}
+use Rattle.ipfw_parser.proofs.Steps.Sides.{joined_fits}
 use Rattle.ipfw_parser.proofs.addresses6.filled.Goals as goal
 
 pub overflow_add-result : goal.overflow_add-result

@@ -1,6 +1,6 @@
 use Rattle.std.proofs.Common.{◌*◌, ◌-◌, ◌%◌, ◌^◌, ◌≡◌, ap, ◌∙◌, arith}
 use Rattle.std.proofs.Math.Nat.{mod-eq_of_lt}
-use Rattle.ipfw_parser.proofs.Sides.{shifted_fits}
+use Rattle.ipfw_parser.proofs.Steps.Sides.{shifted_fits}
 use Rattle.ipfw_parser.proofs.addresses6.followed.Goals as goal
 
 pub returns-else-front-eq0 : goal.returns-else-front-eq0

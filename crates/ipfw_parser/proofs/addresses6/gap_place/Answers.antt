@@ -1,7 +1,7 @@
 use Rattle.std.proofs.Common.{ap, sym, ◌∙◌, nat_eq, codes}
 use Rattle.std.specs.List.{starts_with}
 use Rattle.std.proofs.lemmas.List.{take_rest}
-use Rattle.ipfw_parser.proofs.Gaps.{found, goes, ends}
+use Rattle.ipfw_parser.proofs.Steps.Gaps.{found, goes, ends}
 use Rattle.ipfw_parser.proofs.addresses6.gap_place.Goals as goal
 
 pub returns-then-starts_gap-clause-place : goal.returns-then-starts_gap-clause-place

@@ -1,4 +1,4 @@
-use Rattle.ipfw_parser.proofs.Gaps.{IsBeforeGap}
+use Rattle.ipfw_parser.proofs.Steps.Gaps.{IsBeforeGap}
 use Rattle.ipfw_parser.proofs.addresses6.gap_place.Given as goal
 
 abbrev pub invariant-loop-at : goal.invariant-loop-at

@@ -1,6 +1,6 @@
 use Rattle.std.proofs.Common.{◌<◌, arith}
-use Rattle.ipfw_parser.proofs.Listing.{smaller}
-use Rattle.ipfw_parser.proofs.Sides.{opened, closed, many, breaks, goes}
+use Rattle.ipfw_parser.proofs.Steps.Lists.{smaller}
+use Rattle.ipfw_parser.proofs.Steps.Sides.{opened, closed, many, breaks, goes}
 use Rattle.ipfw_parser.proofs.addresses6.groups.Goals as goal
 
 pub returns-then-found-eq-GROUPS-clause-value : goal.returns-then-found-eq-GROUPS-clause-value

@@ -1,7 +1,7 @@
 use Rattle.std.specs.Option.{option_copied}
 use Rattle.ipfw_parser.specs.Addresses6.{colon_parts, colon_parts_left}
-use Rattle.ipfw_parser.proofs.Listing.{left_len}
-use Rattle.ipfw_parser.proofs.Sides.{IsGrouping}
+use Rattle.ipfw_parser.proofs.Steps.Lists.{left_len}
+use Rattle.ipfw_parser.proofs.Steps.Sides.{IsGrouping}
 use Rattle.ipfw_parser.proofs.addresses6.groups.Given as goal
 
 abbrev pub invariant-loop-rest : goal.invariant-loop-rest

@@ -1,5 +1,5 @@
 use Rattle.std.proofs.Common.{◌<◌, refl, sym, ◌∙◌, arith}
-use Rattle.ipfw_parser.proofs.HexSteps.{ends, breaks, room}
+use Rattle.ipfw_parser.proofs.Steps.Hex.{ends, breaks, room}
 use Rattle.ipfw_parser.proofs.addresses6.hex_number.Goals as goal
 
 pub returns-then-not-is_hex : goal.returns-then-not-is_hex

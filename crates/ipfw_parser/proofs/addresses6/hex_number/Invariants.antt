@@ -1,4 +1,4 @@
-use Rattle.ipfw_parser.proofs.HexSteps.{IsHexReading}
+use Rattle.ipfw_parser.proofs.Steps.Hex.{IsHexReading}
 use Rattle.ipfw_parser.proofs.addresses6.hex_number.Given as goal
 
 abbrev pub invariant-loop-byte : goal.invariant-loop-byte

@@ -1,5 +1,5 @@
 use Rattle.std.proofs.Common.{◌<◌, arith}
-use Rattle.ipfw_parser.proofs.Sides.{grown, grown_fits}
+use Rattle.ipfw_parser.proofs.Steps.Sides.{grown, grown_fits}
 use Rattle.ipfw_parser.proofs.addresses6.with_group.Goals as goal
 
 pub overflow_mul-result : goal.overflow_mul-result

@@ -1,5 +1,5 @@
 use Rattle.std.proofs.Common.{arith}
-use Rattle.ipfw_parser.proofs.Cuts.{seek_on, seek_found, seek_end}
+use Rattle.ipfw_parser.proofs.Steps.Cuts.{seek_on, seek_found, seek_end}
 use Rattle.ipfw_parser.proofs.cut.element_len.Goals as goal
 
 pub returns-then-parts-clause-len : goal.returns-then-parts-clause-len

@@ -1,4 +1,4 @@
-use Rattle.ipfw_parser.proofs.Cuts.{IsSeeking}
+use Rattle.ipfw_parser.proofs.Steps.Cuts.{IsSeeking}
 use Rattle.ipfw_parser.proofs.cut.element_len.Given as goal
 
 abbrev pub invariant-loop-at : goal.invariant-loop-at

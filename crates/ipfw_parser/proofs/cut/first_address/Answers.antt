@@ -1,4 +1,4 @@
-use Rattle.ipfw_parser.proofs.Cuts.{outside_first}
+use Rattle.ipfw_parser.proofs.Steps.Cuts.{outside_first}
 use Rattle.std.proofs.Common.{false}
 use Rattle.ipfw_parser.proofs.cut.first_address.Goals as goal
 

@@ -1,4 +1,4 @@
-use Rattle.ipfw_parser.proofs.Cuts.{elements_first}
+use Rattle.ipfw_parser.proofs.Steps.Cuts.{elements_first}
 use Rattle.ipfw_parser.proofs.cut.first_element.Goals as goal
 
 pub returns-clause-elements : goal.returns-clause-elements

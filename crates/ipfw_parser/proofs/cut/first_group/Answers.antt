@@ -1,4 +1,4 @@
-use Rattle.ipfw_parser.proofs.Cuts.{groups_first}
+use Rattle.ipfw_parser.proofs.Steps.Cuts.{groups_first}
 use Rattle.ipfw_parser.proofs.cut.first_group.Goals as goal
 
 pub returns-clause-groups : goal.returns-clause-groups

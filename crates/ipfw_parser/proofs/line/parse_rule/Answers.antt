@@ -1,5 +1,5 @@
 use Rattle.ipfw_parser.specs.Rules.{rule_in}
-use Rattle.ipfw_parser.proofs.DraftsInRange.{answer_is, drafts_are}
+use Rattle.ipfw_parser.proofs.Forms.Drafts.{answer_is, drafts_are}
 use Rattle.ipfw_parser.proofs.line.parse_rule.Goals as goal
 
 pub returns-clause-well_formed : goal.returns-clause-well_formed

@@ -1,4 +1,4 @@
-use Rattle.ipfw_parser.proofs.Spans.{skip_within, skip_list}
+use Rattle.ipfw_parser.proofs.Steps.Spans.{skip_within, skip_list}
 use Rattle.ipfw_parser.proofs.line.skip.Goals as goal
 
 pub invariant_of-result : goal.invariant_of-result

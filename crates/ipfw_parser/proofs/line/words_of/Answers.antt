@@ -1,4 +1,4 @@
-use Rattle.ipfw_parser.proofs.Spans.{words_within}
+use Rattle.ipfw_parser.proofs.Steps.Spans.{words_within}
 use Rattle.ipfw_parser.proofs.line.words_of.Goals as goal
 
 pub invariant_of-result : goal.invariant_of-result

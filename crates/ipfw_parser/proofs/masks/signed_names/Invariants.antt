@@ -2,7 +2,7 @@ use Rattle.std.proofs.Common.{◌≡◌, map}
 use Rattle.std.specs.Option.{option_copied}
 use Rattle.ipfw_parser.specs.Lists.{elements, elements_left, sign_masks}
 use Rattle.ipfw_parser.specs.SignViews.{signs_view}
-use Rattle.ipfw_parser.proofs.Listing.{left_len}
+use Rattle.ipfw_parser.proofs.Steps.Lists.{left_len}
 use Rattle.ipfw_parser.proofs.masks.signed_names.Given as goal
 
 abbrev pub invariant-loop-rest : goal.invariant-loop-rest

@@ -2,8 +2,8 @@ use Rattle.std.proofs.Common.{ap}
 use Rattle.std.specs.Prelude.{bit_or}
 use Rattle.std.proofs.lemmas.Result.{err_from_is_err_and}
 use Rattle.ipfw_parser.specs.Lists.{types}
-use Rattle.ipfw_parser.proofs.Listing.{fails_on, smaller}
-use Rattle.ipfw_parser.proofs.MaskSteps.{left_types, types_go, types_break, types_end, bit_fits}
+use Rattle.ipfw_parser.proofs.Steps.Lists.{fails_on, smaller}
+use Rattle.ipfw_parser.proofs.Steps.Masks.{left_types, types_go, types_break, types_end, bit_fits}
 use Rattle.ipfw_parser.proofs.masks.types.Goals as goal
 
 pub returns-in_err-kind : goal.returns-in_err-kind

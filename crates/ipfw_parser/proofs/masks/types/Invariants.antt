@@ -1,7 +1,7 @@
 use Rattle.std.proofs.Common.{◌≡◌}
 use Rattle.std.specs.Option.{option_copied}
 use Rattle.ipfw_parser.specs.Lists.{elements, elements_left, type_mask}
-use Rattle.ipfw_parser.proofs.Listing.{left_len}
+use Rattle.ipfw_parser.proofs.Steps.Lists.{left_len}
 use Rattle.ipfw_parser.proofs.masks.types.Given as goal
 
 abbrev pub invariant-loop-rest : goal.invariant-loop-rest

@@ -1,7 +1,7 @@
 use Rattle.std.proofs.lemmas.Result.{err_from_is_err_and}
 use Rattle.ipfw_parser.specs.Lists.{types6}
-use Rattle.ipfw_parser.proofs.Listing.{fails_on, smaller}
-use Rattle.ipfw_parser.proofs.MaskSteps.{left_set, set_go, set_break, set_end}
+use Rattle.ipfw_parser.proofs.Steps.Lists.{fails_on, smaller}
+use Rattle.ipfw_parser.proofs.Steps.Masks.{left_set, set_go, set_break, set_end}
 use Rattle.ipfw_parser.proofs.masks.types6.Goals as goal
 
 pub returns-in_err-number : goal.returns-in_err-number

@@ -2,7 +2,7 @@ use Rattle.std.proofs.Common.{◌≡◌}
 use Rattle.std.specs.Option.{option_copied}
 use Rattle.fw_rule.specs.TypeSet.{no_types}
 use Rattle.ipfw_parser.specs.Lists.{elements, elements_left, type_set}
-use Rattle.ipfw_parser.proofs.Listing.{left_len}
+use Rattle.ipfw_parser.proofs.Steps.Lists.{left_len}
 use Rattle.ipfw_parser.proofs.masks.types6.Given as goal
 
 abbrev pub invariant-loop-rest : goal.invariant-loop-rest

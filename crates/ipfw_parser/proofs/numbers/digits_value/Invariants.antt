@@ -1,4 +1,4 @@
-use Rattle.ipfw_parser.proofs.DigitSteps.{IsReading}
+use Rattle.ipfw_parser.proofs.Steps.Digits.{IsReading}
 use Rattle.ipfw_parser.proofs.numbers.digits_value.Given as goal
 
 abbrev pub invariant-loop-byte : goal.invariant-loop-byte

@@ -1,7 +1,7 @@
 use Rattle.std.proofs.Common.{◌≡◌, ◌-◌, ◌+◌, suc, length, sym, ◌∙◌, inl, inr, arith}
 use Rattle.std.proofs.lemmas.Result.{err_from_is_err_and}
-use Rattle.ipfw_parser.proofs.Listing.{fails_on}
-use Rattle.ipfw_parser.proofs.Placing.{option_goes, option_breaks, state_goes, state_breaks, second_state, ends, some_words_is, no_words_is, is_some_false}
+use Rattle.ipfw_parser.proofs.Steps.Lists.{fails_on}
+use Rattle.ipfw_parser.proofs.Steps.Options.{option_goes, option_breaks, state_goes, state_breaks, second_state, ends, some_words_is, no_words_is, is_some_false}
 use Rattle.ipfw_parser.proofs.placed.options.Goals as goal
 
 pub returns-in_default : goal.returns-in_default

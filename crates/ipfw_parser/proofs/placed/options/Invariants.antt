@@ -1,6 +1,6 @@
 use Rattle.std.proofs.Common.{◌-◌, length}
 use Rattle.ipfw_parser.specs.Views.{list_of}
-use Rattle.ipfw_parser.proofs.Placing.{IsPlacing}
+use Rattle.ipfw_parser.proofs.Steps.Options.{IsPlacing}
 use Rattle.ipfw_parser.proofs.placed.options.Given as goal
 
 abbrev pub invariant-loop-step : goal.invariant-loop-step

@@ -1,6 +1,6 @@
 use Rattle.std.proofs.lemmas.Result.{err_from_is_err_and}
 use Rattle.ipfw_parser.specs.Ports.{ranges}
-use Rattle.ipfw_parser.proofs.Listing.{goes, breaks, ends, fails_on, opened, smaller}
+use Rattle.ipfw_parser.proofs.Steps.Lists.{goes, breaks, ends, fails_on, opened, smaller}
 use Rattle.ipfw_parser.proofs.ports.ranges.Goals as goal
 
 pub returns-in_err-range : goal.returns-in_err-range

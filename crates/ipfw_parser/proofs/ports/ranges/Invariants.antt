@@ -1,7 +1,7 @@
 use Rattle.std.specs.Option.{option_copied}
 use Rattle.ipfw_parser.specs.Ports.{range}
 use Rattle.ipfw_parser.specs.Lists.{elements, elements_left}
-use Rattle.ipfw_parser.proofs.Listing.{IsListing, left_len}
+use Rattle.ipfw_parser.proofs.Steps.Lists.{IsListing, left_len}
 use Rattle.ipfw_parser.proofs.ports.ranges.Given as goal
 
 abbrev pub invariant-loop-rest : goal.invariant-loop-rest

@@ -2,7 +2,8 @@ use Rattle.std.proofs.Common.{◌+◌, length, sym, ◌∙◌, ap, refl, arith, 
 use Rattle.std.proofs.lemmas.Result.{err_from_is_err_and}
 use Rattle.pcap_read.specs.Reading.{AtBoundary, InRecordHeader, InRecord, Closed, captured_length}
 use Rattle.pcap_read.proofs.Growing.{grows_more}
-use Rattle.pcap_read.proofs.Steps.{captured_length-grown, at_boundary, too_many, in_record_header, too_long, in_record, took, stops_failed, stops_at_end, granted, refused}
+use Rattle.fw_base.proofs.Logic.{was_true, was_false}
+use Rattle.pcap_read.proofs.Steps.{captured_length-grown, at_boundary, too_many, in_record_header, too_long, in_record, took, stops_failed, stops_at_end}
 use Rattle.pcap_read.proofs.finding.find_record.Goals as goal
 
 pub returns-in_err-fill-clause-finds : goal.returns-in_err-fill-clause-finds
@@ -12,17 +13,17 @@ returns-in_err-fill-clause-finds g c =
 
 pub returns-then-not-branch-clause-finds : goal.returns-then-not-branch-clause-finds
 returns-then-not-branch-clause-finds g c =
-    let here = refused _ _ c.in_ok-fill.field-0 c.in_ok-fill.ensures.fills.1 c.if-not-branch.true in
+    let here = was_false _ _ c.in_ok-fill.field-0 c.if-not-branch.true c.in_ok-fill.ensures.fills.1 in
     stops_at_end c.args.limit c.args.format c.args.given c.fill.new.window AtBoundary (at_boundary _ _ _ _ (omega (arith, here.0))) here.1
 
 pub returns-then-given-limit-clause-finds : goal.returns-then-given-limit-clause-finds
 returns-then-given-limit-clause-finds g c =
-    let some = granted _ _ c.in_ok-fill.field-0 c.in_ok-fill.ensures.fills.1 c.if-not-branch.false in
+    let some = was_true _ _ c.in_ok-fill.field-0 c.if-not-branch.false c.in_ok-fill.ensures.fills.1 in
     (Closed _, too_many c.args.limit c.args.format c.args.given c.fill.new.window (omega (arith, some)) c.if-given-limit.true, refl)
 
 pub returns-in_err-fill-2-clause-finds : goal.returns-in_err-fill-2-clause-finds
 returns-in_err-fill-2-clause-finds g c =
-    let some = granted _ _ c.in_ok-fill.field-0 c.in_ok-fill.ensures.fills.1 c.if-not-branch.false in
+    let some = was_true _ _ c.in_ok-fill.field-0 c.if-not-branch.false c.in_ok-fill.ensures.fills.1 in
     let grown = c.in_err-fill-2.ensures.fills.0 in
     let longer = ap length grown.1 ∙ length-append c.fill.new.window grown.0 in
     let p = err_from_is_err_and c.from_residual-in_err-fill-2.result c.from_residual-in_err-fill-2.ensures.1 in
@@ -32,8 +33,8 @@ returns-in_err-fill-2-clause-finds g c =
 
 pub returns-then-not-branch-2-clause-finds : goal.returns-then-not-branch-2-clause-finds
 returns-then-not-branch-2-clause-finds g c =
-    let some = granted _ _ c.in_ok-fill.field-0 c.in_ok-fill.ensures.fills.1 c.if-not-branch.false in
-    let here = refused _ _ c.in_ok-fill-2.field-0 c.in_ok-fill-2.ensures.fills.1 c.if-not-branch-2.true in
+    let some = was_true _ _ c.in_ok-fill.field-0 c.if-not-branch.false c.in_ok-fill.ensures.fills.1 in
+    let here = was_false _ _ c.in_ok-fill-2.field-0 c.if-not-branch-2.true c.in_ok-fill-2.ensures.fills.1 in
     let grown = c.in_ok-fill-2.ensures.fills.0 in
     let longer = ap length grown.1 ∙ length-append c.fill.new.window grown.0 in
     stops_at_end c.args.limit c.args.format c.args.given c.fill-2.new.window InRecordHeader
@@ -41,7 +42,7 @@ returns-then-not-branch-2-clause-finds g c =
 
 pub returns-then-captured-gt-MOST_CAPTURED-clause-finds : goal.returns-then-captured-gt-MOST_CAPTURED-clause-finds
 returns-then-captured-gt-MOST_CAPTURED-clause-finds g c =
-    let whole = granted _ _ c.in_ok-fill-2.field-0 c.in_ok-fill-2.ensures.fills.1 c.if-not-branch-2.false in
+    let whole = was_true _ _ c.in_ok-fill-2.field-0 c.if-not-branch-2.false c.in_ok-fill-2.ensures.fills.1 in
     let is = c.u32_at-captured.ensures ∙ ap (captured_length c.args.format) c.bytes.ensures in
     (Closed _, too_long c.args.limit c.args.format c.args.given c.fill-2.new.window c.if-given-limit.false whole (omega (arith, is, c.if-captured-gt-MOST_CAPTURED.true)), refl)
 
@@ -51,7 +52,7 @@ returns-in_err-fill-3-clause-grows g c =
 
 pub returns-in_err-fill-3-clause-finds : goal.returns-in_err-fill-3-clause-finds
 returns-in_err-fill-3-clause-finds g c =
-    let whole = granted _ _ c.in_ok-fill-2.field-0 c.in_ok-fill-2.ensures.fills.1 c.if-not-branch-2.false in
+    let whole = was_true _ _ c.in_ok-fill-2.field-0 c.if-not-branch-2.false c.in_ok-fill-2.ensures.fills.1 in
     let grown = c.in_err-fill-3.ensures.fills.0 in
     let longer = ap length grown.1 ∙ length-append c.fill-2.new.window grown.0 in
     let is = captured_length-grown c.args.format c.fill-2.new.window c.fill-3.new.window grown.0 whole grown.1 ∙ sym (c.u32_at-captured.ensures ∙ ap (captured_length c.args.format) c.bytes.ensures) in
@@ -66,8 +67,8 @@ returns-then-not-branch-3-clause-grows g c =
 
 pub returns-then-not-branch-3-clause-finds : goal.returns-then-not-branch-3-clause-finds
 returns-then-not-branch-3-clause-finds g c =
-    let whole = granted _ _ c.in_ok-fill-2.field-0 c.in_ok-fill-2.ensures.fills.1 c.if-not-branch-2.false in
-    let here = refused _ _ c.in_ok-fill-3.field-0 c.in_ok-fill-3.ensures.fills.1 c.if-not-branch-3.true in
+    let whole = was_true _ _ c.in_ok-fill-2.field-0 c.if-not-branch-2.false c.in_ok-fill-2.ensures.fills.1 in
+    let here = was_false _ _ c.in_ok-fill-3.field-0 c.if-not-branch-3.true c.in_ok-fill-3.ensures.fills.1 in
     let grown = c.in_ok-fill-3.ensures.fills.0 in
     let longer = ap length grown.1 ∙ length-append c.fill-2.new.window grown.0 in
     let is = captured_length-grown c.args.format c.fill-2.new.window c.fill-3.new.window grown.0 whole grown.1 ∙ sym (c.u32_at-captured.ensures ∙ ap (captured_length c.args.format) c.bytes.ensures) in
@@ -80,8 +81,8 @@ returns-clause-grows g c =
 
 pub returns-clause-finds : goal.returns-clause-finds
 returns-clause-finds g c =
-    let whole = granted _ _ c.in_ok-fill-2.field-0 c.in_ok-fill-2.ensures.fills.1 c.if-not-branch-2.false in
-    let there = granted _ _ c.in_ok-fill-3.field-0 c.in_ok-fill-3.ensures.fills.1 c.if-not-branch-3.false in
+    let whole = was_true _ _ c.in_ok-fill-2.field-0 c.if-not-branch-2.false c.in_ok-fill-2.ensures.fills.1 in
+    let there = was_true _ _ c.in_ok-fill-3.field-0 c.if-not-branch-3.false c.in_ok-fill-3.ensures.fills.1 in
     let grown = c.in_ok-fill-3.ensures.fills.0 in
     let is = captured_length-grown c.args.format c.fill-2.new.window c.fill-3.new.window grown.0 whole grown.1 ∙ sym (c.u32_at-captured.ensures ∙ ap (captured_length c.args.format) c.bytes.ensures) in
     record {

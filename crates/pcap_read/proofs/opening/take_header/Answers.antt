@@ -1,7 +1,7 @@
 use Rattle.std.proofs.Common.{[], ◌≡◌, ◌≤◌, ◌<◌, ◌++◌, length, sym, ◌∙◌, ap, refl, arith, length-append, inl, inr, take, Err}
 use Rattle.std.proofs.lemmas.Result.{err_from_is_err_and}
 use Rattle.pcap_read.specs.Reading.{Open, InHeader, Closed, header_of}
-use Rattle.pcap_read.proofs.Steps.{granted, refused}
+use Rattle.fw_base.proofs.Logic.{was_true, was_false}
 use Rattle.pcap_read.proofs.Fronts.{front_within, front_fault, number_within, number_fault}
 use Rattle.pcap_read.proofs.opening.take_header.Goals as goal
 
@@ -14,14 +14,14 @@ returns-in_err-fill-clause-takes g c =
 
 pub returns-then-not-branch-clause-takes : goal.returns-then-not-branch-clause-takes
 returns-then-not-branch-clause-takes g c =
-    let here = refused _ _ c.in_ok-fill.field-0 c.in_ok-fill.ensures.fills.1 c.if-not-branch.true in
+    let here = was_false _ _ c.in_ok-fill.field-0 c.if-not-branch.true c.in_ok-fill.ensures.fills.1 in
     let grown = c.in_ok-fill.ensures.fills.0 in
     let few : length grown.0 < 24 = omega (arith, ap length grown.1, length-append c.args.window.now grown.0, here.0) in
     (grown.0, grown.2, λ limit. (Open InHeader, front_within limit grown.0 few, inl (here.1, refl), number_within grown.0 [] few))
 
 pub returns-in_err-format-clause-takes : goal.returns-in_err-format-clause-takes
 returns-in_err-format-clause-takes g c =
-    let whole = granted _ _ c.in_ok-fill.field-0 c.in_ok-fill.ensures.fills.1 c.if-not-branch.false in
+    let whole = was_true _ _ c.in_ok-fill.field-0 c.if-not-branch.false c.in_ok-fill.ensures.fills.1 in
     let grown = c.in_ok-fill.ensures.fills.0 in
     let all : c.fill.new.window ≡ grown.0 = grown.1 ∙ ap (λ l. l ++ grown.0) c.requires in
     let p = err_from_is_err_and c.from_residual-in_err-format.result c.from_residual-in_err-format.ensures.1 in

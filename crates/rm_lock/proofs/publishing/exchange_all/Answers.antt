@@ -1,5 +1,6 @@
 use Rattle.std.proofs.Common.{rules, refl, ◌∙◌, ap}
-use Rattle.rm_lock.proofs.Hands.{exchanging_none, exchanging_one, next_kept, get_found}
+use Rattle.std.proofs.lemmas.Option.{slice_get_read}
+use Rattle.rm_lock.proofs.Hands.{exchanging_none, exchanging_one, next_kept}
 use Rattle.rm_lock.proofs.publishing.exchange_all.Goals as goal
 
 pub loop-index-init : goal.loop-index-init
@@ -18,6 +19,6 @@ loop-index-preserved g c = (
   ap (λ z. z.0) c.exchange_one.ensures.now ∙ c.loop-index.invariant.3,
   λ olds count hand.
       exchanging_one c.loop-index.index olds c.args.editions.now.items c.loop-index.editions.items _ c.loop-index.seat.me.1 c.exchange_one.new.seat.me.1 c.exchange_one.new.edition c.index_mut.result.now
-      (let e = count in search rules) (search rules) c.exchange_one.ensures.was (get_found c.loop-index.editions.items c.loop-index.index c.index_mut.result.now (search rules) c.index_mut.ensures.value)
+      (let e = count in search rules) (search rules) c.exchange_one.ensures.was (slice_get_read c.loop-index.editions.items _ c.loop-index.index c.index_mut.result.now refl (search rules) c.index_mut.ensures.value)
       (ap (λ z. z.1) c.exchange_one.ensures.now) refl (c.loop-index.invariant.4 olds count hand),
 )

@@ -1,8 +1,9 @@
 use Rattle.std.proofs.Common.{false, Some, arith, sym, ap, ◌∙◌}
 use Rattle.std.specs.Prelude.{slice_get, slice_index_or}
 use Rattle.std.specs.Slots.{slots_items, slots_filled}
-use Rattle.rm_table.specs.declared.slot.Slot.TheVariants.{Edition}
-use Rattle.rm_table.proofs.Base.{taken_is, taken_at, cleared, pushed_items, index_else}
+use Rattle.std.proofs.lemmas.List.{get_or-set_other}
+use Rattle.rm_table.specs.declared.padded_slot.Slot.TheVariants.{Edition}
+use Rattle.rm_table.proofs.Base.{taken_is, taken_at, cleared, pushed_items}
 use Rattle.rm_table.proofs.closing.take_editions.Goals as goal
 
 pub edition_in-requires : goal.edition_in-requires
@@ -24,8 +25,8 @@ loop-place-preserved g c =
       omega arith,
       now.0 ∙ h.4,
       now.2 ∙ h.5,
-      (λ k low high. ap (λ fs. slice_index_or fs k false) now.1 ∙ index_else filled c.loop-place.place k false false (λ same. omega arith) ∙ h.6 k (omega arith) high),
+      (λ k low high. ap (λ fs. slice_index_or fs k false) now.1 ∙ get_or-set_other filled c.loop-place.place k false false (λ same. omega arith) ∙ h.6 k (omega arith) high),
       (λ k low below. ap (λ fs. slice_index_or fs k false) now.1 ∙ cleared filled c.loop-place.place k (λ other. h.7 k low (grind (arith, other)))),
-      ap (λ fs. slice_index_or fs 0 false) now.1 ∙ index_else filled c.loop-place.place 0 false false (λ same. omega arith) ∙ h.8,
+      ap (λ fs. slice_index_or fs 0 false) now.1 ∙ get_or-set_other filled c.loop-place.place 0 false false (λ same. omega arith) ∙ h.8,
       (λ j e is. pushed_items (λ x. Edition (Some x)) c.loop-place.editions.items (slots_items c.args.closed.now.slots) c.loop-place.place c.loop-place.editions.len c.edition_in.result c.loop-place.editions.ok.0 h.3 h.9 here j e (ap (λ ys. slice_get ys j) (sym p.items) ∙ is)),
     )

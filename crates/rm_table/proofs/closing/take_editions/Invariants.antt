@@ -1,7 +1,7 @@
 use Rattle.std.proofs.Common.{◌≡◌, ℕ, ◌+◌, ◌<◌, ◌≤◌, true, false, Some}
 use Rattle.std.specs.Prelude.{slice_get, slice_index_or, vec_len, vec_capacity}
 use Rattle.std.specs.Slots.{slots_items, slots_filled, slots_len}
-use Rattle.rm_table.specs.declared.slot.Slot.TheVariants.{Edition}
+use Rattle.rm_table.specs.declared.padded_slot.Slot.TheVariants.{Edition}
 use Rattle.rm_table.proofs.closing.take_editions.Given as goal
 
 abbrev pub invariant-loop-place : goal.invariant-loop-place

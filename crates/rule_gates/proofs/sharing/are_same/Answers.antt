@@ -1,7 +1,8 @@
-use Rattle.std.proofs.Common.{◌≡◌, Bool, true, false, ◌&&◌, List, [], ◌∷◌, refl, sym, ◌∙◌, rules, arith}
-use Rattle.std.proofs.Math.Bool.{beq}
+use Rattle.std.proofs.Common.{◌≡◌, true, List, [], ◌∷◌, refl, sym, ◌∙◌, rules, arith}
 use Rattle.std.proofs.lemmas.Grind.{common_steps}
 use Rattle.std.specs.Cmp.Lexicographic.{pointwise}
+use Rattle.std.proofs.lemmas.Bool.{and_parts}
+use Rattle.fw_base.proofs.Logic.{same_by_beq}
 use Rattle.fw_rule.specs.declared.rule.Rule.{Rule}
 use Rattle.rule_gates.specs.Gates.{AreGates, IsGateOf, admits}
 use Rattle.rule_gates.specs.contracts.gate.GatePartialEq.TheImpl.{eq-value}
@@ -26,12 +27,6 @@ record HaveSame (g h : Gate) : Type 0 where
   family : g.family ≡ h.family
   is_exact : g.is_exact ≡ h.is_exact
 
-beq_same : (a b : Bool) → beq a b ≡ true → a ≡ b
-beq_same true true is = refl
-beq_same true false is = cc
-beq_same false true is = cc
-beq_same false false is = refl
-
 same_fields : (g h : Gate) → eq-value.it g h ≡ true → HaveSame g h
 same_fields g h same = record {
   source = record { low = grind (arith, common_steps); span = grind (arith, common_steps) };
@@ -42,7 +37,7 @@ same_fields g h same = record {
   destination_word = grind (arith, common_steps);
   protocol = grind (arith, common_steps);
   family = search rules;
-  is_exact = beq_same g.is_exact h.is_exact (grind (arith, common_steps));
+  is_exact = same_by_beq g.is_exact h.is_exact (grind (arith, common_steps));
 }
 
 same_admits : (g h : Gate) (key : Key) → HaveSame g h → admits g key ≡ admits h key
@@ -58,17 +53,13 @@ same_gate rule g h same is = record {
   whole = λ tables locals packet port key all key_is fit admitted. is.whole tables locals packet port key (sym same.is_exact ∙ all) key_is fit (sym (same_admits g h key same) ∙ admitted);
 }
 
-both_true : (a b : Bool) → (a && b) ≡ true → (a ≡ true) × (b ≡ true)
-both_true true b is = (refl, is)
-both_true false b is = cc
-
 same_lists : (gates others : List Gate) (rs : List Rule) → pointwise eq-value.it gates others ≡ true → AreGates rs others → AreGates rs gates
 same_lists [] [] rs same are = are
 same_lists [] (h ∷ others) rs same are = cc
 same_lists (g ∷ gates) [] rs same are = cc
 same_lists (g ∷ gates) (h ∷ others) [] same are = absurd are
 same_lists (g ∷ gates) (h ∷ others) (rule ∷ rs) same are =
-    let both = both_true (eq-value.it g h) (pointwise eq-value.it gates others) same in
+    let both = and_parts (eq-value.it g h) (pointwise eq-value.it gates others) same in
     (same_gate rule g h (same_fields g h both.0) are.0, same_lists gates others rs both.1 are.1)
 
 alike : (g : Gate) → eq-value.it g g ≡ true

@@ -1,4 +1,4 @@
-use Rattle.rule_round_trip.proofs.Again.{readable}
+use Rattle.rule_round_trip.proofs.Rules.Drafts.{readable}
 use Rattle.rule_round_trip.proofs.laws.canonical_texts_are_readable.Goals as goal
 
 pub returns : goal.returns

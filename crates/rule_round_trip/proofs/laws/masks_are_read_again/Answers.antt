@@ -1,6 +1,6 @@
-use Rattle.rule_round_trip.proofs.MasksAgain.{flags_again, ip_options_again}
-use Rattle.rule_round_trip.proofs.TypesAgain.{types_again}
-use Rattle.rule_round_trip.proofs.TypeSetsAgain.{types6_again}
+use Rattle.rule_round_trip.proofs.Masks.Signs.{flags_again, ip_options_again}
+use Rattle.rule_round_trip.proofs.Masks.Types.{types_again}
+use Rattle.rule_round_trip.proofs.Masks.TypeSets.{types6_again}
 use Rattle.rule_round_trip.proofs.laws.masks_are_read_again.Goals as goal
 
 pub returns : goal.returns

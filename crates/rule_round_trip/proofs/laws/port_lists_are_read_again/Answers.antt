@@ -1,4 +1,4 @@
-use Rattle.rule_round_trip.proofs.PortsAgain.{ranges_again}
+use Rattle.rule_round_trip.proofs.Addresses.Ports.{ranges_again}
 use Rattle.rule_round_trip.proofs.laws.port_lists_are_read_again.Goals as goal
 
 pub returns : goal.returns

@@ -1,4 +1,4 @@
-use Rattle.rule_round_trip.proofs.Again.{form_again}
+use Rattle.rule_round_trip.proofs.Rules.Drafts.{form_again}
 use Rattle.rule_round_trip.proofs.laws.rules_in_form_are_read_again.Goals as goal
 
 pub returns : goal.returns

@@ -1,6 +1,6 @@
 use Rattle.std.proofs.Common.{◌≡◌, ◌≤◌, length, refl, ap, ◌∙◌, arith}
+use Rattle.std.proofs.lemmas.Result.{IfOk-weaker}
 use Rattle.serial_replay.specs.Replay.{limit_for}
-use Rattle.serial_replay.proofs.Lines.{ok-with}
 use Rattle.serial_replay.proofs.Whole.{starts-ready, comes-to}
 use Rattle.serial_replay.proofs.replay.replay_serial.Goals as goal
 
@@ -25,7 +25,7 @@ pub returns : goal.returns
 returns g c =
     let counted : c.len-count.result ≡ length c.args.captures.items = c.len-count.ensures ∙ c.args.captures.ok.0 in
     let within : c.len-count.result ≤ 16 = omega (arith, c.len-count.ensures, c.requires.few) in
-    ok-with _ _ _ (λ r closed. comes-to g.S.Source.left g.S.Source.faults c.args.config c.args.steps.now c.limit_for-limit.result c.args.captures.items _ c.run_all.new.self r (c.limit_for-limit.ensures.exact ∙ ap limit_for counted) (record {
+    IfOk-weaker _ _ _ (λ r closed. comes-to g.S.Source.left g.S.Source.faults c.args.config c.args.steps.now c.limit_for-limit.result c.args.captures.items _ c.run_all.new.self r (c.limit_for-limit.ensures.exact ∙ ap limit_for counted) (record {
       count = c.len-count.result;
       opened = c.in_ok-world.ensures.world;
       lanes = c.in_ok-world.ensures.lanes;

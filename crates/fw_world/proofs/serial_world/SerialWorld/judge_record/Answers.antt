@@ -1,9 +1,8 @@
-use Rattle.std.proofs.Common.{◌≡◌, ℕ, ◌+◌, ◌≤◌, List, length, ◌∙◌, sym, ap, subst, refl}
+use Rattle.std.proofs.Common.{◌≡◌, ℕ, ◌+◌, ◌≤◌, List, length, ◌∙◌, sym, ap, subst}
 use Rattle.dyn_states.specs.RuleLists.{has_id}
 use Rattle.dyn_states.specs.declared.facts.Facts.{Facts}
 use Rattle.eval_engine.specs.Dockets.{judged_entry}
-use Rattle.eval_engine.specs.declared.judgement.Judgement.{Judgement}
-use Rattle.generation_store.specs.Published.{Published, has_identity}
+use Rattle.generation_store.specs.Published.{Published}
 use Rattle.state_journal.specs.Journal.{last_rules}
 use Rattle.fw_world.specs.AskRuns.{Evaluates}
 use Rattle.fw_world.specs.Columns.{no_columns}
@@ -11,10 +10,11 @@ use Rattle.fw_world.specs.Editions.{IsLastOf}
 use Rattle.fw_world.specs.Lane.{LaneValue, with_entry}
 use Rattle.fw_world.specs.Steps.{Judges, ChangesAsksOf, question_of}
 use Rattle.std.specs.Prelude.{IfOk}
+use Rattle.std.proofs.lemmas.Result.{IfOk-weaker}
 use Rattle.fw_world.specs.World.{WorldValue, published}
 use Rattle.fw_world.proofs.LanesOf.{IsLaneOf-after, IsLane-after}
 use Rattle.fw_world.specs.WorldKept.{IsWorld}
-use Rattle.fw_world.proofs.Results.{IfOk-then, OnOk-both}
+use Rattle.fw_world.proofs.Results.{OnOk-both}
 use Rattle.fw_world.proofs.WorldSteps.{AsksFor, last_rules_are, IsWorld-asks, ChangesAsksOf-asks, Judges-run, lanes-asks, LaneStandsFor-judged}
 use Rattle.fw_world.proofs.serial_world.SerialWorld.judge_record.Goals as goal
 use Rattle.fw_world.proofs.serial_world.SerialWorld.judge_record.Goals.{After-judge}
@@ -49,7 +49,7 @@ returns-clause-judged c =
     let at : ℕ = length c.args.lane.now.docket.entries + 1 in
     let edition = c.last_edition-edition.result.now in
     let last = subst (λ (all : List Published). IsLastOf all edition) c.all.ensures c.last_edition-edition.ensures in
-    IfOk-then c.judge.result
+    IfOk-weaker c.judge.result
     (λ judgement. Evaluates (AsksFor lane at) old new (question_of edition c.args.packet.now c.args.port.now c.args.second) c.args.lane.now.tally c.judge.new.self.tally judgement)
     (λ judgement. Judges c.args.self.now (record { editions = editions; journal = new }) lane at c.args.packet.now c.args.port.now c.args.second c.args.lane.now.tally c.judge.new.self.tally judgement)
     (λ judgement ran. subst (λ (w : WorldValue). Judges w (record { editions = editions; journal = new }) lane at c.args.packet.now c.args.port.now c.args.second c.args.lane.now.tally c.judge.new.self.tally judgement)
@@ -86,7 +86,7 @@ returns-clause-stands c =
 numbered : (c : After-judge) → IfOk c.judge.result (λ judgement. judgement.edition ≡ published c.args.self.now)
 numbered c =
     let before = c.args.lane.now in
-    IfOk-then c.judge.result
+    IfOk-weaker c.judge.result
     (λ judgement. Judges c.args.self.now (record { editions = c.self.inside.store.editions; journal = c.judge.new.book }) before.place (length before.docket.entries + 1) c.args.packet.now c.args.port.now c.args.second before.tally c.judge.new.self.tally judgement)
     (λ judgement. judgement.edition ≡ published c.args.self.now) (λ judgement judges. judges.numbered) (returns-clause-judged c)
 

@@ -7,7 +7,7 @@ use Rattle.fw_world.proofs.serial_world.SerialWorld.open.Goals as goal
 
 pub returns-clause-world : goal.returns-clause-world
 returns-clause-world c =
-    let facts : c.in_ok-copy.field-0 ≡ (arc_value c.in_ok-edition.edition).facts = c.in_ok-copy.ensures ∙ c.facts.ensures.value ∙ ap (λ (e : Published). e.facts) c.deref.ensures in
+    let facts : c.in_ok-share.field-0 ≡ (arc_value c.in_ok-edition.edition).facts = c.in_ok-share.ensures ∙ c.facts.ensures.value ∙ ap (λ (e : Published). e.facts) c.deref.ensures in
     record {
       edition = arc_value c.in_ok-edition.edition;
       built = c.in_ok-edition.ensures;

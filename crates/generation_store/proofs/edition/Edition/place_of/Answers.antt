@@ -1,5 +1,6 @@
 use Rattle.std.proofs.Common.{◌≡◌, true, false, sym, ◌∙◌}
 use Rattle.std.proofs.lemmas.List.Sorted.{searched}
+use Rattle.std.specs.Arc.{arc_value}
 use Rattle.dyn_states.specs.Facts.{is_rule_list}
 use Rattle.dyn_states.specs.RuleLists.{has_id}
 use Rattle.generation_store.proofs.Ordered.{not_falling, not_among}
@@ -11,8 +12,8 @@ returns-in-Ok c =
     let ids = c.self.inside.facts.rules in
     let rising : is_rule_list ids ≡ true = c.self.inside.facts.ordered in
     let found = rw c.in-Ok.is at (searched ids c.args.id c.binary_search.result (rw c.as_slice.ensures at c.binary_search.ensures.position) (λ i j le within. not_falling ids i j rising le within)) in
-    let place = place_at c.self.inside.config.rules c.self.inside.places.items ids c.in-Ok.index c.index.result.now c.self.invariant.placing found.0 in
-    rw (← c.self.view_is) (sym (rw (found.1, sym c.index.ensures) at place))
+    let place = place_at c.self.inside.config.rules (arc_value c.self.inside.index).places.items ids c.in-Ok.index c.index.result.now c.self.invariant.indexing.placing found.0 in
+    rw (← c.self.view_is) (sym (rw (found.1, ← c.deref.ensures, sym c.index.ensures) at place))
 
 pub returns-in-Err : goal.returns-in-Err
 returns-in-Err c =

@@ -1,5 +1,5 @@
 use Rattle.std.proofs.Common.{arith}
-use Rattle.ipfw_parser.proofs.Spans.{tail_within, column_fits}
+use Rattle.ipfw_parser.proofs.Steps.Spans.{tail_within, column_fits}
 use Rattle.ipfw_parser.proofs.words.Words.next.Goals as goal
 
 pub overflow_add-word : goal.overflow_add-word

@@ -1,5 +1,5 @@
 use Rattle.std.proofs.Common.{refl, subst}
-use Rattle.pcap_read.specs.declared.stop.Stop.TheVariants.{End, Fault}
+use Rattle.pcap_read.specs.declared.capture_fault.Stop.TheVariants.{End, Fault}
 use Rattle.pcap_read.specs.Window.{Grows}
 use Rattle.pcap_read.proofs.Advancing.{advances_to_record, advances_to_stop}
 use Rattle.pcap_read.proofs.capture.Capture.advance.Goals as goal

@@ -2,7 +2,7 @@ use Rattle.std.proofs.Common.{rules, ◌<◌, ◌∙◌, ap, refl, sym}
 use Rattle.std.specs.Prelude.{vec_len}
 use Rattle.rm_table.specs.Meanings.{meanings}
 use Rattle.rm_table.specs.Ends.{first_part}
-use Rattle.rm_lock.specs.Ends.{unkept}
+use Rattle.rm_lock.specs.Ends.{unkept_view}
 use Rattle.rm_lock.proofs.Splits.{first_opening, first_at_rest, opens_as}
 use Rattle.rm_lock.proofs.lock.RmLock.open.Goals as goal
 
@@ -20,7 +20,7 @@ pub invariant_of-result : goal.invariant_of-result
 invariant_of-result g c =
     let e = c.requires.opens in
     first_at_rest (meanings g.E.Numbered.number g.E.Numbered.tag g.E.Numbered.name g.B.Kept.number g.B.Kept.tag g.B.Kept.ready g.B.Kept.of g.B.Kept.facts_item) (vec_len c.args.editions) c.len-processors.result e.0 c.args.book c.split_all.new.seat.me.0 c.split_all.new.seat.me.1 c.current-number.result (sym c.len-processors.ensures) (search rules) (sym c.current-number.ensures) c.in_ok-tokens.ensures.at_rest
-    (c.in_ok-tokens.ensures.same ∙ ap (λ z. unkept z.0) (c.in_ok-table.ensures.seat e.0 e.1))
+    (c.in_ok-tokens.ensures.same ∙ ap (λ z. unkept_view z.0) (c.in_ok-table.ensures.seat e.0 e.1))
 
 pub returns : goal.returns
 returns g c = record {

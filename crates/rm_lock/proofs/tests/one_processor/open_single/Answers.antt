@@ -1,6 +1,6 @@
 use Rattle.std.proofs.Common.{rules, arith, ◌≡◌, ◌<◌, ◌∙◌, ap, refl}
 use Rattle.std.specs.Prelude.{replicate}
-use Rattle.rm_table.proofs.Resting.{opens_alike, first_of-replicate}
+use Rattle.rm_table.proofs.Resting.{opens_copies, first_of-replicate}
 use Rattle.rm_lock.specs.declared.tests.edition.Edition.{Edition}
 use Rattle.rm_lock.proofs.Callers.{popped_one}
 use Rattle.rm_lock.proofs.tests.one_processor.open_single.Goals as goal
@@ -8,9 +8,7 @@ use Rattle.rm_lock.proofs.tests.one_processor.open_single.Goals as goal
 pub open-requires-clause-opens : goal.open-requires-clause-opens
 open-requires-clause-opens g c =
     let e : Edition = record { number = 1 } in
-    let is : c.in_ok-editions.editions.items ≡ replicate 1 e = c.in_ok-editions.ensures.items_if_clones_equal (search rules) in
-    let some : 0 < 1 = omega arith in
-    rw is (e, first_of-replicate e 1 some, opens_alike _ 1 e _ some refl refl)
+    opens_copies _ 1 e _ c.in_ok-editions.editions.items (omega arith) (c.in_ok-editions.ensures.items_if_clones_equal (search rules)) refl refl
 
 pub returns-clause-processor : goal.returns-clause-processor
 returns-clause-processor g c =

@@ -1,6 +1,6 @@
 use Rattle.std.proofs.Common.{rules, arith, ◌≡◌, ◌<◌, ◌∙◌, ap, refl}
 use Rattle.std.specs.Prelude.{replicate}
-use Rattle.rm_table.proofs.Resting.{opens_alike, first_of-replicate}
+use Rattle.rm_table.proofs.Resting.{opens_copies, first_of-replicate}
 use Rattle.rm_lock.specs.declared.tests.edition.Edition.{Edition}
 use Rattle.rm_lock.proofs.Callers.{popped_two}
 use Rattle.rm_lock.proofs.tests.two_processors.open_pair.Goals as goal
@@ -8,9 +8,7 @@ use Rattle.rm_lock.proofs.tests.two_processors.open_pair.Goals as goal
 pub open-requires-clause-opens : goal.open-requires-clause-opens
 open-requires-clause-opens g c =
     let e : Edition = record { number = 1 } in
-    let is : c.in_ok-editions.editions.items ≡ replicate 2 e = c.in_ok-editions.ensures.items_if_clones_equal (search rules) in
-    let some : 0 < 2 = omega arith in
-    rw is (e, first_of-replicate e 2 some, opens_alike _ 2 e _ some refl refl)
+    opens_copies _ 2 e _ c.in_ok-editions.editions.items (omega arith) (c.in_ok-editions.ensures.items_if_clones_equal (search rules)) refl refl
 
 pub returns-clause-first : goal.returns-clause-first
 returns-clause-first g c =

@@ -4,7 +4,7 @@ use Rattle.rm_table.specs.Layout.{tracker_word}
 use Rattle.rm_table.specs.Rule.{Whole}
 use Rattle.rm_table.specs.Meanings.{meanings}
 use Rattle.rm_table.specs.Moves.{right_of, kept_at, split_off}
-use Rattle.rm_core.specs.declared.phase.Phase.TheVariants.{Out}
+use Rattle.rm_core.specs.declared.processor_state.Phase.TheVariants.{Out}
 use Rattle.rm_table.proofs.LockCalls.{splits}
 use Rattle.rm_table.proofs.Begun.{unbegun_at, unbegun_split, unbegun_none}
 use Rattle.rm_table.proofs.table.RmTable.cut_seat.Goals as goal

@@ -1,8 +1,8 @@
 use Rattle.std.proofs.Common.{rules, arith, ◌≡◌, Some, ◌∷◌, sym, ap, ◌∙◌, eq-eqb, ne_eqb}
 use Rattle.rm_table.specs.Layout.{tracker_index}
-use Rattle.rm_table.specs.Moves.{noted, drained}
-use Rattle.rm_table.specs.declared.slot.Slot.TheVariants.{Edition}
-use Rattle.rm_table.proofs.Base.{was_true, was_false}
+use Rattle.rm_table.specs.Moves.{with_step, drained_view}
+use Rattle.rm_table.specs.declared.padded_slot.Slot.TheVariants.{Edition}
+use Rattle.fw_base.proofs.Logic.{was_true, was_false}
 use Rattle.rm_table.proofs.table.RmTable.drain.Goals.{then-found-eq0, else-found-eq0}
 use Rattle.rm_table.proofs.LockCalls.{drain_allows, drain_same}
 use Rattle.rm_table.specs.Meanings.{meanings}
@@ -44,8 +44,8 @@ returns-clause-step g c =
     (elim c.if-found-eq0.branch [
       | then-found-eq0 w ↦
           let got = was_true _ _ _ (eq-eqb _ _ w.if-found-eq0.true) told in
-          rw w.result-is (c.load-found.result, got.0, w.if-found-eq0.true, got.1 ∙ ap (λ i. (noted (drained c.seat.inside.seat.me.0 c.args.processor) i c.load-found.result, (c.args.processor, Edition (Some got.0)) ∷ c.seat.inside.seat.me.1)) word, got.2, got.3)
+          rw w.result-is (c.load-found.result, got.0, w.if-found-eq0.true, got.1 ∙ ap (λ i. (with_step (drained_view c.seat.inside.seat.me.0 c.args.processor) i c.load-found.result, (c.args.processor, Edition (Some got.0)) ∷ c.seat.inside.seat.me.1)) word, got.2, got.3)
       | else-found-eq0 w ↦
           let got = was_false _ _ _ (ne_eqb _ _ w.if-found-eq0.false) told in
-          rw w.result-is (c.load-found.result, search rules, got ∙ ap (λ i. (noted c.seat.inside.seat.me.0 i c.load-found.result, c.seat.inside.seat.me.1)) word)
+          rw w.result-is (c.load-found.result, search rules, got ∙ ap (λ i. (with_step c.seat.inside.seat.me.0 i c.load-found.result, c.seat.inside.seat.me.1)) word)
     ])

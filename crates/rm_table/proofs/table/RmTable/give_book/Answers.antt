@@ -2,7 +2,7 @@ use Rattle.std.proofs.Common.{rules, arith, sym, ap, ◌∙◌}
 use Rattle.atomic_table.specs.Table.{rest}
 use Rattle.rm_table.specs.Layout.{tracker_word}
 use Rattle.rm_table.specs.Meanings.{meanings}
-use Rattle.rm_table.specs.Moves.{noted, book_given, HasBook}
+use Rattle.rm_table.specs.Moves.{with_step, book_given, HasBook}
 use Rattle.rm_table.proofs.LockCalls.{give_book_allows}
 use Rattle.rm_table.proofs.table.RmTable.give_book.Goals as goal
 
@@ -33,4 +33,4 @@ invariant_of-seat g c =
 pub returns-clause-step : goal.returns-clause-step
 returns-clause-step g c =
     let me = ap (λ z. z.me) c.seat.view_is in
-    rw (sym me) (λ book top. c.store.ensures.2 book top ∙ ap (λ i. (noted (book_given (meanings g.E.Numbered.number g.E.Numbered.tag g.E.Numbered.name g.B.Kept.number g.B.Kept.tag g.B.Kept.ready g.B.Kept.of g.B.Kept.facts_item) c.seat.inside.seat.me.0 book) i 0, rest c.seat.inside.seat.me.1)) c.index_at.ensures)
+    rw (sym me) (λ book top. c.store.ensures.2 book top ∙ ap (λ i. (with_step (book_given (meanings g.E.Numbered.number g.E.Numbered.tag g.E.Numbered.name g.B.Kept.number g.B.Kept.tag g.B.Kept.ready g.B.Kept.of g.B.Kept.facts_item) c.seat.inside.seat.me.0 book) i 0, rest c.seat.inside.seat.me.1)) c.book_at.ensures)

@@ -3,7 +3,7 @@ use Rattle.rm_table.proofs.LockCalls.{publish_allows}
 use Rattle.rm_table.specs.Layout.{tracker_word}
 use Rattle.rm_table.proofs.Base.{some_of}
 use Rattle.rm_table.proofs.Publishing.{published_is}
-use Rattle.rm_table.specs.Moves.{noted, rest_from}
+use Rattle.rm_table.specs.Moves.{with_step, rest_from}
 use Rattle.std.proofs.Common.{◌+◌}
 use Rattle.rm_table.specs.Meanings.{meanings}
 use Rattle.rm_table.proofs.table.RmTable.publish.Goals as goal
@@ -21,7 +21,7 @@ invariant_of-seat g c =
     let me = ap (λ z. z.me) c.seat.view_is in
     let old = c.seat.invariant in
     let p = published_is (meanings g.E.Numbered.number g.E.Numbered.tag g.E.Numbered.name g.B.Kept.number g.B.Kept.tag g.B.Kept.ready g.B.Kept.of g.B.Kept.facts_item) c.seat.inside.seat.me.0 c.seat.inside.seat.me.1 (rw me c.requires.editions) (search rules) in
-    let e = c.store.ensures.2 ∙ (λ j. (noted (p j) c.index_at.result (c.seat.inside.number + 1), rest_from c.seat.inside.seat.me.0.count c.seat.inside.seat.me.1)) in
+    let e = c.store.ensures.2 ∙ (λ j. (with_step (p j) c.number_at.result (c.seat.inside.number + 1), rest_from c.seat.inside.seat.me.0.count c.seat.inside.seat.me.1)) in
     record {
       sized = search rules;
       placed = old.placed;

@@ -3,15 +3,14 @@ use Rattle.std.specs.Prelude.{replicate}
 use Rattle.rm_table.specs.contracts.tests.edition.EditionNumbered.TheImpl as edition
 use Rattle.rm_table.specs.contracts.tests.ledger.LedgerKept.TheImpl as ledger
 use Rattle.rm_table.specs.Meanings.{meanings}
-use Rattle.rm_table.proofs.Resting.{opens_alike, first_of-replicate, opens_me}
+use Rattle.rm_table.proofs.Resting.{opens_copies, first_of-replicate, opens_me}
 use Rattle.rm_table.specs.declared.tests.edition.Edition.{Edition}
 use Rattle.rm_table.proofs.tests.walks.open_lock.Goals as goal
 
 pub open-requires-clause-opens : goal.open-requires-clause-opens
 open-requires-clause-opens c =
     let e : Edition = record { number = 1 } in
-    let is : c.in_ok-editions.editions.items ≡ replicate c.args.processors e = c.in_ok-editions.ensures.items_if_clones_equal (search rules) in
-    rw is (e, first_of-replicate e c.args.processors c.requires.some, opens_alike _ c.args.processors e _ c.requires.some refl refl)
+    opens_copies _ c.args.processors e _ c.in_ok-editions.editions.items c.requires.some (c.in_ok-editions.ensures.items_if_clones_equal (search rules)) refl refl
 
 pub returns-clause-opening : goal.returns-clause-opening
 returns-clause-opening c =

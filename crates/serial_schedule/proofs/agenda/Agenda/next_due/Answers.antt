@@ -1,5 +1,5 @@
 use Rattle.std.proofs.Common.{◌≡◌, ◌∷◌, ◌∙◌, ap, subst}
-use Rattle.fw_command.specs.declared.step.Step.TheVariants.{After}
+use Rattle.fw_command.specs.declared.script.Step.TheVariants.{After}
 use Rattle.serial_schedule.proofs.Passing.{Passes, passes-after}
 use Rattle.serial_schedule.proofs.agenda.Agenda.next_due.Goals as goal
 

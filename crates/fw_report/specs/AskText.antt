@@ -1,0 +1,33 @@
+-- An ask's line has the flow's name between two parts whose length is bounded.
+use Rattle.std.specs.Prelude.{ℕ, Option, Some, None, List, ◌++◌, codes, decimal}
+use Rattle.fw_rule.specs.Canonical.{mask_word}
+use Rattle.fw_rule.specs.declared.state_opt.LimitMask.{LimitMask}
+use Rattle.dyn_states.specs.declared.op.Op.{Op}
+use Rattle.dyn_states.specs.declared.op.Op.TheVariants.{Lookup, Install}
+use Rattle.dyn_states.specs.declared.reply.Reply.{Reply}
+use Rattle.dyn_states.specs.StateTexts.{flow_text}
+use Rattle.fw_report.specs.JournalText.{name_at, name_word, ask_start, ask_end, flow_of, flags_of, second_of}
+
+-- the name of the flow that is asked for
+abbrev pub asked_name : List (List ℕ) → Op → List ℕ
+asked_name names (Lookup flags flow second name) = name_word names name
+asked_name names (Install flags flow second rule limit name) = name_at names name
+
+-- what an install asks for, as far as the name
+unfoldable pub install_start : ℕ → Option (LimitMask × ℕ) → List ℕ
+install_start id None = codes " install " ++ (decimal id ++ codes " keep :")
+install_start id (Some limit) =
+    codes " install " ++ (decimal id ++ (codes " limit " ++ (mask_word limit.0 ++ (codes " " ++ (decimal limit.1 ++ codes " :")))))
+
+-- what is asked, as far as the name
+abbrev pub question_start : Op → List ℕ
+question_start (Lookup flags flow second name) = codes " lookup :"
+question_start (Install flags flow second rule limit name) = install_start rule.id limit
+
+-- the line as far as the name
+unfoldable pub ask_front : ℕ → ℕ → Op → List ℕ
+ask_front lane at op = ask_start lane at (second_of op) ++ question_start op
+
+-- the line behind the name
+unfoldable pub ask_rest : Op → Reply → List ℕ
+ask_rest op reply = flow_text (flow_of op) ++ ask_end (flags_of op) reply

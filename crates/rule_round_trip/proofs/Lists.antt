@@ -1,0 +1,3 @@
+-- Facts of lists and sums that the other rooms stand on.
+pub mod Each
+pub mod Sums
