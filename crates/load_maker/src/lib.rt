@@ -2,9 +2,11 @@
 #![tactic(auto)]
 
 pub use load::{Load, MOST_RECORDS, make};
+pub use made_capture::MadeCapture;
 
+mod generator;
 mod load;
+mod made_capture;
 mod packets;
-mod pieces;
 #[cfg(test)]
 mod tests;

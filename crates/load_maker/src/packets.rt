@@ -1,8 +1,10 @@
-ghost use Rattle.std.specs.Prelude.{◌≡◌, ◌++◌, OnOk, length};
+ghost use Rattle.std.specs.Prelude.{◌≡◌, ◌+◌, ◌≤◌, ◌++◌, flat_map, length};
 ghost use Rattle.load_maker.specs.Packets as packets;
 
-use crate::pieces::put;
-use fw_base::OutOfMemory;
+use arrayvec::ArrayVec;
+
+/// The bytes of a record with the longest packet.
+pub(crate) const RECORD_BYTES: usize = 56;
 
 /// 192.0.2.1
 const SERVER: u32 = 0xc000_0201;
@@ -16,6 +18,17 @@ const STRANGERS: u32 = 0xc633_6400;
 const SYN: u8 = 2;
 
 const ACK: u8 = 16;
+
+/// Puts the pieces behind what is there.
+pub(crate) fn put(out: &mut ArrayVec<u8, RECORD_BYTES>, pieces: &[&[u8]])
+    requires { length out.old.items + length (flat_map (λ piece. piece.now) pieces.now)
+        ≤ RECORD_BYTES }
+    ensures { out.new.items ≡ out.old.items ++ flat_map (λ piece. piece.now) pieces.now }
+{
+    for piece in pieces {
+        out.try_extend_from_slice(piece).unwrap();
+    }
+}
 
 fn header_start(total: u8, protocol: u8) -> [u8; 12]
     ensures { result ≡ packets.header_start total protocol }
@@ -32,34 +45,36 @@ fn tcp_end(flags: u8) -> [u8; 16]
 /// Puts a TCP packet of 40 bytes.
 #[tactic(auto, unfolding(crate::specs::Packets::tcp_packet))]
 fn put_tcp(
-    out: &mut Vec<u8>,
+    out: &mut ArrayVec<u8, RECORD_BYTES>,
     source: u32,
     port: u16,
     destination: u32,
     other: u16,
     flags: u8,
-) -> Result<(), OutOfMemory>
-    ensures { OnOk result (out.new.items
-        ≡ out.old.items ++ packets.tcp_packet source port destination other flags) }
+)
+    requires { length out.old.items + 40 ≤ RECORD_BYTES }
+    ensures { out.new.items
+        ≡ out.old.items ++ packets.tcp_packet source port destination other flags }
 {
     let start = header_start(40, 6);
     let end = tcp_end(flags);
     let (source, destination) = (source.to_be_bytes(), destination.to_be_bytes());
     let (port, other) = (port.to_be_bytes(), other.to_be_bytes());
-    put(out, &[&start, &source, &destination, &port, &other, &end])
+    put(out, &[&start, &source, &destination, &port, &other, &end]);
 }
 
 /// Puts a UDP packet of 28 bytes.
 #[tactic(auto, unfolding(crate::specs::Packets::udp_packet))]
 fn put_udp(
-    out: &mut Vec<u8>,
+    out: &mut ArrayVec<u8, RECORD_BYTES>,
     source: u32,
     port: u16,
     destination: u32,
     other: u16,
-) -> Result<(), OutOfMemory>
-    ensures { OnOk result (out.new.items
-        ≡ out.old.items ++ packets.udp_packet source port destination other) }
+)
+    requires { length out.old.items + 28 ≤ RECORD_BYTES }
+    ensures { out.new.items
+        ≡ out.old.items ++ packets.udp_packet source port destination other }
 {
     let start = header_start(28, 17);
     let (source, destination) = (source.to_be_bytes(), destination.to_be_bytes());
@@ -67,21 +82,21 @@ fn put_udp(
     put(
         out,
         &[&start, &source, &destination, &port, &other, &[0, 8, 0, 0]],
-    )
+    );
 }
 
 /// Puts an echo request of 28 bytes.
 #[tactic(auto, unfolding(crate::specs::Packets::echo_packet))]
-fn put_echo(out: &mut Vec<u8>, source: u32, destination: u32) -> Result<(), OutOfMemory>
-    ensures { OnOk result (out.new.items
-        ≡ out.old.items ++ packets.echo_packet source destination) }
+fn put_echo(out: &mut ArrayVec<u8, RECORD_BYTES>, source: u32, destination: u32)
+    requires { length out.old.items + 28 ≤ RECORD_BYTES }
+    ensures { out.new.items ≡ out.old.items ++ packets.echo_packet source destination }
 {
     let start = header_start(28, 1);
     let (source, destination) = (source.to_be_bytes(), destination.to_be_bytes());
     put(
         out,
         &[&start, &source, &destination, &[8, 0, 0, 0, 0, 0, 0, 0]],
-    )
+    );
 }
 
 /// How many bytes the packet of that kind, host and port has.
@@ -98,13 +113,9 @@ pub(crate) fn packet_length(kind: u8, host: u8, port: u16) -> u32
 }
 
 /// Puts the packet of the kind, 0 to 3, of that host and port.
-pub(crate) fn put_packet(
-    out: &mut Vec<u8>,
-    kind: u8,
-    host: u8,
-    port: u16,
-) -> Result<(), OutOfMemory>
-    ensures { OnOk result (out.new.items ≡ out.old.items ++ packets.packet_of kind host port) }
+pub(crate) fn put_packet(out: &mut ArrayVec<u8, RECORD_BYTES>, kind: u8, host: u8, port: u16)
+    requires { length out.old.items + 40 ≤ RECORD_BYTES }
+    ensures { out.new.items ≡ out.old.items ++ packets.packet_of kind host port }
 {
     let host = u32::from(host);
     match kind {

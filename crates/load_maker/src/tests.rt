@@ -1,4 +1,6 @@
-use crate::make;
+use crate::{MadeCapture, make};
+use fw_base::Source;
+use std::alloc::Global;
 use std::test::Fail;
 
 /// The capture of 4 records, made by another program: all four kinds of packet are among them.
@@ -19,15 +21,31 @@ const CAPTURE: [u8; 224] = [
     0x00, 0x00, 0x00, 0x00, 0x00, 0x00, 0x00, 0x00, 0x50, 0x02, 0xff, 0xff, 0x00, 0x00, 0x00, 0x00,
 ];
 
+/// What the capture gives to its end, read in pieces of at most so many bytes, 1 to 64.
+fn read_to_end(alloc: Global, mut capture: MadeCapture, most: usize) -> Result<Vec<u8>, Fail> {
+    let mut bytes = Vec::new(alloc);
+    let mut buffer = [0; 64];
+    loop {
+        let count = capture.read(&mut buffer[..most])?;
+        if count == 0 {
+            return Ok(bytes);
+        }
+        bytes.extend_from_slice(&buffer[..count])?;
+    }
+}
+
 #[test]
 fn load_of_4_records(rt: HostRuntime) -> Result<(), Fail> {
-    let load = make(rt.alloc(), 4)?;
-    assert_eq!(rt; load.capture.as_slice(), CAPTURE.as_slice());
-    let end = load
-        .script
-        .as_slice()
-        .ends_with(b"\nlive\nafter 2\ndelete 300\n");
-    assert!(rt; end);
+    for most in [1, 7, 55, 56, 64] {
+        let load = make(rt.alloc(), 4)?;
+        let bytes = read_to_end(rt.alloc(), load.capture, most)?;
+        assert_eq!(rt; bytes.as_slice(), CAPTURE.as_slice());
+        let end = load
+            .script
+            .as_slice()
+            .ends_with(b"\nlive\nafter 2\ndelete 300\n");
+        assert!(rt; end);
+    }
     Ok(())
 }
 
@@ -36,10 +54,8 @@ fn load_of_4_records(rt: HostRuntime) -> Result<(), Fail> {
 fn load_of_one_record(rt: HostRuntime) -> Result<(), Fail> {
     let load = make(rt.alloc(), 1)?;
     assert!(rt; load.script.ends_with(b"\nlive\nafter 0\ndelete 300\n"));
-    assert_eq!(rt; load.capture.len(), 24 + 16 + 40);
-    assert!(rt;
-        load.capture
-            .starts_with(b"\xd4\xc3\xb2\xa1\x02\x00\x04\x00")
-    );
+    let bytes = read_to_end(rt.alloc(), load.capture, 64)?;
+    assert_eq!(rt; bytes.len(), 24 + 16 + 40);
+    assert!(rt; bytes.starts_with(b"\xd4\xc3\xb2\xa1\x02\x00\x04\x00"));
     Ok(())
 }

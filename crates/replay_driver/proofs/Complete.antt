@@ -9,7 +9,6 @@ use Rattle.std.specs.Io.KnownBytes.{Consumes, IsAtEnd}
 use Rattle.std.proofs.lemmas.Bool.{or_from}
 use Rattle.command_words.specs.Words.{CaptureNames}
 use Rattle.fw_base.specs.Faults.{Rose}
-use Rattle.fw_base.specs.Memory.{MemoryBytes}
 use Rattle.fw_base.specs.Pairs.{Pair, take_named, TakesOut}
 use Rattle.fw_command.specs.declared.script.Line.{Line}
 use Rattle.fw_command.specs.declared.script.Pace.TheVariants.{Serial}
@@ -32,7 +31,7 @@ use Rattle.serial_replay.specs.Reading.{Track, IsRead, AllRead, IsEnd}
 use Rattle.serial_replay.specs.Replay.{limit_for, outcome_of}
 use Rattle.serial_replay.specs.declared.opened_capture.OpenedCapture.{OpenedCapture}
 use Rattle.replay_driver.specs.FirstEdition.{◌>>=◌, first_edition, configured, listings_of, listed_first, table_shown, shown, with_answer, read_script}
-use Rattle.replay_driver.specs.Found.{FailsEarly, ReadsScript, Finds, FindsReplay, FindsLoad, IsReplayOf, known_left, failures_of, capture_over}
+use Rattle.replay_driver.specs.Found.{FailsEarly, ReadsScript, Finds, FindsReplay, FindsLoad, IsReplayOf, known_left, no_failures, made_capture}
 use Rattle.replay_driver.specs.Openings.{OpensAll, sources_of}
 use Rattle.replay_driver.specs.Promises.{AllWhole, IsAccepted, IsComplete, IsCompleteLoad, IsCompleteJob}
 use Rattle.replay_driver.specs.Run.{IsRun, IsAnswered}
@@ -180,19 +179,6 @@ module _ {S : Type 0} (left : S → Option (List ℕ)) (failures : S → ℕ) wh
       let fresh = whole.2 in
       read_by limit opened after track end whole read (λ rose stop. not_risen (failures opened.source) (failures after) fresh quiet rose)
 
-  -- the same of a capture that didn't end unread
-  told_well : (limit : ℕ) (opened : OpenedCapture S) (after : S) (track : Track) (end : CaptureEnd) → IsWhole limit opened → IsRead left failures limit opened.source after track end → is_unread end ≡ false
-      → is_stopped end ≡ false
-  told_well limit opened after track end whole read quiet = (read_by limit opened after track end whole read (λ rose stop. no_stop end read.told stop quiet)).1
-    where
-      no_stop : (end : CaptureEnd) → IsEnd end track.records read.number read.stop (failures after) → read.stop ≡ Some ReadFault → is_unread end ≡ false → ⊥
-      no_stop (Read count) told stop quiet = let none = told.0 in cc
-      no_stop (Stopped at fault count) told stop quiet =
-          let some = told.0 in
-          let is : fault ≡ ReadFault = cc in
-          let yes : is_unread (Stopped at fault count) ≡ true = ap (λ (f : CaptureFault). is_unread (Stopped at f count)) is in
-          let no : true ≡ false = sym yes ∙ quiet in cc
-
   all_read_well : (limit : ℕ) (opened : List (OpenedCapture S)) (sources : List S) (tracks : List Track) (ends : List CaptureEnd) → AllByRecursion (IsWhole limit) opened → AllRead left failures limit opened sources tracks ends
       → AllByRecursion (λ s. failures s ≡ 0) sources → (list_any is_unread ends ≡ false) × (list_any is_stopped ends ≡ false)
   all_read_well limit [] [] [] [] whole read quiet = (refl, refl)
@@ -222,20 +208,10 @@ module _ {S : Type 0} (left : S → Option (List ℕ)) (failures : S → ℕ) wh
       ap (list_any is_refused) of.lines_answered ∙ none_of_both is_refused of.edition.answers of.replayed.ends.answers (edition_well script of.edition of.first) live in
       all_well ends.captures ends.answers (ap (list_any is_unread) of.captures_ended ∙ read.0) (ap (list_any is_stopped) of.captures_ended ∙ read.1) answers
 
--- the end of the one made capture
-one_told : (limit : ℕ) (opened : OpenedCapture MemoryBytes) (sources : List MemoryBytes) (tracks : List Track) (ends : List CaptureEnd) → IsWhole known_left failures_of limit opened
-    → AllRead known_left failures_of limit (opened ∷ []) sources tracks ends → list_any is_unread ends ≡ false → list_any is_stopped ends ≡ false
-one_told limit opened [] tracks ends whole read quiet = absurd read
-one_told limit opened (s ∷ ss) [] ends whole read quiet = absurd read
-one_told limit opened (s ∷ ss) (t ∷ ts) [] whole read quiet = absurd read
-one_told limit opened (s ∷ []) (t ∷ []) (end ∷ []) whole (port, here, behind) quiet = by_first (is_unread end) refl quiet
-  where
-    by_first : (b : Bool) → is_unread end ≡ b → (is_unread end || false) ≡ false → (is_stopped end || false) ≡ false
-    by_first true is e = let t : (true || false) ≡ false = sym (ap (λ (b : Bool). b || false) is) ∙ e in absurd (cc)
-    by_first false is e = or_from (is_stopped end) false (told_well known_left failures_of limit opened s t end whole here is) refl
-one_told limit opened (s ∷ []) (t ∷ []) (end ∷ e ∷ es) whole (port, here, behind) quiet = absurd behind
-one_told limit opened (s ∷ []) (t ∷ u ∷ us) (end ∷ ends) whole (port, here, behind) quiet = absurd behind
-one_told limit opened (s ∷ v ∷ vs) (t ∷ ts) (end ∷ ends) whole (port, here, behind) quiet = absurd behind
+-- no read of a made capture failed
+none_failed : (sources : List (List ℕ)) → AllByRecursion (λ source. no_failures source ≡ 0) sources
+none_failed [] = tt
+none_failed (source ∷ sources) = (refl, none_failed sources)
 
 module _ {L S : Type 0} (pairs : L → Option (List Pair)) (faults : L → ℕ) (refused : L → Option (List ℕ)) (left : S → Option (List ℕ)) (failures : S → ℕ) where
   -- the captures of a told list are whole where their names stand
@@ -282,27 +258,16 @@ module _ {K S L : Type 0} (written : K → Option (List ℕ)) (sink_faults : K �
       (subst (λ (n : ℕ). AllByRecursion (IsWhole left failures (limit_for n)) found.opened) (sym many) whole) found.replay quiet.1
   replay_status names complete (Summed kept ends) finds = absurd finds
 
-  -- a source over memory that isn't cut doesn't fail
-  load_status : (n : ℕ) → IsCompleteLoad written sink_faults pairs faults refused left failures n sink sinkAfter outcome → (result : RunResult) → FindsLoad n result → outcome.ends.captures ≡ result_ends result → result_status result ≡ 0
-  load_status n complete Usage finds same = absurd finds
-  load_status n complete (Unread name) finds same = absurd finds
-  load_status n complete (Unready error) found same =
+  load_status : (n : ℕ) → IsCompleteLoad written sink_faults pairs faults refused left failures n sink sinkAfter → (result : RunResult) → FindsLoad n result → result_status result ≡ 0
+  load_status n complete Usage finds = absurd finds
+  load_status n complete (Unread name) finds = absurd finds
+  load_status n complete (Unready error) found =
       let ok = complete.accepted.first in
       absurd (cc)
-  load_status n complete (Reported kept ends journal) finds same = absurd finds
-  load_status n complete (Summed kept ends) found ended =
-      let of = found.replay in
-      let is : ◌≡◌ {A = Result FirstEdition ScriptError} (Ok of.edition) (Ok complete.accepted.edition) = sym of.first ∙ complete.accepted.first in
-      let same : of.edition ≡ complete.accepted.edition = cc in
-      let live : list_any is_refused of.replayed.ends.answers ≡ false =
-      ap (list_any is_refused) (of.replay.answered ∙ ap (λ (e : FirstEdition). (outcome_of e.config e.live).answers) same) ∙ complete.accepted.accepted in
-      let answers : list_any is_refused ends.answers ≡ false =
-      ap (list_any is_refused) of.lines_answered ∙ none_of_both is_refused of.edition.answers of.replayed.ends.answers (edition_well (load.script_of n) of.edition of.first) live in
-      let read : list_any is_unread ends.captures ≡ false = ap (list_any is_unread) (sym ended) ∙ complete.source_quiet in
-      let told : list_any is_unread of.replayed.ends.captures ≡ false = ap (list_any is_unread) (sym of.captures_ended) ∙ read in
-      let stopped = one_told (limit_for 1) (capture_over (load.capture_of n)) of.replayed.sources.items of.replay.tracks of.replayed.ends.captures
-      (load.capture_of n, refl, refl, complete.capture_whole) of.replay.read told in
-      all_well ends.captures ends.answers read (ap (list_any is_stopped) of.captures_ended ∙ stopped) answers
+  load_status n complete (Reported kept ends journal) finds = absurd finds
+  load_status n complete (Summed kept ends) found =
+      replayed_well known_left no_failures (load.script_of n) (made_capture (load.capture_of n) ∷ []) kept ends found.sources complete.accepted
+      ((load.capture_of n, refl, refl, complete.capture_whole), tt) found.replay (none_failed found.sources)
 
   pub ends_0 : (job : Job) → IsRun written sink_faults pairs faults refused left failures job library libraryAfter sink sinkAfter outcome
       → IsCompleteJob written sink_faults pairs faults refused left failures job library libraryAfter sink sinkAfter outcome → (outcome.status ≡ 0) ⊎ (outcome.status ≡ 6)
@@ -312,7 +277,7 @@ module _ {K S L : Type 0} (written : K → Option (List ℕ)) (sink_faults : K �
     | inr h ↦ absurd (complete.sink_quiet h.2)
   ]
   ends_0 (Loads n) (inr a) complete = elim a.written_result.writes.answered [
-    | inl h ↦ inl (h.0 ∙ load_status n complete a.result a.finds.2 a.written_result.ends)
+    | inl h ↦ inl (h.0 ∙ load_status n complete a.result a.finds.2)
     | inr h ↦ absurd (complete.sink_quiet h.2)
   ]
 

@@ -5,7 +5,6 @@ use Rattle.std.specs.List.{list_any}
 use Rattle.std.proofs.lemmas.List.{length-map}
 use Rattle.std.specs.Io.KnownBytes.{Appends}
 use Rattle.fw_base.specs.Faults.{Rose}
-use Rattle.fw_base.specs.Memory.{MemoryBytes}
 use Rattle.fw_base.specs.Pairs.{Pair}
 use Rattle.fw_report.specs.Report.{report_text}
 use Rattle.fw_report.specs.declared.capture_end.CaptureEnd.{CaptureEnd}
@@ -14,7 +13,7 @@ use Rattle.fw_report.specs.declared.line_answer.LineAnswer.{LineAnswer}
 use Rattle.fw_world.specs.RecordValue.{RecordValue}
 use Rattle.serial_replay.specs.Reading.{Track, AllRead}
 use Rattle.serial_replay.specs.declared.opened_capture.OpenedCapture.{OpenedCapture}
-use Rattle.replay_driver.specs.Found.{Finds, FindsWords, FindsReplay, IsReplayOf, ReplaysNames, ReplaysLoad, known_left, failures_of}
+use Rattle.replay_driver.specs.Found.{Finds, FindsWords, FindsReplay, IsReplayOf, ReplaysNames, ReplaysLoad, known_left, no_failures}
 use Rattle.replay_driver.specs.Openings.{without, sources_of}
 use Rattle.replay_driver.specs.Promises.{IsKept, IsReported, IsSummed, IsUnreadJob, IsUnreadyJob, IsQuiet, IsRefused, IsFaulty, HasFailedRead, in_order}
 use Rattle.replay_driver.specs.Run.{Writes, WritesResult, IsUsage, IsNoCommand, IsRun, IsAnswered, IsWithoutMemory, IsFoundRun}
@@ -244,7 +243,7 @@ module _ {K S L : Type 0} (written : K → Option (List ℕ)) (sink_faults : K �
         go (Replays names) (Summed k ends) finds w e = absurd finds
         go (Loads n) (Reported k ends journal) (same, none, found) w e = absurd found
         go (Loads n) (Summed k ends) (same, none, found) w e =
-            subst HasFailedRead (sym w.ends) (failed_by known_left failures_of _ _ k ends found.sources found.replay (refl, tt) (unread_ends ends.captures ends.answers e))
+            subst HasFailedRead (sym w.ends) (failed_by known_left no_failures _ _ k ends found.sources found.replay (refl, tt) (unread_ends ends.captures ends.answers e))
 
     -- ---- before a replay
 

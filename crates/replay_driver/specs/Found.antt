@@ -3,7 +3,6 @@ use Rattle.std.specs.Prelude.{◌≡◌, ℕ, ◌<◌, List, [], ◌∷◌, ◌+
 use Rattle.std.specs.Io.KnownBytes.{Consumes}
 use Rattle.command_words.specs.Words.{CaptureNames}
 use Rattle.fw_base.specs.Faults.{Rose}
-use Rattle.fw_base.specs.Memory.{MemoryBytes}
 use Rattle.fw_base.specs.Pairs.{Pair}
 use Rattle.fw_base.specs.declared.port.Direction.TheVariants.{In}
 use Rattle.fw_base.specs.declared.port.Port.{Port}
@@ -113,25 +112,25 @@ module _ {L S : Type 0} (pairs : L → Option (List Pair)) (faults : L → ℕ) 
   FindsReplay names old new (Reported kept ends journal) sources = (journal ≡ names.journal) × ReplaysNames names old new kept ends sources
   FindsReplay names old new (Summed kept ends) sources = ⊥
 
--- a capture over memory, taken at `in:em0`
-abbrev pub capture_over : List ℕ → OpenedCapture MemoryBytes
-capture_over bytes = record {
+-- a made capture of these bytes, taken at `in:em0`
+abbrev pub made_capture : List ℕ → OpenedCapture (List ℕ)
+made_capture bytes = record {
   port = record { direction = In; interface = codes "em0" };
-  source = record { left = bytes; pieces = []; turn = 0; allowed = None; failures = 0 };
+  source = bytes;
 }
 
--- a source over memory tells what is left
-abbrev pub known_left : MemoryBytes → Option (List ℕ)
-known_left source = Some source.left
+-- a made capture tells what is left of it
+abbrev pub known_left : List ℕ → Option (List ℕ)
+known_left bytes = Some bytes
 
--- how often a source over memory failed
-abbrev pub failures_of : MemoryBytes → ℕ
-failures_of source = source.failures
+-- no read of a made capture fails
+abbrev pub no_failures : List ℕ → ℕ
+no_failures bytes = 0
 
 -- the made capture of so many records was replayed beside the made script
 pub record ReplaysLoad (n : ℕ) (kept : RecordValue) (ends : Ends) : Type 0 where
-  pub sources : List MemoryBytes
-  pub replay : IsReplayOf known_left failures_of (script_of n) (capture_over (capture_of n) ∷ []) kept ends sources
+  pub sources : List (List ℕ)
+  pub replay : IsReplayOf known_left no_failures (script_of n) (made_capture (capture_of n) ∷ []) kept ends sources
 
 -- this is found of a load of so many records
 abbrev pub FindsLoad : ℕ → RunResult → Type 0

@@ -144,13 +144,12 @@ module _ {K S L : Type 0} (written : K → Option (List ℕ)) (sink_faults : K �
     pub sources_quiet : AllByRecursion (λ source. failures source ≡ 0) outcome.sources.items
     pub sink_quiet : Rose (sink_faults sink) (sink_faults sinkAfter) → ⊥
 
-  -- the made script is accepted, the made capture whole, and no read of it and no write failed
-  pub record IsCompleteLoad (n : ℕ) (sink sinkAfter : K) (outcome : Outcome S) : Type 0 where
+  -- the made script is accepted, the made capture whole, and no write failed
+  pub record IsCompleteLoad (n : ℕ) (sink sinkAfter : K) : Type 0 where
     pub accepted : IsAccepted (script_of n)
     pub capture_whole : (records : List Captured) × HasFront (limit_for 1) (capture_of n) records (Open AtBoundary)
-    pub source_quiet : list_any is_unread outcome.ends.captures ≡ false
     pub sink_quiet : Rose (sink_faults sink) (sink_faults sinkAfter) → ⊥
 
   abbrev pub IsCompleteJob : Job → L → L → K → K → Outcome S → Type 0
   IsCompleteJob (Replays names) library libraryAfter sink sinkAfter outcome = IsComplete names library libraryAfter sink sinkAfter outcome
-  IsCompleteJob (Loads n) library libraryAfter sink sinkAfter outcome = IsCompleteLoad n sink sinkAfter outcome
+  IsCompleteJob (Loads n) library libraryAfter sink sinkAfter outcome = IsCompleteLoad n sink sinkAfter

@@ -1,24 +1,29 @@
 ghost use Rattle.std.specs.Prelude.{◌≡◌, ◌≤◌, ◌∷◌, [], IfOk, vec_len};
 ghost use Rattle.replay_driver.specs.RunResult.{IsWritable};
-ghost use Rattle.replay_driver.specs.Found.{FindsLoad, capture_over};
+ghost use Rattle.replay_driver.specs.Found.{FindsLoad, made_capture};
 
 use crate::run_result::RunResult;
 use crate::script_replay::{ScriptReplay, replay_script};
-use fw_base::{Direction, MemorySource, Name, OutOfMemory, Port};
-use load_maker::{Load, MOST_RECORDS, make};
+use fw_base::{Direction, Name, OutOfMemory, Port};
+use load_maker::{Load, MOST_RECORDS, MadeCapture, make};
 use serial_replay::OpenedCapture;
 use std::alloc::Global;
 
-/// The made capture over memory, as it would be taken at `in:em0`.
-fn open_made(alloc: Global, capture: Vec<u8>) -> Result<OpenedCapture<MemorySource>, OutOfMemory>
-    ensures { IfOk result (λ opened. opened ≡ capture_over capture.items) }
+/// The made capture, as it would be taken at `in:em0`.
+fn open_made(
+    alloc: Global,
+    capture: MadeCapture,
+) -> Result<OpenedCapture<MadeCapture>, OutOfMemory>
+    ensures { IfOk result (λ opened. opened ≡ made_capture capture) }
 {
     let port = Port {
         direction: Direction::In,
         interface: Name::new(alloc, b"em0")?,
     };
-    let source = MemorySource::new(capture, Vec::new(alloc), None);
-    Ok(OpenedCapture { port, source })
+    Ok(OpenedCapture {
+        port,
+        source: capture,
+    })
 }
 
 /// Replays the load of so many records, 1 to 1,000,000. Its source is dropped.

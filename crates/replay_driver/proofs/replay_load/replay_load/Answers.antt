@@ -1,7 +1,6 @@
 use Rattle.std.proofs.Common.{◌≡◌, ◌∙◌, ap, sym, subst, List, [], ◌∷◌, ◌++◌, ℕ}
-use Rattle.fw_base.specs.Memory.{MemoryBytes}
 use Rattle.load_maker.specs.Load.{script_of, capture_of}
-use Rattle.replay_driver.specs.Found.{IsReplayOf, capture_over, known_left, failures_of}
+use Rattle.replay_driver.specs.Found.{IsReplayOf, made_capture, known_left, no_failures}
 use Rattle.serial_replay.specs.declared.opened_capture.OpenedCapture.{OpenedCapture}
 use Rattle.replay_driver.proofs.replay_load.replay_load.Goals as goal
 
@@ -10,10 +9,10 @@ returns-clause-finds c =
     let n = c.args.records in
     let replays = rw c.in-Replayed.is at c.in_ok-error.ensures.replays in
     let script = c.deref.ensures.value ∙ c.in_ok-script.ensures.script in
-    let opened = c.in_ok-push.ensures.items ∙ ap (λ (l : List (OpenedCapture MemoryBytes)). l ++ c.in_ok-open_made.field-0 ∷ []) c.new-opened.ensures.items
-    ∙ ap (λ (o : OpenedCapture MemoryBytes). o ∷ []) (c.in_ok-open_made.ensures ∙ ap capture_over c.in_ok-script.ensures.capture) in
+    let opened = c.in_ok-push.ensures.items ∙ ap (λ (l : List (OpenedCapture (List ℕ))). l ++ c.in_ok-open_made.field-0 ∷ []) c.new-opened.ensures.items
+    ∙ ap (λ (o : OpenedCapture (List ℕ)). o ∷ []) (c.in_ok-open_made.ensures ∙ ap made_capture c.in_ok-script.ensures.capture) in
     record {
       sources = c.in-Replayed.sources.items;
-      replay = subst (λ (l : List ℕ). IsReplayOf known_left failures_of l (capture_over (capture_of n) ∷ []) c.in-Replayed.kept c.in-Replayed.ends c.in-Replayed.sources.items) script
-          (subst (λ (os : List (OpenedCapture MemoryBytes)). IsReplayOf known_left failures_of c.deref.result.now os c.in-Replayed.kept c.in-Replayed.ends c.in-Replayed.sources.items) opened replays);
+      replay = subst (λ (l : List ℕ). IsReplayOf known_left no_failures l (made_capture (capture_of n) ∷ []) c.in-Replayed.kept c.in-Replayed.ends c.in-Replayed.sources.items) script
+          (subst (λ (os : List (OpenedCapture (List ℕ))). IsReplayOf known_left no_failures c.deref.result.now os c.in-Replayed.kept c.in-Replayed.ends c.in-Replayed.sources.items) opened replays);
     }

@@ -1,0 +1,7 @@
+use Rattle.std.proofs.Common.{◌++◌, refl, append-nil}
+use Rattle.load_maker.specs.Packets.{udp_packet}
+use Rattle.load_maker.proofs.packets.put_udp.Goals as goal
+
+pub returns : goal.returns
+unfolding udp_packet
+returns c = rw (c.put.ensures, c.header_start-start.ensures, c.to_be_bytes-source.ensures, c.to_be_bytes-destination.ensures, c.to_be_bytes-port.ensures, c.to_be_bytes-other.ensures) (simp append-nil)
