@@ -1,6 +1,6 @@
 ghost use Rattle.std.specs.Prelude.{◌≡◌, ℕ, ◌≤◌, ◌<◌, OnOk, OnErr, [], length, slice_set};
 ghost use Rattle.counter_book.specs.Counts as counts;
-ghost use Rattle.counter_book.specs.Counts.{count_of, raised, total_of};
+ghost use Rattle.counter_book.specs.Counts.{counted_under, raised, total_under};
 
 use crate::Count;
 use fw_base::OutOfMemory;
@@ -37,7 +37,7 @@ impl Tally {
     pub fn fit(&mut self, counters: u32) -> Result<(), OutOfMemory>
         ensures fitted { OnOk result (counters ≤ length self.new) }
         ensures longer { OnOk result (length self.old ≤ length self.new) }
-        ensures counts { OnOk result ((id : ℕ) → count_of self.new id ≡ count_of self.old id) }
+        ensures counts { OnOk result ((id : ℕ) → counted_under self.new id ≡ counted_under self.old id) }
         ensures unchanged { OnErr result (self.new ≡ self.old) }
     {
         let counters = counters as usize;
@@ -50,7 +50,7 @@ impl Tally {
     /// Counts a packet of that many bytes.
     pub fn hit(&mut self, id: u32, bytes: u32)
         requires { id < length self.old }
-        ensures { self.new ≡ slice_set self.old id (raised (count_of self.old id) bytes) }
+        ensures { self.new ≡ slice_set self.old id (raised (counted_under self.old id) bytes) }
     {
         let count = &mut self.counts[id as usize];
         count.packets = count.packets.wrapping_add(1);
@@ -59,7 +59,7 @@ impl Tally {
 
     /// What it counted under the number: nothing where it isn't fitted for it.
     pub fn count(&self, id: u32) -> Count
-        ensures { result ≡ count_of self.now id }
+        ensures { result ≡ counted_under self.now id }
     {
         self.counts.get(id as usize).copied().unwrap_or(Count {
             packets: 0,
@@ -70,7 +70,7 @@ impl Tally {
 
 /// What all the tallies counted under the number, modulo 2^64.
 pub fn total(tallies: &[Tally], id: u32) -> Count
-    ensures { result ≡ total_of tallies.now id }
+    ensures { result ≡ total_under tallies.now id }
 {
     let mut total = Count {
         packets: 0,

@@ -7,7 +7,7 @@ use Rattle.dyn_states.specs.declared.lines.Lines.{Lines}
 use Rattle.dyn_states.specs.declared.state.State.{State}
 use Rattle.dyn_states.specs.Lines.{Leads, place_of, line_at}
 use Rattle.dyn_states.specs.Slots.{is_held, held_states, slot, holds_one}
-use Rattle.dyn_states.specs.StateObject.{considers, has_rule, handed_over, states_after}
+use Rattle.dyn_states.specs.StateObject.{considers, has_rule_among, handed_over, states_after}
 use Rattle.dyn_states.specs.StateTable.{AreApart}
 use Rattle.dyn_states.proofs.LineLaws.{line_considered}
 use Rattle.dyn_states.proofs.SlotLaws.{find-none, list_any-find_none}
@@ -72,16 +72,16 @@ apart_front (x ∷ xs) (suc j) apart inside = rw (first xs j apart.0 (omega arit
         there false h = h
 
 handed_flow : (rules : List ℕ) (s : State) → (handed_over rules s).flow ≡ s.flow
-handed_flow rules s = decided (has_rule rules s) refl
+handed_flow rules s = decided (has_rule_among rules s) refl
   where
-    decided : (b : Bool) → has_rule rules s ≡ b → (handed_over rules s).flow ≡ s.flow
+    decided : (b : Bool) → has_rule_among rules s ≡ b → (handed_over rules s).flow ≡ s.flow
     decided true is = rw is refl
     decided false is = rw is refl
 
 handed_name : (rules : List ℕ) (s : State) → (handed_over rules s).name ≡ s.name
-handed_name rules s = decided (has_rule rules s) refl
+handed_name rules s = decided (has_rule_among rules s) refl
   where
-    decided : (b : Bool) → has_rule rules s ≡ b → (handed_over rules s).name ≡ s.name
+    decided : (b : Bool) → has_rule_among rules s ≡ b → (handed_over rules s).name ≡ s.name
     decided true is = rw is refl
     decided false is = rw is refl
 
@@ -103,8 +103,8 @@ pub states_after-apart : (keep : Bool) (rules : List ℕ) (xs : List State) → 
 states_after-apart true rules [] apart = tt
 states_after-apart true rules (x ∷ xs) apart = (handed_none rules x xs apart.0, states_after-apart true rules xs apart.1)
 states_after-apart false rules [] apart = tt
-states_after-apart false rules (x ∷ xs) apart = decided (has_rule rules x) (any_filter_none (λ y. considers y.flow (Named y.name) x) (has_rule rules) xs apart.0) (states_after-apart false rules xs apart.1)
+states_after-apart false rules (x ∷ xs) apart = decided (has_rule_among rules x) (any_filter_none (λ y. considers y.flow (Named y.name) x) (has_rule_among rules) xs apart.0) (states_after-apart false rules xs apart.1)
   where
-    decided : (b : Bool) → list_any (λ y. considers y.flow (Named y.name) x) (filter (has_rule rules) xs) ≡ false → AreApart (filter (has_rule rules) xs) → AreApart (cond b (x ∷ filter (has_rule rules) xs) (filter (has_rule rules) xs))
+    decided : (b : Bool) → list_any (λ y. considers y.flow (Named y.name) x) (filter (has_rule_among rules) xs) ≡ false → AreApart (filter (has_rule_among rules) xs) → AreApart (cond b (x ∷ filter (has_rule_among rules) xs) (filter (has_rule_among rules) xs))
     decided true none rest = (none, rest)
     decided false none rest = rest

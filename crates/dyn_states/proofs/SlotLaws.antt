@@ -8,7 +8,7 @@ use Rattle.std.proofs.lemmas.Bool.Decides.{nat_tests}
 use Rattle.std.proofs.lemmas.List.Sums.{sum_by-cons}
 use Rattle.dyn_states.specs.declared.state.State.{State}
 use Rattle.dyn_states.specs.Slots.{is_held, held_states, slot, holds_one}
-use Rattle.dyn_states.specs.StateObject.{with_first, is_live, handed_over, has_rule, states_after}
+use Rattle.dyn_states.specs.StateObject.{with_first, is_live, handed_over, has_rule_among, states_after}
 
 -- a held state is added
 pub held_states-push : (slots : List State) (s : State) → is_held s ≡ true → held_states (slots ++ s ∷ []) ≡ held_states slots ++ s ∷ []
@@ -162,9 +162,9 @@ count_by-held test (x ∷ xs) = decided (is_held x) (count_by-held test xs) ∙ 
     decided false rest = rest ∙ sym (zero-add _)
 
 handed_over-held : (rules : List ℕ) (x : State) → is_held (handed_over rules x) ≡ is_held x
-handed_over-held rules x = decided (has_rule rules x) refl
+handed_over-held rules x = decided (has_rule_among rules x) refl
   where
-    decided : (ruled : Bool) → has_rule rules x ≡ ruled → is_held (handed_over rules x) ≡ is_held x
+    decided : (ruled : Bool) → has_rule_among rules x ≡ ruled → is_held (handed_over rules x) ≡ is_held x
     decided true a = rw a refl
     decided false a = rw a refl
 
@@ -178,10 +178,10 @@ states_after-held true rules (x ∷ xs) = rw (handed_over-held rules x) (decided
     decided true rest = ap (λ (ys : List State). handed_over rules x ∷ ys) rest
     decided false rest = rest
 states_after-held false rules [] = refl
-states_after-held false rules (x ∷ xs) = decided (is_held x) (has_rule rules x) refl refl (states_after-held false rules xs)
+states_after-held false rules (x ∷ xs) = decided (is_held x) (has_rule_among rules x) refl refl (states_after-held false rules xs)
   where
-    decided : (held ruled : Bool) → is_held x ≡ held → has_rule rules x ≡ ruled → held_states (filter (has_rule rules) xs) ≡ filter (has_rule rules) (held_states xs)
-        → held_states (cond (has_rule rules x) (x ∷ filter (has_rule rules) xs) (filter (has_rule rules) xs)) ≡ filter (has_rule rules) (cond (is_held x) (x ∷ held_states xs) (held_states xs))
+    decided : (held ruled : Bool) → is_held x ≡ held → has_rule_among rules x ≡ ruled → held_states (filter (has_rule_among rules) xs) ≡ filter (has_rule_among rules) (held_states xs)
+        → held_states (cond (has_rule_among rules x) (x ∷ filter (has_rule_among rules) xs) (filter (has_rule_among rules) xs)) ≡ filter (has_rule_among rules) (cond (is_held x) (x ∷ held_states xs) (held_states xs))
     decided true true a b rest = rw (a, b) (rw a (ap (λ (ys : List State). x ∷ ys) rest))
     decided true false a b rest = rw (a, b) rest
     decided false true a b rest = rw (a, b) (rw a rest)
@@ -201,9 +201,9 @@ pub length-states_after : (keep : Bool) (rules : List ℕ) (xs : List State) →
 length-states_after true rules [] = omega arith
 length-states_after true rules (x ∷ xs) = let h = length-states_after true rules xs in omega arith
 length-states_after false rules [] = omega arith
-length-states_after false rules (x ∷ xs) = decided (has_rule rules x) (length-states_after false rules xs)
+length-states_after false rules (x ∷ xs) = decided (has_rule_among rules x) (length-states_after false rules xs)
   where
-    decided : (b : Bool) → length (filter (has_rule rules) xs) ≤ length xs → length (cond b (x ∷ filter (has_rule rules) xs) (filter (has_rule rules) xs)) ≤ suc (length xs)
+    decided : (b : Bool) → length (filter (has_rule_among rules) xs) ≤ length xs → length (cond b (x ∷ filter (has_rule_among rules) xs) (filter (has_rule_among rules) xs)) ≤ suc (length xs)
     decided true h = omega arith
     decided false h = omega arith
 

@@ -39,13 +39,13 @@ raised o second = record {
 }
 
 -- `:any` is every name
-abbrev pub is_named : FlowName → ℕ → Bool
-is_named Any name = true
-is_named (Named asked) name = asked == name
+abbrev pub is_name_asked : FlowName → ℕ → Bool
+is_name_asked Any name = true
+is_name_asked (Named asked) name = asked == name
 
 -- A lookup considers the states that match the flow and have its name.
 abbrev pub considers : Flow → FlowName → State → Bool
-considers flow name s = is_named name s.name && matches_flow s.flow flow
+considers flow name s = is_name_asked name s.name && matches_flow s.flow flow
 
 -- the flags of a packet join those seen in its direction
 abbrev pub with_flags : Way → ℕ → State → State
@@ -153,22 +153,22 @@ after_ask o (Lookup flags flow second name) = after_lookup (raised o second) flo
 after_ask o (Install flags flow second rule limit name) = after_install (raised o second) flow flags rule limit name
 
 -- the rule 65535, which gets the states whose own rule is gone where they are kept
-abbrev pub last_rule : RuleRef
-last_rule = record { id = 0; number = 65535 }
+abbrev pub last_rule_ref : RuleRef
+last_rule_ref = record { id = 0; number = 65535 }
 
 -- the state's rule is one of these
-abbrev pub has_rule : List ℕ → State → Bool
-has_rule rules s = has_id rules s.rule.id
+abbrev pub has_rule_among : List ℕ → State → Bool
+has_rule_among rules s = has_id rules s.rule.id
 
 -- the state under rule 65535 where its own rule isn't one of these
 abbrev pub handed_over : List ℕ → State → State
-handed_over rules s = if has_rule rules s then s else record s { rule = last_rule }
+handed_over rules s = if has_rule_among rules s then s else record s { rule = last_rule_ref }
 
 -- A publication brings its settings. Where they have `dyn_keep_states` 0, it drops the states whose rule
 -- isn't in it; where they have 1, these get rule 65535 and keep all else.
 abbrev pub states_after : Bool → List ℕ → List State → List State
 states_after true rules states = map (handed_over rules) states
-states_after false rules states = filter (has_rule rules) states
+states_after false rules states = filter (has_rule_among rules) states
 
 -- what a publication leaves
 unfoldable pub after_publication : StateObject → List ℕ → Values → StateObject

@@ -35,7 +35,7 @@ pub record HasRoomForOne (t : StateTable) : Type 0 where
   pub queue : entry_count t.queue < entry_room t.queue
 
 -- lines, expiries and tallies are those of the states that the slots hold, and there is room
-pub record IsTable (t : StateTable) : Type 0 where
+pub record IsStateTable (t : StateTable) : Type 0 where
   pub leads : Leads (slots_of t) t.lines
   pub serves : Serves (slots_of t) t.queue
   pub tallied : IsTallied (slots_of t) t.tallies
@@ -71,6 +71,6 @@ object_of t clock settings = record { states = states_of t; clock = clock; setti
 
 -- There are slots for more than twice as many states as there may be.
 pub record IsRoomy (t : StateTable) (settings : Values) : Type 0 where
-  pub table : IsTable t
+  pub table : IsStateTable t
   pub held : 2 * length (states_of t) < t.most
   pub most : 2 * settings.max < t.most

@@ -43,7 +43,7 @@ impl Model for ScannedStates {
 
 /// Whether the flow name asked for is the state's.
 fn is_named(asked: FlowName, name: u8) -> bool
-    ensures { result ≡ object.is_named asked name }
+    ensures { result ≡ object.is_name_asked asked name }
 {
     match asked {
         FlowName::Any => true,
@@ -389,7 +389,7 @@ fn keep_live(states: &mut Vec<State>, clock: u32)
 
 /// Drops the states whose rule isn't one of these.
 fn keep_ruled(states: &mut Vec<State>, rules: &[u32])
-    ensures items { states.new.items ≡ filter (object.has_rule rules.now) states.old.items }
+    ensures items { states.new.items ≡ filter (object.has_rule_among rules.now) states.old.items }
     ensures bound { vec_len states.new ≤ vec_len states.old }
     ensures capacity { vec_capacity states.new ≡ vec_capacity states.old }
 {
@@ -421,7 +421,7 @@ pub(crate) fn take_over(states: &mut Vec<State>, facts: &Facts)
 
 /// Whether the state's rule is one of these.
 fn has_rule(rules: &[u32], state: &State) -> bool
-    ensures { result ≡ object.has_rule rules.now state.now }
+    ensures { result ≡ object.has_rule_among rules.now state.now }
 {
     rules.iter().any(|id| *id == state.rule.id)
 }

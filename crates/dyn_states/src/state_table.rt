@@ -5,7 +5,7 @@ ghost use Rattle.dyn_states.specs.declared.flow_name.FlowName.TheVariants.{Any, 
 ghost use Rattle.dyn_states.specs.Lines.{line_at};
 ghost use Rattle.dyn_states.specs.ExpiryQueue.{entry_count, entry_room, due_count};
 ghost use Rattle.dyn_states.specs.Slots.{is_held, given_up, held_states, slot, no_state, holds_one, IsFirstPlace, earlier};
-ghost use Rattle.dyn_states.specs.StateTable.{slots_of, states_of, HasRoom, HasRoomForOne, HasParts, IsTable, IsTableBut, IsTouched, AreApart};
+ghost use Rattle.dyn_states.specs.StateTable.{slots_of, states_of, HasRoom, HasRoomForOne, HasParts, IsStateTable, IsTableBut, IsTouched, AreApart};
 
 use crate::expiry_queue::ExpiryQueue;
 use crate::lines::{Lines, line_of};
@@ -39,7 +39,7 @@ impl StateTable {
         requires { most < 2 ^ 32 }
         ensures none { IfOk result (λ made. slots_of made ≡ []) }
         ensures most { IfOk result (λ made. made.most ≡ most) }
-        ensures table { IfOk result IsTable }
+        ensures table { IfOk result IsStateTable }
     {
         Ok(StateTable {
             slots: Vec::with_capacity(alloc, most)?,
@@ -52,13 +52,13 @@ impl StateTable {
 
     /// Holds one more state, the last made.
     pub fn hold(&mut self, state: State)
-        requires table { IsTable self.old }
+        requires table { IsStateTable self.old }
         requires room { HasRoomForOne self.old }
         requires held { is_held state ≡ true }
         requires first { list_any (object.considers state.flow (Named state.name))
             (states_of self.old) ≡ false }
         ensures slots { slots_of self.new ≡ slots_of self.old ++ state ∷ [] }
-        ensures table { IsTable self.new }
+        ensures table { IsStateTable self.new }
         ensures most { self.new.most ≡ self.old.most }
     {
         let place = self.slots.len() as u32;
@@ -75,7 +75,7 @@ impl StateTable {
         requires held { is_held (slot (slots_of self.old) place) ≡ true }
         ensures slots { slots_of self.new
             ≡ slice_set (slots_of self.old) place (given_up (slot (slots_of self.old) place)) }
-        ensures table { IsTable self.new }
+        ensures table { IsStateTable self.new }
         ensures most { self.new.most ≡ self.old.most }
         ensures queue { self.new.queue ≡ self.old.queue }
     {
@@ -88,14 +88,14 @@ impl StateTable {
 
     /// Puts a touched state into its place again.
     pub fn touch(&mut self, place: usize, state: State)
-        requires table { IsTable self.old }
+        requires table { IsStateTable self.old }
         requires room { HasRoomForOne self.old }
         requires place { place < length (slots_of self.old) }
         requires held { is_held (slot (slots_of self.old) place) ≡ true }
         requires still { is_held state ≡ true }
         requires same { IsTouched (slot (slots_of self.old) place) state }
         ensures slots { slots_of self.new ≡ slice_set (slots_of self.old) place state }
-        ensures table { IsTable self.new }
+        ensures table { IsStateTable self.new }
         ensures most { self.new.most ≡ self.old.most }
     {
         let expiry = self.slots[place].expiry;
@@ -108,10 +108,10 @@ impl StateTable {
 
     /// The place of the earliest expiry, if it comes by that second.
     fn next_due(&mut self, clock: u32) -> Option<u32>
-        requires { IsTable self.old }
+        requires { IsStateTable self.old }
         ensures slots { slots_of self.new ≡ slots_of self.old }
         ensures most { self.new.most ≡ self.old.most }
-        ensures none { IfNone result (IsTable self.new
+        ensures none { IfNone result (IsStateTable self.new
             × (filter (object.is_live clock) (slots_of self.new) ≡ states_of self.new)) }
         ensures some { IfSome result (λ place. IsTableBut self.new place
             × (entry_count self.new.queue < entry_room self.new.queue)
@@ -127,7 +127,7 @@ impl StateTable {
         requires room { entry_count self.old.queue < entry_room self.old.queue }
         ensures live { filter (object.is_live clock) (slots_of self.new)
             ≡ filter (object.is_live clock) (slots_of self.old) }
-        ensures table { IsTable self.new }
+        ensures table { IsStateTable self.new }
         ensures most { self.new.most ≡ self.old.most }
         ensures due { due_count clock self.new.queue ≡ due_count clock self.old.queue }
     {
@@ -147,10 +147,10 @@ impl StateTable {
 
     /// Gives up each state that is dead at that second.
     pub fn retire_due(&mut self, clock: u32)
-        requires { IsTable self.old }
+        requires { IsStateTable self.old }
         ensures states { states_of self.new ≡ filter (object.is_live clock) (states_of self.old) }
         ensures count { length (states_of self.new) ≤ length (states_of self.old) }
-        ensures table { IsTable self.new }
+        ensures table { IsStateTable self.new }
         ensures most { self.new.most ≡ self.old.most }
     {
         while let Some(place) = self.next_due(clock) {
@@ -187,7 +187,7 @@ impl StateTable {
         requires room { HasRoom self.old }
         requires apart { AreApart (states_of self.old) }
         ensures slots { slots_of self.new ≡ states_of self.old }
-        ensures table { IsTable self.new }
+        ensures table { IsStateTable self.new }
         ensures queue { entry_count self.new.queue ≤ length (slots_of self.new) }
         ensures most { self.new.most ≡ self.old.most }
     {
@@ -199,11 +199,11 @@ impl StateTable {
 
     /// Drops the states whose rule isn't in the publication or, where they are kept, gives them rule 65535.
     pub fn take_over(&mut self, facts: &Facts)
-        requires { IsTable self.old }
+        requires { IsStateTable self.old }
         ensures states { states_of self.new
             ≡ object.states_after facts.now.settings.keep facts.now.rules (states_of self.old) }
         ensures count { length (states_of self.new) ≤ length (states_of self.old) }
-        ensures table { IsTable self.new }
+        ensures table { IsStateTable self.new }
         ensures most { self.new.most ≡ self.old.most }
     {
         if self.slots.is_empty() {
@@ -231,10 +231,10 @@ impl StateTable {
     /// Makes room for one more slot: where there is none, or few slots hold a state, it compacts. It takes
     /// no memory.
     pub fn make_room(&mut self)
-        requires table { IsTable self.old }
+        requires table { IsStateTable self.old }
         requires few { length (states_of self.old) < self.old.most }
         ensures states { states_of self.new ≡ states_of self.old }
-        ensures table { IsTable self.new }
+        ensures table { IsStateTable self.new }
         ensures room { HasRoomForOne self.new }
         ensures most { self.new.most ≡ self.old.most }
     {
@@ -254,7 +254,7 @@ impl StateTable {
 
     /// How many states there are.
     pub fn live(&self) -> u32
-        requires { IsTable self.now }
+        requires { IsStateTable self.now }
         ensures { result ≡ length (states_of self.now) }
     {
         self.tallies.live()
@@ -262,7 +262,7 @@ impl StateTable {
 
     /// How many states a limit of the rule counts for the flow.
     pub fn count_of(&self, rule: RuleRef, mask: LimitMask, flow: &Flow) -> u32
-        requires { IsTable self.now }
+        requires { IsStateTable self.now }
         ensures { result ≡ count_by (object.counts_for rule mask flow.now) (states_of self.now) }
     {
         self.tallies.amount_of(rule.id, mask, flow)
@@ -270,7 +270,7 @@ impl StateTable {
 
     /// The place of the first state made that a lookup considers.
     pub fn place_of(&self, flow: &Flow, name: FlowName) -> Option<usize>
-        requires { IsTable self.now }
+        requires { IsStateTable self.now }
         ensures { IsFirstPlace (object.considers flow.now name) (slots_of self.now) result }
     {
         match name {
@@ -281,7 +281,7 @@ impl StateTable {
 
     /// The place of the state of that flow and name.
     fn place_named(&self, flow: &Flow, number: u8) -> Option<usize>
-        requires { IsTable self.now }
+        requires { IsStateTable self.now }
         ensures { IsFirstPlace (object.considers flow.now (Named number)) (slots_of self.now)
             result }
     {
@@ -301,7 +301,7 @@ impl StateTable {
 
     /// The first place of a state of that flow, whatever its name.
     fn place_any(&self, flow: &Flow) -> Option<usize>
-        requires { IsTable self.now }
+        requires { IsStateTable self.now }
         ensures { IsFirstPlace (object.considers flow.now Any) (slots_of self.now) result }
     {
         let mut first = None;

@@ -9,7 +9,7 @@ ghost use Rattle.dyn_states.specs.StateObject as object;
 ghost use Rattle.dyn_states.specs.declared.state.State.{State};
 ghost use Rattle.dyn_states.specs.StateObject.{lookup_reply, after_lookup, install_reply, after_install, limit_reply, or_full, full_reply};
 ghost use Rattle.dyn_states.specs.Slots.{is_held, slot, holds_one, no_state};
-ghost use Rattle.dyn_states.specs.StateTable.{slots_of, states_of, object_of, HasRoomForOne, IsTable, IsRoomy};
+ghost use Rattle.dyn_states.specs.StateTable.{slots_of, states_of, object_of, HasRoomForOne, IsStateTable, IsRoomy};
 
 use crate::flows::way_of;
 use crate::lifetimes::kept_flags;
@@ -47,7 +47,7 @@ pub(crate) fn look_up(
         ≡ lookup_reply (object_of table.old clock (values_of settings.now)) flow.now name }
     ensures after { object_of table.new clock (values_of settings.now)
         ≡ after_lookup (object_of table.old clock (values_of settings.now)) flow.now flags name }
-    ensures table { IsTable table.new }
+    ensures table { IsStateTable table.new }
     ensures most { table.new.most ≡ table.old.most }
     ensures count { length (states_of table.new) ≡ length (states_of table.old) }
 {
@@ -70,7 +70,7 @@ fn limit_answer(
     rule: RuleRef,
     limit: Option<(LimitMask, u16)>,
 ) -> Option<Reply>
-    requires { IsTable table.now }
+    requires { IsStateTable table.now }
     ensures value { result
         ≡ limit_reply (object_of table.now 0 default_values) rule limit flow.now }
     ensures created { result ≢ Some Created }
@@ -86,7 +86,7 @@ fn limit_answer(
 
 /// `TableFull`, where it is, else `Created`.
 fn room_answer(table: &StateTable, settings: &Settings) -> Reply
-    requires { IsTable table.now }
+    requires { IsStateTable table.now }
     ensures value { result ≡ full_reply (object_of table.now 0 (values_of settings.now)) }
     ensures created { result ≡ Created → length (states_of table.now) < settings.now.max }
 {
@@ -100,7 +100,7 @@ fn room_answer(table: &StateTable, settings: &Settings) -> Reply
 
 /// The answer, or where there is none what the room for a state makes it.
 fn or_room(table: &StateTable, settings: &Settings, answer: Option<Reply>) -> Reply
-    requires table { IsTable table.now }
+    requires table { IsStateTable table.now }
     requires answer { answer ≢ Some Created }
     ensures value { result ≡ or_full (object_of table.now 0 (values_of settings.now)) answer }
     ensures created { result ≡ Created → length (states_of table.now) < settings.now.max }
@@ -120,7 +120,7 @@ fn install_answer(
     limit: Option<(LimitMask, u16)>,
     name: u8,
 ) -> Reply
-    requires { IsTable table.now }
+    requires { IsStateTable table.now }
     ensures reply { result
         ≡ install_reply (object_of table.now 0 (values_of settings.now)) flow.now rule limit name }
     ensures created { result ≡ Created → length (states_of table.now) < settings.now.max }
@@ -183,7 +183,7 @@ pub(crate) fn install(
     ensures after { object_of table.new clock (values_of settings.now)
         ≡ after_install (object_of table.old clock (values_of settings.now)) flow.now flags rule
         limit name }
-    ensures table { IsTable table.new }
+    ensures table { IsStateTable table.new }
     ensures most { table.new.most ≡ table.old.most }
     ensures count { 2 * length (states_of table.new) < table.new.most }
 {

@@ -1,7 +1,7 @@
 -- How steps move an evaluation on.
 use Rattle.std.proofs.Common.{◌≡◌, ℕ, suc, ◌<◌, Option, Some, None, IsSome, IsSomeAnd, List, [], ◌∷◌, drop, length, refl, ap, sym, ◌∙◌, subst, arith, slice_set}
 use Rattle.std.proofs.lemmas.List.{length-set}
-use Rattle.counter_book.specs.Counts.{count_of, raised}
+use Rattle.counter_book.specs.Counts.{counted_under, raised}
 use Rattle.counter_book.specs.declared.count.Count.{Count}
 use Rattle.ip6_headers.specs.Either.{total_of}
 use Rattle.dyn_states.specs.declared.op.Op.{Op}
@@ -9,7 +9,7 @@ use Rattle.fw_rule.specs.declared.rule.Rule.{Rule}
 use Rattle.eval_engine.specs.Encounter.{rule_ref}
 use Rattle.eval_engine.specs.Question.{Question}
 use Rattle.eval_engine.specs.Standing.{counts_after, seen_by}
-use Rattle.eval_engine.specs.Steps.{walk_at, judged_at, judgement_from, waiting_at, IsStopped, IsStep, Comes, Remains, Nears, Leads, PassesTo}
+use Rattle.eval_engine.specs.Steps.{walk_at, judged_at, judgement_from, waiting_at, IsStopped, IsStep, Comes, Remains, Nears, LeadsOn, PassesTo}
 use Rattle.eval_engine.specs.Trace.{Trace, PassesOver, Counts, hits_of, stop_of, length_of}
 use Rattle.eval_engine.specs.Walk.{judged, denied_at_end, refuses_from}
 use Rattle.eval_engine.specs.declared.judgement.Cause.{Cause}
@@ -65,19 +65,19 @@ refused_there q at cause = go (drop at.place q.edition.config.rules)
 
 -- a rule that is counted
 pub leads_counted : (q : Question) (searched : Searched) (trace : Trace) (step : Step) (at : Position) (counter : ℕ) (before now : List Count)
-    → now ≡ slice_set before counter (raised (count_of before counter) (total_of q.packet)) → IsStep q searched trace step at → Leads q searched (Counts counter trace) step at before now
+    → now ≡ slice_set before counter (raised (counted_under before counter) (total_of q.packet)) → IsStep q searched trace step at → LeadsOn q searched (Counts counter trace) step at before now
 unfolding hits_of stop_of length_of counts_after
 leads_counted q searched trace On at counter before now counted is = record {
   remains = record {
-    tallied = ap (λ (t : Trace). counts_after (total_of q.packet) (hits_of t) (slice_set before counter (raised (count_of before counter) (total_of q.packet)))) is
+    tallied = ap (λ (t : Trace). counts_after (total_of q.packet) (hits_of t) (slice_set before counter (raised (counted_under before counter) (total_of q.packet)))) is
         ∙ ap (λ (counts : List Count). counts_after (total_of q.packet) (hits_of (walk_at q (seen_by searched) at)) counts) (sym counted);
     stop = ap (λ (t : Trace). stop_of t) is;
-    fitted = ap (λ (counts : List Count). length counts) counted ∙ length-set before counter (raised (count_of before counter) (total_of q.packet));
+    fitted = ap (λ (counts : List Count). length counts) counted ∙ length-set before counter (raised (counted_under before counter) (total_of q.packet));
   };
   sooner = longer (Counts counter trace) (walk_at q (seen_by searched) at) _ refl (ap (λ (t : Trace). suc (length_of t)) is);
 }
 leads_counted q searched trace (Decides verdict cause) at counter before now counted is = record {
-  tallied = counted ∙ ap (λ (t : Trace). counts_after (total_of q.packet) (hits_of t) (slice_set before counter (raised (count_of before counter) (total_of q.packet)))) (sym is.stop);
+  tallied = counted ∙ ap (λ (t : Trace). counts_after (total_of q.packet) (hits_of t) (slice_set before counter (raised (counted_under before counter) (total_of q.packet)))) (sym is.stop);
   stop = ap (λ (t : Trace). stop_of t) is.stop;
   asked = is.asked;
 }
@@ -109,8 +109,8 @@ comes_passed q trace next stage before now passes comes = record {
 }
 
 -- what leads on from behind rules that are passed over leads on from before them
-pub leads_passed : (q : Question) (searched : Searched) (trace next : Trace) (step : Step) (at : Position) (before now : List Count) → PassesTo trace next → Leads q searched next step at before now
-    → Leads q searched trace step at before now
+pub leads_passed : (q : Question) (searched : Searched) (trace next : Trace) (step : Step) (at : Position) (before now : List Count) → PassesTo trace next → LeadsOn q searched next step at before now
+    → LeadsOn q searched trace step at before now
 leads_passed q searched trace next On at before now passes leads = record {
   remains = record {
     tallied = ap (λ (hits : List ℕ). counts_after (total_of q.packet) hits before) passes.hits ∙ leads.remains.tallied;

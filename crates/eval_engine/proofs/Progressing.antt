@@ -2,16 +2,16 @@
 use Rattle.std.proofs.Common.{◌≡◌, ℕ, true, List, [], ◌∷◌, ◌++◌, refl, ap, sym, ◌∙◌, subst, drop, length, slice_set, arith}
 use Rattle.std.proofs.lemmas.List.{length-set}
 use Rattle.counter_book.specs.declared.count.Count.{Count}
-use Rattle.counter_book.specs.Counts.{raised, count_of}
+use Rattle.counter_book.specs.Counts.{raised, counted_under}
 use Rattle.dyn_states.specs.declared.op.Op.{Op}
 use Rattle.dyn_states.specs.declared.op.Op.TheVariants.{Lookup, Install}
 use Rattle.dyn_states.specs.declared.reply.Reply.{Reply}
 use Rattle.dyn_states.specs.declared.reply.Reply.TheVariants.{Found, NotFound, Created, Exists, LimitReached, TableFull}
 use Rattle.fw_rule.specs.declared.rule.Rule.{Rule}
 use Rattle.ip6_headers.specs.Either.{total_of}
-use Rattle.eval_engine.specs.Evaluation.{Progress, progress_by, progress_of, progress_from, replied, is_reply_to, asks_of, outcome_of, evaluate}
+use Rattle.eval_engine.specs.Evaluation.{Progress, progress_by, progress_of, progress_from, replied, is_reply_to, asks_at_stop, outcome_of, evaluate}
 use Rattle.eval_engine.specs.Question.{Question}
-use Rattle.eval_engine.specs.Standing.{StandsAt, IsAnswered, IsOpenAt, counts_after, stop_at, pause_of, seen_by, callers_of, kind_of, asks_at, outcome_at}
+use Rattle.eval_engine.specs.Standing.{StandsAt, AnswersOpenAsk, IsOpenAt, counts_after, stop_of_stage, pause_of, seen_by, callers_of, kind_of, asks_at, outcome_at}
 use Rattle.eval_engine.specs.Steps.{Comes, walk_at}
 use Rattle.eval_engine.specs.Trace.{Seen, no_names, Pause, Stop, WaitsFor, Trace, hits_of, stop_of}
 use Rattle.eval_engine.specs.Walk.{begun, resumed, leads_to, seen_after}
@@ -34,11 +34,11 @@ unfolding progress_from
 progress_from-append q progress [] reply = refl
 progress_from-append q progress (first ∷ replies) reply = progress_from-append q (replied q progress.asks progress.hits first progress.stop) replies reply
 
-asks_stop : (q : Question) (stage : Stage) → asks_of (stop_at q stage) ≡ asks_at stage
+asks_stop : (q : Question) (stage : Stage) → asks_at_stop (stop_of_stage q stage) ≡ asks_at stage
 asks_stop q (Judged judgement) = refl
 asks_stop q (Asks op paused) = refl
 
-outcome_stop : (q : Question) (stage : Stage) → outcome_of (stop_at q stage) ≡ outcome_at stage
+outcome_stop : (q : Question) (stage : Stage) → outcome_of (stop_of_stage q stage) ≡ outcome_at stage
 outcome_stop q (Judged judgement) = refl
 outcome_stop q (Asks op paused) = refl
 
@@ -46,9 +46,9 @@ outcome_stop q (Asks op paused) = refl
 pub stands_first : (q : Question) (trace : Trace) (stage : Stage) (before now : List Count) → trace ≡ begun q → Comes q trace stage before now → StandsAt q [] [] before stage now
 unfolding evaluate progress_from
 stands_first q trace stage before now is comes =
-    let stop : stop_of (begun q) ≡ stop_at q stage = ap (λ (t : Trace). stop_of t) (sym is) ∙ comes.stop in
+    let stop : stop_of (begun q) ≡ stop_of_stage q stage = ap (λ (t : Trace). stop_of t) (sym is) ∙ comes.stop in
     record {
-      asked = ap (λ (s : Stop). asks_of s) stop ∙ asks_stop q stage;
+      asked = ap (λ (s : Stop). asks_at_stop s) stop ∙ asks_stop q stage;
       outcome = ap (λ (s : Stop). outcome_of s) stop ∙ outcome_stop q stage;
       tallied = comes.tallied ∙ ap (λ (t : Trace). counts_after (total_of q.packet) (hits_of t) before) is;
       waiting = comes.asked;
@@ -72,7 +72,7 @@ same_kind rules (Install g1 f1 s1 r1 l1 n1) (Install g2 f2 s2 r2 l2 n2) Exists i
 same_kind rules (Install g1 f1 s1 r1 l1 n1) (Install g2 f2 s2 r2 l2 n2) (LimitReached count) is = refl
 same_kind rules (Install g1 f1 s1 r1 l1 n1) (Install g2 f2 s2 r2 l2 n2) (TableFull count) is = refl
 
-fits_by : (q : Question) (op : Op) (paused : Paused) (reply : Reply) → IsOpenAt q op paused → IsAnswered q paused reply → is_reply_to q.edition.config.rules op reply ≡ true
+fits_by : (q : Question) (op : Op) (paused : Paused) (reply : Reply) → IsOpenAt q op paused → AnswersOpenAsk q paused reply → is_reply_to q.edition.config.rules op reply ≡ true
 fits_by q op paused reply waiting answered = same_kind q.edition.config.rules op answered.op reply (waiting ∙ sym answered.waiting) ∙ answered.fits
 
 replied_by : (q : Question) (asks : List Op) (hits : List ℕ) (reply : Reply) (op : Op) (pause : Pause) → is_reply_to q.edition.config.rules op reply ≡ true
@@ -81,7 +81,7 @@ replied_by q asks hits reply op pause fits = rw fits refl
 
 -- an evaluation that goes on with a reply
 pub stands_next : (q : Question) (op : Op) (paused : Paused) (reply : Reply) (asks : List Op) (replies : List Reply) (start before now : List Count) (stage : Stage)
-    → StandsAt q asks replies start (Asks op paused) before → IsAnswered q paused reply → Comes q (resumed q (pause_of q paused) reply) stage before now
+    → StandsAt q asks replies start (Asks op paused) before → AnswersOpenAsk q paused reply → Comes q (resumed q (pause_of q paused) reply) stage before now
     → StandsAt q (asks ++ op ∷ []) (replies ++ reply ∷ []) start stage now
 unfolding evaluate
 stands_next q op paused reply asks replies start before now stage stands answered comes =
@@ -92,8 +92,8 @@ stands_next q op paused reply asks replies start before now stage stands answere
     ∙ ap (λ (s : Stop). replied q so_far.asks so_far.hits reply s) stands.stop
     ∙ replied_by q so_far.asks so_far.hits reply op (pause_of q paused) (fits_by q op paused reply stands.waiting.0 answered) in
     record {
-      asked = ap (λ (p : Progress). p.asks) next ∙ ap (λ (xs : List Op). xs ++ asks_of (stop_of trace)) stands.asked
-          ∙ ap (λ (s : Stop). (asks ++ op ∷ []) ++ asks_of s) comes.stop ∙ ap (λ (xs : List Op). (asks ++ op ∷ []) ++ xs) (asks_stop q stage);
+      asked = ap (λ (p : Progress). p.asks) next ∙ ap (λ (xs : List Op). xs ++ asks_at_stop (stop_of trace)) stands.asked
+          ∙ ap (λ (s : Stop). (asks ++ op ∷ []) ++ asks_at_stop s) comes.stop ∙ ap (λ (xs : List Op). (asks ++ op ∷ []) ++ xs) (asks_stop q stage);
       outcome = ap (λ (p : Progress). outcome_of p.stop) next ∙ ap (λ (s : Stop). outcome_of s) comes.stop ∙ outcome_stop q stage;
       tallied = comes.tallied ∙ ap (λ (counts : List Count). counts_after (total_of q.packet) (hits_of trace) counts) stands.tallied
           ∙ sym (counts_after-append (total_of q.packet) so_far.hits (hits_of trace) start)
@@ -111,7 +111,7 @@ stands_begun q same searched at stage before now is none outside first comes =
 -- behind one reply more the evaluation stands where the search came to from that reply on
 pub stands_resumed : (q same : Question) (searched : Searched) (op : Op) (paused : Paused) (reply : Reply) (asks : List Op) (replies : List Reply) (start before now : List Count) (stage : Stage)
     → same ≡ q → seen_by searched ≡ seen_after same (seen_by paused.searched) (drop paused.place same.edition.config.rules) reply
-    → StandsAt q asks replies start (Asks op paused) before → IsAnswered q paused reply
+    → StandsAt q asks replies start (Asks op paused) before → AnswersOpenAsk q paused reply
     → Comes same (leads_to same (seen_by searched) (callers_of paused.callers) (drop paused.place same.edition.config.rules) reply) stage before now
     → StandsAt q (asks ++ op ∷ []) (replies ++ reply ∷ []) start stage now
 stands_resumed q same searched op paused reply asks replies start before now stage is seen stands answered comes =
@@ -124,8 +124,8 @@ pub counts_after-length : (bytes : ℕ) (hits : List ℕ) (counts : List Count) 
 unfolding counts_after
 counts_after-length bytes [] counts = refl
 counts_after-length bytes (counter ∷ hits) counts =
-    let next = slice_set counts counter (raised (count_of counts counter) bytes) in
-    counts_after-length bytes hits next ∙ length-set counts counter (raised (count_of counts counter) bytes)
+    let next = slice_set counts counter (raised (counted_under counts counter) bytes) in
+    counts_after-length bytes hits next ∙ length-set counts counter (raised (counted_under counts counter) bytes)
 
 -- as long as it began
 pub stands-length : (q : Question) (asks : List Op) (replies : List Reply) (start : List Count) (stage : Stage) (tally : List Count) → StandsAt q asks replies start stage tally → length tally ≡ length start

@@ -28,13 +28,13 @@ unfoldable pub is_disabled : Question → Rule → Bool
 is_disabled q rule = nat_lt rule.set 32 && has_bit q.edition.config.disabled rule.set
 
 -- the body holds of the packet; a rule without one holds of none
-abbrev pub is_body_held : Question → Option Body → Bool
-is_body_held q None = false
-is_body_held q (Some body) = holds body q.edition.config.tables q.edition.config.locals q.packet q.port
+abbrev pub is_body_met : Question → Option Body → Bool
+is_body_met q None = false
+is_body_met q (Some body) = holds body q.edition.config.tables q.edition.config.locals q.packet q.port
 
 -- the rule's body holds of the packet; a `check-state` has none
 unfoldable pub is_held : Question → Rule → Bool
-is_held q rule = is_body_held q rule.body
+is_held q rule = is_body_met q rule.body
 
 -- the action is a call
 abbrev pub IsCall : Action → Type 0

@@ -34,14 +34,14 @@ pub record Progress : Type 0 where
   pub stop : Stop
 
 -- the ask that it waits for, if any
-abbrev pub asks_of : Stop → List Op
-asks_of (EndsWith judgement) = []
-asks_of (WaitsFor op pause) = op ∷ []
-asks_of Mismatch = []
+abbrev pub asks_at_stop : Stop → List Op
+asks_at_stop (EndsWith judgement) = []
+asks_at_stop (WaitsFor op pause) = op ∷ []
+asks_at_stop Mismatch = []
 
 -- behind those asks and hits it goes through this
 abbrev pub progress_by : List Op → List ℕ → Trace → Progress
-progress_by asks hits trace = record { asks = asks ++ asks_of (stop_of trace); hits = hits ++ hits_of trace; stop = stop_of trace }
+progress_by asks hits trace = record { asks = asks ++ asks_at_stop (stop_of trace); hits = hits ++ hits_of trace; stop = stop_of trace }
 
 -- a reply where none is due, and one that isn't one to the ask, leaves it neither open nor whole
 abbrev pub replied : Question → List Op → List ℕ → Reply → Stop → Progress
@@ -67,9 +67,9 @@ outcome_of (WaitsFor op pause) = OpenAt op
 outcome_of Mismatch = Neither
 
 -- what it comes to
-abbrev pub evaluated : Progress → Evaluated
-evaluated progress = record { asks = progress.asks; hits = progress.hits; outcome = outcome_of progress.stop }
+abbrev pub progress_result : Progress → Evaluated
+progress_result progress = record { asks = progress.asks; hits = progress.hits; outcome = outcome_of progress.stop }
 
 -- what an evaluation comes to, given the replies to its asks
 unfoldable pub evaluate : Question → List Reply → Evaluated
-evaluate q replies = evaluated (progress_of q replies)
+evaluate q replies = progress_result (progress_of q replies)

@@ -1,6 +1,6 @@
 -- How far an evaluation is after a call.
 use Rattle.std.specs.Prelude.{◌≡◌, ℕ, Bool, true, if◌then◌else◌, IsTrue, ⊤, List, [], ◌∷◌, ◌++◌, drop, slice_set}
-use Rattle.counter_book.specs.Counts.{count_of, raised}
+use Rattle.counter_book.specs.Counts.{counted_under, raised}
 use Rattle.counter_book.specs.declared.count.Count.{Count}
 use Rattle.dyn_states.specs.declared.flow_name.FlowName.{FlowName}
 use Rattle.dyn_states.specs.declared.flow_name.FlowName.TheVariants.{Any, Named}
@@ -34,7 +34,7 @@ InstallsRuleOf rules (Install flags flow second rule limit name) = IsTrue (has_i
 -- the counts of a tally after one packet of so many bytes under each of these counter numbers
 unfoldable pub counts_after : ℕ → List ℕ → List Count → List Count
 counts_after bytes [] counts = counts
-counts_after bytes (counter ∷ hits) counts = counts_after bytes hits (slice_set counts counter (raised (count_of counts counter) bytes))
+counts_after bytes (counter ∷ hits) counts = counts_after bytes hits (slice_set counts counter (raised (counted_under counts counter) bytes))
 
 -- a stage is the end, or an ask that has no reply yet
 abbrev pub outcome_at : Stage → Outcome
@@ -64,9 +64,9 @@ abbrev pub pause_of : Question → Paused → Pause
 pause_of q paused = pause_at (seen_by paused.searched) (callers_of paused.callers) (drop paused.place q.edition.config.rules)
 
 -- how the definition stops at this stage
-abbrev pub stop_at : Question → Stage → Stop
-stop_at q (Judged judgement) = EndsWith judgement
-stop_at q (Asks op paused) = WaitsFor op (pause_of q paused)
+abbrev pub stop_of_stage : Question → Stage → Stop
+stop_of_stage q (Judged judgement) = EndsWith judgement
+stop_of_stage q (Asks op paused) = WaitsFor op (pause_of q paused)
 
 -- a lookup or an install
 abbrev pub kind_of : Op → AskKind
@@ -78,7 +78,7 @@ abbrev pub IsOpenAt : Question → Op → Paused → Type 0
 IsOpenAt q op paused = kind_of op ≡ paused.kind
 
 -- the reply is one to the ask that the evaluation is open at
-pub record IsAnswered (q : Question) (paused : Paused) (reply : Reply) : Type 0 where
+pub record AnswersOpenAsk (q : Question) (paused : Paused) (reply : Reply) : Type 0 where
   pub op : Op
   pub waiting : IsOpenAt q op paused
   pub fits : is_reply_to q.edition.config.rules op reply ≡ true
@@ -95,4 +95,4 @@ pub record StandsAt (q : Question) (asks : List Op) (replies : List Reply) (star
   pub outcome : (evaluate q replies).outcome ≡ outcome_at stage
   pub tallied : tally ≡ counts_after (total_of q.packet) (evaluate q replies).hits start
   pub waiting : IsAskOf q stage
-  pub stop : (progress_of q replies).stop ≡ stop_at q stage
+  pub stop : (progress_of q replies).stop ≡ stop_of_stage q stage

@@ -6,7 +6,7 @@ use Rattle.fw_rule.specs.declared.rule.Rule.{Rule}
 use Rattle.ip6_headers.specs.Either.{total_of}
 use Rattle.eval_engine.specs.Encounter.{rule_ref}
 use Rattle.eval_engine.specs.Question.{Question}
-use Rattle.eval_engine.specs.Standing.{callers_of, counts_after, kind_of, seen_by, stop_at, IsAskOf}
+use Rattle.eval_engine.specs.Standing.{callers_of, counts_after, kind_of, seen_by, stop_of_stage, IsAskOf}
 use Rattle.eval_engine.specs.Trace.{Seen, Trace, Stops, hits_of, stop_of, length_of}
 use Rattle.eval_engine.specs.Walk.{walk_from}
 use Rattle.eval_engine.specs.declared.judgement.Cause.{Cause}
@@ -38,7 +38,7 @@ pub record PassesTo (trace next : Trace) : Type 0 where
 
 -- the evaluation stops in this stage
 pub record IsStopped (q : Question) (trace : Trace) (stage : Stage) : Type 0 where
-  pub stop : trace ≡ Stops (stop_at q stage)
+  pub stop : trace ≡ Stops (stop_of_stage q stage)
   pub asked : IsAskOf q stage
 
 -- the first rule of the suffix decides the packet so; behind the last one rule 65535 denies it
@@ -63,7 +63,7 @@ IsStep q searched trace Waits at = ⊥
 -- the evaluation comes to this stage, and the tally rises by its hits
 pub record Comes (q : Question) (trace : Trace) (stage : Stage) (before now : List Count) : Type 0 where
   pub tallied : now ≡ counts_after (total_of q.packet) (hits_of trace) before
-  pub stop : stop_of trace ≡ stop_at q stage
+  pub stop : stop_of trace ≡ stop_of_stage q stage
   pub asked : IsAskOf q stage
 
 -- what remains of the evaluation is the next, and what it counted on the way is tallied
@@ -78,7 +78,7 @@ pub record Nears (q : Question) (trace next : Trace) (before now : List Count) :
   pub sooner : length_of next < length_of trace
 
 -- where a step to this position leads: on from there, to the judgement there, or to the ask there
-abbrev pub Leads : Question → Searched → Trace → Step → Position → List Count → List Count → Type 0
-Leads q searched trace On at before now = Nears q trace (walk_at q (seen_by searched) at) before now
-Leads q searched trace (Decides verdict cause) at before now = Comes q trace (judged_at q verdict cause at) before now
-Leads q searched trace Waits at before now = IsSomeAnd at.ask (λ op. Comes q trace (waiting_at searched op at) before now)
+abbrev pub LeadsOn : Question → Searched → Trace → Step → Position → List Count → List Count → Type 0
+LeadsOn q searched trace On at before now = Nears q trace (walk_at q (seen_by searched) at) before now
+LeadsOn q searched trace (Decides verdict cause) at before now = Comes q trace (judged_at q verdict cause at) before now
+LeadsOn q searched trace Waits at before now = IsSomeAnd at.ask (λ op. Comes q trace (waiting_at searched op at) before now)

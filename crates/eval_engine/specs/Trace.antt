@@ -19,9 +19,9 @@ is_same_name (Named number) Any = false
 is_same_name (Named number) (Named other) = number == other
 
 -- a name is due where neither it nor `:any` was looked up
-abbrev pub is_due : Seen → FlowName → Bool
-is_due Done name = false
-is_due (Names names) name = not (names Any) && not (names name)
+abbrev pub is_name_due : Seen → FlowName → Bool
+is_name_due Done name = false
+is_name_due (Names names) name = not (names Any) && not (names name)
 
 -- the names with this one
 abbrev pub with_seen : Seen → FlowName → Seen

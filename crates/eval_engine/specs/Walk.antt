@@ -16,7 +16,7 @@ use Rattle.eval_engine.specs.declared.verdict.Verdict.{Verdict}
 use Rattle.eval_engine.specs.declared.verdict.Verdict.TheVariants as verdict
 use Rattle.eval_engine.specs.Encounter.{is_disabled, is_held, is_check_state, state_of, looks_up, any_flow_of, name_at, rule_ref, lookup_by, install_by}
 use Rattle.eval_engine.specs.Question.{Question}
-use Rattle.eval_engine.specs.Trace.{Seen, Done, is_due, with_seen, no_names, Pause, EndsWith, WaitsFor, Trace, PassesOver, Counts, Stops}
+use Rattle.eval_engine.specs.Trace.{Seen, Done, is_name_due, with_seen, no_names, Pause, EndsWith, WaitsFor, Trace, PassesOver, Counts, Stops}
 
 -- a judgement ends the evaluation
 abbrev pub judged : Question → Verdict → RuleRef → Cause → Trace
@@ -69,7 +69,7 @@ tests q pause rule passed acted =
 
 -- the flow that a rule looks up: that of the packet, where the rule's name is due
 abbrev pub lookup_flow : Question → Seen → Rule → Option Flow
-lookup_flow q seen rule = if looks_up rule && is_due seen (name_at q rule) then any_flow_of q.packet else None
+lookup_flow q seen rule = if looks_up rule && is_name_due seen (name_at q rule) then any_flow_of q.packet else None
 
 -- it is looked up before all else
 abbrev pub looks : Question → Pause → Rule → Trace → Trace → Option Flow → Trace

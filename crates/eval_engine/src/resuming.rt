@@ -2,8 +2,8 @@ ghost use Rattle.std.specs.Prelude.{◌≡◌, ◌<◌, [], ◌∷◌, ◌++◌,
 ghost use Rattle.dyn_states.specs.declared.op.Op.{Op};
 ghost use Rattle.dyn_states.specs.declared.reply.Reply.{Reply};
 ghost use Rattle.counter_book.specs.declared.count.Count.{Count};
-ghost use Rattle.eval_engine.specs.Standing.{StandsAt, IsAnswered, callers_of, seen_by};
-ghost use Rattle.eval_engine.specs.Steps.{question_of, Leads};
+ghost use Rattle.eval_engine.specs.Standing.{StandsAt, AnswersOpenAsk, callers_of, seen_by};
+ghost use Rattle.eval_engine.specs.Steps.{question_of, LeadsOn};
 ghost use Rattle.eval_engine.specs.Trace.{Seen};
 ghost use Rattle.eval_engine.specs.Walk as definition;
 ghost use Rattle.eval_engine.specs.declared.stage.Stage.TheVariants.{Asks};
@@ -34,7 +34,7 @@ pub fn resume(
     tally: &mut Tally,
 ) -> Stage
     requires fitted { edition.now.config.greatest_counter < length tally.old }
-    requires answered { IsAnswered (record {
+    requires answered { AnswersOpenAsk (record {
       edition = edition.now;
       packet = packet.now;
       port = port.now;
@@ -109,7 +109,7 @@ fn act_at(
     tally: &mut Tally,
 ) -> Step
     requires { search.now.edition.now.config.greatest_counter < length tally.old }
-    ensures { Leads (question_of search.now) searched.now
+    ensures { LeadsOn (question_of search.now) searched.now
         (definition.acts_from (question_of search.now) (seen_by searched.now)
         (callers_of at.old.callers) (drop at.old.place search.now.edition.now.config.rules)) result
         at.new tally.old tally.new }
@@ -128,7 +128,7 @@ fn test_at(
     tally: &mut Tally,
 ) -> Step
     requires { search.now.edition.now.config.greatest_counter < length tally.old }
-    ensures { Leads (question_of search.now) searched.now
+    ensures { LeadsOn (question_of search.now) searched.now
         (definition.tests_from (question_of search.now) (seen_by searched.now)
         (callers_of at.old.callers) (drop at.old.place search.now.edition.now.config.rules)) result
         at.new tally.old tally.new }
@@ -148,7 +148,7 @@ fn answered(
     tally: &mut Tally,
 ) -> Step
     requires { search.now.edition.now.config.greatest_counter < length tally.old }
-    ensures { Leads (question_of search.now) searched.now
+    ensures { LeadsOn (question_of search.now) searched.now
         (definition.leads_to (question_of search.now) (seen_by searched.now)
         (callers_of at.old.callers) (drop at.old.place search.now.edition.now.config.rules) reply)
         result at.new tally.old tally.new }

@@ -42,7 +42,7 @@ impl Searched {
     /// Whether the name is looked up: neither it nor `:any` was.
     pub(crate) fn is_due(&self, name: FlowName) -> bool
         requires { IsNumbered name }
-        ensures { result ≡ trace.is_due (seen_by self.now) name }
+        ensures { result ≡ trace.is_name_due (seen_by self.now) name }
     {
         !self.found && (!self.any && !self.has(name))
     }

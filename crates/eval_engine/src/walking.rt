@@ -4,7 +4,7 @@ ghost use Rattle.rule_gates.specs.Keys.{HasAddresses, IsKeyOf};
 ghost use Rattle.eval_engine.specs.Encounter as spec;
 ghost use Rattle.eval_engine.specs.Place.{IsRuleAt, IsTold};
 ghost use Rattle.eval_engine.specs.Standing.{callers_of, kind_of, seen_by};
-ghost use Rattle.eval_engine.specs.Steps.{question_of, walk_at, waiting_at, judgement_from, IsStep, Leads, Comes, PassesTo};
+ghost use Rattle.eval_engine.specs.Steps.{question_of, walk_at, waiting_at, judgement_from, IsStep, LeadsOn, Comes, PassesTo};
 ghost use Rattle.eval_engine.specs.Trace.{Seen};
 ghost use Rattle.eval_engine.specs.Walk as definition;
 ghost use Rattle.eval_engine.specs.declared.judgement.Cause.TheVariants as cause;
@@ -154,7 +154,7 @@ pub(crate) fn act(
     requires there { IsRuleAt (question_of search.now) at.old.place rule.now }
     requires fitted { search.now.edition.now.config.greatest_counter < length tally.old }
     ensures { (searched : Searched)
-        → Leads (question_of search.now) searched
+        → LeadsOn (question_of search.now) searched
         (definition.acts_before (question_of search.now) (seen_by searched)
         (callers_of at.old.callers) rule.now
         (drop (at.old.place + 1) search.now.edition.now.config.rules)) result at.new tally.old
@@ -175,7 +175,7 @@ pub(crate) fn test(
 ) -> Step
     requires there { IsRuleAt (question_of search.now) at.old.place rule.now }
     requires fitted { search.now.edition.now.config.greatest_counter < length tally.old }
-    ensures { Leads (question_of search.now) searched.now
+    ensures { LeadsOn (question_of search.now) searched.now
         (definition.tests_before (question_of search.now) (seen_by searched.now)
         (callers_of at.old.callers) rule.now
         (drop (at.old.place + 1) search.now.edition.now.config.rules)) result at.new tally.old
@@ -222,7 +222,7 @@ fn install(
     requires there { IsRuleAt (question_of search.now) at.old.place rule.now }
     requires plain { spec.is_check_state rule.now.action ≡ false }
     requires fitted { search.now.edition.now.config.greatest_counter < length tally.old }
-    ensures { Leads (question_of search.now) searched.now
+    ensures { LeadsOn (question_of search.now) searched.now
         (definition.installs_before (question_of search.now) (seen_by searched.now)
         (callers_of at.old.callers) rule.now
         (drop (at.old.place + 1) search.now.edition.now.config.rules)) result at.new tally.old
@@ -263,7 +263,7 @@ fn meet(
     requires there { IsRuleAt (question_of search.now) at.old.place rule.now }
     requires told { is_told ≡ true → IsTold (question_of search.now) rule.now }
     requires fitted { search.now.edition.now.config.greatest_counter < length tally.old }
-    ensures { Leads (question_of search.now) searched.now
+    ensures { LeadsOn (question_of search.now) searched.now
         (walk_at (question_of search.now) (seen_by searched.now) at.old) result at.new tally.old
         tally.new }
 {
@@ -311,7 +311,7 @@ fn step(
     requires key { IsKeyOf search.now.packet.now key.now }
     requires addresses { HasAddresses search.now.packet.now }
     requires fitted { search.now.edition.now.config.greatest_counter < length tally.old }
-    ensures { Leads (question_of search.now) searched.now
+    ensures { LeadsOn (question_of search.now) searched.now
         (walk_at (question_of search.now) (seen_by searched.now) at.old) result at.new tally.old
         tally.new }
 {

@@ -5,13 +5,13 @@ use Rattle.std.proofs.lemmas.List.{append-nil}
 use Rattle.dyn_states.specs.declared.op.Op.{Op}
 use Rattle.dyn_states.specs.declared.reply.Reply.{Reply}
 use Rattle.eval_engine.specs.Evaluated.{Outcome, Whole, OpenAt, Neither}
-use Rattle.eval_engine.specs.Evaluation.{Progress, progress_by, progress_of, progress_from, replied, is_reply_to, asks_of, evaluate, outcome_of}
+use Rattle.eval_engine.specs.Evaluation.{Progress, progress_by, progress_of, progress_from, replied, is_reply_to, asks_at_stop, evaluate, outcome_of}
 use Rattle.eval_engine.specs.Question.{Question}
 use Rattle.eval_engine.specs.Trace.{Pause, Stop, EndsWith, WaitsFor, Mismatch, Trace, stop_of}
 use Rattle.eval_engine.specs.Walk.{begun, resumed}
 use Rattle.eval_engine.specs.declared.judgement.Judgement.{Judgement}
 use Rattle.eval_engine.proofs.Ending.{progress_in_two, ends_once, mismatch_stays}
-use Rattle.evaluation_laws.specs.Laws.{IsAnswered, AsksAreAnswered, RepliesAreAsked, IsOpenFor, OpensBeforeItEnds, HasOneOutcome}
+use Rattle.evaluation_laws.specs.Laws.{AsksMatchReplies, AsksAreAnswered, RepliesAreAsked, IsOpenFor, OpensBeforeItEnds, HasOneOutcome}
 
 -- with so many replies used
 abbrev IsUsed : Stop → ℕ → ℕ → Type 0
@@ -19,7 +19,7 @@ IsUsed (EndsWith judgement) asks used = asks ≡ used
 IsUsed (WaitsFor op pause) asks used = asks ≡ suc used
 IsUsed Mismatch asks used = ⊤
 
-one_more : (asks : List Op) (stop : Stop) (used : ℕ) → length asks ≡ used → IsUsed stop (length (asks ++ asks_of stop)) used
+one_more : (asks : List Op) (stop : Stop) (used : ℕ) → length asks ≡ used → IsUsed stop (length (asks ++ asks_at_stop stop)) used
 one_more asks (EndsWith judgement) used is = ap (λ (ops : List Op). length ops) (append-nil asks) ∙ is
 one_more asks (WaitsFor op pause) used is = let size = length-append asks (op ∷ []) in omega (arith, size, is)
 one_more asks Mismatch used is = tt
@@ -46,7 +46,7 @@ used_from q progress (reply ∷ replies) used is =
     subst (λ (n : ℕ). IsUsed (progress_from q (replied q progress.asks progress.hits reply progress.stop) replies).stop (length (progress_from q (replied q progress.asks progress.hits reply progress.stop) replies).asks) n) same
     (used_from q (replied q progress.asks progress.hits reply progress.stop) replies (suc used) (used_next q progress.asks progress.hits reply progress.stop used is))
 
-by_stop : (stop : Stop) (asks replies : ℕ) → IsUsed stop asks replies → IsAnswered (outcome_of stop) asks replies
+by_stop : (stop : Stop) (asks replies : ℕ) → IsUsed stop asks replies → AsksMatchReplies (outcome_of stop) asks replies
 by_stop (EndsWith judgement) asks replies is = is
 by_stop (WaitsFor op pause) asks replies is = is
 by_stop Mismatch asks replies is = tt
@@ -60,7 +60,7 @@ asks_are_answered q replies =
     (subst (λ (n : ℕ). IsUsed (progress_of q replies).stop (length (progress_of q replies).asks) n) all
     (used_from q (progress_by [] [] (begun q)) replies 0 (used_by q [] [] (begun q) 0 refl)))
 
-too_many : (outcome : Outcome) (asks replies : ℕ) → IsAnswered outcome asks replies → asks < replies → outcome ≡ Neither
+too_many : (outcome : Outcome) (asks replies : ℕ) → AsksMatchReplies outcome asks replies → asks < replies → outcome ≡ Neither
 too_many (Whole judgement) asks replies is less = absurd (omega arith)
 too_many (OpenAt op) asks replies is less = absurd (omega arith)
 too_many Neither asks replies is less = refl

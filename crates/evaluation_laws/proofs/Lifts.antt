@@ -21,7 +21,7 @@ use Rattle.eval_engine.specs.declared.verdict.Verdict.{Verdict}
 use Rattle.eval_engine.specs.declared.verdict.Verdict.TheVariants as verdicts
 use Rattle.evaluation_laws.specs.Story.{Ending, Ends, OpensAt, Mistakes, Returns, Story, plainly, asked, hit}
 use Rattle.evaluation_laws.specs.Story as story
-use Rattle.evaluation_laws.specs.Runs.{Meets, Tests, Acts, from, judgement_of, last_judgement, HasEnded, Runs, BehindAll, IsDisabled, IsUnasked, IsUnanswered, IsFound, IsNotFound, IsMistaken, IsCheckState, IsUnheld, IsFlowless, IsStateless, IsWaiting, IsMade, IsThere, IsLimited, IsFull, IsMisread, IsDecided, IsCounted, IsChecked, IsSkipped, IsDeepest, IsEnded, IsReturned, IsOutside, IsWithin}
+use Rattle.evaluation_laws.specs.Runs.{Meets, Tests, Acts, from, judgement_under, last_judgement, HasEnded, Runs, BehindAll, IsDisabled, IsUnasked, IsUnanswered, IsFound, IsNotFound, IsMistaken, IsCheckState, IsUnheld, IsFlowless, IsStateless, IsWaiting, IsMade, IsThere, IsLimited, IsFull, IsMisread, IsDecided, IsCounted, IsChecked, IsSkipped, IsDeepest, IsEnded, IsReturned, IsOutside, IsWithin}
 use Rattle.evaluation_laws.specs.Running.{left_of, IsRun, IsMaker}
 
 -- what holds of the value of an answer
@@ -144,11 +144,11 @@ module _ (q : Question) (depth : ℕ) (seen : Seen) (place : ℕ) (rule : Rule) 
         record { runs = by_replies (Exists ∷ left) _ is (IsThere depth seen rule rest state flow left told plain held made flowing on.runs); fewer = fewer_by_one told.ending left replies Exists is on.fewer }
 
     -- where the limit is reached the rule denies the packet, without a hit
-    pub limited : (count : ℕ) (left : List Reply) → replies ≡ LimitReached count ∷ left → IsTested (asked install (plainly (Ends (judgement_of q verdicts.Deny (rule_ref rule) (cause.Limit count)) left)))
+    pub limited : (count : ℕ) (left : List Reply) → replies ≡ LimitReached count ∷ left → IsTested (asked install (plainly (Ends (judgement_under q verdicts.Deny (rule_ref rule) (cause.Limit count)) left)))
     limited count left is = record { runs = by_replies (LimitReached count ∷ left) _ is (IsLimited depth seen rule rest state flow count left plain held made flowing); fewer = omega arith }
 
     -- where the states are full the rule denies the packet, without a hit
-    pub full : (count : ℕ) (left : List Reply) → replies ≡ TableFull count ∷ left → IsTested (asked install (plainly (Ends (judgement_of q verdicts.Deny (rule_ref rule) (cause.Full count)) left)))
+    pub full : (count : ℕ) (left : List Reply) → replies ≡ TableFull count ∷ left → IsTested (asked install (plainly (Ends (judgement_under q verdicts.Deny (rule_ref rule) (cause.Full count)) left)))
     full count left is = record { runs = by_replies (TableFull count ∷ left) _ is (IsFull depth seen rule rest state flow count left plain held made flowing); fewer = omega arith }
 
     -- a reply that isn't one to the install is a mistake, which ends the run
@@ -159,7 +159,7 @@ module _ (q : Question) (depth : ℕ) (seen : Seen) (place : ℕ) (rule : Rule) 
   IsActed told = IsRun q depth seen (Acts rule rest) replies told
 
   -- an action with a verdict is counted and ends the search
-  pub decided : (verdict : Verdict) → verdict_of rule.action ≡ Some verdict → IsActed (hit rule.counter (plainly (Ends (judgement_of q verdict (rule_ref rule) cause.Rule) replies)))
+  pub decided : (verdict : Verdict) → verdict_of rule.action ≡ Some verdict → IsActed (hit rule.counter (plainly (Ends (judgement_under q verdict (rule_ref rule) cause.Rule) replies)))
   decided verdict is = record { runs = IsDecided depth seen rule rest verdict replies is; fewer = omega arith }
 
   -- `count` is counted and goes on with the next rule

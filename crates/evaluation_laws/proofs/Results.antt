@@ -4,7 +4,7 @@ use Rattle.std.proofs.lemmas.List.{append_assoc, append-nil}
 use Rattle.dyn_states.specs.declared.op.Op.{Op}
 use Rattle.dyn_states.specs.declared.reply.Reply.{Reply}
 use Rattle.eval_engine.specs.Evaluated.{Evaluated, Whole, OpenAt, Neither}
-use Rattle.eval_engine.specs.Evaluation.{Progress, replied, progress_by, progress_from, evaluated, is_reply_to, asks_of}
+use Rattle.eval_engine.specs.Evaluation.{Progress, replied, progress_by, progress_from, progress_result, is_reply_to, asks_at_stop}
 use Rattle.eval_engine.specs.Question.{Question}
 use Rattle.eval_engine.specs.Trace.{Seen, Pause, EndsWith, WaitsFor, Mismatch, Trace, PassesOver, Counts, Stops, hits_of, stop_of}
 use Rattle.eval_engine.specs.Walk.{walk_from, tests_before, acts_before, resumed}
@@ -14,7 +14,7 @@ use Rattle.evaluation_laws.specs.Runs.{Moment, Meets, Tests, Acts, from}
 
 -- behind these asks and hits
 abbrev pub result_of : Question → List Op → List ℕ → Trace → List Reply → Evaluated
-result_of q asks hits trace replies = evaluated (progress_from q (progress_by asks hits trace) replies)
+result_of q asks hits trace replies = progress_result (progress_from q (progress_by asks hits trace) replies)
 
 -- the trace from a moment on
 abbrev pub trace_at : Question → Seen → List ℕ → Moment → Trace
@@ -73,11 +73,11 @@ over q asks hits trace next replies is = ap (λ (t : Trace). result_of q asks hi
 pub counted : (q : Question) (asks : List Op) (hits : List ℕ) (counter : ℕ) (next : Trace) (replies : List Reply) → result_of q asks hits (Counts counter next) replies ≡ result_of q asks (hits ++ counter ∷ []) next replies
 unfolding hits_of stop_of
 counted q asks hits counter next replies =
-    ap (λ (counters : List ℕ). evaluated (progress_from q (record { asks = asks ++ asks_of (stop_of next); hits = counters; stop = stop_of next }) replies)) (sym (append_assoc hits (counter ∷ []) (hits_of next)))
+    ap (λ (counters : List ℕ). progress_result (progress_from q (record { asks = asks ++ asks_at_stop (stop_of next); hits = counters; stop = stop_of next }) replies)) (sym (append_assoc hits (counter ∷ []) (hits_of next)))
 
 -- a mismatch stays one
 pub stays : (q : Question) (asks : List Op) (hits : List ℕ) (replies : List Reply)
-    → evaluated (progress_from q (record { asks = asks; hits = hits; stop = Mismatch }) replies) ≡ record { asks = asks; hits = hits; outcome = Neither }
+    → progress_result (progress_from q (record { asks = asks; hits = hits; stop = Mismatch }) replies) ≡ record { asks = asks; hits = hits; outcome = Neither }
 unfolding progress_from
 stays q asks hits [] = refl
 stays q asks hits (reply ∷ replies) = stays q asks hits replies
@@ -108,7 +108,7 @@ pub answered : (q : Question) (asks : List Op) (hits : List ℕ) (op : Op) (paus
     → result_of q asks hits (Stops (WaitsFor op pause)) (reply ∷ replies) ≡ result_of q (asks ++ op ∷ []) hits (resumed q pause reply) replies
 unfolding hits_of stop_of progress_from
 answered q asks hits op pause reply replies fits =
-    ap (λ (progress : Progress). evaluated (progress_from q progress replies)) (fitting q (asks ++ op ∷ []) (hits ++ []) op pause reply fits)
+    ap (λ (progress : Progress). progress_result (progress_from q progress replies)) (fitting q (asks ++ op ∷ []) (hits ++ []) op pause reply fits)
     ∙ (ap (λ (counters : List ℕ). result_of q (asks ++ op ∷ []) counters (resumed q pause reply) replies) (append-nil hits))
 
 -- a reply that isn't one to the ask: the ask was made, and the run ends by a mistake
@@ -116,5 +116,5 @@ pub mistaken : (q : Question) (callers : List ℕ) (asks : List Op) (hits : List
     → result_of q asks hits (Stops (WaitsFor op pause)) (reply ∷ replies) ≡ result_in q callers asks hits (asked op (plainly Mistakes))
 unfolding hits_of stop_of progress_from
 mistaken q callers asks hits op pause reply replies unfit =
-    ap (λ (progress : Progress). evaluated (progress_from q progress replies)) (unfitting q (asks ++ op ∷ []) (hits ++ []) op pause reply unfit)
+    ap (λ (progress : Progress). progress_result (progress_from q progress replies)) (unfitting q (asks ++ op ∷ []) (hits ++ []) op pause reply unfit)
     ∙ stays q (asks ++ op ∷ []) (hits ++ []) replies

@@ -25,7 +25,7 @@ use Rattle.eval_engine.specs.declared.verdict.Verdict.TheVariants as verdicts
 use Rattle.eval_engine.proofs.Configured.{rule_read}
 use Rattle.eval_engine.proofs.Walks.{walk_skips, walk_ends, walk_calls, walk_stays, returns_none, returns_some, disabled_passed, looked_asks, unlooked_tests, check_passed, unheld_passed, held_installs, stateless_acts, flowless_passed, install_asks}
 use Rattle.evaluation_laws.specs.Story.{Ending, Ends, OpensAt, Mistakes, Returns, Story, plainly, asked, hit, behind, told_by}
-use Rattle.evaluation_laws.specs.Runs.{Moment, Meets, Tests, Acts, from, judgement_of, last_judgement, HasEnded, Runs, BehindAll, IsDisabled, IsUnasked, IsUnanswered, IsFound, IsNotFound, IsMistaken, IsCheckState, IsUnheld, IsFlowless, IsStateless, IsWaiting, IsMade, IsThere, IsLimited, IsFull, IsMisread, IsDecided, IsCounted, IsChecked, IsSkipped, IsDeepest, IsEnded, IsReturned, IsOutside, IsWithin}
+use Rattle.evaluation_laws.specs.Runs.{Moment, Meets, Tests, Acts, from, judgement_under, last_judgement, HasEnded, Runs, BehindAll, IsDisabled, IsUnasked, IsUnanswered, IsFound, IsNotFound, IsMistaken, IsCheckState, IsUnheld, IsFlowless, IsStateless, IsWaiting, IsMade, IsThere, IsLimited, IsFull, IsMisread, IsDecided, IsCounted, IsChecked, IsSkipped, IsDeepest, IsEnded, IsReturned, IsOutside, IsWithin}
 use Rattle.evaluation_laws.proofs.Results.{result_outside, result_of, trace_at, result_by, result_in, result_asked, result_hit, result_later, over, counted, ended, opened, answered, mistaken}
 
 -- the rules from a place on
@@ -196,19 +196,19 @@ module _ (q : Question) (ascends : AscendsFrom 1 q.edition.config.rules) where
       goes_on callers asks hits (install_by q rule state flow) (pause_at seen callers (rule ∷ rest)) Exists replies story _ (acts_before q seen callers rule rest)
       (installs seen callers rule rest state flow plain held made is) refl refl (comes on callers (asks ++ install_by q rule state flow ∷ []) hits size few suffix)
   comes (IsLimited depth seen rule rest state flow count replies plain held made is) = λ callers asks hits size few suffix.
-      goes_on callers asks hits (install_by q rule state flow) (pause_at seen callers (rule ∷ rest)) (LimitReached count) replies (plainly (Ends (judgement_of q verdicts.Deny (rule_ref rule) (cause.Limit count)) replies)) _ (judged q verdicts.Deny (rule_ref rule) (cause.Limit count))
+      goes_on callers asks hits (install_by q rule state flow) (pause_at seen callers (rule ∷ rest)) (LimitReached count) replies (plainly (Ends (judgement_under q verdicts.Deny (rule_ref rule) (cause.Limit count)) replies)) _ (judged q verdicts.Deny (rule_ref rule) (cause.Limit count))
       (installs seen callers rule rest state flow plain held made is) refl refl
-      (ended q callers (asks ++ install_by q rule state flow ∷ []) hits (judgement_of q verdicts.Deny (rule_ref rule) (cause.Limit count)) replies)
+      (ended q callers (asks ++ install_by q rule state flow ∷ []) hits (judgement_under q verdicts.Deny (rule_ref rule) (cause.Limit count)) replies)
   comes (IsFull depth seen rule rest state flow count replies plain held made is) = λ callers asks hits size few suffix.
-      goes_on callers asks hits (install_by q rule state flow) (pause_at seen callers (rule ∷ rest)) (TableFull count) replies (plainly (Ends (judgement_of q verdicts.Deny (rule_ref rule) (cause.Full count)) replies)) _ (judged q verdicts.Deny (rule_ref rule) (cause.Full count))
+      goes_on callers asks hits (install_by q rule state flow) (pause_at seen callers (rule ∷ rest)) (TableFull count) replies (plainly (Ends (judgement_under q verdicts.Deny (rule_ref rule) (cause.Full count)) replies)) _ (judged q verdicts.Deny (rule_ref rule) (cause.Full count))
       (installs seen callers rule rest state flow plain held made is) refl refl
-      (ended q callers (asks ++ install_by q rule state flow ∷ []) hits (judgement_of q verdicts.Deny (rule_ref rule) (cause.Full count)) replies)
+      (ended q callers (asks ++ install_by q rule state flow ∷ []) hits (judgement_under q verdicts.Deny (rule_ref rule) (cause.Full count)) replies)
   comes (IsMisread depth seen rule rest state flow reply replies plain held made is unfit) = λ callers asks hits size few suffix.
       same asks hits (reply ∷ replies) _ _ (installs seen callers rule rest state flow plain held made is)
       ∙ mistaken q callers asks hits (install_by q rule state flow) (pause_at seen callers (rule ∷ rest)) reply replies unfit
   comes (IsDecided depth seen rule rest verdict replies decided) = λ callers asks hits size few suffix.
-      acts seen callers rule rest asks hits replies (plainly (Ends (judgement_of q verdict (rule_ref rule) cause.Rule) replies)) rule.action _ refl (decides seen callers rule rest rule.action verdict decided)
-      (ended q callers asks (hits ++ rule.counter ∷ []) (judgement_of q verdict (rule_ref rule) cause.Rule) replies)
+      acts seen callers rule rest asks hits replies (plainly (Ends (judgement_under q verdict (rule_ref rule) cause.Rule) replies)) rule.action _ refl (decides seen callers rule rest rule.action verdict decided)
+      (ended q callers asks (hits ++ rule.counter ∷ []) (judgement_under q verdict (rule_ref rule) cause.Rule) replies)
   comes (IsCounted depth seen rule rest replies story is on) = λ callers asks hits size few suffix.
       acts seen callers rule rest asks hits replies story Count _ is refl (comes on callers asks (hits ++ rule.counter ∷ []) size few (rest_suffix all rule rest suffix))
   comes (IsChecked depth seen rule rest name replies story is on) = λ callers asks hits size few suffix.

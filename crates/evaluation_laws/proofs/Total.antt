@@ -26,7 +26,7 @@ use Rattle.eval_engine.proofs.Configured.{rule_read}
 use Rattle.eval_engine.proofs.Places.{behind, first_behind_place}
 use Rattle.evaluation_laws.specs.Story.{Ending, Ends, OpensAt, Mistakes, Returns, Story, plainly, asked, hit}
 use Rattle.evaluation_laws.specs.Story as story
-use Rattle.evaluation_laws.specs.Runs.{Moment, Meets, Tests, Acts, from, judgement_of, last_judgement, HasEnded, Runs, BehindAll, IsDisabled, IsUnasked, IsUnanswered, IsFound, IsNotFound, IsMistaken, IsCheckState, IsUnheld, IsFlowless, IsStateless, IsWaiting, IsMade, IsThere, IsLimited, IsFull, IsMisread, IsDecided, IsCounted, IsChecked, IsSkipped, IsDeepest, IsEnded, IsReturned, IsOutside, IsWithin}
+use Rattle.evaluation_laws.specs.Runs.{Moment, Meets, Tests, Acts, from, judgement_under, last_judgement, HasEnded, Runs, BehindAll, IsDisabled, IsUnasked, IsUnanswered, IsFound, IsNotFound, IsMistaken, IsCheckState, IsUnheld, IsFlowless, IsStateless, IsWaiting, IsMade, IsThere, IsLimited, IsFull, IsMisread, IsDecided, IsCounted, IsChecked, IsSkipped, IsDeepest, IsEnded, IsReturned, IsOutside, IsWithin}
 use Rattle.evaluation_laws.proofs.Sound.{IsSuffix, rest_suffix, rest_there, within}
 
 -- a `return` leaves no more replies than there were
@@ -139,7 +139,7 @@ module _ (q : Question) (ascends : AscendsFrom 1 q.edition.config.rules) where
 
     decided : (seen : Seen) (replies : List Reply) (verdict : Verdict) → verdict_of rule.action ≡ Some verdict → Reached q depth seen (Acts rule rest) replies
     decided seen replies verdict is = record {
-      story = hit rule.counter (plainly (Ends (judgement_of q verdict (rule_ref rule) cause.Rule) replies));
+      story = hit rule.counter (plainly (Ends (judgement_under q verdict (rule_ref rule) cause.Rule) replies));
       runs = IsDecided depth seen rule rest verdict replies is;
       fewer = tt;
     }
@@ -190,9 +190,9 @@ module _ (q : Question) (ascends : AscendsFrom 1 q.edition.config.rules) where
         let later = acted seen replies (omega arith) in
         record { story = asked (install_by q rule state flow) later.story; runs = IsThere depth seen rule rest state flow replies later.story plain held made is later.runs; fewer = no_more later.story.ending (length replies) (suc (length replies)) (omega arith) later.fewer }
     installed seen state flow (LimitReached count ∷ replies) le plain held made is =
-        record { story = asked (install_by q rule state flow) (plainly (Ends (judgement_of q verdict.Deny (rule_ref rule) (cause.Limit count)) replies)); runs = IsLimited depth seen rule rest state flow count replies plain held made is; fewer = tt }
+        record { story = asked (install_by q rule state flow) (plainly (Ends (judgement_under q verdict.Deny (rule_ref rule) (cause.Limit count)) replies)); runs = IsLimited depth seen rule rest state flow count replies plain held made is; fewer = tt }
     installed seen state flow (TableFull count ∷ replies) le plain held made is =
-        record { story = asked (install_by q rule state flow) (plainly (Ends (judgement_of q verdict.Deny (rule_ref rule) (cause.Full count)) replies)); runs = IsFull depth seen rule rest state flow count replies plain held made is; fewer = tt }
+        record { story = asked (install_by q rule state flow) (plainly (Ends (judgement_under q verdict.Deny (rule_ref rule) (cause.Full count)) replies)); runs = IsFull depth seen rule rest state flow count replies plain held made is; fewer = tt }
 
     -- the rule is tested
     tested : (seen : Seen) (replies : List Reply) → length replies ≤ fuel → Reached q depth seen (Tests rule rest) replies

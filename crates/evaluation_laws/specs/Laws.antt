@@ -15,14 +15,14 @@ use Rattle.eval_engine.specs.Question.{Question}
 use Rattle.eval_engine.specs.declared.judgement.Judgement.{Judgement}
 
 -- a whole evaluation has as many asks as replies, an open one has one more
-abbrev pub IsAnswered : Outcome → ℕ → ℕ → Type 0
-IsAnswered (Whole judgement) asks replies = asks ≡ replies
-IsAnswered (OpenAt op) asks replies = asks ≡ suc replies
-IsAnswered Neither asks replies = ⊤
+abbrev pub AsksMatchReplies : Outcome → ℕ → ℕ → Type 0
+AsksMatchReplies (Whole judgement) asks replies = asks ≡ replies
+AsksMatchReplies (OpenAt op) asks replies = asks ≡ suc replies
+AsksMatchReplies Neither asks replies = ⊤
 
 -- Each reply is one to an ask.
 abbrev pub AsksAreAnswered : Type 0
-AsksAreAnswered = (q : Question) (replies : List Reply) → IsAnswered (evaluate q replies).outcome (length (evaluate q replies).asks) (length replies)
+AsksAreAnswered = (q : Question) (replies : List Reply) → AsksMatchReplies (evaluate q replies).outcome (length (evaluate q replies).asks) (length replies)
 
 -- More replies than asks are never whole, nor open.
 abbrev pub RepliesAreAsked : Type 0

@@ -36,12 +36,12 @@ abbrev pub from : ℕ → List Rule → List Rule
 from number rules = drop (first_from number rules) rules
 
 -- the verdict under this edition
-abbrev pub judgement_of : Question → Verdict → RuleRef → Cause → Judgement
-judgement_of q verdict rule cause = record { edition = q.edition.number; verdict = verdict; rule = rule; cause = cause }
+abbrev pub judgement_under : Question → Verdict → RuleRef → Cause → Judgement
+judgement_under q verdict rule cause = record { edition = q.edition.number; verdict = verdict; rule = rule; cause = cause }
 
 -- rule 65535, which denies
 abbrev pub last_judgement : Question → Judgement
-last_judgement q = judgement_of q verdict.Deny (record { id = 0; number = 65535 }) cause.Rule
+last_judgement q = judgement_under q verdict.Deny (record { id = 0; number = 65535 }) cause.Rule
 
 -- no deeper than the call
 abbrev pub HasEnded : Ending → Type 0
@@ -105,11 +105,11 @@ pub data Runs (q : Question) : ℕ → Seen → Moment → List Reply → Story 
   -- Where the limit is reached the rule denies the packet, without a hit,
   IsLimited : (depth : ℕ) (seen : Seen) (rule : Rule) (rest : List Rule) (state : StateOpt) (flow : Flow) (count : ℕ) (replies : List Reply)
       → is_check_state rule.action ≡ false → is_held q rule ≡ true → state_of rule ≡ Some state → any_flow_of q.packet ≡ Some flow
-      → Runs q depth seen (Tests rule rest) (LimitReached count ∷ replies) (asked (install_by q rule state flow) (plainly (Ends (judgement_of q verdict.Deny (rule_ref rule) (cause.Limit count)) replies)))
+      → Runs q depth seen (Tests rule rest) (LimitReached count ∷ replies) (asked (install_by q rule state flow) (plainly (Ends (judgement_under q verdict.Deny (rule_ref rule) (cause.Limit count)) replies)))
   -- and so it does where the states are full.
   IsFull : (depth : ℕ) (seen : Seen) (rule : Rule) (rest : List Rule) (state : StateOpt) (flow : Flow) (count : ℕ) (replies : List Reply)
       → is_check_state rule.action ≡ false → is_held q rule ≡ true → state_of rule ≡ Some state → any_flow_of q.packet ≡ Some flow
-      → Runs q depth seen (Tests rule rest) (TableFull count ∷ replies) (asked (install_by q rule state flow) (plainly (Ends (judgement_of q verdict.Deny (rule_ref rule) (cause.Full count)) replies)))
+      → Runs q depth seen (Tests rule rest) (TableFull count ∷ replies) (asked (install_by q rule state flow) (plainly (Ends (judgement_under q verdict.Deny (rule_ref rule) (cause.Full count)) replies)))
   -- A reply that isn't one to the install.
   IsMisread : (depth : ℕ) (seen : Seen) (rule : Rule) (rest : List Rule) (state : StateOpt) (flow : Flow) (reply : Reply) (replies : List Reply)
       → is_check_state rule.action ≡ false → is_held q rule ≡ true → state_of rule ≡ Some state → any_flow_of q.packet ≡ Some flow
@@ -117,7 +117,7 @@ pub data Runs (q : Question) : ℕ → Seen → Moment → List Reply → Story 
       → Runs q depth seen (Tests rule rest) (reply ∷ replies) (asked (install_by q rule state flow) (plainly Mistakes))
   -- A rule that acts is counted. `allow`, `deny`, `reset` and `unreach` end the search.
   IsDecided : (depth : ℕ) (seen : Seen) (rule : Rule) (rest : List Rule) (verdict : Verdict) (replies : List Reply)
-      → verdict_of rule.action ≡ Some verdict → Runs q depth seen (Acts rule rest) replies (hit rule.counter (plainly (Ends (judgement_of q verdict (rule_ref rule) cause.Rule) replies)))
+      → verdict_of rule.action ≡ Some verdict → Runs q depth seen (Acts rule rest) replies (hit rule.counter (plainly (Ends (judgement_under q verdict (rule_ref rule) cause.Rule) replies)))
   -- `count` goes on with the next rule,
   IsCounted : (depth : ℕ) (seen : Seen) (rule : Rule) (rest : List Rule) (replies : List Reply) (story : Story)
       → rule.action ≡ Count → Runs q depth seen (Meets rest) replies story → Runs q depth seen (Acts rule rest) replies (hit rule.counter story)
@@ -146,11 +146,11 @@ pub data Runs (q : Question) : ℕ → Seen → Moment → List Reply → Story 
       → rule.action ≡ Return → Runs q (suc depth) seen (Acts rule rest) replies (hit rule.counter (plainly (Returns seen replies)))
 
 -- What the run from the first rule on comes to, outside of calls and with no name looked up.
-pub record IsEvaluation (q : Question) (replies : List Reply) (evaluated : Evaluated) : Type 0 where
+pub record IsRunResult (q : Question) (replies : List Reply) (evaluated : Evaluated) : Type 0 where
   pub story : Story
   pub runs : Runs q 0 no_names (Meets q.edition.config.rules) replies story
   pub told : evaluated ≡ told_by story
 
 -- Under the rules of a configuration, sentence by sentence there is one evaluation, and it is this one.
 abbrev pub EvaluationsAreRuns : Type 0
-EvaluationsAreRuns = (q : Question) (replies : List Reply) (evaluated : Evaluated) → IsConfiguration q.edition.config → IsEvaluation q replies evaluated ↔ (evaluated ≡ evaluate q replies)
+EvaluationsAreRuns = (q : Question) (replies : List Reply) (evaluated : Evaluated) → IsConfiguration q.edition.config → IsRunResult q replies evaluated ↔ (evaluated ≡ evaluate q replies)

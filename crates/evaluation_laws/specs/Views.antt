@@ -15,8 +15,8 @@ use Rattle.evaluation_laws.specs.declared.story.Ending.TheVariants as ending
 use Rattle.evaluation_laws.specs.declared.story.Story.{Story}
 
 -- what is evaluated, as the definition names it
-abbrev pub question_of : Question → spec.Question
-question_of q = record { edition = q.edition.now; packet = q.packet.now; port = q.port.now; second = q.second }
+abbrev pub viewed_question : Question → spec.Question
+viewed_question q = record { edition = q.edition.now; packet = q.packet.now; port = q.port.now; second = q.second }
 
 -- the flow names that were looked up, by their numbers
 abbrev pub is_looked : Looked → FlowName → Bool
@@ -24,22 +24,22 @@ is_looked looked Any = looked.any
 is_looked looked (Named number) = slice_index_or looked.names number false
 
 -- the flow names that were looked up
-abbrev pub seen_by : Looked → Seen
-seen_by looked = if looked.found then Done else Names (is_looked looked)
+abbrev pub viewed_names : Looked → Seen
+viewed_names looked = if looked.found then Done else Names (is_looked looked)
 
 -- how a run ends, as the relation has it
 abbrev pub ending_of : Ending → told.Ending
 ending_of (ending.Ends judgement left) = told.Ends judgement left.now
 ending_of (ending.OpensAt op) = told.OpensAt op
 ending_of ending.Mistakes = told.Mistakes
-ending_of (ending.Returns looked left) = told.Returns (seen_by looked) left.now
+ending_of (ending.Returns looked left) = told.Returns (viewed_names looked) left.now
 
 -- what a run comes to, as the relation has it
 abbrev pub story_of : Story → told.Story
 story_of story = record { asks = story.asks; hits = story.hits; ending = ending_of story.ending }
 
 -- how an evaluation ends, as the definition has it
-abbrev pub outcome_of : Outcome → evaluated.Outcome
-outcome_of (outcome.Whole judgement) = evaluated.Whole judgement
-outcome_of (outcome.OpenAt op) = evaluated.OpenAt op
-outcome_of outcome.Neither = evaluated.Neither
+abbrev pub viewed_outcome : Outcome → evaluated.Outcome
+viewed_outcome (outcome.Whole judgement) = evaluated.Whole judgement
+viewed_outcome (outcome.OpenAt op) = evaluated.OpenAt op
+viewed_outcome outcome.Neither = evaluated.Neither

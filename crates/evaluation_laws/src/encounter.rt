@@ -4,7 +4,7 @@ ghost use Rattle.generation_store.specs.Jumps as jumps;
 ghost use Rattle.eval_engine.specs.Encounter as spec;
 ghost use Rattle.eval_engine.specs.Place.{IsRuleAt};
 ghost use Rattle.eval_engine.specs.Walk as walk;
-ghost use Rattle.evaluation_laws.specs.Views.{question_of, seen_by};
+ghost use Rattle.evaluation_laws.specs.Views.{viewed_question, viewed_names};
 
 use crate::looked::Looked;
 use crate::question::Question;
@@ -18,7 +18,7 @@ use rule_match::matches;
 /// The rule in that place; `None` behind the last.
 pub(crate) fn rule_at<'a>(question: &Question<'a, '_>, place: usize) -> Option<&'a Rule>
     ensures { MatchOption result (drop place question.now.edition.now.config.rules ≡ []) (λ rule.
-        IsRuleAt (question_of question.now) place rule.now) }
+        IsRuleAt (viewed_question question.now) place rule.now) }
 {
     let rules = question.edition.config().rules();
     if place < rules.len() {
@@ -31,7 +31,7 @@ pub(crate) fn rule_at<'a>(question: &Question<'a, '_>, place: usize) -> Option<&
 /// Whether the rule's set is disabled.
 #[tactic(auto, unfolding(eval_engine::specs::Encounter::is_disabled))]
 pub(crate) fn is_disabled(question: &Question<'_, '_>, rule: &Rule) -> bool
-    ensures { result ≡ spec.is_disabled (question_of question.now) rule.now }
+    ensures { result ≡ spec.is_disabled (viewed_question question.now) rule.now }
 {
     rule.set < 32 && has_bit(question.edition.config().disabled(), u32::from(rule.set))
 }
@@ -39,7 +39,7 @@ pub(crate) fn is_disabled(question: &Question<'_, '_>, rule: &Rule) -> bool
 /// Whether the rule's body holds of the packet.
 #[tactic(auto, unfolding(eval_engine::specs::Encounter::is_held))]
 pub(crate) fn is_held(question: &Question<'_, '_>, rule: &Rule) -> bool
-    ensures { result ≡ spec.is_held (question_of question.now) rule.now }
+    ensures { result ≡ spec.is_held (viewed_question question.now) rule.now }
 {
     match &rule.body {
         Some(body) => {
@@ -68,8 +68,8 @@ pub(crate) fn flow_of(question: &Question<'_, '_>) -> Option<Flow>
 
 /// The flow name that the rule in that place looks up.
 pub(crate) fn name_at(question: &Question<'_, '_>, place: usize, rule: &Rule) -> FlowName
-    requires { IsRuleAt (question_of question.now) place rule.now }
-    ensures { result ≡ spec.name_at (question_of question.now) rule.now }
+    requires { IsRuleAt (viewed_question question.now) place rule.now }
+    ensures { result ≡ spec.name_at (viewed_question question.now) rule.now }
 {
     question.edition.name_of(place)
 }
@@ -81,8 +81,8 @@ pub(crate) fn lookup_flow(
     place: usize,
     rule: &Rule,
 ) -> Option<Flow>
-    requires { IsRuleAt (question_of question.now) place rule.now }
-    ensures { result ≡ walk.lookup_flow (question_of question.now) (seen_by looked.now) rule.now }
+    requires { IsRuleAt (viewed_question question.now) place rule.now }
+    ensures { result ≡ walk.lookup_flow (viewed_question question.now) (viewed_names looked.now) rule.now }
 {
     if looks_up(rule) && looked.is_due(name_at(question, place, rule)) {
         flow_of(question)
@@ -110,8 +110,8 @@ pub(crate) fn rule_ref(rule: &Rule) -> RuleRef
 
 /// The lookup that the rule asks for.
 pub(crate) fn lookup_by(question: &Question<'_, '_>, place: usize, rule: &Rule, flow: Flow) -> Op
-    requires { IsRuleAt (question_of question.now) place rule.now }
-    ensures { result ≡ spec.lookup_by (question_of question.now) rule.now flow }
+    requires { IsRuleAt (viewed_question question.now) place rule.now }
+    ensures { result ≡ spec.lookup_by (viewed_question question.now) rule.now flow }
 {
     Op::Lookup {
         flow,
@@ -147,10 +147,10 @@ pub(crate) fn install_by(
     state: &StateOpt,
     flow: Flow,
 ) -> Op
-    requires there { IsRuleAt (question_of question.now) place rule.now }
+    requires there { IsRuleAt (viewed_question question.now) place rule.now }
     requires plain { spec.is_check_state rule.now.action ≡ false }
     requires made { spec.state_of rule.now ≡ Some state.now }
-    ensures { result ≡ spec.install_by (question_of question.now) rule.now state.now flow }
+    ensures { result ≡ spec.install_by (viewed_question question.now) rule.now state.now flow }
 {
     Op::Install {
         flow,

@@ -4,7 +4,7 @@ ghost use Rattle.eval_engine.specs.declared.judgement.Cause.TheVariants as cause
 ghost use Rattle.eval_engine.specs.declared.verdict.Verdict.TheVariants as verdicts;
 ghost use Rattle.evaluation_laws.specs.Runs as runs;
 ghost use Rattle.evaluation_laws.specs.Story as told;
-ghost use Rattle.evaluation_laws.specs.Views.{question_of, story_of};
+ghost use Rattle.evaluation_laws.specs.Views.{viewed_question, story_of};
 
 use crate::encounter::rule_ref;
 use crate::question::Question;
@@ -20,7 +20,7 @@ fn judgement_of(
     rule: RuleRef,
     cause: Cause,
 ) -> Judgement
-    ensures { result ≡ runs.judgement_of (question_of question.now) verdict rule cause }
+    ensures { result ≡ runs.judgement_under (viewed_question question.now) verdict rule cause }
 {
     Judgement {
         edition: question.edition.number(),
@@ -32,7 +32,7 @@ fn judgement_of(
 
 /// Rule 65535 denies.
 pub(crate) fn last_judgement(question: &Question<'_, '_>) -> Judgement
-    ensures { result ≡ runs.last_judgement (question_of question.now) }
+    ensures { result ≡ runs.last_judgement (viewed_question question.now) }
 {
     let last = RuleRef {
         id: 0,
@@ -67,7 +67,7 @@ pub(crate) fn decided<'r>(
         ≡ told.hit rule.now.counter
         (told.plainly
         (told.Ends
-        (runs.judgement_of (question_of question.now) verdict (spec.rule_ref rule.now) causes.Rule)
+        (runs.judgement_under (viewed_question question.now) verdict (spec.rule_ref rule.now) causes.Rule)
         replies.now))) }
 {
     let judgement = judgement_of(question, verdict, rule_ref(rule), Cause::Rule);
@@ -89,7 +89,7 @@ pub(crate) fn refused<'r>(
         ≡ told.asked op
         (told.plainly
         (told.Ends
-        (runs.judgement_of (question_of question.now) verdicts.Deny (spec.rule_ref rule.now) cause)
+        (runs.judgement_under (viewed_question question.now) verdicts.Deny (spec.rule_ref rule.now) cause)
         replies.now))) }
 {
     let judgement = judgement_of(question, Verdict::Deny, rule_ref(rule), cause);

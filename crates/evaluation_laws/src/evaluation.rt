@@ -2,7 +2,7 @@ ghost use Rattle.std.specs.Prelude.{◌≡◌, IfOk};
 ghost use Rattle.eval_engine.specs.Evaluation as spec;
 ghost use Rattle.rule_chain.specs.Chain.{IsConfiguration};
 ghost use Rattle.evaluation_laws.specs.Story as told;
-ghost use Rattle.evaluation_laws.specs.Views.{ending_of, outcome_of};
+ghost use Rattle.evaluation_laws.specs.Views.{ending_of, viewed_outcome};
 
 use crate::looked::Looked;
 use crate::question::Question;
@@ -61,7 +61,7 @@ pub fn evaluate(
           port = port.now;
           second = second;
         }) replies.now).hits) }
-    ensures outcome { IfOk result (λ e. outcome_of e.outcome
+    ensures outcome { IfOk result (λ e. viewed_outcome e.outcome
         ≡ (spec.evaluate (record {
           edition = edition.now;
           packet = packet.now;
@@ -95,7 +95,7 @@ fn lawful(edition: &Edition)
 
 /// Whole where the run ended and used every reply; a run outside of calls never returns.
 fn outcome_by(ending: &Ending<'_>) -> Outcome
-    ensures { outcome_of result ≡ told.outcome_by (ending_of ending.now) }
+    ensures { viewed_outcome result ≡ told.outcome_by (ending_of ending.now) }
 {
     match ending {
         Ending::Ends(judgement, left) => match left.split_first() {

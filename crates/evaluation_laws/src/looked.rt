@@ -1,5 +1,5 @@
 ghost use Rattle.std.specs.Prelude.{◌≡◌};
-ghost use Rattle.evaluation_laws.specs.Views.{is_looked, seen_by};
+ghost use Rattle.evaluation_laws.specs.Views.{is_looked, viewed_names};
 ghost use Rattle.eval_engine.specs.Trace as trace;
 
 use dyn_states::FlowName;
@@ -18,7 +18,7 @@ pub(crate) struct Looked {
 impl Looked {
     /// No name was looked up.
     pub(crate) fn none() -> Looked
-        ensures { seen_by result ≡ trace.no_names }
+        ensures { viewed_names result ≡ trace.no_names }
     {
         Looked {
             names: [false; 256],
@@ -29,7 +29,7 @@ impl Looked {
 
     /// A state was found.
     pub(crate) fn done() -> Looked
-        ensures { seen_by result ≡ trace.Done }
+        ensures { viewed_names result ≡ trace.Done }
     {
         Looked {
             names: [false; 256],
@@ -49,14 +49,14 @@ impl Looked {
 
     /// Whether the name is looked up: neither it nor `:any` was.
     pub(crate) fn is_due(&self, name: FlowName) -> bool
-        ensures { result ≡ trace.is_due (seen_by self.now) name }
+        ensures { result ≡ trace.is_name_due (viewed_names self.now) name }
     {
         !self.found && (!self.any && !self.has(name))
     }
 
     /// With this name.
     pub(crate) fn with(&self, name: FlowName) -> Looked
-        ensures { seen_by result ≡ trace.with_seen (seen_by self.now) name }
+        ensures { viewed_names result ≡ trace.with_seen (viewed_names self.now) name }
     {
         let mut looked = *self;
         match name {

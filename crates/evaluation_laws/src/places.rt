@@ -4,7 +4,7 @@ ghost use Rattle.rule_chain.specs.Chain.{AscendsFrom};
 ghost use Rattle.eval_engine.specs.Place.{IsRuleAt};
 ghost use Rattle.evaluation_laws.specs.Runs.{from};
 ghost use Rattle.evaluation_laws.specs.Running.{IsMaker};
-ghost use Rattle.evaluation_laws.specs.Views.{question_of};
+ghost use Rattle.evaluation_laws.specs.Views.{viewed_question};
 
 use crate::encounter::rule_at;
 use crate::question::Question;
@@ -35,7 +35,7 @@ pub(crate) fn place_skipped(question: &Question<'_, '_>, place: usize, number: u
 
 /// The place of the first rule of a greater number than the rule in that place.
 pub(crate) fn first_behind(question: &Question<'_, '_>, place: usize, rule: &Rule) -> usize
-    requires { IsRuleAt (question_of question.now) place rule.now }
+    requires { IsRuleAt (viewed_question question.now) place rule.now }
     ensures within { result ≤ length question.now.edition.now.config.rules }
     ensures later { place < result }
     ensures there { drop result question.now.edition.now.config.rules
@@ -50,7 +50,7 @@ pub(crate) fn first_behind(question: &Question<'_, '_>, place: usize, rule: &Rul
 /// The rule of this identity and its place.
 pub(crate) fn place_of<'a>(question: &Question<'a, '_>, id: u32) -> Option<(usize, &'a Rule)>
     ensures { MatchOption result (has_identity question.now.edition.now.config.rules id ≡ false)
-        (λ r. IsMaker (question_of question.now) id r.0 r.1.now) }
+        (λ r. IsMaker (viewed_question question.now) id r.0 r.1.now) }
 {
     let place = question.edition.place_of(id)?;
     let rule = rule_at(question, place)?;

@@ -5,7 +5,7 @@ ghost use Rattle.eval_engine.specs.Place.{IsRuleAt};
 ghost use Rattle.eval_engine.specs.Walk as walk;
 ghost use Rattle.evaluation_laws.specs.Runs.{Meets, Tests, Acts};
 ghost use Rattle.evaluation_laws.specs.Running.{IsRun};
-ghost use Rattle.evaluation_laws.specs.Views.{question_of, seen_by, story_of};
+ghost use Rattle.evaluation_laws.specs.Views.{viewed_question, viewed_names, story_of};
 
 use crate::encounter::{
     flow_of, install_by, is_disabled, is_held, lookup_by, lookup_flow, name_at, rule_at,
@@ -34,7 +34,7 @@ pub(crate) fn meet<'r>(
     requires shallow { depth ≤ 16 }
     requires within { place ≤ length question.now.edition.now.config.rules }
     ensures { IfOk result (λ story.
-        IsRun (question_of question.now) depth (seen_by looked.now)
+        IsRun (viewed_question question.now) depth (viewed_names looked.now)
         (Meets (drop place question.now.edition.now.config.rules)) replies.now (story_of story)) }
 {
     let Some(rule) = rule_at(question, place) else {
@@ -62,12 +62,12 @@ fn look<'r>(
     replies: &'r [Reply],
 ) -> Result<Story<'r>, OutOfMemory>
     requires shallow { depth ≤ 16 }
-    requires there { IsRuleAt (question_of question.now) place rule.now }
-    requires enabled { spec.is_disabled (question_of question.now) rule.now ≡ false }
-    requires due { walk.lookup_flow (question_of question.now) (seen_by looked.now) rule.now
+    requires there { IsRuleAt (viewed_question question.now) place rule.now }
+    requires enabled { spec.is_disabled (viewed_question question.now) rule.now ≡ false }
+    requires due { walk.lookup_flow (viewed_question question.now) (viewed_names looked.now) rule.now
         ≡ Some flow }
     ensures { IfOk result (λ story.
-        IsRun (question_of question.now) depth (seen_by looked.now)
+        IsRun (viewed_question question.now) depth (viewed_names looked.now)
         (Meets (drop place question.now.edition.now.config.rules)) replies.now (story_of story)) }
 {
     let op = lookup_by(question, place, rule, flow);
@@ -103,9 +103,9 @@ fn test<'r>(
     replies: &'r [Reply],
 ) -> Result<Story<'r>, OutOfMemory>
     requires shallow { depth ≤ 16 }
-    requires there { IsRuleAt (question_of question.now) place rule.now }
+    requires there { IsRuleAt (viewed_question question.now) place rule.now }
     ensures { IfOk result (λ story.
-        IsRun (question_of question.now) depth (seen_by looked.now)
+        IsRun (viewed_question question.now) depth (viewed_names looked.now)
         (Tests rule.now (drop (place + 1) question.now.edition.now.config.rules)) replies.now
         (story_of story)) }
 {
@@ -137,13 +137,13 @@ fn install<'r>(
     replies: &'r [Reply],
 ) -> Result<Story<'r>, OutOfMemory>
     requires shallow { depth ≤ 16 }
-    requires there { IsRuleAt (question_of question.now) place rule.now }
+    requires there { IsRuleAt (viewed_question question.now) place rule.now }
     requires plain { spec.is_check_state rule.now.action ≡ false }
-    requires held { spec.is_held (question_of question.now) rule.now ≡ true }
+    requires held { spec.is_held (viewed_question question.now) rule.now ≡ true }
     requires made { spec.state_of rule.now ≡ Some state.now }
     requires flowing { spec.any_flow_of question.now.packet.now ≡ Some flow }
     ensures { IfOk result (λ story.
-        IsRun (question_of question.now) depth (seen_by looked.now)
+        IsRun (viewed_question question.now) depth (viewed_names looked.now)
         (Tests rule.now (drop (place + 1) question.now.edition.now.config.rules)) replies.now
         (story_of story)) }
 {
@@ -172,9 +172,9 @@ fn act<'r>(
     replies: &'r [Reply],
 ) -> Result<Story<'r>, OutOfMemory>
     requires shallow { depth ≤ 16 }
-    requires there { IsRuleAt (question_of question.now) place rule.now }
+    requires there { IsRuleAt (viewed_question question.now) place rule.now }
     ensures { IfOk result (λ story.
-        IsRun (question_of question.now) depth (seen_by looked.now)
+        IsRun (viewed_question question.now) depth (viewed_names looked.now)
         (Acts rule.now (drop (place + 1) question.now.edition.now.config.rules)) replies.now
         (story_of story)) }
 {
@@ -220,10 +220,10 @@ fn call<'r>(
     replies: &'r [Reply],
 ) -> Result<Story<'r>, OutOfMemory>
     requires shallow { depth ≤ 16 }
-    requires there { IsRuleAt (question_of question.now) place rule.now }
+    requires there { IsRuleAt (viewed_question question.now) place rule.now }
     requires calling { rule.now.action ≡ action.Call number }
     ensures { IfOk result (λ story.
-        IsRun (question_of question.now) depth (seen_by looked.now)
+        IsRun (viewed_question question.now) depth (viewed_names looked.now)
         (Acts rule.now (drop (place + 1) question.now.edition.now.config.rules)) replies.now
         (story_of story)) }
 {

@@ -69,12 +69,12 @@ config_listing line edition None config = rules_listing line edition config.rule
 config_listing line edition (Some name) config = named_listing line edition name (table_named config.tables name)
 
 -- the edition has this number
-abbrev pub is_numbered : ℕ → Published → Bool
-is_numbered number edition = edition.number == number
+abbrev pub has_number : ℕ → Published → Bool
+has_number number edition = edition.number == number
 
 -- the edition of this number
 abbrev pub edition_of : List Published → ℕ → Option Published
-edition_of editions number = find (is_numbered number) editions
+edition_of editions number = find (has_number number) editions
 
 -- a listing, by the edition of its number
 abbrev pub listing : ℕ → ℕ → Option (List ℕ) → Option Published → List ℕ

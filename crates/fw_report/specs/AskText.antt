@@ -6,12 +6,12 @@ use Rattle.dyn_states.specs.declared.op.Op.{Op}
 use Rattle.dyn_states.specs.declared.op.Op.TheVariants.{Lookup, Install}
 use Rattle.dyn_states.specs.declared.reply.Reply.{Reply}
 use Rattle.dyn_states.specs.StateTexts.{flow_text}
-use Rattle.fw_report.specs.JournalText.{name_at, name_word, ask_start, ask_end, flow_of, flags_of, second_of}
+use Rattle.fw_report.specs.JournalText.{name_numbered, name_word, ask_start, ask_end, flow_of, asked_flags, asked_second}
 
 -- the name of the flow that is asked for
 abbrev pub asked_name : List (List ℕ) → Op → List ℕ
 asked_name names (Lookup flags flow second name) = name_word names name
-asked_name names (Install flags flow second rule limit name) = name_at names name
+asked_name names (Install flags flow second rule limit name) = name_numbered names name
 
 -- what an install asks for, as far as the name
 unfoldable pub install_start : ℕ → Option (LimitMask × ℕ) → List ℕ
@@ -26,8 +26,8 @@ question_start (Install flags flow second rule limit name) = install_start rule.
 
 -- the line as far as the name
 unfoldable pub ask_front : ℕ → ℕ → Op → List ℕ
-ask_front lane at op = ask_start lane at (second_of op) ++ question_start op
+ask_front lane at op = ask_start lane at (asked_second op) ++ question_start op
 
 -- the line behind the name
 unfoldable pub ask_rest : Op → Reply → List ℕ
-ask_rest op reply = flow_text (flow_of op) ++ ask_end (flags_of op) reply
+ask_rest op reply = flow_text (flow_of op) ++ ask_end (asked_flags op) reply

@@ -28,13 +28,13 @@ hits_text lane [] = []
 hits_text lane (hits ∷ rest) = hits_line lane hits ++ hits_text (lane + 1) rest
 
 -- a flow name by its number
-abbrev pub name_at : List (List ℕ) → ℕ → List ℕ
-name_at names name = slice_index_or names name []
+abbrev pub name_numbered : List (List ℕ) → ℕ → List ℕ
+name_numbered names name = slice_index_or names name []
 
 -- a flow name, or `any`
 abbrev pub name_word : List (List ℕ) → FlowName → List ℕ
 name_word names Any = codes "any"
-name_word names (Named name) = name_at names name
+name_word names (Named name) = name_numbered names name
 
 -- What is asked: whether there is a state of this name, or that a rule makes one.
 unfoldable pub lookup_text : List (List ℕ) → FlowName → List ℕ
@@ -42,9 +42,9 @@ lookup_text names name = codes " lookup :" ++ name_word names name
 
 -- what an install asks for
 unfoldable pub install_text : List (List ℕ) → ℕ → Option (LimitMask × ℕ) → ℕ → List ℕ
-install_text names id None name = codes " install " ++ (decimal id ++ (codes " keep :" ++ name_at names name))
+install_text names id None name = codes " install " ++ (decimal id ++ (codes " keep :" ++ name_numbered names name))
 install_text names id (Some limit) name =
-    codes " install " ++ (decimal id ++ (codes " limit " ++ (mask_word limit.0 ++ (codes " " ++ (decimal limit.1 ++ (codes " :" ++ name_at names name))))))
+    codes " install " ++ (decimal id ++ (codes " limit " ++ (mask_word limit.0 ++ (codes " " ++ (decimal limit.1 ++ (codes " :" ++ name_numbered names name))))))
 
 -- the TCP flags FIN, SYN and RST that are set (RFC 9293 section 3.1); a dash where none is
 abbrev pub flag_letters : Bool → Bool → Bool → List ℕ
@@ -89,14 +89,14 @@ flow_of (Lookup flags flow second name) = flow
 flow_of (Install flags flow second rule limit name) = flow
 
 -- the flags that are asked with
-abbrev pub flags_of : Op → ℕ
-flags_of (Lookup flags flow second name) = flags
-flags_of (Install flags flow second rule limit name) = flags
+abbrev pub asked_flags : Op → ℕ
+asked_flags (Lookup flags flow second name) = flags
+asked_flags (Install flags flow second rule limit name) = flags
 
 -- the second of the ask
-abbrev pub second_of : Op → ℕ
-second_of (Lookup flags flow second name) = second
-second_of (Install flags flow second rule limit name) = second
+abbrev pub asked_second : Op → ℕ
+asked_second (Lookup flags flow second name) = second
+asked_second (Install flags flow second rule limit name) = second
 
 -- what is asked
 abbrev pub op_text : List (List ℕ) → Op → List ℕ
@@ -105,7 +105,7 @@ op_text names (Install flags flow second rule limit name) = install_text names r
 
 -- the line of an ask
 unfoldable pub ask_line : List (List ℕ) → ℕ → ℕ → Op → Reply → List ℕ
-ask_line names lane at op reply = ask_start lane at (second_of op) ++ (op_text names op ++ (flow_text (flow_of op) ++ ask_end (flags_of op) reply))
+ask_line names lane at op reply = ask_start lane at (asked_second op) ++ (op_text names op ++ (flow_text (flow_of op) ++ ask_end (asked_flags op) reply))
 
 -- the line of a publication
 unfoldable pub publish_line : ℕ → List ℕ

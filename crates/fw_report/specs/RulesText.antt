@@ -1,7 +1,7 @@
 -- The report's sections on the last edition: its disabled sets, and its rules with their counts.
 use Rattle.std.specs.Prelude.{ℕ, zero, suc, ◌+◌, ◌==◌, if◌then◌else◌, List, [], ◌++◌, length, codes, decimal}
 use Rattle.std.specs.List.{flat_map}
-use Rattle.counter_book.specs.Counts.{total_of}
+use Rattle.counter_book.specs.Counts.{total_under}
 use Rattle.counter_book.specs.declared.count.Count.{Count}
 use Rattle.fw_rule.specs.Bits.{has_bit}
 use Rattle.fw_rule.specs.Canonical.{five_digits, rest_text}
@@ -33,7 +33,7 @@ disabled_text disabled = if disabled == 0 then [] else disabled_line disabled
 unfoldable pub counts_text : List (List Count) → Rule → List ℕ
 counts_text tallies rule =
     five_digits rule.number
-    ++ (codes " " ++ (decimal (total_of tallies rule.counter).packets ++ (codes " " ++ decimal (total_of tallies rule.counter).bytes)))
+    ++ (codes " " ++ (decimal (total_under tallies rule.counter).packets ++ (codes " " ++ decimal (total_under tallies rule.counter).bytes)))
 
 -- behind it the rest of the rule's text
 unfoldable pub counted_line : List (List Count) → Rule → List ℕ

@@ -47,7 +47,7 @@ pub(crate) fn write_hits<K: Sink>(out: &mut K, hits: &[u64]) -> Result<(), Faile
 
 /// A flow name by its number; nothing where none has it.
 fn name_at(names: &[Name], name: u8) -> &[u8]
-    ensures { result.now ≡ text.name_at names.now name }
+    ensures { result.now ≡ text.name_numbered names.now name }
 {
     match names.get(usize::from(name)) {
         Some(named) => named.bytes(),
@@ -254,7 +254,7 @@ fn put_ask_end(line: &mut Line, flags: u8, reply: Reply)
 }
 
 fn second_of(op: &Op) -> u32
-    ensures { result ≡ text.second_of op.now }
+    ensures { result ≡ text.asked_second op.now }
 {
     match op {
         Op::Lookup { second, .. } | Op::Install { second, .. } => *second,
@@ -262,7 +262,7 @@ fn second_of(op: &Op) -> u32
 }
 
 fn flags_of(op: &Op) -> u8
-    ensures { result ≡ text.flags_of op.now }
+    ensures { result ≡ text.asked_flags op.now }
 {
     match op {
         Op::Lookup { flags, .. } | Op::Install { flags, .. } => *flags,

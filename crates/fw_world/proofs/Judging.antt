@@ -24,7 +24,7 @@ use Rattle.fw_world.specs.Editions.{edition_numbered}
 use Rattle.fw_world.specs.Entries.{EachRecord, IsEntryFor, IsEvaluated, IsEvaluation, evaluated}
 use Rattle.fw_world.specs.Inputs.{Input, Other, Malformed, Packet}
 use Rattle.fw_world.specs.Legal.{StandFor}
-use Rattle.fw_world.specs.Steps.{question_of}
+use Rattle.fw_world.specs.Steps.{question_under}
 use Rattle.fw_world.specs.Tallies.{Hit, hits_under, packet_hits, record_hits, lane_hits, count_in, IsTallyOf}
 use Rattle.fw_world.proofs.AskLists.{record_asks, ops-record_asks, replies-record_asks}
 use Rattle.fw_world.proofs.Records.{EachRecord-append, EachRecord-weaker, IsEvaluated-asks, asks_of_record-earlier, asks_of_record-next, asks_are_within, AreAsksOf-record, AreAsksOf-entries, slice_get-last}
@@ -117,8 +117,8 @@ module _ (editions : List Published) (asks : List LaneAsk) (docket : DocketValue
   -- a packet that was judged under the last edition
   pub StandFor-judged : (edition : Published) (packet : AnyIp) (port : Port) (second : ℕ) (ops : List Op) (replies : List Reply) (judgement : Judgement) (after : List Count)
       → edition_numbered editions judgement.edition ≡ Some edition → length ops ≡ length replies
-      → (evaluate (question_of edition packet port second) replies).outcome ≡ Whole judgement → (evaluate (question_of edition packet port second) replies).asks ≡ ops
-      → RisesBy (total_of packet) (evaluate (question_of edition packet port second) replies).hits tally after
+      → (evaluate (question_under edition packet port second) replies).outcome ≡ Whole judgement → (evaluate (question_under edition packet port second) replies).asks ≡ ops
+      → RisesBy (total_of packet) (evaluate (question_under edition packet port second) replies).hits tally after
       → (more : DocketValue) → more.entries ≡ docket.entries ++ judged_entry judgement ∷ []
       → StandFor editions (asks ++ record_asks judgement.edition (length docket.entries + 1) ops replies) more after (inputs ++ Packet packet port second ∷ [])
   StandFor-judged edition packet port second ops replies judgement after found same outcome asked rises more is =
@@ -132,11 +132,11 @@ module _ (editions : List Published) (asks : List LaneAsk) (docket : DocketValue
       let next : asks_of_record (1 + n) all ≡ own = subst (λ (k : ℕ). asks_of_record k all ≡ own) (omega arith) (asks_of_record-next n judgement.edition (n + 1) asks ops replies within (omega arith)) in
       let told : replies_of (asks_of_record (1 + n) all) ≡ replies = ap replies_of next ∙ replies-record_asks judgement.edition (n + 1) ops replies same in
       let evaluation : IsEvaluation edition packet port second (asks_of_record (1 + n) all) judgement = record {
-        outcome = ap (λ (r : List Reply). (evaluate (question_of edition packet port second) r).outcome) told ∙ outcome;
-        asked = ap (λ (r : List Reply). (evaluate (question_of edition packet port second) r).asks) told ∙ asked ∙ sym (ap ops_of next ∙ ops-record_asks judgement.edition (n + 1) ops replies same);
+        outcome = ap (λ (r : List Reply). (evaluate (question_under edition packet port second) r).outcome) told ∙ outcome;
+        asked = ap (λ (r : List Reply). (evaluate (question_under edition packet port second) r).asks) told ∙ asked ∙ sym (ap ops_of next ∙ ops-record_asks judgement.edition (n + 1) ops replies same);
       } in
-      let hits : record_hits editions all (1 + n) input entered ≡ hits_under (total_of packet) (evaluate (question_of edition packet port second) replies).hits =
-      ap (λ (o : Option Published). packet_hits o packet port second (asks_of_record (1 + n) all)) found ∙ ap (λ (r : List Reply). hits_under (total_of packet) (evaluate (question_of edition packet port second) r).hits) told in
+      let hits : record_hits editions all (1 + n) input entered ≡ hits_under (total_of packet) (evaluate (question_under edition packet port second) replies).hits =
+      ap (λ (o : Option Published). packet_hits o packet port second (asks_of_record (1 + n) all)) found ∙ ap (λ (r : List Reply). hits_under (total_of packet) (evaluate (question_under edition packet port second) r).hits) told in
       let all_hits = lane_hits-append editions all 1 inputs docket.entries input entered stands.entered
       ∙ ap (λ (h : List Hit). h ++ record_hits editions all (1 + n) input entered) (lane_hits-asks editions asks all 1 inputs docket.entries earlier)
       ∙ ap (λ (h : List Hit). lane_hits editions asks 1 inputs docket.entries ++ h) hits in
@@ -146,7 +146,7 @@ module _ (editions : List Published) (asks : List LaneAsk) (docket : DocketValue
             (EachRecord-weaker (IsEvaluated editions asks) (IsEvaluated editions all) 1 inputs docket.entries (λ k i e below. IsEvaluated-asks editions asks all k i e (earlier k below)) stands.evaluated)
             (subst (λ (o : Option Published). IsSomeAnd o (λ edition. IsEvaluation edition packet port second (asks_of_record (1 + n) all) judgement)) (sym found) evaluation);
         tallied = subst (λ (h : List Hit). IsTallyOf h after) (sym all_hits)
-            (λ id. rises id ∙ ap (raised_by (total_of packet) (evaluate (question_of edition packet port second) replies).hits id) (stands.tallied id) ∙ sym (count_in-hits (total_of packet) _ (lane_hits editions asks 1 inputs docket.entries) id));
+            (λ id. rises id ∙ ap (raised_by (total_of packet) (evaluate (question_under edition packet port second) replies).hits id) (stands.tallied id) ∙ sym (count_in-hits (total_of packet) _ (lane_hits editions asks 1 inputs docket.entries) id));
         asked =
             let entered_at : IsSomeAnd (slice_get (docket.entries ++ entered ∷ []) (n + 1 - 1)) (IsJudgedUnder judgement.edition) =
             let same_place : n ≡ n + 1 - 1 = omega arith in

@@ -19,7 +19,7 @@ use Rattle.fw_world.specs.Legal.{StandFor, lane_asks}
 use Rattle.fw_world.specs.Sections.{judged_editions}
 use Rattle.fw_world.specs.Steps.{ChangesAsksOf, Publishes}
 use Rattle.fw_world.specs.Tallies.{Hit, packet_hits, record_hits, lane_hits, IsTallyOf}
-use Rattle.fw_world.specs.World.{WorldValue, published, IsLaneOf, LaneStandsFor}
+use Rattle.fw_world.specs.World.{WorldValue, published_count, IsLaneOf, LaneStandsFor}
 use Rattle.fw_world.proofs.Records.{IsSomeAnd-append, slice_get-append}
 
 -- a lane stands for what it stood for while another lane asks
@@ -31,7 +31,7 @@ stands_beside lane old new aside inputs changes other stands =
 -- it stays a lane of the world
 pub is_lane_beside : (lane : ℕ) (old new : WorldValue) (aside : LaneValue) → ChangesAsksOf lane old new → IsLaneOf old aside → IsLaneOf new aside
 is_lane_beside lane old new aside changes is =
-    let count : published old ≡ published new = sym (ap length changes.editions) in
+    let count : published_count old ≡ published_count new = sym (ap length changes.editions) in
     record {
       first = is.first;
       last = subst (λ (n : ℕ). aside.place ≤ n) (sym changes.lanes) is.last;
@@ -93,15 +93,15 @@ stands_behind old new command lane inputs publishes stands =
 -- and stays a lane of the world
 pub is_lane_behind : (old new : WorldValue) (command : Command) (lane : LaneValue) → Publishes old new command → IsLaneOf old lane → IsLaneOf new lane
 is_lane_behind old new command lane publishes is =
-    let count : published new ≡ published old + 1 = ap length publishes.editions ∙ length-append old.editions (publishes.edition ∷ []) in
+    let count : published_count new ≡ published_count old + 1 = ap length publishes.editions ∙ length-append old.editions (publishes.edition ∷ []) in
     record {
       first = is.first;
       last = subst (λ (n : ℕ). lane.place ≤ n) (sym (ap (λ (j : Journal). j.lanes) publishes.journal)) is.last;
       held = omega (arith, count, is.held);
       heard = heard lane.refusal count is.heard;
-      judged = All-weaker (λ (n : ℕ). n ≤ published old) (λ (n : ℕ). n ≤ published new) (λ n below. omega (arith, count, below)) (judged_editions lane.docket.entries) is.judged;
+      judged = All-weaker (λ (n : ℕ). n ≤ published_count old) (λ (n : ℕ). n ≤ published_count new) (λ n below. omega (arith, count, below)) (judged_editions lane.docket.entries) is.judged;
     }
   where
-    heard : (refusal : Option ℕ) → published new ≡ published old + 1 → IfSome refusal (λ number. number ≤ published old) → IfSome refusal (λ number. number ≤ published new)
+    heard : (refusal : Option ℕ) → published_count new ≡ published_count old + 1 → IfSome refusal (λ number. number ≤ published_count old) → IfSome refusal (λ number. number ≤ published_count new)
     heard None count below = below
     heard (Some number) count below = omega (arith, count, below)

@@ -9,13 +9,13 @@ use Rattle.eval_engine.specs.declared.judgement.Judgement.{Judgement}
 use Rattle.fw_world.specs.Lane.{LaneValue, with_entry, admitted}
 use Rattle.fw_world.specs.LaneKept.{IsLane, pending_of}
 use Rattle.fw_world.specs.Sections.{judged_editions}
-use Rattle.fw_world.specs.World.{WorldValue, published, IsLaneOf}
+use Rattle.fw_world.specs.World.{WorldValue, published_count, IsLaneOf}
 use Rattle.fw_world.proofs.LaneSteps.{judged_editions-append, IsLane-judged, IsLane-failed}
 
 -- a lane of a world is one of any with as many lanes and the same editions
 IsLaneOf-same : (old new : WorldValue) (lane : LaneValue) → new.journal.lanes ≡ old.journal.lanes → new.editions ≡ old.editions → IsLaneOf old lane → IsLaneOf new lane
 IsLaneOf-same old new lane lanes editions is =
-    let count : published old ≡ published new = sym (ap length editions) in
+    let count : published_count old ≡ published_count new = sym (ap length editions) in
     record {
       first = is.first;
       last = subst (λ (n : ℕ). lane.place ≤ n) (sym lanes) is.last;
@@ -25,25 +25,25 @@ IsLaneOf-same old new lane lanes editions is =
     }
 
 -- so is a lane that judged under the last edition
-IsLaneOf-judged : (world : WorldValue) (lane : LaneValue) (judgement : Judgement) (tally : List Count) → judgement.edition ≡ published world → IsLaneOf world lane → IsLaneOf world (record (with_entry (judged_entry judgement) lane) { tally = tally })
+IsLaneOf-judged : (world : WorldValue) (lane : LaneValue) (judgement : Judgement) (tally : List Count) → judgement.edition ≡ published_count world → IsLaneOf world lane → IsLaneOf world (record (with_entry (judged_entry judgement) lane) { tally = tally })
 IsLaneOf-judged world lane judgement tally numbered is = record {
   first = is.first;
   last = is.last;
   held = is.held;
   heard = is.heard;
-  judged = rw (judged_editions-append lane.docket.entries (judged_entry judgement ∷ [])) (All-push (λ number. number ≤ published world) (judged_editions lane.docket.entries) judgement.edition is.judged (omega (arith, numbered)));
+  judged = rw (judged_editions-append lane.docket.entries (judged_entry judgement ∷ [])) (All-push (λ number. number ≤ published_count world) (judged_editions lane.docket.entries) judgement.edition is.judged (omega (arith, numbered)));
 }
 
 IsLaneOf-failed : (world : WorldValue) (lane : LaneValue) (tally : List Count) → IsLaneOf world lane → IsLaneOf world (record lane { tally = tally; failed = true })
 IsLaneOf-failed world lane tally is = record { first = is.first; last = is.last; held = is.held; heard = is.heard; judged = is.judged }
 
 -- and one that is in under the last edition
-pub IsLaneOf-admitted : (world : WorldValue) (lane : LaneValue) → IsLaneOf world lane → IsLaneOf world (admitted (published world) lane)
+pub IsLaneOf-admitted : (world : WorldValue) (lane : LaneValue) → IsLaneOf world lane → IsLaneOf world (admitted (published_count world) lane)
 IsLaneOf-admitted world lane is = record { first = is.first; last = is.last; held = omega arith; heard = tt; judged = is.judged }
 
 -- a lane that judged, or that memory failed, is one of the world after
 pub IsLaneOf-after : (result : Result Judgement OutOfMemory) (old new : WorldValue) (before after : LaneValue) → new.journal.lanes ≡ old.journal.lanes → new.editions ≡ old.editions
-    → IfOk result (λ judgement. judgement.edition ≡ published old) → IfOk result (λ judgement. after ≡ record (with_entry (judged_entry judgement) before) { tally = after.tally })
+    → IfOk result (λ judgement. judgement.edition ≡ published_count old) → IfOk result (λ judgement. after ≡ record (with_entry (judged_entry judgement) before) { tally = after.tally })
     → OnErr result (after ≡ record before { tally = after.tally; failed = true }) → IsLaneOf old before → IsLaneOf new after
 IsLaneOf-after (Ok judgement) old new before after lanes editions numbered lane failed is =
     IsLaneOf-same old new after lanes editions (subst (λ (l : LaneValue). IsLaneOf old l) (sym lane) (IsLaneOf-judged old before judgement after.tally numbered is))
@@ -52,7 +52,7 @@ IsLaneOf-after (Err fault) old new before after lanes editions numbered lane fai
 
 -- what holds of every lane holds of it
 pub IsLane-after : (result : Result Judgement OutOfMemory) (old : WorldValue) (before after : LaneValue)
-    → IfOk result (λ judgement. judgement.edition ≡ published old) → IfOk result (λ judgement. after ≡ record (with_entry (judged_entry judgement) before) { tally = after.tally })
+    → IfOk result (λ judgement. judgement.edition ≡ published_count old) → IfOk result (λ judgement. after ≡ record (with_entry (judged_entry judgement) before) { tally = after.tally })
     → OnErr result (after ≡ record before { tally = after.tally; failed = true }) → IsLaneOf old before → IsLane 1 before → IsLane (pending_of (is_ok result)) after
 IsLane-after (Ok judgement) old before after numbered lane failed of_world is =
     let below = subst (λ (n : ℕ). All (λ number. number ≤ n) (judged_editions before.docket.entries)) (sym numbered) of_world.judged in

@@ -9,10 +9,10 @@ use Rattle.fw_world.specs.Lane.{LaneValue, with_entry}
 use Rattle.fw_world.specs.LaneKept.{IsLane}
 use Rattle.fw_world.specs.Legal.{StandFor, lane_asks}
 use Rattle.fw_world.specs.Sections.{judged_editions}
-use Rattle.fw_world.specs.Skips.{entry_for, input_for}
+use Rattle.fw_world.specs.Skips.{entry_for, skipped_input}
 use Rattle.fw_world.specs.declared.skipped.Skipped.{Skipped}
 use Rattle.fw_world.specs.declared.skipped.Skipped.TheVariants.{Other, Malformed}
-use Rattle.fw_world.specs.World.{WorldValue, published, IsLaneOf, LaneStandsFor}
+use Rattle.fw_world.specs.World.{WorldValue, published_count, IsLaneOf, LaneStandsFor}
 use Rattle.fw_world.proofs.Judging.{StandFor-skipped}
 use Rattle.fw_world.proofs.LaneSteps.{judged_editions-append, IsLane-skipped}
 
@@ -21,13 +21,13 @@ not_judged Other = refl
 not_judged (Malformed kind) = refl
 
 -- a lane that passed over a record stands for it behind its inputs
-pub LaneStandsFor-skipped : (world : WorldValue) (lane : LaneValue) (entry : Skipped) (inputs : List Input) → LaneStandsFor world lane inputs → LaneStandsFor world (with_entry (entry_for entry) lane) (inputs ++ input_for entry ∷ [])
+pub LaneStandsFor-skipped : (world : WorldValue) (lane : LaneValue) (entry : Skipped) (inputs : List Input) → LaneStandsFor world lane inputs → LaneStandsFor world (with_entry (entry_for entry) lane) (inputs ++ skipped_input entry ∷ [])
 LaneStandsFor-skipped world lane Other inputs stands =
     let after = with_entry (entry_for Other) lane in
-    StandFor-skipped world.editions (lane_asks lane.place world.journal.entries) lane.docket lane.tally inputs stands (input_for Other) (entry_for Other) tt tt refl after.docket refl
+    StandFor-skipped world.editions (lane_asks lane.place world.journal.entries) lane.docket lane.tally inputs stands (skipped_input Other) (entry_for Other) tt tt refl after.docket refl
 LaneStandsFor-skipped world lane (Malformed kind) inputs stands =
     let after = with_entry (entry_for (Malformed kind)) lane in
-    StandFor-skipped world.editions (lane_asks lane.place world.journal.entries) lane.docket lane.tally inputs stands (input_for (Malformed kind)) (entry_for (Malformed kind)) refl tt refl after.docket refl
+    StandFor-skipped world.editions (lane_asks lane.place world.journal.entries) lane.docket lane.tally inputs stands (skipped_input (Malformed kind)) (entry_for (Malformed kind)) refl tt refl after.docket refl
 
 -- what holds of every lane, and that it is one of the world, hold after it passed over a record or failed
 pub IsLane-passed : (result : Result (Unit {0}) OutOfMemory) (entry : Skipped) (before after : LaneValue)
@@ -46,14 +46,14 @@ IsLaneOf-passed world (Ok done) entry before after entered failed is =
       last = is.last;
       held = is.held;
       heard = is.heard;
-      judged = subst (λ (numbers : List ℕ). All (λ number. number ≤ published world) numbers) (sym same) is.judged;
+      judged = subst (λ (numbers : List ℕ). All (λ number. number ≤ published_count world) numbers) (sym same) is.judged;
     })
 IsLaneOf-passed world (Err fault) entry before after entered failed is =
     subst (λ (l : LaneValue). IsLaneOf world l) (sym failed) (record { first = is.first; last = is.last; held = is.held; heard = is.heard; judged = is.judged })
 
 -- a lane that passed over a record stands for it behind its inputs, where the call succeeded
 pub LaneStandsFor-passed : (world : WorldValue) (result : Result (Unit {0}) OutOfMemory) (entry : Skipped) (before after : LaneValue) → OnOk result (after ≡ with_entry (entry_for entry) before)
-    → OnOk result ((inputs : List Input) → LaneStandsFor world before inputs → LaneStandsFor world after (inputs ++ input_for entry ∷ []))
+    → OnOk result ((inputs : List Input) → LaneStandsFor world before inputs → LaneStandsFor world after (inputs ++ skipped_input entry ∷ []))
 LaneStandsFor-passed world (Ok done) entry before after entered = λ inputs stands.
-    subst (λ (l : LaneValue). LaneStandsFor world l (inputs ++ input_for entry ∷ [])) (sym entered) (LaneStandsFor-skipped world before entry inputs stands)
+    subst (λ (l : LaneValue). LaneStandsFor world l (inputs ++ skipped_input entry ∷ [])) (sym entered) (LaneStandsFor-skipped world before entry inputs stands)
 LaneStandsFor-passed world (Err fault) entry before after entered = tt

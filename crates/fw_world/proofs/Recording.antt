@@ -18,7 +18,7 @@ use Rattle.fw_world.specs.Legal.{EachLane, LaneStands, LaneCounts, IsLegal, Stan
 use Rattle.fw_world.specs.Publications.{IsLawful, facts_of}
 use Rattle.fw_world.specs.RecordValue.{RecordValue}
 use Rattle.fw_world.specs.Sections.{AreSections, judged_editions, tracker_after}
-use Rattle.fw_world.specs.World.{WorldValue, published, IsLaneOf}
+use Rattle.fw_world.specs.World.{WorldValue, published_count, IsLaneOf}
 use Rattle.fw_world.specs.WorldKept.{IsWorld}
 use Rattle.state_journal.specs.Journal as journal
 
@@ -46,14 +46,14 @@ as_many world (lane ∷ lanes) [] stands = absurd stands
 as_many world (lane ∷ lanes) (met ∷ inputs) stands = ap suc (as_many world lanes inputs stands.1)
 
 -- the sections of a lane that none left loose
-AreSections-lane : (world : WorldValue) (lane : LaneValue) → IsLaneOf world lane → IsLane 0 lane → lane.loose ≡ 0 → AreSections (published world) lane.docket lane.tracker
+AreSections-lane : (world : WorldValue) (lane : LaneValue) → IsLaneOf world lane → IsLane 0 lane → lane.loose ≡ 0 → AreSections (published_count world) lane.docket lane.tracker
 AreSections-lane world lane of_world is none = record {
   rising = is.rising;
   few = few lane.refusal of_world.heard (is.few none);
   tracked = let same : length (judged_editions lane.docket.entries) + lane.docket.refused + 0 ≡ length (judged_editions lane.docket.entries) + lane.docket.refused = omega arith in is.tracked none ∙ ap tracker_after same;
 }
   where
-    few : (refusal : Option ℕ) → IfSome refusal (λ number. number ≤ published world) → lane.docket.refused + 1 ≤ unwrap_or refusal lane.number → lane.docket.refused ≤ published world - 1
+    few : (refusal : Option ℕ) → IfSome refusal (λ number. number ≤ published_count world) → lane.docket.refused + 1 ≤ unwrap_or refusal lane.number → lane.docket.refused ≤ published_count world - 1
     few None heard most = omega (arith, of_world.held, most)
     few (Some number) heard most = omega (arith, heard, most)
 

@@ -27,8 +27,8 @@ use Rattle.fw_world.specs.Lane.{LaneValue}
 use Rattle.fw_world.specs.Legal.{StandFor, lane_asks}
 use Rattle.fw_world.specs.Publications.{publications, facts_of}
 use Rattle.fw_rule.specs.declared.command.Command.{Command}
-use Rattle.fw_world.specs.Steps.{Judges, ChangesAsksOf, IsNextEdition, question_of, with_asks}
-use Rattle.fw_world.specs.World.{WorldValue, published, LaneStandsFor}
+use Rattle.fw_world.specs.Steps.{Judges, ChangesAsksOf, IsNextEdition, question_under, with_asks}
+use Rattle.fw_world.specs.World.{WorldValue, published_count, LaneStandsFor}
 use Rattle.fw_world.specs.WorldKept.{AreNumbered, IsWorld}
 use Rattle.fw_world.proofs.AskLists.{last_number, record_asks, lane_asks-record, asks_of-others, KeepsAround-asks, with_asks-run, publications-publication, AreOfLanes-publication}
 use Rattle.fw_world.proofs.Judging.{StandFor-judged}
@@ -76,9 +76,9 @@ last_or_is before (first ∷ rest) numbered =
     ap (λ (n : ℕ). last_or n (map (λ (e : Published). e.number) rest)) numbered.0 ∙ last_or_is (before + 1) rest numbered.2 ∙ same
 
 -- an ask of the world comes behind the publication of the last edition
-pub last_number_of : (world : WorldValue) → IsWorld world → last_number 0 world.journal.entries ≡ published world
+pub last_number_of : (world : WorldValue) → IsWorld world → last_number 0 world.journal.entries ≡ published_count world
 last_number_of world is =
-    let same : 0 + published world ≡ published world = omega arith in
+    let same : 0 + published_count world ≡ published_count world = omega arith in
     let from : AreNumbered (0 + 1) world.editions = is.numbered in
     last_number_is 0 world.journal.entries ∙ ap (last_or 0) is.published_once ∙ last_or_is 0 world.editions from ∙ same
 
@@ -118,12 +118,12 @@ module _ (editions : List Published) (old new : Journal) (lane at : ℕ) (first 
 
 -- an evaluation of the book's answers is a judging of the world
 pub Judges-run : (editions : List Published) (old new : Journal) (lane at : ℕ) (edition : Published) (packet : AnyIp) (port : Port) (second : ℕ) (counts after : List Count) (judgement : Judgement)
-    → IsWorld (record { editions = editions; journal = old }) → IsLastOf editions edition → Evaluates (AsksFor lane at) old new (question_of edition packet port second) counts after judgement
+    → IsWorld (record { editions = editions; journal = old }) → IsLastOf editions edition → Evaluates (AsksFor lane at) old new (question_under edition packet port second) counts after judgement
     → Judges (record { editions = editions; journal = old }) (record { editions = editions; journal = new }) lane at packet port second counts after judgement
 Judges-run editions old new lane at edition packet port second counts after judgement is last ran = record {
   edition = edition;
   last = last;
-  numbered = omega (arith, judgement_names_edition (question_of edition packet port second) ran.replies judgement ran.outcome, last_is_numbered 1 editions edition is.numbered last);
+  numbered = omega (arith, judgement_names_edition (question_under edition packet port second) ran.replies judgement ran.outcome, last_is_numbered 1 editions edition is.numbered last);
   replies = ran.replies;
   outcome = ran.outcome;
   asked = EntersEach-length _ _ _ _ _ ran.entered;
@@ -138,7 +138,7 @@ pub LaneStandsFor-judged : (old new : WorldValue) (before after : LaneValue) (pa
     → after.place ≡ before.place → after.docket.entries ≡ before.docket.entries ++ judged_entry judgement ∷ [] → LaneStandsFor old before inputs → LaneStandsFor new after (inputs ++ Packet packet port second ∷ [])
 LaneStandsFor-judged old new before after packet port second judgement inputs is judges place entries stands =
     let at : ℕ = length before.docket.entries + 1 in
-    let q : Question = question_of judges.edition packet port second in
+    let q : Question = question_under judges.edition packet port second in
     let ops : List Op = (evaluate q judges.replies).asks in
     let found : edition_numbered old.editions judgement.edition ≡ Some judges.edition = subst (λ (n : ℕ). slice_get old.editions (n - 1) ≡ Some judges.edition) (sym judges.numbered) judges.last in
     let number : last_number 0 old.journal.entries ≡ judgement.edition = last_number_of old is ∙ sym judges.numbered in

@@ -1,6 +1,6 @@
 -- The asks of one record, one after the other, of whoever asks the states for a lane.
 use Rattle.std.specs.Prelude.{◌≡◌, ℕ, ⊤, ◌==◌, if◌then◌else◌, List, [], ◌∷◌}
-use Rattle.counter_book.specs.Counts.{count_of, raised}
+use Rattle.counter_book.specs.Counts.{counted_under, raised}
 use Rattle.counter_book.specs.declared.count.Count.{Count}
 use Rattle.dyn_states.specs.declared.op.Op.{Op}
 use Rattle.dyn_states.specs.declared.op.Op.TheVariants.{Lookup, Install}
@@ -41,7 +41,7 @@ raised_by bytes (counter ∷ hits) id count = raised_by bytes hits id (if counte
 
 -- the counts have risen by exactly these hits
 abbrev pub RisesBy : ℕ → List ℕ → List Count → List Count → Type 0
-RisesBy bytes hits counts countsAfter = (id : ℕ) → count_of countsAfter id ≡ raised_by bytes hits id (count_of counts id)
+RisesBy bytes hits counts countsAfter = (id : ℕ) → counted_under countsAfter id ≡ raised_by bytes hits id (counted_under counts id)
 
 -- With the replies to the asks that were entered the evaluation is whole and came to this judgement, and the
 -- counts have risen by its hits.

@@ -10,12 +10,12 @@ use Rattle.fw_world.specs.declared.commit_fault.CommitFault.{CommitFault}
 use Rattle.fw_world.specs.declared.commit_fault.CommitFault.TheVariants.{Refused, OutOfMemory}
 
 -- the last edition's configuration refuses the command with this fault
-pub record IsRefusal (world : WorldValue) (command : Command) (fault : ApplyFault) : Type 0 where
+pub record RefusesCommand (world : WorldValue) (command : Command) (fault : ApplyFault) : Type 0 where
   pub edition : Published
   pub last : IsLastOf world.editions edition
   pub refused : apply edition.config command ≡ Err fault
 
 -- why a command isn't published: it is refused, or memory ran out
 abbrev pub IsCommitFault : WorldValue → Command → CommitFault → Type 0
-IsCommitFault world command (Refused fault) = IsRefusal world command fault
+IsCommitFault world command (Refused fault) = RefusesCommand world command fault
 IsCommitFault world command OutOfMemory = ⊤

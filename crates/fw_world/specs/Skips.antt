@@ -12,6 +12,6 @@ entry_for Other = entry.Other
 entry_for (Malformed kind) = entry.Malformed kind
 
 -- the input that it is
-abbrev pub input_for : Skipped → Input
-input_for Other = input.Other
-input_for (Malformed kind) = input.Malformed kind
+abbrev pub skipped_input : Skipped → Input
+skipped_input Other = input.Other
+skipped_input (Malformed kind) = input.Malformed kind

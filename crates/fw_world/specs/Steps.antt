@@ -18,11 +18,11 @@ use Rattle.state_journal.specs.Items.{asks_of}
 use Rattle.state_journal.specs.Journal.{Journal, with_ask, with_publication}
 use Rattle.fw_world.specs.AskRuns.{RisesBy}
 use Rattle.fw_world.specs.Editions.{IsLastOf}
-use Rattle.fw_world.specs.World.{WorldValue, published}
+use Rattle.fw_world.specs.World.{WorldValue, published_count}
 
 -- what is evaluated for a packet under an edition
-abbrev pub question_of : Published → AnyIp → Port → ℕ → Question
-question_of edition packet port second = record { edition = edition; packet = packet; port = port; second = second }
+abbrev pub question_under : Published → AnyIp → Port → ℕ → Question
+question_under edition packet port second = record { edition = edition; packet = packet; port = port; second = second }
 
 -- the journal after these asks of one record, each with its reply
 abbrev pub with_asks : Journal → ℕ → ℕ → List Op → List Reply → Journal
@@ -35,12 +35,12 @@ with_asks j lane at (op ∷ ops) (reply ∷ replies) = with_asks (with_ask j lan
 pub record Judges (old new : WorldValue) (lane at : ℕ) (packet : AnyIp) (port : Port) (second : ℕ) (counts countsAfter : List Count) (judgement : Judgement) : Type 0 where
   pub edition : Published
   pub last : IsLastOf old.editions edition
-  pub numbered : judgement.edition ≡ published old
+  pub numbered : judgement.edition ≡ published_count old
   pub replies : List Reply
-  pub outcome : (evaluate (question_of edition packet port second) replies).outcome ≡ Whole judgement
-  pub asked : length (evaluate (question_of edition packet port second) replies).asks ≡ length replies
-  pub entered : new.journal ≡ with_asks old.journal lane at (evaluate (question_of edition packet port second) replies).asks replies
-  pub counted : RisesBy (total_of packet) (evaluate (question_of edition packet port second) replies).hits counts countsAfter
+  pub outcome : (evaluate (question_under edition packet port second) replies).outcome ≡ Whole judgement
+  pub asked : length (evaluate (question_under edition packet port second) replies).asks ≡ length replies
+  pub entered : new.journal ≡ with_asks old.journal lane at (evaluate (question_under edition packet port second) replies).asks replies
+  pub counted : RisesBy (total_of packet) (evaluate (question_under edition packet port second) replies).hits counts countsAfter
   pub editions : new.editions ≡ old.editions
 
 -- nothing of the world changed but the asks of this lane

@@ -3,7 +3,7 @@ use Rattle.std.specs.Prelude.{◌≡◌, ℕ, ◌+◌, ◌%◌, ◌^◌, ◌==�
 use Rattle.fw_base.specs.declared.port.Port.{Port}
 use Rattle.ip6_headers.specs.Either.{total_of}
 use Rattle.ip6_headers.specs.declared.any_ip.AnyIp.{AnyIp}
-use Rattle.counter_book.specs.Counts.{count_of}
+use Rattle.counter_book.specs.Counts.{counted_under}
 use Rattle.counter_book.specs.declared.count.Count.{Count}
 use Rattle.generation_store.specs.Published.{Published}
 use Rattle.eval_engine.specs.declared.docket_entry.DocketEntry.{DocketEntry}
@@ -51,4 +51,4 @@ count_in hits id = record {
 
 -- the tally has, under each counter number, the sum of these hits
 abbrev pub IsTallyOf : List Hit → List Count → Type 0
-IsTallyOf hits tally = (id : ℕ) → count_of tally id ≡ count_in hits id
+IsTallyOf hits tally = (id : ℕ) → counted_under tally id ≡ count_in hits id

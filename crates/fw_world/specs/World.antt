@@ -16,16 +16,16 @@ pub record WorldValue : Type 0 where
   pub journal : Journal
 
 -- the number that is published
-abbrev pub published : WorldValue → ℕ
-published world = length world.editions
+abbrev pub published_count : WorldValue → ℕ
+published_count world = length world.editions
 
 -- The lane is one of this world: its place is, and it knows of no edition that wasn't published here.
 pub record IsLaneOf (world : WorldValue) (lane : LaneValue) : Type 0 where
   pub first : 1 ≤ lane.place
   pub last : lane.place ≤ world.journal.lanes
-  pub held : lane.number ≤ published world
-  pub heard : IfSome lane.refusal (λ number. number ≤ published world)
-  pub judged : All (λ number. number ≤ published world) (judged_editions lane.docket.entries)
+  pub held : lane.number ≤ published_count world
+  pub heard : IfSome lane.refusal (λ number. number ≤ published_count world)
+  pub judged : All (λ number. number ≤ published_count world) (judged_editions lane.docket.entries)
 
 -- the lane stands for these inputs, together with its world
 abbrev pub LaneStandsFor : WorldValue → LaneValue → List Input → Type 0

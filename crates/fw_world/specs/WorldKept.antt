@@ -5,7 +5,7 @@ use Rattle.rule_chain.specs.Configuration.{Configuration}
 use Rattle.state_journal.specs.Journal.{first_journal}
 use Rattle.fw_world.specs.Asks.{AreOfLanes}
 use Rattle.fw_world.specs.Publications.{PublishesEach, facts_of}
-use Rattle.fw_world.specs.World.{WorldValue, published}
+use Rattle.fw_world.specs.World.{WorldValue, published_count}
 
 -- the first of these editions has this number, each next one the next number, and each its own facts
 abbrev pub AreNumbered : ℕ → List Published → Type 0
@@ -15,7 +15,7 @@ AreNumbered number (edition ∷ editions) = (edition.number ≡ number) × IsEdi
 -- The editions are numbered from 1, the journal publishes each of them once with its facts, and each ask is
 -- of one of the lanes.
 pub record IsWorld (world : WorldValue) : Type 0 where
-  pub begun : 1 ≤ published world
+  pub begun : 1 ≤ published_count world
   pub numbered : AreNumbered 1 world.editions
   pub factual : facts_of world.editions ≡ world.journal.facts
   pub published_once : PublishesEach world.editions world.journal.entries

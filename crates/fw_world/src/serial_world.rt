@@ -11,13 +11,13 @@ ghost use Rattle.rule_chain.specs.Changing.{IsChanging};
 ghost use Rattle.fw_world.specs.Inputs.{Input, Packet};
 ghost use Rattle.fw_world.specs.Lane as lanes;
 ghost use Rattle.fw_world.specs.Lane.{LaneValue, first_lanes, regained, admitted, with_entry};
-ghost use Rattle.fw_world.specs.Skips.{entry_for, input_for};
+ghost use Rattle.fw_world.specs.Skips.{entry_for, skipped_input};
 ghost use Rattle.fw_world.specs.Steps.{Judges, ChangesAsksOf, Publishes};
 ghost use Rattle.fw_world.specs.CommitFaults.{IsCauseOf};
 ghost use Rattle.fw_world.specs.LaneKept.{IsLane, pending_of};
 ghost use Rattle.fw_world.specs.SerialEntries.{entry_of};
 ghost use Rattle.fw_world.specs.Committing.{IsCommitFault};
-ghost use Rattle.fw_world.specs.World.{WorldValue, published, IsLaneOf, LaneStandsFor, DeskStandsFor};
+ghost use Rattle.fw_world.specs.World.{WorldValue, published_count, IsLaneOf, LaneStandsFor, DeskStandsFor};
 ghost use Rattle.fw_world.specs.WorldKept.{IsOpened};
 
 use crate::columns::Columns;
@@ -111,7 +111,7 @@ impl SerialWorld {
 
     /// The number of the last edition.
     fn published(&self) -> u64
-        ensures { result ≡ published self.now }
+        ensures { result ≡ published_count self.now }
     {
         self.store.all().len() as u64
     }
@@ -151,7 +151,7 @@ impl SerialWorld {
     /// holds an earlier one.
     pub fn enter(&mut self, lane: SerialLane) -> SerialEntry
         requires { IsLaneOf self.old lane }
-        ensures entry { result ≡ entry_of (published self.old) lane }
+        ensures entry { result ≡ entry_of (published_count self.old) lane }
         ensures world { self.new ≡ self.old }
     {
         let published = self.published();
@@ -180,7 +180,7 @@ impl SerialWorld {
     pub fn regain(&mut self, lane: SerialLane) -> SerialLane
         requires of_world { IsLaneOf self.old lane }
         requires refused { IsSome lane.refusal }
-        ensures lane { result ≡ regained (published self.old) lane }
+        ensures lane { result ≡ regained (published_count self.old) lane }
         ensures world { self.new ≡ self.old }
     {
         let published = self.published();
@@ -244,7 +244,7 @@ impl SerialWorld {
             Judges self.old self.new lane.old.place (length lane.old.docket.entries + 1) packet.now
             port.now second lane.old.tally lane.new.tally judgement) }
         ensures lane { IfOk result (λ judgement. lane.new
-            ≡ record (with_entry (judged_entry judgement) (admitted (published self.old)
+            ≡ record (with_entry (judged_entry judgement) (admitted (published_count self.old)
             lane.old)) { tally = lane.new.tally }) }
         ensures working { OnOk result (lane.old.failed ≡ false) }
         ensures stands { OnOk result ((inputs : List Input) → LaneStandsFor self.old lane.old inputs
@@ -253,7 +253,7 @@ impl SerialWorld {
         ensures of_world { IsLaneOf self.new lane.new }
         ensures heeded { lane.new.refusal ≡ None }
         ensures failed { OnErr result (lane.new
-            ≡ record (admitted (published self.old) lane.old) {
+            ≡ record (admitted (published_count self.old) lane.old) {
               tally = lane.new.tally;
               failed = true;
               loose = lanes.one_looser true lane.old.loose;
@@ -278,8 +278,8 @@ impl SerialWorld {
         requires desk { desk ≡ self.old.editions }
         requires command { IsWellFormed command.now }
         requires changing { IsChanging command.now }
-        ensures published { OnOk result.1 (Publishes self.old self.new command.now) }
-        ensures number { IfOk result.1 (λ number. number ≡ published self.new) }
+        ensures published_count { OnOk result.1 (Publishes self.old self.new command.now) }
+        ensures number { IfOk result.1 (λ number. number ≡ published_count self.new) }
         ensures desk { result.0 ≡ self.new.editions }
         ensures cause { IfErr result.1 (IsCommitFault self.old command.now) }
         ensures unchanged { OnErr result.1 (self.new ≡ self.old) }
@@ -300,8 +300,8 @@ impl SerialWorld {
         requires desk { desk.old ≡ self.old.editions }
         requires command { IsWellFormed command.now }
         requires changing { IsChanging command.now }
-        ensures published { OnOk result (Publishes self.old self.new command.now) }
-        ensures number { IfOk result (λ number. number ≡ published self.new) }
+        ensures published_count { OnOk result (Publishes self.old self.new command.now) }
+        ensures number { IfOk result (λ number. number ≡ published_count self.new) }
         ensures desk { desk.new ≡ self.new.editions }
         ensures lanes { OnOk result ((lane : LaneValue)
             → IsLaneOf self.old lane → IsLaneOf self.new lane) }
@@ -324,8 +324,8 @@ impl SerialWorld {
         requires shown { shown.old.editions ≡ self.old.editions }
         requires command { IsWellFormed command.now }
         requires changing { IsChanging command.now }
-        ensures published { OnOk result (Publishes self.old self.new command.now) }
-        ensures number { IfOk result (λ number. number ≡ published self.new) }
+        ensures published_count { OnOk result (Publishes self.old self.new command.now) }
+        ensures number { IfOk result (λ number. number ≡ published_count self.new) }
         ensures shown { shown.new.editions ≡ self.new.editions }
         ensures more { length shown.old.editions ≤ length shown.new.editions }
         ensures cause { IfErr result (IsCauseOf self.old.editions command.now) }
@@ -353,7 +353,7 @@ impl SerialWorld {
         ensures lane { OnOk result.1 (result.0 ≡ with_entry (entry_for entry) lane) }
         ensures working { OnOk result.1 (lane.failed ≡ false) }
         ensures stands { OnOk result.1 ((inputs : List Input) → LaneStandsFor self.old lane inputs
-            → LaneStandsFor self.old result.0 (inputs ++ input_for entry ∷ [])) }
+            → LaneStandsFor self.old result.0 (inputs ++ skipped_input entry ∷ [])) }
         ensures of_world { IsLaneOf self.old lane → IsLaneOf self.old result.0 }
         ensures failed { OnErr result.1 (result.0 ≡ record lane { failed = true }) }
         ensures world { self.new ≡ self.old }
@@ -368,7 +368,7 @@ impl SerialWorld {
         ensures lane { OnOk result (lane.new ≡ with_entry (entry_for entry) lane.old) }
         ensures working { OnOk result (lane.old.failed ≡ false) }
         ensures stands { OnOk result ((inputs : List Input) → LaneStandsFor self.old lane.old inputs
-            → LaneStandsFor self.old lane.new (inputs ++ input_for entry ∷ [])) }
+            → LaneStandsFor self.old lane.new (inputs ++ skipped_input entry ∷ [])) }
         ensures of_world { IsLaneOf self.old lane.old → IsLaneOf self.old lane.new }
         ensures failed { OnErr result (lane.new ≡ record lane.old { failed = true }) }
         ensures world { self.new ≡ self.old }

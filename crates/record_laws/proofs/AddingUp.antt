@@ -6,7 +6,7 @@ use Rattle.std.specs.Prelude.{◌==◌, Option, Some, None, IsSomeAnd, sum_by, c
 use Rattle.fw_base.specs.declared.port.Port.{Port}
 use Rattle.ip6_headers.specs.Either.{total_of}
 use Rattle.ip6_headers.specs.declared.any_ip.AnyIp.{AnyIp}
-use Rattle.counter_book.specs.Counts.{count_of}
+use Rattle.counter_book.specs.Counts.{counted_under}
 use Rattle.counter_book.specs.declared.count.Count.{Count}
 use Rattle.generation_store.specs.Published.{Published}
 use Rattle.eval_engine.specs.Dockets.{DocketValue, judgement_of}
@@ -68,14 +68,14 @@ module _ (id : ℕ) (part : Count → ℕ) (of_hit : Hit → ℕ) (of_packet : J
 
   of_lanes : (r : RecordValue) (lane : ℕ) (inputs : List (List Input)) (dockets : List DocketValue) (tallies : List (List Count)) (trackers : List ℕ)
       → EachLane (LaneStands r) lane inputs dockets tallies trackers
-      → sum_by (λ counts. part (count_of counts id)) tallies % 2 ^ 64 ≡ sum_by of_packet (judged_lanes r lane inputs dockets) % 2 ^ 64
+      → sum_by (λ counts. part (counted_under counts id)) tallies % 2 ^ 64 ≡ sum_by of_packet (judged_lanes r lane inputs dockets) % 2 ^ 64
   of_lanes r lane [] [] [] [] each = refl
   of_lanes r lane (own ∷ inputs) (docket ∷ dockets) (tally ∷ tallies) (tracker ∷ trackers) each =
       let asks = lane_asks lane r.journal.entries in
       let hits = lane_hits r.editions asks 1 own docket.entries in
       let one = ap part (each.0.tallied id) ∙ adds.counted hits ∙ ap (λ n. n % 2 ^ 64) (of_records r.editions asks 1 own docket.entries) in
       let rest = of_lanes r (lane + 1) inputs dockets tallies trackers each.1 in
-      ap (λ n. n % 2 ^ 64) (sum_by-cons (λ counts. part (count_of counts id)) tally tallies)
+      ap (λ n. n % 2 ^ 64) (sum_by-cons (λ counts. part (counted_under counts id)) tally tallies)
       ∙ sum_mod _ _ _ _ one rest
       ∙ ap (λ n. n % 2 ^ 64) (sym (sum_by-append of_packet (judged_records r.editions asks 1 own docket.entries) (judged_lanes r (lane + 1) inputs dockets)))
   of_lanes r lane inputs dockets tallies trackers each = absurd each

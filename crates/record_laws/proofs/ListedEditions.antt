@@ -22,7 +22,7 @@ use Rattle.rule_chain.specs.Apply.{apply}
 use Rattle.rule_chain.specs.Configuration.{Configuration}
 use Rattle.rule_chain.specs.declared.apply_fault.ApplyFault.TheVariants.{NoSuchTable}
 use Rattle.serial_replay.specs.Commands.{Standing, Listing, Rules, Entries, listing_of, answered, listed_answer, after_applied, after_command, after_line, after_lines, first_standing}
-use Rattle.serial_replay.specs.Replay.{outcome_of}
+use Rattle.serial_replay.specs.Replay.{lines_outcome}
 use Rattle.serial_schedule.specs.Agenda.{all_lines}
 use Rattle.state_journal.specs.declared.entry.Entry.{Entry}
 use Rattle.state_journal.specs.declared.entry.Entry.TheVariants.{Publish, Ask}
@@ -70,7 +70,7 @@ unfolding after_lines
 with_lines s [] is = is
 with_lines s (line ∷ lines) is = with_lines (after_line s line) lines (with_line s line.line line.command (listing_of line.command) is)
 
-outcome_stands : (config : Configuration) (steps : List Step) → IsStanding (outcome_of config steps)
+outcome_stands : (config : Configuration) (steps : List Step) → IsStanding (lines_outcome config steps)
 outcome_stands config steps = with_lines (first_standing config) (all_lines steps) (record { counted = refl; named = tt })
 
 -- there is one edition more than commands
@@ -144,13 +144,13 @@ module _ {S : Type 0} (left : S → Option (List ℕ)) (faults : S → ℕ) wher
   -- each listing of a replay names an edition that its journal publishes
   pub listings_name_published : ListingsNamePublishedEditions left faults
   listings_name_published config steps captures r is =
-      let standing = outcome_of config steps in
+      let standing = lines_outcome config steps in
       let stands = outcome_stands config steps in
       let published = all_weaker (λ (a : LineAnswer). NamesUpTo standing.number a.answer) (λ (a : LineAnswer). NamesPublished r.record a.answer) (λ a names. named a.answer names) standing.answers stands.named in
       subst (AllByRecursion (λ (a : LineAnswer). NamesPublished r.record a.answer)) (sym is.answered) published
     where
-      named : (answer : Answer) → NamesUpTo (outcome_of config steps).number answer → NamesPublished r.record answer
+      named : (answer : Answer) → NamesUpTo (lines_outcome config steps).number answer → NamesPublished r.record answer
       named (Refused fault) names = tt
       named (Listed number table) names =
           let counted = (outcome_stands config steps).counted in
-          published_number config (outcome_of config steps).accepted r.record is.legal number names.0 (omega (arith, names.1, counted))
+          published_number config (lines_outcome config steps).accepted r.record is.legal number names.0 (omega (arith, names.1, counted))

@@ -28,7 +28,7 @@ use Rattle.fw_world.specs.Inputs.{Input}
 use Rattle.fw_world.specs.Legal.{EachLane, LaneStands}
 use Rattle.fw_world.specs.RecordValue.{RecordValue}
 use Rattle.serial_replay.specs.Reading.{Track, AllRead, track_inputs}
-use Rattle.serial_replay.specs.Replay.{limit_for, outcome_of}
+use Rattle.serial_replay.specs.Replay.{limit_for, lines_outcome}
 use Rattle.serial_replay.specs.declared.opened_capture.OpenedCapture.{OpenedCapture}
 use Rattle.record_laws.specs.VerdictLines.{begins_with_digit, verdict_lines, other_lines, input_count, recorded_with, VerdictLinesAreRecords, ReplaysPrintEachRecord}
 
@@ -276,5 +276,5 @@ module _ {S : Type 0} (left : S → Option (List ℕ)) (faults : S → ℕ) wher
   -- the report of a replay has a verdict line for each record that was read
   pub replays_print_each_record : ReplaysPrintEachRecord left faults
   replays_print_each_record config steps captures r hits journal replay =
-      verdict_lines_are_records config (outcome_of config steps).accepted (map track_inputs replay.tracks) r.record hits r.ends.captures r.ends.answers journal replay.legal
+      verdict_lines_are_records config (lines_outcome config steps).accepted (map track_inputs replay.tracks) r.record hits r.ends.captures r.ends.answers journal replay.legal
       (end_count (limit_for (length captures)) captures r.sources.items replay.tracks r.ends.captures replay.read ∙ sym (length-map replay.tracks track_inputs))

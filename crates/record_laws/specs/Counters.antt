@@ -14,8 +14,8 @@ use Rattle.record_laws.specs.JudgedPackets.{judged_packets, all_judgements, eval
 -- bytes of the packets that did, each modulo 2^64.
 pub record CountsItsHits (inputs : List (List Input)) (r : RecordValue) : Type 0 where
   pub judged : map (λ p. (evaluation_of p).outcome) (judged_packets inputs r) ≡ map Whole (all_judgements r.dockets)
-  pub packets : (counter : ℕ) → (counts.total_of r.tallies counter).packets ≡ sum_by (hits_on counter) (judged_packets inputs r) % 2 ^ 64
-  pub bytes : (counter : ℕ) → (counts.total_of r.tallies counter).bytes ≡ sum_by (bytes_on counter) (judged_packets inputs r) % 2 ^ 64
+  pub packets : (counter : ℕ) → (counts.total_under r.tallies counter).packets ≡ sum_by (hits_on counter) (judged_packets inputs r) % 2 ^ 64
+  pub bytes : (counter : ℕ) → (counts.total_under r.tallies counter).bytes ≡ sum_by (bytes_on counter) (judged_packets inputs r) % 2 ^ 64
 
 -- the counters of a legal record add up to the hits of its judged packets
 abbrev pub CountersAddUp : Type 0

@@ -16,7 +16,7 @@ use Rattle.fw_world.specs.Editions.{edition_numbered}
 use Rattle.fw_world.specs.Inputs.{Input, Other, Malformed, Packet}
 use Rattle.fw_world.specs.Legal.{lane_asks}
 use Rattle.fw_world.specs.RecordValue.{RecordValue}
-use Rattle.fw_world.specs.Steps.{question_of}
+use Rattle.fw_world.specs.Steps.{question_under}
 
 -- a packet, where and when it was captured, the edition that judged it, and the replies to its asks
 pub record JudgedPacket : Type 0 where
@@ -28,7 +28,7 @@ pub record JudgedPacket : Type 0 where
 
 -- its evaluation
 abbrev pub evaluation_of : JudgedPacket → Evaluated
-evaluation_of p = evaluate (question_of p.edition p.packet p.port p.second) p.replies
+evaluation_of p = evaluate (question_under p.edition p.packet p.port p.second) p.replies
 
 -- how often its evaluation hit this counter number (ipfw(8), "DESCRIPTION": each rule counts the packets
 -- and the bytes that it matched)

@@ -28,7 +28,7 @@ use Rattle.rule_chain.specs.Configuration.{Configuration}
 use Rattle.rule_chain.specs.First.{first_configuration}
 use Rattle.serial_replay.specs.Commands.{Listing, Rules, Entries, listing_of}
 use Rattle.serial_replay.specs.Reading.{Track, IsRead, AllRead, IsEnd}
-use Rattle.serial_replay.specs.Replay.{limit_for, outcome_of}
+use Rattle.serial_replay.specs.Replay.{limit_for, lines_outcome}
 use Rattle.serial_replay.specs.declared.opened_capture.OpenedCapture.{OpenedCapture}
 use Rattle.replay_driver.specs.FirstEdition.{◌>>=◌, first_edition, configured, listings_of, listed_first, table_shown, shown, with_answer, read_script}
 use Rattle.replay_driver.specs.Found.{FailsEarly, ReadsScript, Finds, FindsReplay, FindsLoad, IsReplayOf, known_left, no_failures, made_capture}
@@ -203,7 +203,7 @@ module _ {S : Type 0} (left : S → Option (List ℕ)) (failures : S → ℕ) wh
       let is : ◌≡◌ {A = Result FirstEdition ScriptError} (Ok of.edition) (Ok accepted.edition) = sym of.first ∙ accepted.first in
       let same : of.edition ≡ accepted.edition = cc in
       let live : list_any is_refused of.replayed.ends.answers ≡ false =
-      ap (list_any is_refused) (of.replay.answered ∙ ap (λ (e : FirstEdition). (outcome_of e.config e.live).answers) same) ∙ accepted.accepted in
+      ap (list_any is_refused) (of.replay.answered ∙ ap (λ (e : FirstEdition). (lines_outcome e.config e.live).answers) same) ∙ accepted.accepted in
       let answers : list_any is_refused ends.answers ≡ false =
       ap (list_any is_refused) of.lines_answered ∙ none_of_both is_refused of.edition.answers of.replayed.ends.answers (edition_well script of.edition of.first) live in
       all_well ends.captures ends.answers (ap (list_any is_unread) of.captures_ended ∙ read.0) (ap (list_any is_stopped) of.captures_ended ∙ read.1) answers

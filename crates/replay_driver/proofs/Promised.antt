@@ -15,7 +15,7 @@ use Rattle.serial_replay.specs.Reading.{Track, AllRead}
 use Rattle.serial_replay.specs.declared.opened_capture.OpenedCapture.{OpenedCapture}
 use Rattle.replay_driver.specs.Found.{Finds, FindsWords, FindsReplay, IsReplayOf, ReplaysNames, ReplaysLoad, known_left, no_failures}
 use Rattle.replay_driver.specs.Openings.{without, sources_of}
-use Rattle.replay_driver.specs.Promises.{IsKept, IsReported, IsSummed, IsUnreadJob, IsUnreadyJob, IsQuiet, IsRefused, IsFaulty, HasFailedRead, in_order}
+use Rattle.replay_driver.specs.Promises.{IsKept, IsReported, IsSummed, IsUnreadJob, IsUnreadyJob, IsQuiet, IsRefused, IsFaulty, HasFailedRead, opening_order}
 use Rattle.replay_driver.specs.Run.{Writes, WritesResult, IsUsage, IsNoCommand, IsRun, IsAnswered, IsWithoutMemory, IsFoundRun}
 use Rattle.replay_driver.specs.RunResult.{result_status, result_text, usage_text, recorded, report_status, is_unread, is_stopped, is_refused}
 use Rattle.replay_driver.specs.Served.{ReplayNames, Job, Replays, Loads}
@@ -316,11 +316,11 @@ module _ {K S L : Type 0} (written : K → Option (List ℕ)) (sink_faults : K �
 
     -- ---- openings
 
-    pub has_openings : (job : Job) (told : List Pair) → Run job → pairs library ≡ Some told → outcome.status ≢ 6 → pairs libraryAfter ≡ without (take (length outcome.sources.items) (in_order job)) told
+    pub has_openings : (job : Job) (told : List Pair) → Run job → pairs library ≡ Some told → outcome.status ≢ 6 → pairs libraryAfter ≡ without (take (length outcome.sources.items) (opening_order job)) told
     has_openings job told (inl memory) is other = absurd (other memory.status)
     has_openings job told (inr a) is other = go job a.result outcome.sources.items a.finds
       where
-        go : (job : Job) (result : RunResult) (sources : List S) → Finds pairs faults refused left failures job library libraryAfter result sources → pairs libraryAfter ≡ without (take (length sources) (in_order job)) told
+        go : (job : Job) (result : RunResult) (sources : List S) → Finds pairs faults refused left failures job library libraryAfter result sources → pairs libraryAfter ≡ without (take (length sources) (opening_order job)) told
         go (Loads n) result sources (same, none, found) = rw none (ap pairs same ∙ is)
         go (Replays names) Usage sources finds = absurd finds
         go (Replays names) (Unread name) sources (inl found) = script_refused pairs faults refused left failures names library libraryAfter name sources told found is
@@ -424,7 +424,7 @@ module _ {K S L : Type 0} (written : K → Option (List ℕ)) (sink_faults : K �
       all_silent six = of_each (sinkAfter ≡ sink) (λ none. usage_silent none six) (λ job run. is_silent job run six)
 
       -- a run takes the names that it opened, and no others, out of the library's list, but for status 6
-      pub all_openings : IfSome (pairs library) (λ told. IfSome command (λ job. outcome.status ≢ 6 → pairs libraryAfter ≡ without (take (length outcome.sources.items) (in_order job)) told))
+      pub all_openings : IfSome (pairs library) (λ told. IfSome command (λ job. outcome.status ≢ 6 → pairs libraryAfter ≡ without (take (length outcome.sources.items) (opening_order job)) told))
       all_openings = IfSome-by (pairs library) _ (λ told is. IfSome-map command _ _ (λ job run other. has_openings job told run is other) found)
 
       -- where a record is kept no opening failed

@@ -4,7 +4,7 @@ use Rattle.fw_command.specs.declared.script.Line.{Line}
 use Rattle.rule_chain.specs.Apply.{apply}
 use Rattle.rule_chain.specs.Configuration.{Configuration}
 use Rattle.serial_replay.specs.Commands.{listing_of}
-use Rattle.replay_driver.specs.FirstEdition.{◌>>=◌, Gives, configured_line, configured, listed_first, with_answer, listings_of}
+use Rattle.replay_driver.specs.FirstEdition.{◌>>=◌, GivesView, configured_line, configured, listed_first, with_answer, listings_of}
 use Rattle.fw_report.specs.declared.line_answer.LineAnswer.{LineAnswer}
 use Rattle.replay_driver.specs.declared.script_error.ScriptError.{ScriptError}
 use Rattle.replay_driver.specs.declared.script_error.ScriptError.TheVariants.{Fault, Refused, OutOfMemory}
@@ -17,7 +17,7 @@ line_at lines i x within is =
 
 -- one part of an answer that failed fails the whole
 pub passed_on : {X Y Z W : Type 0} (part : X → Y) (whole : Z → W) (error : ScriptError) (a : Result Y ScriptError) (b : Result W ScriptError)
-    → ((e : ScriptError) → a ≡ Err e → b ≡ Err e) → Gives part (Err error) a → Gives whole (Err error) b
+    → ((e : ScriptError) → a ≡ Err e → b ≡ Err e) → GivesView part (Err error) a → GivesView whole (Err error) b
 passed_on part whole OutOfMemory a b f h = tt
 passed_on part whole (Fault fault) a b f h = f (Fault fault) h
 passed_on part whole (Refused refused) a b f h = f (Refused refused) h

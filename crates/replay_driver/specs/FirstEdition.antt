@@ -87,8 +87,8 @@ first_edition bytes = do
   Ok (record { config = config; answers = answers; live = script.live })
 
 -- what a call answered, unless memory ran out
-abbrev pub Gives : {X Y : Type 0} → (X → Y) → Result X ScriptError → Result Y ScriptError → Type 0
-Gives view (Ok x) answer = answer ≡ Ok (view x)
-Gives view (Err OutOfMemory) answer = Unit {0}
-Gives view (Err (Fault fault)) answer = answer ≡ Err (Fault fault)
-Gives view (Err (Refused refused)) answer = answer ≡ Err (Refused refused)
+abbrev pub GivesView : {X Y : Type 0} → (X → Y) → Result X ScriptError → Result Y ScriptError → Type 0
+GivesView view (Ok x) answer = answer ≡ Ok (view x)
+GivesView view (Err OutOfMemory) answer = Unit {0}
+GivesView view (Err (Fault fault)) answer = answer ≡ Err (Fault fault)
+GivesView view (Err (Refused refused)) answer = answer ≡ Err (Refused refused)

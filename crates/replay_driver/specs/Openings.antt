@@ -11,8 +11,8 @@ abbrev pub port_of : CaptureNames → Port
 port_of capture = record { direction = capture.direction; interface = capture.interface }
 
 -- the captures' names
-abbrev pub capture_names : List CaptureNames → List (List ℕ)
-capture_names = map (λ capture. capture.name)
+abbrev pub file_names : List CaptureNames → List (List ℕ)
+file_names = map (λ capture. capture.name)
 
 -- the captures' sources
 abbrev pub sources_of : {S : Type 0} → List (OpenedCapture S) → List S

@@ -12,11 +12,11 @@ use Rattle.fw_world.specs.RecordValue.{RecordValue}
 use Rattle.load_maker.specs.Load.{script_of, capture_of}
 use Rattle.pcap_read.specs.Reading.{Captured, HasFront, Open, AtBoundary}
 use Rattle.pcap_read.specs.declared.capture_fault.CaptureFault.TheVariants.{ReadFault}
-use Rattle.serial_replay.specs.Replay.{limit_for, outcome_of}
+use Rattle.serial_replay.specs.Replay.{limit_for, lines_outcome}
 use Rattle.serial_replay.specs.declared.opened_capture.OpenedCapture.{OpenedCapture}
 use Rattle.replay_driver.specs.FirstEdition.{first_edition}
 use Rattle.replay_driver.specs.Found.{ReadsNames, HasNoEdition, FindsReplay, IsReplayOf, ReplaysLoad}
-use Rattle.replay_driver.specs.Openings.{capture_names, without}
+use Rattle.replay_driver.specs.Openings.{file_names, without}
 use Rattle.replay_driver.specs.Run.{Writes}
 use Rattle.replay_driver.specs.RunResult.{recorded, summary_of, report_status, unread_text, is_unread, is_stopped, is_refused}
 use Rattle.replay_driver.specs.ScriptTexts.{error_text}
@@ -27,9 +27,9 @@ use Rattle.replay_driver.specs.declared.run_result.RunResult.TheVariants.{Unread
 use Rattle.replay_driver.specs.declared.script_error.ScriptError.{ScriptError}
 
 -- the names of a command in the order in which they are opened; a load opens none
-abbrev pub in_order : Job → List (List ℕ)
-in_order (Replays names) = names.script ∷ capture_names names.captures
-in_order (Loads n) = []
+abbrev pub opening_order : Job → List (List ℕ)
+opening_order (Replays names) = names.script ∷ file_names names.captures
+opening_order (Loads n) = []
 
 -- ---- how a replay ended
 
@@ -73,7 +73,7 @@ AllWhole limit (capture ∷ captures) told =
 pub record IsAccepted (script : List ℕ) : Type 0 where
   pub edition : FirstEdition
   pub first : first_edition script ≡ Ok edition
-  pub accepted : list_any is_refused (outcome_of edition.config edition.live).answers ≡ false
+  pub accepted : list_any is_refused (lines_outcome edition.config edition.live).answers ≡ false
 
 module _ {K S L : Type 0} (written : K → Option (List ℕ)) (sink_faults : K → ℕ) (pairs : L → Option (List Pair)) (faults : L → ℕ) (refused : L → Option (List ℕ)) (left : S → Option (List ℕ)) (failures : S → ℕ) where
   -- ---- the headline

@@ -6,7 +6,7 @@ ghost use Rattle.fw_command.specs.Scripts.{script_of};
 ghost use Rattle.rule_chain.specs.First.{first_configuration};
 ghost use Rattle.serial_replay.specs.Commands.{listing_of, table_listing};
 ghost use Rattle.replay_driver.specs.FirstEdition as spec;
-ghost use Rattle.replay_driver.specs.FirstEdition.{Gives};
+ghost use Rattle.replay_driver.specs.FirstEdition.{GivesView};
 
 use crate::{RefusedLine, ScriptError};
 use fw_base::Name;
@@ -30,7 +30,7 @@ pub(crate) struct FirstEdition {
 /// The configuration behind a command on this line.
 fn apply_line(alloc: Global, config: Config, line: &Line) -> Result<Config, ScriptError>
     requires { IsLine line.now }
-    ensures { Gives (λ c. c) result (spec.configured_line config line.now) }
+    ensures { GivesView (λ c. c) result (spec.configured_line config line.now) }
 {
     if !is_changing(&line.command) {
         return Ok(config);
@@ -48,7 +48,7 @@ fn apply_line(alloc: Global, config: Config, line: &Line) -> Result<Config, Scri
 /// The configuration behind the commands of these lines.
 fn configure(alloc: Global, lines: &[Line]) -> Result<Config, ScriptError>
     requires { AllByRecursion IsLine lines.now }
-    ensures { Gives (λ c. c) result (spec.configured first_configuration lines.now) }
+    ensures { GivesView (λ c. c) result (spec.configured first_configuration lines.now) }
 {
     let mut config = Config::new(alloc)?;
     for line in lines {
@@ -69,7 +69,7 @@ fn listed(line: u32, table: Option<Name>) -> Option<LineAnswer>
 
 /// The answer to a listing of that table.
 fn list_table(config: &Config, line: u32, name: &Name) -> Result<Option<LineAnswer>, ScriptError>
-    ensures { Gives (λ a. a) result (spec.table_shown config.now line name.now) }
+    ensures { GivesView (λ a. a) result (spec.table_shown config.now line name.now) }
 {
     if config.table(name).is_some() {
         Ok(listed(line, Some(name.copy()?)))
@@ -88,7 +88,7 @@ fn list_entries(
     name: &Name,
     command: &TableCommand,
 ) -> Result<Option<LineAnswer>, ScriptError>
-    ensures { Gives (λ a. a) result
+    ensures { GivesView (λ a. a) result
         (spec.listed_first config.now line (table_listing name.now command.now)) }
 {
     match command {
@@ -104,7 +104,7 @@ fn list_entries(
 
 /// The answer to a command on this line, if it is a listing.
 fn listing(config: &Config, line: &Line) -> Result<Option<LineAnswer>, ScriptError>
-    ensures { Gives (λ a. a) result
+    ensures { GivesView (λ a. a) result
         (spec.listed_first config.now line.now.line (listing_of line.now.command)) }
 {
     match &line.command {
@@ -141,7 +141,7 @@ fn answer_listings(
     config: &Config,
     lines: &[Line],
 ) -> Result<Vec<LineAnswer>, ScriptError>
-    ensures { Gives (λ answers. answers.items) result (spec.listings_of config.now lines.now) }
+    ensures { GivesView (λ answers. answers.items) result (spec.listings_of config.now lines.now) }
 {
     let mut answers = Vec::new(alloc);
     for line in lines {
@@ -152,7 +152,7 @@ fn answer_listings(
 
 /// The commands of a script.
 fn read_lines(alloc: Global, bytes: &[u8]) -> Result<Script, ScriptError>
-    ensures exact { Gives (λ s. s) result (spec.read_script (script_of Serial bytes.now)) }
+    ensures exact { GivesView (λ s. s) result (spec.read_script (script_of Serial bytes.now)) }
     ensures well_formed { IfOk result IsScript }
 {
     match parse_script(alloc, bytes, Pace::Serial) {
@@ -164,7 +164,7 @@ fn read_lines(alloc: Global, bytes: &[u8]) -> Result<Script, ScriptError>
 
 /// What a script gives before a packet is read, or why there is no edition 1.
 pub(crate) fn read_first_edition(alloc: Global, bytes: &[u8]) -> Result<FirstEdition, ScriptError>
-    ensures exact { Gives (λ e. e) result (spec.first_edition bytes.now) }
+    ensures exact { GivesView (λ e. e) result (spec.first_edition bytes.now) }
     ensures well_formed { IfOk result (λ edition. AllByRecursion IsStepInRange edition.live) }
 {
     let Script { before, live, .. } = read_lines(alloc, bytes)?;

@@ -4,7 +4,7 @@ ghost use Rattle.fw_base.specs.Faults.{Rose};
 ghost use Rattle.fw_base.specs.Texts.{WritesText};
 ghost use Rattle.replay_driver.specs.Found.{FindsWords};
 ghost use Rattle.replay_driver.specs.Openings.{without};
-ghost use Rattle.replay_driver.specs.Promises.{IsKept, IsUnreadJob, IsUnreadyJob, IsQuiet, IsRefused, IsFaulty, FailedRead, HasFailedRead, IsCompleteJob, in_order};
+ghost use Rattle.replay_driver.specs.Promises.{IsKept, IsUnreadJob, IsUnreadyJob, IsQuiet, IsRefused, IsFaulty, FailedRead, HasFailedRead, IsCompleteJob, opening_order};
 ghost use Rattle.replay_driver.specs.Run.{IsNoCommand, IsRun, IsFoundRun, status_of};
 ghost use Rattle.replay_driver.specs.RunResult as results;
 ghost use Rattle.replay_driver.specs.Served.{job_of};
@@ -183,7 +183,7 @@ where
     // The names are opened in their order, once each, and no other is; with status 1 and for a load none.
     ensures openings { IfSome (L.pairs library.old) (λ pairs.
         IfSome (job_of (map string_bytes words.now)) (λ job. result.status ≢ 6 → L.pairs library.new
-        ≡ without (take (length result.sources.items) (in_order job)) pairs)) }
+        ≡ without (take (length result.sources.items) (opening_order job)) pairs)) }
     ensures nothing_opened { job_of (map string_bytes words.now) ≡ None → result.status ≢ 6
         → library.new ≡ library.old }
     ensures no_second_try { IfSome result.kept (λ _. L.faults library.new ≡ L.faults library.old) }

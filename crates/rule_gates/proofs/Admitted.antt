@@ -20,7 +20,7 @@ use Rattle.rule_gates.specs.Covers.{CoversAddresses, CoversPorts, IsExactAddress
 use Rattle.rule_gates.specs.Gates.{admits, admits_version, is_exact}
 use Rattle.rule_gates.specs.Keys.{is_six}
 use Rattle.rule_gates.specs.Within.{is_within}
-use Rattle.rule_gates.specs.Words.{number_of, word, words_of}
+use Rattle.rule_gates.specs.Words.{address_number, word, words_of}
 use Rattle.rule_gates.specs.declared.address_gate.AddressGate.{AddressGate}
 use Rattle.rule_gates.specs.declared.chosen_word.ChosenWord.{ChosenWord}
 use Rattle.rule_gates.specs.declared.gate.Gate.{Gate}
@@ -74,8 +74,8 @@ pub open_admits : (gate : Gate) (every : Interval) → every.low ≡ 0 → every
     → IsOpen gate
 open_admits gate every low span source destination source_ports destination_ports protocol version packet key is =
     admits_by gate key
-    (rw source (every_has every _ low span (word_within key.source (number_of (source_of packet)) gate.source_word is.source gate.chosen.0)))
-    (rw destination (every_has every _ low span (word_within key.destination (number_of (destination_of packet)) gate.destination_word is.destination gate.chosen.1)))
+    (rw source (every_has every _ low span (word_within key.source (address_number (source_of packet)) gate.source_word is.source gate.chosen.0)))
+    (rw destination (every_has every _ low span (word_within key.destination (address_number (destination_of packet)) gate.destination_word is.destination gate.chosen.1)))
     (rw destination_ports (every_has every _ low span (let few = key.ported.1 in omega arith)))
     (rw protocol refl)
     (rw source_ports (every_has every _ low span (let few = key.ported.0 in omega arith)))
@@ -149,8 +149,8 @@ body_admits body gate source destination sources destinations source_ports desti
     let from = sources tables locals (source_of packet) by_source.0 in
     let to = destinations tables locals (destination_of packet) by_destination.0 in
     admits_by gate key
-    (addressed gate.source source.word gate.source_word key.source (number_of (source_of packet)) source_is source_at is.source from.1)
-    (addressed gate.destination destination.word gate.destination_word key.destination (number_of (destination_of packet)) destination_is destination_at is.destination to.1)
+    (addressed gate.source source.word gate.source_word key.source (address_number (source_of packet)) source_is source_at is.source from.1)
+    (addressed gate.destination destination.word gate.destination_word key.destination (address_number (destination_of packet)) destination_is destination_at is.destination to.1)
     (rw is.destination_port (destination_ports (destination_port packet) (rw (← is.destination_port) key.ported.1) by_destination_ports.0))
     (rw (protocol, is.protocol) by_protocol.0)
     (rw is.source_port (source_ports (source_port packet) (rw (← is.source_port) key.ported.0) by_source_ports.0))
@@ -219,9 +219,9 @@ body_tells body gate source destination sources destinations source_ports destin
       version = version_held body.family packet (narrower_among body.family (narrower source.family destination.family) (is_six packet) (rw (← version, ← is.version) parts.version));
       protocol = rw (← protocol, ← is.protocol) parts.protocol;
       source = λ net address only from fits. sources net address only fits
-          (told gate.source source.word gate.source_word key.source address source_is source_at (is.source ∙ ap (λ (a : Address). words_of (number_of a)) from) parts.source);
+          (told gate.source source.word gate.source_word key.source address source_is source_at (is.source ∙ ap (λ (a : Address). words_of (address_number a)) from) parts.source);
       destination = λ net address only to fits. destinations net address only fits
-          (told gate.destination destination.word gate.destination_word key.destination address destination_is destination_at (is.destination ∙ ap (λ (a : Address). words_of (number_of a)) to) parts.destination);
+          (told gate.destination destination.word gate.destination_word key.destination address destination_is destination_at (is.destination ∙ ap (λ (a : Address). words_of (address_number a)) to) parts.destination);
       source_ports = λ range only. source_ports range (source_port packet) only (rw (← is.source_port) parts.source_ports);
       destination_ports = λ range only. destination_ports range (destination_port packet) only (rw (← is.destination_port) parts.destination_ports);
     }
@@ -269,12 +269,12 @@ body_exact body gate source destination source_ports destination_ports sources d
     (rw (← protocol, ← is.protocol) parts.protocol)
     (sources tables locals (source_of packet) by_source.0 fit.source (
       ap (λ six. admits_version source.family six) (source_version packet) ∙ among.0 (is_six packet) of_version,
-      told gate.source source.word gate.source_word key.source (number_of (source_of packet)) source_is source_at is.source parts.source,
+      told gate.source source.word gate.source_word key.source (address_number (source_of packet)) source_is source_at is.source parts.source,
     ))
     (source_ports_of (source_port packet) by_source_ports.0 (rw (← source_ports_are, ← is.source_port) parts.source_ports))
     (destinations tables locals (destination_of packet) by_destination.0 fit.destination (
       ap (λ six. admits_version destination.family six) (destination_version packet) ∙ among.1 (is_six packet) of_version,
-      told gate.destination destination.word gate.destination_word key.destination (number_of (destination_of packet)) destination_is destination_at is.destination parts.destination,
+      told gate.destination destination.word gate.destination_word key.destination (address_number (destination_of packet)) destination_is destination_at is.destination parts.destination,
     ))
     (destination_ports_of (destination_port packet) by_destination_ports.0 (rw (← destination_ports_are, ← is.destination_port) parts.destination_ports))
     (no_elements body.options by_destination_ports.1)

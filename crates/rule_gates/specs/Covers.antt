@@ -21,7 +21,7 @@ use Rattle.rule_gates.specs.Keys.{HasAddresses, IsAddress, IsKeyOf, port_number}
 use Rattle.rule_gates.specs.Telling.{MayHold, only_net, only_range}
 use Rattle.rule_gates.specs.Told.{has_four}
 use Rattle.rule_gates.specs.Within.{is_within}
-use Rattle.rule_gates.specs.Words.{number_of, word}
+use Rattle.rule_gates.specs.Words.{address_number, word}
 use Rattle.rule_gates.specs.declared.address_gate.AddressGate.{AddressGate}
 use Rattle.rule_gates.specs.declared.chosen_word.ChosenWord.{ChosenWord}
 use Rattle.rule_gates.specs.declared.gate.Gate.{Gate}
@@ -40,7 +40,7 @@ is_six_address (V6 address) = true
 
 -- the address is of that version, and its chosen word is one of the numbers
 abbrev pub AdmitsAddress : AddressGate → Address → Type 0
-AdmitsAddress gate address = (admits_version gate.family (is_six_address address) ≡ true) × HasAddress gate.word (number_of address)
+AdmitsAddress gate address = (admits_version gate.family (is_six_address address) ≡ true) × HasAddress gate.word (address_number address)
 
 -- so for each address that the element has
 abbrev pub CoversItem : AddrItem → AddressGate → Type 0

@@ -5,7 +5,7 @@ use Rattle.ip6_headers.specs.declared.any_ip.AnyIp.TheVariants.{Four, Six}
 use Rattle.ip6_headers.specs.Either.{protocol_of}
 use Rattle.rule_match.specs.Packet.{Address, V4, V6, source_of, destination_of}
 use Rattle.rule_match.specs.Ports.{source_port, destination_port}
-use Rattle.rule_gates.specs.Words.{number_of, words_of}
+use Rattle.rule_gates.specs.Words.{address_number, words_of}
 use Rattle.rule_gates.specs.declared.key.Key.{Key}
 
 -- the packet is one of IPv6
@@ -20,8 +20,8 @@ port_number (Some port) = port
 
 -- the key of this packet: the words of its addresses, its ports, its protocol and its version
 pub record IsKeyOf (packet : AnyIp) (key : Key) : Type 0 where
-  pub source : key.source ≡ words_of (number_of (source_of packet))
-  pub destination : key.destination ≡ words_of (number_of (destination_of packet))
+  pub source : key.source ≡ words_of (address_number (source_of packet))
+  pub destination : key.destination ≡ words_of (address_number (destination_of packet))
   pub source_port : key.source_port ≡ port_number (source_port packet)
   pub destination_port : key.destination_port ≡ port_number (destination_port packet)
   pub protocol : key.protocol ≡ protocol_of packet

@@ -4,9 +4,9 @@ use Rattle.std.specs.Prelude.{ℕ, ◌*◌, ◌/◌, ◌%◌, ◌^◌, List, [],
 use Rattle.rule_match.specs.Packet.{Address, V4, V6}
 
 -- the whole address as one number
-abbrev pub number_of : Address → ℕ
-number_of (V4 address) = address
-number_of (V6 address) = address
+abbrev pub address_number : Address → ℕ
+address_number (V4 address) = address
+address_number (V6 address) = address
 
 -- thirty-two bits of the number; word 0 has the last ones
 abbrev pub word : ℕ → ℕ → ℕ

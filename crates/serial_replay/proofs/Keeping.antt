@@ -10,7 +10,7 @@ use Rattle.fw_command.specs.declared.script.Step.TheVariants.{Run}
 use Rattle.pcap_read.specs.Reading.{Captured}
 use Rattle.serial_replay.specs.Commands.{after_line, after_lines}
 use Rattle.serial_replay.specs.Events.{ReplaysAll}
-use Rattle.serial_replay.specs.Live.{state_of, IsSound, IsLive, RunsALine}
+use Rattle.serial_replay.specs.Live.{run_state, IsSound, IsLive, RunsALine}
 use Rattle.serial_replay.specs.Running.{IsReady, Keeps, HaveTracks, inputs_of, first_of}
 use Rattle.serial_replay.specs.Tracks.{AreTracks, held_of, rooms_of}
 use Rattle.serial_replay.specs.declared.running.Running.{Running}
@@ -57,7 +57,7 @@ module _ {S : Type 0} (left : S → Option (List ℕ)) (faults : S → ℕ) wher
       lines = sym (ap (after_lines h.standing) lines) ∙ h.lines;
       comes = λ rests end fits all.
           let fitting : map next_of rests ≡ map held_of old.tracks = fits ∙ ap (map held_of) tracks in
-          h.comes rests end fitting (subst (λ events. ReplaysAll origins (state_of old.live) end events) (sym (events rests fitting)) (state_of new.live, runs.runs, all));
+          h.comes rests end fitting (subst (λ events. ReplaysAll origins (run_state old.live) end events) (sym (events rests fitting)) (run_state new.live, runs.runs, all));
     };
   }
 
@@ -86,9 +86,9 @@ module _ {S : Type 0} (left : S → Option (List ℕ)) (faults : S → ℕ) wher
       lines = sym (ap (after_lines h.standing) lines) ∙ h.lines;
       comes = λ rests end fits all.
           let fitting : map next_of rests ≡ map held_of old.tracks = fits ∙ ap (map held_of) tracks in
-          let here = subst (λ l. ReplaysAll origins (state_of l) end (events_from new.taken (steps_of new.agenda) (in_order rests))) live all in
-          let then_taken = subst (λ n. ReplaysAll origins (state_of old.live) end (events_from n (steps_of new.agenda) (in_order rests))) taken here in
-          h.comes rests end fitting (subst (λ events. ReplaysAll origins (state_of old.live) end events) (sym (events rests fitting)) then_taken);
+          let here = subst (λ l. ReplaysAll origins (run_state l) end (events_from new.taken (steps_of new.agenda) (in_order rests))) live all in
+          let then_taken = subst (λ n. ReplaysAll origins (run_state old.live) end (events_from n (steps_of new.agenda) (in_order rests))) taken here in
+          h.comes rests end fitting (subst (λ events. ReplaysAll origins (run_state old.live) end events) (sym (events rests fitting)) then_taken);
     };
   }
 

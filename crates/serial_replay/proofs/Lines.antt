@@ -13,14 +13,14 @@ use Rattle.fw_world.specs.Closing.{AreLanesFrom, EachStandsFor}
 use Rattle.fw_world.specs.Editions.{IsLastOf}
 use Rattle.fw_world.specs.Inputs.{Input}
 use Rattle.fw_world.specs.Lane.{LaneValue}
-use Rattle.fw_world.specs.World.{WorldValue, published, IsLaneOf, LaneStandsFor, DeskStandsFor}
+use Rattle.fw_world.specs.World.{WorldValue, published_count, IsLaneOf, LaneStandsFor, DeskStandsFor}
 use Rattle.generation_store.specs.Published.{Published}
 use Rattle.rule_chain.specs.Apply.{apply}
 use Rattle.state_journal.specs.Journal.{Journal}
 use Rattle.rule_chain.specs.Configuration.{Configuration}
 use Rattle.serial_replay.specs.Commands.{Standing, Listing, listing_of, listed_answer, answered, after_applied, after_command, after_line}
 use Rattle.serial_replay.specs.Events.{RunState, RunsLine}
-use Rattle.serial_replay.specs.Live.{state_of, HasConfig, IsClean, IsSound, IsLive, Answers, IsListed, Accepts, Refuses, RunsALine}
+use Rattle.serial_replay.specs.Live.{run_state, HasConfig, IsClean, IsSound, IsLive, AnswersLine, IsListed, Accepts, Refuses, RunsALine}
 use Rattle.serial_replay.specs.declared.live_world.LiveWorld.{LiveWorld}
 
 -- the world and its lanes
@@ -31,11 +31,11 @@ state world lanes = record { world = world; lanes = lanes }
 same-last : (editions : List Published) (a b : Published) → IsLastOf editions a → IsLastOf editions b → a ≡ b
 same-last editions a b h k = let e : Some a ≡ Some b = sym h ∙ k in cc
 
-state-same : (old new : LiveWorld) (answer : LineAnswer) → Answers old new answer → state_of new ≡ state_of old
+state-same : (old new : LiveWorld) (answer : LineAnswer) → AnswersLine old new answer → run_state new ≡ run_state old
 unfolding state
 state-same old new answer h = ap (λ world. state world new.lanes.items) h.world ∙ ap (state old.world) h.lanes
 
-sound-answers : (old new : LiveWorld) (answer : LineAnswer) → Answers old new answer → IsSound old → IsSound new
+sound-answers : (old new : LiveWorld) (answer : LineAnswer) → AnswersLine old new answer → IsSound old → IsSound new
 sound-answers old new answer h sound = record {
   desk = h.desk ∙ sound.desk ∙ sym (ap (λ (w : WorldValue). w.editions) h.world);
   lanes = subst (λ lanes. AreLanesFrom new.world 1 lanes) (sym h.lanes) (subst (λ world. AreLanesFrom world 1 old.lanes.items) (sym h.world) sound.lanes);
@@ -44,20 +44,20 @@ sound-answers old new answer h sound = record {
 }
 
 -- an answer more: the standing has it too
-live-answers : (first : Configuration) (inputs : List (List Input)) (standing after : Standing) (old new : LiveWorld) (answer : LineAnswer) → Answers old new answer → after ≡ record standing { answers = standing.answers ++ answer ∷ [] } → IsLive first inputs standing old → IsLive first inputs after new
+live-answers : (first : Configuration) (inputs : List (List Input)) (standing after : Standing) (old new : LiveWorld) (answer : LineAnswer) → AnswersLine old new answer → after ≡ record standing { answers = standing.answers ++ answer ∷ [] } → IsLive first inputs standing old → IsLive first inputs after new
 live-answers first inputs standing after old new answer h is live = subst (λ s. IsLive first inputs s new) (sym is) (record {
   sound = sound-answers old new answer h live.sound;
   config = subst (λ world. HasConfig world standing.config) (sym h.world) live.config;
-  number = live.number ∙ sym (ap published h.world);
+  number = live.number ∙ sym (ap published_count h.world);
   accepted = subst (λ editions. DeskStandsFor editions first standing.accepted) (sym h.desk) live.accepted;
   answers = h.answers ∙ ap (λ answers. answers ++ answer ∷ []) live.answers;
   stands = subst (λ lanes. EachStandsFor new.world lanes inputs) (sym h.lanes) (subst (λ world. EachStandsFor world old.lanes.items inputs) (sym h.world) live.stands);
 })
 
 -- a listing was answered
-pub runs-listed : (old new : LiveWorld) (line : Line) (listing : Listing) (answer : Answer) → listing_of line.command ≡ Some listing → IsListed old listing answer → Answers old new (answered line.line answer) → RunsALine old new line
+pub runs-listed : (old new : LiveWorld) (line : Line) (listing : Listing) (answer : Answer) → listing_of line.command ≡ Some listing → IsListed old listing answer → AnswersLine old new (answered line.line answer) → RunsALine old new line
 runs-listed old new line listing answer is listed h = record {
-  runs = subst (λ l. RunsLine (state_of old) (state_of new) line.command l) (sym is) (state-same old new (answered line.line answer) h);
+  runs = subst (λ l. RunsLine (run_state old) (run_state new) line.command l) (sym is) (state-same old new (answered line.line answer) h);
   sound = sound-answers old new (answered line.line answer) h;
   lanes = ap length h.lanes;
   live = λ first inputs standing live.
@@ -65,7 +65,7 @@ runs-listed old new line listing answer is listed h = record {
       let (other, other_last, other_config) = listed.last in
       let same : listed.config ≡ standing.config = sym other_config ∙ ap (λ (e : Published). e.config) (same-last old.world.editions other edition other_last last) ∙ config in
       let told : answer ≡ listed_answer standing.config standing.number listing =
-      listed.listed ∙ ap (λ c. listed_answer c (published old.world) listing) same ∙ ap (λ n. listed_answer standing.config n listing) (sym live.number) in
+      listed.listed ∙ ap (λ c. listed_answer c (published_count old.world) listing) same ∙ ap (λ n. listed_answer standing.config n listing) (sym live.number) in
       let after : after_line standing line ≡ record standing { answers = standing.answers ++ answered line.line answer ∷ [] } =
       ap (after_command standing line.line line.command) is ∙ ap (λ (a : Answer). record standing { answers = standing.answers ++ answered line.line a ∷ [] }) (sym told) in
       live-answers first inputs standing (after_line standing line) old new (answered line.line answer) h after live;
@@ -74,7 +74,7 @@ runs-listed old new line listing answer is listed h = record {
 -- a command was refused
 pub runs-refused : (old new : LiveWorld) (line : Line) → listing_of line.command ≡ None → Refuses old new line → RunsALine old new line
 runs-refused old new line is h = record {
-  runs = subst (λ l. RunsLine (state_of old) (state_of new) line.command l) (sym is) (inr ((h.fault, h.refusal), state-same old new (answered line.line (Refused h.fault)) h.answers));
+  runs = subst (λ l. RunsLine (run_state old) (run_state new) line.command l) (sym is) (inr ((h.fault, h.refusal), state-same old new (answered line.line (Refused h.fault)) h.answers));
   sound = sound-answers old new (answered line.line (Refused h.fault)) h.answers;
   lanes = ap length h.answers.lanes;
   live = λ first inputs standing live.
@@ -115,7 +115,7 @@ sound-accepted old new command h sound = record {
 -- an edition was published
 pub runs-accepted : (old new : LiveWorld) (line : Line) → listing_of line.command ≡ None → Accepts old new line.command → RunsALine old new line
 runs-accepted old new line is h = record {
-  runs = subst (λ l. RunsLine (state_of old) (state_of new) line.command l) (sym is) (inl (h.lanes, h.publishes));
+  runs = subst (λ l. RunsLine (run_state old) (run_state new) line.command l) (sym is) (inl (h.lanes, h.publishes));
   sound = sound-accepted old new line.command h;
   lanes = ap length h.lanes;
   live = λ first inputs standing live.
@@ -125,7 +125,7 @@ runs-accepted old new line is h = record {
       let made : apply standing.config line.command ≡ Ok p.next.made = ap (λ c. apply c line.command) (sym same) ∙ p.next.applied in
       let after : after_line standing line ≡ record standing { config = p.next.made; number = standing.number + 1; accepted = standing.accepted ++ line.command ∷ [] } =
       ap (after_command standing line.line line.command) is ∙ ap (after_applied standing line.line line.command) made in
-      let more : published new.world ≡ published old.world + 1 = ap length p.editions ∙ length-append old.world.editions (p.edition ∷ []) in
+      let more : published_count new.world ≡ published_count old.world + 1 = ap length p.editions ∙ length-append old.world.editions (p.edition ∷ []) in
       subst (λ s. IsLive first inputs s new) (sym after) (record {
         sound = sound-accepted old new line.command h live.sound;
         config = (p.edition, subst (λ editions. IsLastOf editions p.edition) (sym p.editions) (last-pushed old.world.editions p.edition), p.next.built.configured);

@@ -13,12 +13,12 @@ use Rattle.fw_world.specs.Editions.{IsLastOf}
 use Rattle.fw_world.specs.Inputs.{Input, Packet}
 use Rattle.fw_world.specs.Lane.{LaneValue, with_entry}
 use Rattle.fw_world.specs.Steps.{Judges, ChangesAsksOf}
-use Rattle.fw_world.specs.World.{WorldValue, published, IsLaneOf, LaneStandsFor, DeskStandsFor}
+use Rattle.fw_world.specs.World.{WorldValue, published_count, IsLaneOf, LaneStandsFor, DeskStandsFor}
 use Rattle.fw_world.proofs.Keeping.{is_lane_beside, stands_beside}
 use Rattle.rule_chain.specs.Configuration.{Configuration}
 use Rattle.serial_replay.specs.Commands.{Standing}
 use Rattle.serial_replay.specs.Events.{EntersAt, ReplaysInput, judged_lane}
-use Rattle.serial_replay.specs.Live.{state_of, IsClean, IsSound, IsLive, with_input, ReplaysARecord}
+use Rattle.serial_replay.specs.Live.{run_state, IsClean, IsSound, IsLive, with_input, ReplaysARecord}
 use Rattle.serial_replay.specs.declared.live_world.LiveWorld.{LiveWorld}
 
 -- the lane at a place
@@ -124,7 +124,7 @@ clean-lent live k lane sound within is = all-at IsClean live.lanes.items k lane 
 pub replays-judged : (k : ℕ) (input : Input) (packet : AnyIp) (port : Port) (second : ℕ) (old new : LiveWorld) (lane after : LaneValue) (judgement : Judgement) → Packet packet port second ≡ input → k < length old.lanes.items → lane ≡ get_or old.lanes.items k lane
     → new.lanes.items ≡ slice_set old.lanes.items k after → new.desk ≡ old.desk → new.answers.items ≡ old.answers.items
     → Judges old.world new.world lane.place (length lane.docket.entries + 1) packet port second lane.tally after.tally judgement
-    → after ≡ judged_lane (published old.world) judgement after.tally lane
+    → after ≡ judged_lane (published_count old.world) judgement after.tally lane
     → ((own : List Input) → LaneStandsFor old.world lane own → LaneStandsFor new.world after (own ++ Packet packet port second ∷ []))
     → IsLaneOf new.world after → ChangesAsksOf lane.place old.world new.world → ReplaysARecord k input old new
 replays-judged k input packet port second old new lane after judgement input-is within is set desk answers judges lane-is stands of asks =
@@ -148,7 +148,7 @@ replays-judged k input packet port second old new lane after judgement input-is 
     })
 
 -- an entry was made for a record that isn't judged
-pub replays-entered : (k : ℕ) (input : Input) (entered : DocketEntry) (old new : LiveWorld) (lane after : LaneValue) (met : Input) → met ≡ input → (EntersAt k (state_of old) (state_of new) entered → ReplaysInput k (state_of old) (state_of new) met)
+pub replays-entered : (k : ℕ) (input : Input) (entered : DocketEntry) (old new : LiveWorld) (lane after : LaneValue) (met : Input) → met ≡ input → (EntersAt k (run_state old) (run_state new) entered → ReplaysInput k (run_state old) (run_state new) met)
     → k < length old.lanes.items → lane ≡ get_or old.lanes.items k lane → new.lanes.items ≡ slice_set old.lanes.items k after → new.desk ≡ old.desk → new.answers.items ≡ old.answers.items
     → new.world ≡ old.world → after ≡ with_entry entered lane
     → ((own : List Input) → LaneStandsFor old.world lane own → LaneStandsFor old.world after (own ++ met ∷ [])) → IsLaneOf old.world after → ReplaysARecord k input old new

@@ -12,7 +12,7 @@ use Rattle.pcap_read.specs.Capture.{link_of, source_of}
 use Rattle.pcap_read.specs.Reading.{Captured}
 use Rattle.serial_replay.specs.Commands.{after_lines}
 use Rattle.serial_replay.specs.Events.{ReplaysAll, ReplaysInput, ReplaysTurn}
-use Rattle.serial_replay.specs.Live.{state_of, with_input, IsLive, ReplaysARecord}
+use Rattle.serial_replay.specs.Live.{run_state, with_input, IsLive, ReplaysARecord}
 use Rattle.serial_replay.specs.Reading.{Origin, input_of}
 use Rattle.serial_replay.specs.Running.{inputs_of, joined, with_last, first_of, IsReady, TakesRecord}
 use Rattle.serial_replay.specs.Tracks.{AreTracks, IsTrack, GoesOn, HasEnded, GoesFurther, GoesFurtherAt, held_in, held_of, open_of, room_of, rooms_of}
@@ -194,13 +194,13 @@ module _ {S : Type 0} where
                       omega (arith, there, lengths, length-map rests next_of, length-map new.tracks held_of, length-kept old.tracks k further.after, ap length further.set) in
                       let comes_first : first_capture (map next_moment full) ≡ Some k = ap first_capture (moments-heads full) ∙ ap (λ hs. first_capture (map (option_map moment_of) hs)) heads ∙ first in
                       let events = events-next old.taken (steps_of old.agenda) (steps_of old.agenda) k r rests none within comes_first in
-                      let all_taken = subst (λ n. ReplaysAll origins (state_of new.live) end (events_from n (steps_of new.agenda) (in_order rests))) taken all in
-                      let all_old = subst (λ steps. ReplaysAll origins (state_of new.live) end (events_from (old.taken + 1) steps (in_order rests))) agenda all_taken in
+                      let all_taken = subst (λ n. ReplaysAll origins (run_state new.live) end (events_from n (steps_of new.agenda) (in_order rests))) taken all in
+                      let all_old = subst (λ steps. ReplaysAll origins (run_state new.live) end (events_from (old.taken + 1) steps (in_order rests))) agenda all_taken in
                       let turn : Turn = record { capture = k; taken = r } in
-                      let own = subst (λ i. ReplaysInput k (state_of old.live) (state_of new.live) i) (sym input) replays.replays in
-                      let replayed = subst (λ o. ReplaysTurn o (state_of old.live) (state_of new.live) turn) (sym origin_at) own in
+                      let own = subst (λ i. ReplaysInput k (run_state old.live) (run_state new.live) i) (sym input) replays.replays in
+                      let replayed = subst (λ o. ReplaysTurn o (run_state old.live) (run_state new.live) turn) (sym origin_at) own in
                       subst (λ captures. ReplaysAll origins start end (schedule steps captures)) (sym (joined-with_last k r h.dones rests))
-                      (h.comes full end heads (subst (λ events. ReplaysAll origins (state_of old.live) end events) (sym events) (state_of new.live, replayed, all_old)));
+                      (h.comes full end heads (subst (λ events. ReplaysAll origins (run_state old.live) end events) (sym events) (run_state new.live, replayed, all_old)));
                 };
           };
           fewer = fewer;

@@ -10,7 +10,7 @@ use Rattle.fw_world.specs.Editions.{IsLastOf}
 use Rattle.fw_world.specs.Lane.{LaneValue, first_lanes}
 use Rattle.fw_world.specs.Legal.{IsLegal, lane_asks, StandFor}
 use Rattle.fw_world.specs.RecordValue.{RecordValue}
-use Rattle.fw_world.specs.World.{WorldValue, published, DeskStandsFor}
+use Rattle.fw_world.specs.World.{WorldValue, published_count, DeskStandsFor}
 use Rattle.fw_world.specs.WorldKept.{IsOpened}
 use Rattle.generation_store.specs.Published.{Published}
 use Rattle.pcap_read.specs.Reading.{Captured}
@@ -18,10 +18,10 @@ use Rattle.rule_chain.specs.Configuration.{Configuration}
 use Rattle.state_journal.specs.Journal.{Journal, first_journal}
 use Rattle.serial_replay.specs.Commands.{Standing, after_lines, first_standing}
 use Rattle.serial_replay.specs.Events.{ReplaysAll}
-use Rattle.serial_replay.specs.Live.{state_of, IsClean, IsSound}
+use Rattle.serial_replay.specs.Live.{run_state, IsClean, IsSound}
 use Rattle.serial_replay.specs.Reading as reading
 use Rattle.serial_replay.specs.Reading.{Origin, origin_of, AllRead, track_inputs}
-use Rattle.serial_replay.specs.Replay.{limit_for, outcome_of, IsReplay}
+use Rattle.serial_replay.specs.Replay.{limit_for, lines_outcome, IsReplay}
 use Rattle.serial_replay.specs.Running.{inputs_of, joined, IsReady, Goes, Closes, RunsOut}
 use Rattle.serial_replay.specs.Tracks.{AreTracks, BeginAll, held_of, source_at}
 use Rattle.serial_replay.specs.declared.opened_capture.OpenedCapture.{OpenedCapture}
@@ -42,7 +42,7 @@ pub no-loose : (lanes : List LaneValue) → AllByRecursion IsClean lanes → All
 no-loose [] clean = tt
 no-loose (lane ∷ lanes) clean = (clean.0.1, no-loose lanes clean.1)
 
-lanes-first : (world : WorldValue) (place count total : ℕ) → 1 ≤ place → place + count ≤ total + 1 → world.journal.lanes ≡ total → 1 ≤ published world → AreLanesFrom world place (first_lanes place count)
+lanes-first : (world : WorldValue) (place count total : ℕ) → 1 ≤ place → place + count ≤ total + 1 → world.journal.lanes ≡ total → 1 ≤ published_count world → AreLanesFrom world place (first_lanes place count)
 lanes-first world place zero total least within lanes some = tt
 lanes-first world place (suc count) total least within lanes some = (
   refl,
@@ -110,7 +110,7 @@ module _ {S : Type 0} (left : S → Option (List ℕ)) (faults : S → ℕ) wher
   starts-sound : (config : Configuration) (steps : List Step) (limit : ℕ) (captures : List (OpenedCapture S)) (run : Running S) → Starts config steps limit captures run → IsSound run.live
   starts-sound config steps limit captures run h =
       let lanes : run.live.world.journal.lanes ≡ h.count = ap (λ (j : Journal). j.lanes) h.opened.journal in
-      let one : published run.live.world ≡ 1 = ap length h.opened.editions in
+      let one : published_count run.live.world ≡ 1 = ap length h.opened.editions in
       record {
         desk = h.desk;
         lanes = subst (λ l. AreLanesFrom run.live.world 1 l) (sym h.lanes) (lanes-first run.live.world 1 h.count h.count (omega arith) (omega arith) lanes (omega arith));
@@ -133,7 +133,7 @@ module _ {S : Type 0} (left : S → Option (List ℕ)) (faults : S → ℕ) wher
             omega (arith, product, h.tracks.room, h.taken);
       }
 
-  starts-goes : (config : Configuration) (steps : List Step) (limit : ℕ) (captures : List (OpenedCapture S)) (run : Running S) → (h : Starts config steps limit captures run) → Goes left faults config steps limit captures h.tracks.origins (state_of run.live) run
+  starts-goes : (config : Configuration) (steps : List Step) (limit : ℕ) (captures : List (OpenedCapture S)) (run : Running S) → (h : Starts config steps limit captures run) → Goes left faults config steps limit captures h.tracks.origins (run_state run.live) run
   starts-goes config steps limit captures run h =
       let same = lengths limit captures run.tracks (map (λ (track : Track S). []) run.tracks) h.tracks.origins h.tracks.begun in
       let asks : (k : ℕ) → lane_asks k run.live.world.journal.entries ≡ [] = λ k. ap (λ (j : Journal). lane_asks k j.entries) h.opened.journal in
@@ -152,9 +152,9 @@ module _ {S : Type 0} (left : S → Option (List ℕ)) (faults : S → ℕ) wher
         };
         lines = ap (λ s. after_lines (first_standing config) (all_lines s)) h.agenda;
         comes = λ rests last fits all.
-            let from_first = subst (λ n. ReplaysAll h.tracks.origins (state_of run.live) last (events_from n (steps_of run.agenda) (in_order rests))) h.taken all in
-            let of_steps = subst (λ s. ReplaysAll h.tracks.origins (state_of run.live) last (events_from 0 s (in_order rests))) h.agenda from_first in
-            subst (λ records. ReplaysAll h.tracks.origins (state_of run.live) last (schedule steps records)) (sym (joined-first run.tracks rests fits)) of_steps;
+            let from_first = subst (λ n. ReplaysAll h.tracks.origins (run_state run.live) last (events_from n (steps_of run.agenda) (in_order rests))) h.taken all in
+            let of_steps = subst (λ s. ReplaysAll h.tracks.origins (run_state run.live) last (events_from 0 s (in_order rests))) h.agenda from_first in
+            subst (λ records. ReplaysAll h.tracks.origins (run_state run.live) last (schedule steps records)) (sym (joined-first run.tracks rests fits)) of_steps;
       }
 
   standing-last : (standing outcome : Standing) (steps : List Step) → after_lines standing (all_lines steps) ≡ outcome → all_lines steps ≡ [] → standing ≡ outcome
@@ -166,9 +166,9 @@ module _ {S : Type 0} (left : S → Option (List ℕ)) (faults : S → ℕ) wher
       → IsReplay left faults config steps captures r
   comes-to config steps limit captures run ended r limit-is h out closed =
       let origins = h.tracks.origins in
-      let goes = out.keeps.goes config steps limit captures origins (state_of run.live) (starts-goes config steps limit captures run h) in
+      let goes = out.keeps.goes config steps limit captures origins (run_state run.live) (starts-goes config steps limit captures run h) in
       let all = ended-told left faults limit captures ended.tracks goes.dones origins out.ended goes.tracks in
-      let standing : goes.standing ≡ outcome_of config steps = standing-last goes.standing (outcome_of config steps) (steps_of ended.agenda) goes.lines out.lines in
+      let standing : goes.standing ≡ lines_outcome config steps = standing-last goes.standing (lines_outcome config steps) (steps_of ended.agenda) goes.lines out.lines in
       let inputs : inputs_of origins goes.dones ≡ map track_inputs all.told =
       sym (inputs-same all.told ∙ ap (λ os. inputs_of os (map (λ (t : reading.Track). t.records) all.told)) all.origins_are ∙ ap (inputs_of origins) all.records) in
       let count : h.count ≡ length all.told =
@@ -179,17 +179,17 @@ module _ {S : Type 0} (left : S → Option (List ℕ)) (faults : S → ℕ) wher
       let heads : map next_of rests ≡ held = none_first held out.ended in
       let no_event : events_from ended.taken (steps_of ended.agenda) (in_order rests) ≡ [] =
       events-ended ended.taken (steps_of ended.agenda) rests (none_of_rests left faults rests held heads out.ended) ∙ events-none ended.taken (steps_of ended.agenda) out.lines in
-      let whole = goes.comes rests (state_of ended.live) heads (subst (λ events. ReplaysAll origins (state_of ended.live) (state_of ended.live) events) (sym no_event) refl) in
-      let over_dones = subst (λ records. ReplaysAll origins (state_of run.live) (state_of ended.live) (schedule steps records)) (joined-none left faults limit captures ended.tracks goes.dones origins goes.tracks ∙ sym all.records) whole in
+      let whole = goes.comes rests (run_state ended.live) heads (subst (λ events. ReplaysAll origins (run_state ended.live) (run_state ended.live) events) (sym no_event) refl) in
+      let over_dones = subst (λ records. ReplaysAll origins (run_state run.live) (run_state ended.live) (schedule steps records)) (joined-none left faults limit captures ended.tracks goes.dones origins goes.tracks ∙ sym all.records) whole in
       record {
         tracks = all.told;
         read = subst (λ n. AllRead left faults n captures r.sources.items all.told r.ends.captures) limit-is
             (subst (λ sources. AllRead left faults limit captures sources all.told r.ends.captures) (sym closed.sources)
             (subst (λ ends. AllRead left faults limit captures (map source_at ended.tracks) all.told ends) (sym closed.ends) all.read));
-        legal = subst (λ own. IsLegal config (outcome_of config steps).accepted own r.record) inputs
+        legal = subst (λ own. IsLegal config (lines_outcome config steps).accepted own r.record) inputs
             (subst (λ (s : Standing). IsLegal config s.accepted (inputs_of origins goes.dones) r.record) standing (closed.legal config goes.standing.accepted (inputs_of origins goes.dones) goes.live.accepted goes.live.stands));
         ordered = record {
-          first = state_of run.live;
+          first = run_state run.live;
           begins = record {
             edition = h.opened.edition;
             built = h.opened.built;
@@ -197,8 +197,8 @@ module _ {S : Type 0} (left : S → Option (List ℕ)) (faults : S → ℕ) wher
             journal = h.opened.journal ∙ ap (λ n. first_journal n h.opened.edition.facts) count;
             lanes_new = h.lanes ∙ ap (first_lanes 1) count;
           };
-          last = state_of ended.live;
-          replays = subst (λ os. ReplaysAll os (state_of run.live) (state_of ended.live) (schedule steps (map (λ (t : reading.Track). t.records) all.told))) (sym all.origins_are) over_dones;
+          last = run_state ended.live;
+          replays = subst (λ os. ReplaysAll os (run_state run.live) (run_state ended.live) (schedule steps (map (λ (t : reading.Track). t.records) all.told))) (sym all.origins_are) over_dones;
           ends = record {
             editions = ap (λ (v : RecordValue). v.editions) closed.record_is;
             journal = ap (λ (v : RecordValue). v.journal) closed.record_is;

@@ -7,11 +7,11 @@ use Rattle.eval_engine.specs.declared.docket_entry.DocketEntry.{DocketEntry}
 use Rattle.eval_engine.specs.declared.docket_entry.DocketEntry.TheVariants as entry
 use Rattle.eval_engine.specs.declared.judgement.Judgement.{Judgement}
 use Rattle.fw_rule.specs.declared.command.Command.{Command}
-use Rattle.fw_world.specs.Committing.{IsRefusal}
+use Rattle.fw_world.specs.Committing.{RefusesCommand}
 use Rattle.fw_world.specs.Inputs.{Input, Other, Malformed, Packet}
 use Rattle.fw_world.specs.Lane.{LaneValue, admitted, with_entry}
 use Rattle.fw_world.specs.Steps.{Judges, Publishes}
-use Rattle.fw_world.specs.World.{WorldValue, published}
+use Rattle.fw_world.specs.World.{WorldValue, published_count}
 use Rattle.ip6_headers.specs.declared.any_ip.AnyIp.{AnyIp}
 use Rattle.rule_chain.specs.declared.apply_fault.ApplyFault.{ApplyFault}
 use Rattle.serial_replay.specs.Commands.{Listing, listing_of}
@@ -39,7 +39,7 @@ pub record JudgesAt (place : ℕ) (old new : RunState) (packet : AnyIp) (port : 
   pub tally : List Count
   pub judgement : Judgement
   pub judges : Judges old.world new.world lane.place (length lane.docket.entries + 1) packet port second lane.tally tally judgement
-  pub changes : ChangesLane place old.lanes new.lanes lane (judged_lane (published old.world) judgement tally lane)
+  pub changes : ChangesLane place old.lanes new.lanes lane (judged_lane (published_count old.world) judgement tally lane)
 
 -- an entry was made for a record that isn't judged
 pub record EntersAt (place : ℕ) (old new : RunState) (entered : DocketEntry) : Type 0 where
@@ -55,7 +55,7 @@ ReplaysInput place old new (Packet packet port second) = JudgesAt place old new 
 
 -- the last edition's configuration refuses the command
 abbrev pub IsRefused : WorldValue → Command → Type 0
-IsRefused world command = (fault : ApplyFault) × IsRefusal world command fault
+IsRefused world command = (fault : ApplyFault) × RefusesCommand world command fault
 
 -- a command was published, or refused, which changes nothing
 abbrev pub RunsCommand : RunState → RunState → Command → Type 0

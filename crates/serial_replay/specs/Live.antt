@@ -7,12 +7,12 @@ use Rattle.fw_report.specs.declared.answer.Answer.TheVariants.{Refused}
 use Rattle.fw_report.specs.declared.line_answer.LineAnswer.{LineAnswer}
 use Rattle.fw_rule.specs.declared.command.Command.{Command}
 use Rattle.fw_world.specs.Closing.{AreLanesFrom, EachStandsFor}
-use Rattle.fw_world.specs.Committing.{IsRefusal}
+use Rattle.fw_world.specs.Committing.{RefusesCommand}
 use Rattle.fw_world.specs.Editions.{IsLastOf}
 use Rattle.fw_world.specs.Inputs.{Input}
 use Rattle.fw_world.specs.Lane.{LaneValue}
 use Rattle.fw_world.specs.Steps.{Publishes}
-use Rattle.fw_world.specs.World.{WorldValue, published, IsLaneOf, LaneStandsFor, DeskStandsFor}
+use Rattle.fw_world.specs.World.{WorldValue, published_count, IsLaneOf, LaneStandsFor, DeskStandsFor}
 use Rattle.generation_store.specs.Published.{Published}
 use Rattle.rule_chain.specs.Configuration.{Configuration}
 use Rattle.rule_chain.specs.declared.apply_fault.ApplyFault.{ApplyFault}
@@ -21,8 +21,8 @@ use Rattle.serial_replay.specs.Events.{RunState, RunsLine, ReplaysInput}
 use Rattle.serial_replay.specs.declared.live_world.LiveWorld.{LiveWorld}
 
 -- the world with its lanes
-abbrev pub state_of : LiveWorld → RunState
-state_of live = record { world = live.world; lanes = live.lanes.items }
+abbrev pub run_state : LiveWorld → RunState
+run_state live = record { world = live.world; lanes = live.lanes.items }
 
 -- the last edition has this configuration
 abbrev pub HasConfig : WorldValue → Configuration → Type 0
@@ -43,13 +43,13 @@ pub record IsSound (live : LiveWorld) : Type 0 where
 pub record IsLive (first : Configuration) (inputs : List (List Input)) (standing : Standing) (live : LiveWorld) : Type 0 where
   pub sound : IsSound live
   pub config : HasConfig live.world standing.config
-  pub number : standing.number ≡ published live.world
+  pub number : standing.number ≡ published_count live.world
   pub accepted : DeskStandsFor live.desk first standing.accepted
   pub answers : live.answers.items ≡ standing.answers
   pub stands : EachStandsFor live.world live.lanes.items inputs
 
 -- one answer more, and nothing else
-pub record Answers (old new : LiveWorld) (answer : LineAnswer) : Type 0 where
+pub record AnswersLine (old new : LiveWorld) (answer : LineAnswer) : Type 0 where
   pub world : new.world ≡ old.world
   pub desk : new.desk ≡ old.desk
   pub lanes : new.lanes.items ≡ old.lanes.items
@@ -59,7 +59,7 @@ pub record Answers (old new : LiveWorld) (answer : LineAnswer) : Type 0 where
 pub record IsListed (live : LiveWorld) (listing : Listing) (answer : Answer) : Type 0 where
   pub config : Configuration
   pub last : HasConfig live.world config
-  pub listed : answer ≡ listed_answer config (published live.world) listing
+  pub listed : answer ≡ listed_answer config (published_count live.world) listing
 
 -- an edition was published
 pub record Accepts (old new : LiveWorld) (command : Command) : Type 0 where
@@ -74,12 +74,12 @@ pub record Accepts (old new : LiveWorld) (command : Command) : Type 0 where
 -- the command was refused
 pub record Refuses (old new : LiveWorld) (line : Line) : Type 0 where
   pub fault : ApplyFault
-  pub refusal : IsRefusal old.world line.command fault
-  pub answers : Answers old new (answered line.line (Refused fault))
+  pub refusal : RefusesCommand old.world line.command fault
+  pub answers : AnswersLine old new (answered line.line (Refused fault))
 
 -- a line ran
 pub record RunsALine (old new : LiveWorld) (line : Line) : Type 0 where
-  pub runs : RunsLine (state_of old) (state_of new) line.command (listing_of line.command)
+  pub runs : RunsLine (run_state old) (run_state new) line.command (listing_of line.command)
   pub sound : IsSound old → IsSound new
   pub lanes : length new.lanes.items ≡ length old.lanes.items
   pub live : (first : Configuration) (inputs : List (List Input)) (standing : Standing) → IsLive first inputs standing old → IsLive first inputs (after_line standing line) new
@@ -92,7 +92,7 @@ with_input (suc place) input (inputs ∷ others) = inputs ∷ with_input place i
 
 -- a record of the lane at this place was replayed
 pub record ReplaysARecord (place : ℕ) (input : Input) (old new : LiveWorld) : Type 0 where
-  pub replays : ReplaysInput place (state_of old) (state_of new) input
+  pub replays : ReplaysInput place (run_state old) (run_state new) input
   pub sound : IsSound old → IsSound new
   pub lanes : length new.lanes.items ≡ length old.lanes.items
   pub live : (first : Configuration) (inputs : List (List Input)) (standing : Standing) → IsLive first inputs standing old → IsLive first (with_input place input inputs) standing new

@@ -20,8 +20,8 @@ abbrev pub limit_for : ℕ → ℕ
 limit_for captures = min 4194304 (33554432 / captures)
 
 -- what the commands behind `live` come to, on edition 1
-abbrev pub outcome_of : Configuration → List Step → Standing
-outcome_of config steps = after_lines (first_standing config) (all_lines steps)
+abbrev pub lines_outcome : Configuration → List Step → Standing
+lines_outcome config steps = after_lines (first_standing config) (all_lines steps)
 
 -- nothing was replayed yet: edition 1 is published, and each of so many lanes is new
 pub record IsFirstState (config : Configuration) (lanes : ℕ) (state : RunState) : Type 0 where
@@ -54,6 +54,6 @@ module _ {S : Type 0} (left : S → Option (List ℕ)) (faults : S → ℕ) wher
   pub record IsReplay (config : Configuration) (steps : List Step) (captures : List (OpenedCapture S)) (r : Replayed S) : Type 0 where
     pub tracks : List Track
     pub read : AllRead left faults (limit_for (length captures)) captures r.sources.items tracks r.ends.captures
-    pub legal : IsLegal config (outcome_of config steps).accepted (map track_inputs tracks) r.record
+    pub legal : IsLegal config (lines_outcome config steps).accepted (map track_inputs tracks) r.record
     pub ordered : ComesOf config steps tracks r.record
-    pub answered : r.ends.answers ≡ (outcome_of config steps).answers
+    pub answered : r.ends.answers ≡ (lines_outcome config steps).answers

@@ -9,9 +9,9 @@ use Rattle.pcap_read.specs.Reading.{Captured}
 use Rattle.rule_chain.specs.Configuration.{Configuration}
 use Rattle.serial_replay.specs.Commands.{Standing, after_lines}
 use Rattle.serial_replay.specs.Events.{RunState, ReplaysAll}
-use Rattle.serial_replay.specs.Live.{state_of, IsSound, IsLive}
+use Rattle.serial_replay.specs.Live.{run_state, IsSound, IsLive}
 use Rattle.serial_replay.specs.Reading.{Origin, input_of}
-use Rattle.serial_replay.specs.Replay.{outcome_of}
+use Rattle.serial_replay.specs.Replay.{lines_outcome}
 use Rattle.serial_replay.specs.Tracks.{AreTracks, end_of, held_of, rooms_of, source_at}
 use Rattle.serial_replay.specs.declared.opened_capture.OpenedCapture.{OpenedCapture}
 use Rattle.fw_rule.specs.declared.command.Command.{Command}
@@ -73,9 +73,9 @@ module _ {S : Type 0} where
       pub standing : Standing
       pub tracks : AreTracks left faults limit captures run.tracks dones origins
       pub live : IsLive config (inputs_of origins dones) standing run.live
-      pub lines : after_lines standing (all_lines (steps_of run.agenda)) ≡ outcome_of config steps
+      pub lines : after_lines standing (all_lines (steps_of run.agenda)) ≡ lines_outcome config steps
       pub comes : (rests : List (List Captured)) (last : RunState) → map next_of rests ≡ map held_of run.tracks
-          → ReplaysAll origins (state_of run.live) last (events_from run.taken (steps_of run.agenda) (in_order rests)) → ReplaysAll origins first last (schedule steps (joined dones rests))
+          → ReplaysAll origins (run_state run.live) last (events_from run.taken (steps_of run.agenda) (in_order rests)) → ReplaysAll origins first last (schedule steps (joined dones rests))
 
     -- what a call keeps
     pub record Keeps (old new : Running S) : Type 0 where

@@ -4,7 +4,7 @@ ghost use Rattle.pcap_read.specs.Capture.{captured_of};
 ghost use Rattle.rule_chain.specs.Changing.{IsChanging};
 ghost use Rattle.serial_replay.specs.Commands.{answered};
 ghost use Rattle.serial_replay.specs.Listings.{listing_in};
-ghost use Rattle.serial_replay.specs.Live.{Answers, IsListed, Accepts, Refuses, RunsALine, ReplaysARecord, IsSound};
+ghost use Rattle.serial_replay.specs.Live.{AnswersLine, IsListed, Accepts, Refuses, RunsALine, ReplaysARecord, IsSound};
 ghost use Rattle.serial_replay.specs.Reading.{input_of};
 
 use crate::listing::{Listing, listing_of};
@@ -29,7 +29,7 @@ pub(crate) struct LiveWorld {
 impl LiveWorld {
     /// Answers a line.
     fn answer(&mut self, line: u32, answer: Answer) -> Result<(), OutOfMemory>
-        ensures { OnOk result (Answers self.old self.new (answered line answer)) }
+        ensures { OnOk result (AnswersLine self.old self.new (answered line answer)) }
     {
         self.answers.push(LineAnswer { line, answer })?;
         Ok(())

@@ -3,7 +3,7 @@ use Rattle.std.proofs.Common.{◌≡◌, ℕ, zero, suc, ◌+◌, ◌<◌, true,
 use Rattle.std.specs.Prelude.{if◌then◌else◌, slice_get}
 use Rattle.std.proofs.lemmas.Bool.{cases_order}
 use Rattle.std.proofs.lemmas.Bool.Decides.{nat_tests}
-use Rattle.serial_schedule.specs.Order.{is_before, earlier, first_head, IsLeast}
+use Rattle.serial_schedule.specs.Order.{is_before, earlier_head, first_head, IsLeast}
 use Rattle.serial_schedule.specs.declared.head.Head.{Head}
 use Rattle.serial_schedule.specs.declared.moment.Moment.{Moment}
 
@@ -29,7 +29,7 @@ none_at start (None ∷ moments) zero other none is = cc
 none_at start (None ∷ moments) (suc k) other none is = none_at (start + 1) moments k other none is
 none_at start (Some moment ∷ moments) k other none is = some (record { capture = start; moment = moment }) (first_head (start + 1) moments) none
   where
-    some : (head : Head) (first : Option Head) → earlier (Some head) first ≡ None → ⊥
+    some : (head : Head) (first : Option Head) → earlier_head (Some head) first ≡ None → ⊥
     some head None same = cc
     some head (Some first) same = elim (is_before first.moment head.moment) as (λ b. (if b then Some first else Some head) ≡ None → ⊥) [ true ↦ λ e. cc | false ↦ λ e. cc ] same
 
@@ -74,7 +74,7 @@ least_from start (None ∷ moments) head is =
     let (place, at, least) = least_from (start + 1) moments head is in
     (suc place, omega arith, at_next None moments head.moment place (λ other same. cc) least)
 least_from start (Some moment ∷ moments) head is =
-    elim (first_head (start + 1) moments) as (λ first. first_head (start + 1) moments ≡ first → earlier (Some (record { capture = start; moment = moment })) first ≡ Some head → LeastFrom start (Some moment ∷ moments) head) [
+    elim (first_head (start + 1) moments) as (λ first. first_head (start + 1) moments ≡ first → earlier_head (Some (record { capture = start; moment = moment })) first ≡ Some head → LeastFrom start (Some moment ∷ moments) head) [
       | None ↦ λ none same. here head (cc) (λ k other at. absurd (none_at (start + 1) moments k other none at))
       | Some first ↦ λ found. elim (is_before first.moment moment) as (λ b. is_before first.moment moment ≡ b → (if b then Some first else Some (record { capture = start; moment = moment })) ≡ Some head → LeastFrom start (Some moment ∷ moments) head) [
         | true ↦ λ before same.

@@ -3,7 +3,7 @@ use Rattle.std.proofs.Common.{◌≡◌, ℕ, zero, suc, ◌+◌, ◌<◌, true,
 use Rattle.std.specs.Prelude.{if◌then◌else◌, slice_get, slice_set}
 use Rattle.std.specs.Option.{option_map}
 use Rattle.pcap_read.specs.Reading.{Captured}
-use Rattle.serial_schedule.specs.Order.{moment_of, is_before, earlier, first_head, first_capture, next_of, next_moment, without_next, records_at, turn_from, turns_from, turns, record_count, in_order}
+use Rattle.serial_schedule.specs.Order.{moment_of, is_before, earlier_head, first_head, first_capture, next_of, next_moment, without_next, records_at, turn_from, turns_from, turns, record_count, in_order}
 use Rattle.serial_schedule.specs.declared.head.Head.{Head}
 use Rattle.serial_schedule.specs.declared.moment.Moment.{Moment}
 
@@ -71,7 +71,7 @@ first_head-there capture [] head is = cc
 first_head-there capture (None ∷ moments) head is =
     let (k, at, there) = first_head-there (capture + 1) moments head is in (suc k, omega arith, there)
 first_head-there capture (Some moment ∷ moments) head is =
-    elim (first_head (capture + 1) moments) as (λ other. first_head (capture + 1) moments ≡ other → earlier (Some (record { capture = capture; moment = moment })) other ≡ Some head
+    elim (first_head (capture + 1) moments) as (λ other. first_head (capture + 1) moments ≡ other → earlier_head (Some (record { capture = capture; moment = moment })) other ≡ Some head
     → (k : ℕ) × (head.capture ≡ capture + k) × (slice_get (Some moment ∷ moments) k ≡ Some (Some head.moment))) [
       | None ↦ λ other same. here capture moment moments head (cc)
       | Some first ↦ λ other. elim (is_before first.moment moment) as (λ b. (if b then Some first else Some (record { capture = capture; moment = moment })) ≡ Some head
@@ -98,7 +98,7 @@ first_capture-there moments capture is =
     ] refl is
 
 -- of a head and another there is an earlier one
-pub some_is_earlier : (head : Head) (other : Option Head) → earlier (Some head) other ≡ None → ⊥
+pub some_is_earlier : (head : Head) (other : Option Head) → earlier_head (Some head) other ≡ None → ⊥
 some_is_earlier head None same = cc
 some_is_earlier head (Some first) same = elim (is_before first.moment head.moment) as (λ b. (if b then Some first else Some head) ≡ None → ⊥) [ true ↦ λ e. cc | false ↦ λ e. cc ] same
 

@@ -16,10 +16,10 @@ abbrev pub is_before : Moment → Moment → Bool
 is_before a b = nat_lt a.second b.second || (a.second == b.second && nat_lt a.nanos b.nanos)
 
 -- the earlier of two, the first where neither is before the other
-abbrev pub earlier : Option Head → Option Head → Option Head
-earlier None other = other
-earlier (Some head) None = Some head
-earlier (Some head) (Some other) = if is_before other.moment head.moment then Some other else Some head
+abbrev pub earlier_head : Option Head → Option Head → Option Head
+earlier_head None other = other
+earlier_head (Some head) None = Some head
+earlier_head (Some head) (Some other) = if is_before other.moment head.moment then Some other else Some head
 
 -- the head of a capture that has a record left
 abbrev pub head_at : ℕ → Option Moment → Option Head
@@ -30,7 +30,7 @@ head_at capture (Some moment) = Some (record { capture = capture; moment = momen
 -- over.
 unfoldable pub first_head : ℕ → List (Option Moment) → Option Head
 first_head capture [] = None
-first_head capture (moment ∷ moments) = earlier (head_at capture moment) (first_head (capture + 1) moments)
+first_head capture (moment ∷ moments) = earlier_head (head_at capture moment) (first_head (capture + 1) moments)
 
 -- the capture that gives the next record
 abbrev pub first_capture : List (Option Moment) → Option ℕ

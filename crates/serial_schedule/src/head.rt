@@ -1,5 +1,5 @@
 ghost use Rattle.std.specs.Prelude.{◌≡◌};
-ghost use Rattle.serial_schedule.specs.Order.{earlier, head_at};
+ghost use Rattle.serial_schedule.specs.Order.{earlier_head, head_at};
 
 use crate::Moment;
 
@@ -22,7 +22,7 @@ pub fn head_at(capture: usize, moment: Option<Moment>) -> Option<Head>
 
 /// The earlier of two, the first where neither is before the other.
 pub fn earlier(first: Option<Head>, second: Option<Head>) -> Option<Head>
-    ensures { result ≡ earlier first second }
+    ensures { result ≡ earlier_head first second }
 {
     match (first, second) {
         (Some(head), Some(other)) => {

@@ -15,12 +15,12 @@ use Rattle.dyn_states.specs.Facts.{is_rule_list}
 use Rattle.dyn_states.specs.RuleLists.{has_id}
 use Rattle.dyn_states.specs.declared.rule_ref.RuleRef.{RuleRef}
 use Rattle.dyn_states.specs.declared.state.State.{State}
-use Rattle.dyn_states.specs.StateObject.{StateObject, raised, with_first, found_reply, or_full, limit_reply, install_reply, after_lookup, after_install, lookup_reply, new_state, reply_of, after_ask, touched, considers, has_rule, is_live, renewed, with_flags, handed_over, states_after, last_rule}
+use Rattle.dyn_states.specs.StateObject.{StateObject, raised, with_first, found_reply, or_full, limit_reply, install_reply, after_lookup, after_install, lookup_reply, new_state, reply_of, after_ask, touched, considers, has_rule_among, is_live, renewed, with_flags, handed_over, states_after, last_rule_ref}
 use Rattle.state_journal.specs.Journal.{IsFoundOf, NamesRuleOf}
 
 -- the rules of these states are among those
 abbrev pub AreRuled : List ℕ → List State → Type 0
-AreRuled rules states = AllByRecursion (λ s. IsTrue (has_rule rules s)) states
+AreRuled rules states = AllByRecursion (λ s. IsTrue (has_rule_among rules s)) states
 
 pub AreRuled-filter : (rules : List ℕ) (test : State → Bool) (states : List State) → AreRuled rules states → AreRuled rules (filter test states)
 AreRuled-filter rules test [] all = all
@@ -31,7 +31,7 @@ AreRuled-filter rules test (s ∷ states) all = decided (test s) (AreRuled-filte
     decided false rest = rest
 
 -- a change that leaves a state its rule
-pub AreRuled-with_first : (rules : List ℕ) (test : State → Bool) (change : State → State) → ((s : State) → IsTrue (has_rule rules s) → IsTrue (has_rule rules (change s)))
+pub AreRuled-with_first : (rules : List ℕ) (test : State → Bool) (change : State → State) → ((s : State) → IsTrue (has_rule_among rules s) → IsTrue (has_rule_among rules (change s)))
     → (states : List State) → AreRuled rules states → AreRuled rules (with_first test change states)
 unfolding with_first
 AreRuled-with_first rules test change same [] all = all
@@ -41,7 +41,7 @@ AreRuled-with_first rules test change same (s ∷ states) all = decided (test s)
     decided true rest = (same s all.0, all.1)
     decided false rest = (all.0, rest)
 
-pub AreRuled-append : (rules : List ℕ) (states : List State) (s : State) → AreRuled rules states → IsTrue (has_rule rules s) → AreRuled rules (states ++ s ∷ [])
+pub AreRuled-append : (rules : List ℕ) (states : List State) (s : State) → AreRuled rules states → IsTrue (has_rule_among rules s) → AreRuled rules (states ++ s ∷ [])
 AreRuled-append rules [] s all one = (one, tt)
 AreRuled-append rules (first ∷ states) s all one = (all.0, AreRuled-append rules states s all.1 one)
 
@@ -82,11 +82,11 @@ found_of_ask rules o (Lookup flags flow second name) all = found_is_ruled rules 
 found_of_ask rules o (Install flags flow second rule limit name) all =
     install_is_none rules _ _ (limit_is_none rules (raised o second) rule limit flow)
 
-same_rule : (rules : List ℕ) (o : StateObject) (flow : Flow) (flags : ℕ) (s : State) (way : Way) → IsTrue (has_rule rules s) → IsTrue (has_rule rules (renewed o.settings o.clock (with_flags way flags s)))
+same_rule : (rules : List ℕ) (o : StateObject) (flow : Flow) (flags : ℕ) (s : State) (way : Way) → IsTrue (has_rule_among rules s) → IsTrue (has_rule_among rules (renewed o.settings o.clock (with_flags way flags s)))
 same_rule rules o flow flags s Forward is = is
 same_rule rules o flow flags s Reverse is = is
 
-made_is_ruled : (rules : List ℕ) (b : Bool) (o : StateObject) (s : State) → AreRuled rules o.states → IsTrue (has_rule rules s)
+made_is_ruled : (rules : List ℕ) (b : Bool) (o : StateObject) (s : State) → AreRuled rules o.states → IsTrue (has_rule_among rules s)
     → AreRuled rules (cond b (let made : StateObject = record o { states = o.states ++ s ∷ [] } in made) o).states
 made_is_ruled rules true o s all one = AreRuled-append rules o.states s all one
 made_is_ruled rules false o s all one = all
@@ -100,19 +100,19 @@ AreRuled-after_ask rules o (Install flags flow second rule limit name) names all
     made_is_ruled rules _ (raised o second) (new_state (raised o second) flow flags rule limit name) (AreRuled-raised rules o second all) names
 
 -- the states that a publication keeps or drops
-handed_is_ruled : (rules : List ℕ) (b : Bool) (s : State) → IsTrue (has_id rules 0) → b ≡ has_rule rules s → IsTrue (has_rule rules (cond b s (record s { rule = last_rule })))
+handed_is_ruled : (rules : List ℕ) (b : Bool) (s : State) → IsTrue (has_id rules 0) → b ≡ has_rule_among rules s → IsTrue (has_rule_among rules (cond b s (record s { rule = last_rule_ref })))
 handed_is_ruled rules true s first is = subst IsTrue is refl
 handed_is_ruled rules false s first is = first
 
 AreRuled-handed : (rules : List ℕ) (states : List State) → IsTrue (has_id rules 0) → AreRuled rules (map (handed_over rules) states)
 AreRuled-handed rules [] first = tt
-AreRuled-handed rules (s ∷ states) first = (handed_is_ruled rules (has_rule rules s) s first refl, AreRuled-handed rules states first)
+AreRuled-handed rules (s ∷ states) first = (handed_is_ruled rules (has_rule_among rules s) s first refl, AreRuled-handed rules states first)
 
-AreRuled-kept : (rules : List ℕ) (states : List State) → AreRuled rules (filter (has_rule rules) states)
+AreRuled-kept : (rules : List ℕ) (states : List State) → AreRuled rules (filter (has_rule_among rules) states)
 AreRuled-kept rules [] = tt
-AreRuled-kept rules (s ∷ states) = decided (has_rule rules s) refl (AreRuled-kept rules states)
+AreRuled-kept rules (s ∷ states) = decided (has_rule_among rules s) refl (AreRuled-kept rules states)
   where
-    decided : (b : Bool) → b ≡ has_rule rules s → AreRuled rules (filter (has_rule rules) states) → AreRuled rules (cond b (s ∷ filter (has_rule rules) states) (filter (has_rule rules) states))
+    decided : (b : Bool) → b ≡ has_rule_among rules s → AreRuled rules (filter (has_rule_among rules) states) → AreRuled rules (cond b (s ∷ filter (has_rule_among rules) states) (filter (has_rule_among rules) states))
     decided true is rest = (subst IsTrue is refl, rest)
     decided false is rest = rest
 

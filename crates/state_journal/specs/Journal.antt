@@ -7,7 +7,7 @@ use Rattle.dyn_states.specs.declared.op.Op.{Op}
 use Rattle.dyn_states.specs.declared.op.Op.TheVariants.{Lookup, Install}
 use Rattle.dyn_states.specs.declared.reply.Reply.{Reply}
 use Rattle.dyn_states.specs.declared.reply.Reply.TheVariants.{Found, NotFound, Created, Exists, LimitReached, TableFull}
-use Rattle.dyn_states.specs.StateObject.{StateObject, first_object, reply_of, after_ask, after_publication, has_rule}
+use Rattle.dyn_states.specs.StateObject.{StateObject, first_object, reply_of, after_ask, after_publication, has_rule_among}
 use Rattle.dyn_states.specs.RuleLists.{has_id}
 use Rattle.state_journal.specs.declared.entry.Entry.{Entry}
 use Rattle.state_journal.specs.declared.entry.Entry.TheVariants.{Publish, Ask}
@@ -71,7 +71,7 @@ pub record IsJournal (j : Journal) : Type 0 where
   pub lawful : IsLawfulFrom no_states j.facts j.entries
   pub object : j.object ≡ object_from no_states j.facts j.entries
   pub numbered : AreNumberedFrom 1 j.facts
-  pub ruled : AllByRecursion (λ s. IsTrue (has_rule (last_rules j.facts) s)) j.object.states
+  pub ruled : AllByRecursion (λ s. IsTrue (has_rule_among (last_rules j.facts) s)) j.object.states
 
 -- an install names a rule of these
 abbrev pub NamesRuleOf : List ℕ → Op → Type 0

@@ -7,7 +7,7 @@ use Rattle.rule_chain.specs.Configuration.{Configuration}
 use Rattle.rule_chain.proofs.Lists.{map_length}
 use Rattle.eval_engine.proofs.Configured.{none_above}
 use Rattle.eval_engine.proofs.Places.{first_within}
-use Rattle.evaluation_laws.specs.Views.{question_of}
+use Rattle.evaluation_laws.specs.Views.{viewed_question}
 use Rattle.evaluation_laws.proofs.Stepping.{later_than}
 use Rattle.evaluation_laws.proofs.places.first_behind.Goals as goal
 
@@ -17,7 +17,7 @@ returns-in-Some-clause-within c = rw c.first_from.ensures (first_within c.in-Som
 pub returns-in-Some-clause-later : goal.returns-in-Some-clause-later
 returns-in-Some-clause-later c =
     let rules = c.args.question.now.edition.now.config.rules in
-    let more : c.args.place < first_from (c.args.rule.now.number + 1) rules = later_than (question_of c.args.question.now) c.args.place c.args.rule.now c.requires in
+    let more : c.args.place < first_from (c.args.rule.now.number + 1) rules = later_than (viewed_question c.args.question.now) c.args.place c.args.rule.now c.requires in
     let next : c.in-Some.next ≡ c.args.rule.now.number + 1 = grind arith in
     rw (c.first_from.ensures, next) more
 
@@ -27,5 +27,5 @@ returns-in-None-clause-there c =
     let last : c.args.rule.now.number + 1 ≡ 65536 = let past = c.in-None.ensures in grind arith in
     let lawful : IsConfiguration c.args.question.now.edition.now.config = rw (← c.config.ensures.value) c.rules.ensures.lawful in
     let are = c.rules.ensures.value ∙ ap (λ (k : Configuration). k.rules) c.config.ensures.value in
-    let size : length c.rules.result.now ≡ first_from 65536 rules = sym (map_length arc_value c.rules.result.now) ∙ ap (λ (rs : List Rule). length rs) are ∙ sym (none_above (question_of c.args.question.now) lawful) in
+    let size : length c.rules.result.now ≡ first_from 65536 rules = sym (map_length arc_value c.rules.result.now) ∙ ap (λ (rs : List Rule). length rs) are ∙ sym (none_above (viewed_question c.args.question.now) lawful) in
     rw last (ap (λ (n : ℕ). drop n rules) size)

@@ -3,7 +3,7 @@ use Rattle.std.proofs.lemmas.List.Sorted.{IsPermutation-refl}
 use Rattle.eval_engine.specs.declared.docket_entry.DocketEntry.TheVariants.{Other}
 use Rattle.fw_world.specs.Closing.{AreLanesFrom, by_place}
 use Rattle.fw_world.specs.Lane.{LaneValue, first_lane, with_entry}
-use Rattle.fw_world.specs.World.{WorldValue, published}
+use Rattle.fw_world.specs.World.{WorldValue, published_count}
 use Rattle.fw_world.specs.WorldKept.{IsOpened}
 use Rattle.fw_world.proofs.Arranging.{by_place-moved}
 use Rattle.rule_chain.specs.Configuration.{Configuration}
@@ -16,7 +16,7 @@ pair = first_lane 1 ∷ with_entry Other (first_lane 2) ∷ []
 
 are-pair : (config : Configuration) (world : WorldValue) → IsOpened config 2 world → AreLanesFrom world 1 pair
 are-pair config world opened =
-    let one : published world ≡ 1 = ap length opened.editions in
+    let one : published_count world ≡ 1 = ap length opened.editions in
     let two : world.journal.lanes ≡ 2 = ap (λ j. j.lanes) opened.journal in (
       refl,
       record { first = omega arith; last = omega (arith, two); held = omega (arith, one); heard = tt; judged = λ k d within. absurd (omega arith) },

@@ -8,10 +8,10 @@ use Rattle.fw_world.specs.AskRuns.{Evaluates}
 use Rattle.fw_world.specs.Columns.{no_columns}
 use Rattle.fw_world.specs.Editions.{IsLastOf}
 use Rattle.fw_world.specs.Lane.{LaneValue, with_entry}
-use Rattle.fw_world.specs.Steps.{Judges, ChangesAsksOf, question_of}
+use Rattle.fw_world.specs.Steps.{Judges, ChangesAsksOf, question_under}
 use Rattle.std.specs.Prelude.{IfOk}
 use Rattle.std.proofs.lemmas.Result.{IfOk-weaker}
-use Rattle.fw_world.specs.World.{WorldValue, published}
+use Rattle.fw_world.specs.World.{WorldValue, published_count}
 use Rattle.fw_world.proofs.LanesOf.{IsLaneOf-after, IsLane-after}
 use Rattle.fw_world.specs.WorldKept.{IsWorld}
 use Rattle.fw_world.proofs.Results.{OnOk-both}
@@ -50,7 +50,7 @@ returns-clause-judged c =
     let edition = c.last_edition-edition.result.now in
     let last = subst (λ (all : List Published). IsLastOf all edition) c.all.ensures c.last_edition-edition.ensures in
     IfOk-weaker c.judge.result
-    (λ judgement. Evaluates (AsksFor lane at) old new (question_of edition c.args.packet.now c.args.port.now c.args.second) c.args.lane.now.tally c.judge.new.self.tally judgement)
+    (λ judgement. Evaluates (AsksFor lane at) old new (question_under edition c.args.packet.now c.args.port.now c.args.second) c.args.lane.now.tally c.judge.new.self.tally judgement)
     (λ judgement. Judges c.args.self.now (record { editions = editions; journal = new }) lane at c.args.packet.now c.args.port.now c.args.second c.args.lane.now.tally c.judge.new.self.tally judgement)
     (λ judgement ran. subst (λ (w : WorldValue). Judges w (record { editions = editions; journal = new }) lane at c.args.packet.now c.args.port.now c.args.second c.args.lane.now.tally c.judge.new.self.tally judgement)
     c.self.view_is (Judges-run editions old new lane at edition c.args.packet.now c.args.port.now c.args.second c.args.lane.now.tally c.judge.new.self.tally judgement c.self.invariant.0 last ran))
@@ -83,12 +83,12 @@ returns-clause-stands c =
     (ap (λ (l : LaneValue). l.place) lane) (ap (λ (l : LaneValue). l.docket.entries) lane) stands)
     (returns-clause-judged c) c.judge.ensures.lane
 
-numbered : (c : After-judge) → IfOk c.judge.result (λ judgement. judgement.edition ≡ published c.args.self.now)
+numbered : (c : After-judge) → IfOk c.judge.result (λ judgement. judgement.edition ≡ published_count c.args.self.now)
 numbered c =
     let before = c.args.lane.now in
     IfOk-weaker c.judge.result
     (λ judgement. Judges c.args.self.now (record { editions = c.self.inside.store.editions; journal = c.judge.new.book }) before.place (length before.docket.entries + 1) c.args.packet.now c.args.port.now c.args.second before.tally c.judge.new.self.tally judgement)
-    (λ judgement. judgement.edition ≡ published c.args.self.now) (λ judgement judges. judges.numbered) (returns-clause-judged c)
+    (λ judgement. judgement.edition ≡ published_count c.args.self.now) (λ judgement judges. judges.numbered) (returns-clause-judged c)
 
 pub returns-clause-of_world : goal.returns-clause-of_world
 returns-clause-of_world c = λ is.

@@ -3,7 +3,7 @@ use Rattle.std.specs.Prelude.{OnOk}
 use Rattle.eval_engine.specs.declared.docket_entry.DocketEntry.{DocketEntry}
 use Rattle.fw_world.specs.Inputs.{Input}
 use Rattle.fw_world.specs.Lane.{LaneValue, with_entry}
-use Rattle.fw_world.specs.Skips.{entry_for, input_for}
+use Rattle.fw_world.specs.Skips.{entry_for, skipped_input}
 use Rattle.fw_world.specs.World.{IsLaneOf, LaneStandsFor}
 use Rattle.fw_world.proofs.Passing.{IsLane-passed, IsLaneOf-passed, LaneStandsFor-passed}
 use Rattle.fw_world.proofs.serial_world.SerialWorld.pass_over.Goals as goal
@@ -17,7 +17,7 @@ invariant_of-lane c = IsLane-passed c.skip.result c.args.entry c.lane.inside.sta
 
 pub returns-clause-stands : goal.returns-clause-stands
 returns-clause-stands c =
-    subst (λ (l : LaneValue). OnOk c.skip.result ((inputs : List Input) → LaneStandsFor c.args.self.now l inputs → LaneStandsFor c.args.self.now c.skip.new.self (inputs ++ input_for c.args.entry ∷ []))) c.lane.view_is
+    subst (λ (l : LaneValue). OnOk c.skip.result ((inputs : List Input) → LaneStandsFor c.args.self.now l inputs → LaneStandsFor c.args.self.now c.skip.new.self (inputs ++ skipped_input c.args.entry ∷ []))) c.lane.view_is
     (LaneStandsFor-passed c.args.self.now c.skip.result c.args.entry c.lane.inside.state c.skip.new.self (entered c))
 
 pub returns-clause-of_world : goal.returns-clause-of_world
