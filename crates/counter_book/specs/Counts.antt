@@ -1,6 +1,6 @@
 -- Counts by counter number, and their sums over all tallies, modulo 2^64.
 use Rattle.std.specs.Prelude.{ℕ, ◌+◌, ◌%◌, ◌^◌, List, unwrap_or, slice_get, sum_by}
-use Rattle.counter_book.specs.declared.count.Count.{Count}
+use Rattle.counter_book.specs.declared.tally.Count.{Count}
 
 -- nothing counted
 abbrev pub no_count : Count

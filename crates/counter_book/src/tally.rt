@@ -1,8 +1,7 @@
 ghost use Rattle.std.specs.Prelude.{◌≡◌, ℕ, ◌≤◌, ◌<◌, OnOk, OnErr, [], length, slice_set};
-ghost use Rattle.counter_book.specs.Counts as counts;
 ghost use Rattle.counter_book.specs.Counts.{counted_under, raised, total_under};
+ghost use Rattle.counter_book.specs.Counts as counts;
 
-use crate::Count;
 use fw_base::OutOfMemory;
 use std::alloc::Global;
 use std::marker::Model;
@@ -15,7 +14,7 @@ pub struct Tally {
 
 impl Model for Tally {
     ghost use Rattle.std.specs.Prelude.{List};
-    ghost use Rattle.counter_book.specs.declared.count.Count.{Count};
+    ghost use Rattle.counter_book.specs.declared.tally.Count.{Count};
 
     ghost Value = { List Count };
 
@@ -82,4 +81,12 @@ pub fn total(tallies: &[Tally], id: u32) -> Count
         total.bytes = total.bytes.wrapping_add(count.bytes);
     }
     total
+}
+
+/// What was counted under one counter number, each modulo 2^64 (ipfw(8), "STATISTICS").
+#[derive(Clone, Copy, Debug, Default, PartialEq, Eq, Hash)]
+pub struct Count {
+    pub packets: u64,
+    /// The sum of the packets' total lengths.
+    pub bytes: u64,
 }

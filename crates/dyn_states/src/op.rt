@@ -1,4 +1,4 @@
-use crate::{FlowName, RuleRef};
+use crate::RuleRef;
 use fw_rule::LimitMask;
 use packet_headers::Flow;
 
@@ -22,4 +22,13 @@ pub enum Op {
         limit: Option<(LimitMask, u16)>,
         name: u8,
     },
+}
+
+/// The flow name that a lookup asks for (ipfw(8), "STATEFUL FIREWALL").
+#[derive(Clone, Copy, Debug, PartialEq, Eq, Hash)]
+pub enum FlowName {
+    /// `:any`, every name.
+    Any,
+    /// One name, by its number among those of the configuration; 0 is `default`.
+    Named(u8),
 }

@@ -1,4 +1,4 @@
-use crate::{RuleRef, Way};
+use crate::RuleRef;
 
 /// What the states answer. `Found` and `NotFound` answer a lookup, the others an install.
 #[derive(Clone, Copy, Debug, PartialEq, Eq, Hash)]
@@ -14,4 +14,13 @@ pub enum Reply {
     LimitReached(u32),
     /// So many live states are there, and `dyn_max` isn't above it.
     TableFull(u32),
+}
+
+/// In which direction of a state a packet goes.
+#[derive(Clone, Copy, Debug, PartialEq, Eq, Hash)]
+pub enum Way {
+    /// As the packet that made the state.
+    Forward,
+    /// The other way.
+    Reverse,
 }

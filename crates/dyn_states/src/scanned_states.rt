@@ -3,7 +3,7 @@ ghost use Rattle.std.specs.List.{list_any};
 ghost use Rattle.fw_rule.specs.Values.{values_of};
 ghost use Rattle.dyn_states.specs.StateObject as object;
 ghost use Rattle.dyn_states.specs.declared.reply.Reply.TheVariants.{Created};
-ghost use Rattle.dyn_states.specs.declared.flow_name.FlowName.TheVariants.{Named};
+ghost use Rattle.dyn_states.specs.declared.op.FlowName.TheVariants.{Named};
 ghost use Rattle.dyn_states.specs.declared.state.State.{State};
 ghost use Rattle.dyn_states.specs.StateObject.{StateObject, after_lookup, lookup_reply, raised, install_reply, after_install, reply_of, after_ask, after_publication, first_object};
 

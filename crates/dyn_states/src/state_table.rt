@@ -1,7 +1,7 @@
 ghost use Rattle.std.specs.Prelude.{◌≡◌, ◌≢◌, ℕ, ◌+◌, ◌*◌, ◌<◌, ◌≤◌, ◌^◌, [], ◌∷◌, ◌++◌, true, false, IfOk, IfSome, IfNone, Some, length, filter, count_by, slice_set, take, vec_len, vec_capacity};
 ghost use Rattle.std.specs.List.{list_any};
 ghost use Rattle.dyn_states.specs.StateObject as object;
-ghost use Rattle.dyn_states.specs.declared.flow_name.FlowName.TheVariants.{Any, Named};
+ghost use Rattle.dyn_states.specs.declared.op.FlowName.TheVariants.{Any, Named};
 ghost use Rattle.dyn_states.specs.Lines.{line_at};
 ghost use Rattle.dyn_states.specs.ExpiryQueue.{entry_count, entry_room, due_count};
 ghost use Rattle.dyn_states.specs.Slots.{is_held, given_up, held_states, slot, no_state, holds_one, IsFirstPlace, earlier};

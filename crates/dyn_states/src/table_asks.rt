@@ -2,7 +2,7 @@
 ghost use Rattle.std.specs.Prelude.{◌≡◌, ◌≢◌, ℕ, ◌+◌, ◌*◌, ◌<◌, ◌≤◌, ◌++◌, ◌∷◌, [], true, false, List, Some, length, slice_set};
 ghost use Rattle.std.specs.List.{list_any};
 ghost use Rattle.fw_rule.specs.Values.{values_of, default_values};
-ghost use Rattle.dyn_states.specs.declared.flow_name.FlowName.TheVariants.{Named};
+ghost use Rattle.dyn_states.specs.declared.op.FlowName.TheVariants.{Named};
 ghost use Rattle.dyn_states.specs.declared.reply.Reply.TheVariants.{Created};
 ghost use Rattle.dyn_states.specs.Flows as flows;
 ghost use Rattle.dyn_states.specs.StateObject as object;

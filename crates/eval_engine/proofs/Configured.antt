@@ -5,14 +5,14 @@ use Rattle.std.specs.Arc.{arc_value}
 use Rattle.rule_chain.proofs.Lists.{map_get, map_length}
 use Rattle.std.specs.List.{AllByRecursion}
 use Rattle.std.proofs.lemmas.List.Folds.{list_any_at}
-use Rattle.dyn_states.specs.declared.flow_name.FlowName.TheVariants.{Named}
+use Rattle.dyn_states.specs.declared.op.FlowName.TheVariants.{Named}
 use Rattle.fw_rule.specs.declared.action.Action.{Action}
 use Rattle.fw_rule.specs.declared.action.Action.TheVariants.{Allow, Deny, Reset, Unreach, Count, SkipTo, Call, Return, CheckState}
 use Rattle.fw_rule.specs.declared.body.Body.{Body}
 use Rattle.fw_rule.specs.declared.rule.Rule.{Rule}
 use Rattle.fw_rule.specs.declared.state_opt.StateOpt.{StateOpt}
 use Rattle.generation_store.specs.Jumps.{jumps_of, jumps_from, jump_of, first_from, is_from}
-use Rattle.generation_store.specs.declared.jump.Jump.{Jump}
+use Rattle.generation_store.specs.declared.jumps.Jump.{Jump}
 use Rattle.generation_store.specs.Published.{is_identity, numbered_name}
 use Rattle.rule_chain.specs.Chain.{IsConfiguration, IsRule}
 use Rattle.rule_chain.specs.Names.{IsNamed, name_of, number_of, state_name}

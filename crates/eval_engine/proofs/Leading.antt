@@ -2,7 +2,7 @@
 use Rattle.std.proofs.Common.{◌≡◌, ℕ, suc, ◌<◌, Option, Some, None, IsSome, IsSomeAnd, List, [], ◌∷◌, drop, length, refl, ap, sym, ◌∙◌, subst, arith, slice_set}
 use Rattle.std.proofs.lemmas.List.{length-set}
 use Rattle.counter_book.specs.Counts.{counted_under, raised}
-use Rattle.counter_book.specs.declared.count.Count.{Count}
+use Rattle.counter_book.specs.declared.tally.Count.{Count}
 use Rattle.ip6_headers.specs.Either.{total_of}
 use Rattle.dyn_states.specs.declared.op.Op.{Op}
 use Rattle.fw_rule.specs.declared.rule.Rule.{Rule}
@@ -17,10 +17,10 @@ use Rattle.eval_engine.specs.declared.position.Position.{Position}
 use Rattle.eval_engine.specs.declared.searched.Searched.{Searched}
 use Rattle.eval_engine.specs.declared.stage.Stage.{Stage}
 use Rattle.eval_engine.specs.declared.stage.Stage.TheVariants.{Judged}
-use Rattle.eval_engine.specs.declared.step.Step.{Step}
-use Rattle.eval_engine.specs.declared.step.Step.TheVariants.{On, Decides, Waits}
-use Rattle.eval_engine.specs.declared.verdict.Verdict.{Verdict}
-use Rattle.eval_engine.specs.declared.verdict.Verdict.TheVariants as verdicts
+use Rattle.eval_engine.specs.declared.position.Step.{Step}
+use Rattle.eval_engine.specs.declared.position.Step.TheVariants.{On, Decides, Waits}
+use Rattle.eval_engine.specs.declared.judgement.Verdict.{Verdict}
+use Rattle.eval_engine.specs.declared.judgement.Verdict.TheVariants as verdicts
 
 longer : (trace next : Trace) (more : ℕ) → more ≡ suc (length_of next) → length_of trace ≡ more → length_of next < length_of trace
 longer trace next more one is = omega arith

@@ -1,7 +1,7 @@
 -- How far an evaluation is behind one reply more.
 use Rattle.std.proofs.Common.{◌≡◌, ℕ, true, List, [], ◌∷◌, ◌++◌, refl, ap, sym, ◌∙◌, subst, drop, length, slice_set, arith}
 use Rattle.std.proofs.lemmas.List.{length-set}
-use Rattle.counter_book.specs.declared.count.Count.{Count}
+use Rattle.counter_book.specs.declared.tally.Count.{Count}
 use Rattle.counter_book.specs.Counts.{raised, counted_under}
 use Rattle.dyn_states.specs.declared.op.Op.{Op}
 use Rattle.dyn_states.specs.declared.op.Op.TheVariants.{Lookup, Install}

@@ -1,11 +1,11 @@
 -- What is entered for the records of one lane.
 use Rattle.std.specs.Prelude.{ℕ, List, Option, Some, None}
-use Rattle.dyn_states.specs.declared.rule_ref.RuleRef.{RuleRef}
+use Rattle.dyn_states.specs.declared.state.RuleRef.{RuleRef}
 use Rattle.eval_engine.specs.declared.docket_entry.DocketEntry.{DocketEntry}
 use Rattle.eval_engine.specs.declared.docket_entry.DocketEntry.TheVariants.{Other, Malformed, Judged}
 use Rattle.eval_engine.specs.declared.judgement.Cause.{Cause}
 use Rattle.eval_engine.specs.declared.judgement.Judgement.{Judgement}
-use Rattle.eval_engine.specs.declared.verdict.Verdict.{Verdict}
+use Rattle.eval_engine.specs.declared.judgement.Verdict.{Verdict}
 
 -- the entry of a judgement, which has its fields
 abbrev pub judged_entry : Judgement → DocketEntry

@@ -8,8 +8,8 @@ use Rattle.fw_rule.specs.declared.action.Action.TheVariants.{Allow, Deny, Reset,
 use Rattle.fw_rule.specs.declared.rule.Rule.{Rule}
 use Rattle.eval_engine.specs.declared.judgement.Cause.TheVariants as cause
 use Rattle.eval_engine.specs.declared.judgement.Judgement.{Judgement}
-use Rattle.eval_engine.specs.declared.verdict.Verdict.{Verdict}
-use Rattle.eval_engine.specs.declared.verdict.Verdict.TheVariants as verdict
+use Rattle.eval_engine.specs.declared.judgement.Verdict.{Verdict}
+use Rattle.eval_engine.specs.declared.judgement.Verdict.TheVariants as verdict
 use Rattle.eval_engine.specs.Encounter.{is_disabled, is_held, state_of, rule_ref}
 use Rattle.eval_engine.specs.Evaluated.{Whole, Neither}
 use Rattle.eval_engine.specs.Evaluation.{evaluate}

@@ -1,9 +1,9 @@
 -- How far an evaluation is after a call.
 use Rattle.std.specs.Prelude.{◌≡◌, ℕ, Bool, true, if◌then◌else◌, IsTrue, ⊤, List, [], ◌∷◌, ◌++◌, drop, slice_set}
 use Rattle.counter_book.specs.Counts.{counted_under, raised}
-use Rattle.counter_book.specs.declared.count.Count.{Count}
-use Rattle.dyn_states.specs.declared.flow_name.FlowName.{FlowName}
-use Rattle.dyn_states.specs.declared.flow_name.FlowName.TheVariants.{Any, Named}
+use Rattle.counter_book.specs.declared.tally.Count.{Count}
+use Rattle.dyn_states.specs.declared.op.FlowName.{FlowName}
+use Rattle.dyn_states.specs.declared.op.FlowName.TheVariants.{Any, Named}
 use Rattle.dyn_states.specs.declared.op.Op.{Op}
 use Rattle.dyn_states.specs.declared.op.Op.TheVariants.{Lookup, Install}
 use Rattle.dyn_states.specs.declared.reply.Reply.{Reply}
@@ -18,8 +18,8 @@ pub use Rattle.eval_engine.specs.Evaluation.{is_reply_to}
 use Rattle.eval_engine.specs.Question.{Question}
 use Rattle.eval_engine.specs.Trace.{Seen, Done, Names, Pause, Stop, EndsWith, WaitsFor}
 use Rattle.eval_engine.specs.Walk.{pause_at}
-use Rattle.eval_engine.specs.declared.ask_kind.AskKind.{AskKind}
-use Rattle.eval_engine.specs.declared.ask_kind.AskKind.TheVariants as kind
+use Rattle.eval_engine.specs.declared.paused.AskKind.{AskKind}
+use Rattle.eval_engine.specs.declared.paused.AskKind.TheVariants as kind
 use Rattle.eval_engine.specs.declared.callers.Callers.{Callers}
 use Rattle.eval_engine.specs.declared.paused.Paused.{Paused}
 use Rattle.eval_engine.specs.declared.searched.Searched.{Searched}

@@ -1,6 +1,6 @@
 -- How a call moves an evaluation on.
 use Rattle.std.specs.Prelude.{◌≡◌, ◌<◌, ◌≤◌, List, [], ◌∷◌, drop, length, IsSomeAnd}
-use Rattle.counter_book.specs.declared.count.Count.{Count}
+use Rattle.counter_book.specs.declared.tally.Count.{Count}
 use Rattle.dyn_states.specs.declared.op.Op.{Op}
 use Rattle.fw_rule.specs.declared.rule.Rule.{Rule}
 use Rattle.ip6_headers.specs.Either.{total_of}
@@ -14,13 +14,13 @@ use Rattle.eval_engine.specs.declared.judgement.Cause.TheVariants as causes
 use Rattle.eval_engine.specs.declared.judgement.Judgement.{Judgement}
 use Rattle.eval_engine.specs.declared.position.Position.{Position}
 use Rattle.eval_engine.specs.declared.search.Search.{Search}
-use Rattle.eval_engine.specs.declared.step.Step.{Step}
-use Rattle.eval_engine.specs.declared.step.Step.TheVariants.{On, Decides, Waits}
+use Rattle.eval_engine.specs.declared.position.Step.{Step}
+use Rattle.eval_engine.specs.declared.position.Step.TheVariants.{On, Decides, Waits}
 use Rattle.eval_engine.specs.declared.searched.Searched.{Searched}
 use Rattle.eval_engine.specs.declared.stage.Stage.{Stage}
 use Rattle.eval_engine.specs.declared.stage.Stage.TheVariants.{Judged, Asks}
-use Rattle.eval_engine.specs.declared.verdict.Verdict.{Verdict}
-use Rattle.eval_engine.specs.declared.verdict.Verdict.TheVariants as verdicts
+use Rattle.eval_engine.specs.declared.judgement.Verdict.{Verdict}
+use Rattle.eval_engine.specs.declared.judgement.Verdict.TheVariants as verdicts
 
 -- what is evaluated, as the definition names it
 abbrev pub question_of : Search → Question

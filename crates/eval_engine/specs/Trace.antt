@@ -1,8 +1,8 @@
 -- What an evaluation goes through from one ask to the next (ipfw(8), "RULE ACTIONS").
 use Rattle.std.specs.Prelude.{ℕ, suc, Bool, true, false, not, ◌&&◌, ◌||◌, ◌==◌, List, [], ◌∷◌}
 use Rattle.fw_rule.specs.declared.rule.Rule.{Rule}
-use Rattle.dyn_states.specs.declared.flow_name.FlowName.{FlowName}
-use Rattle.dyn_states.specs.declared.flow_name.FlowName.TheVariants.{Any, Named}
+use Rattle.dyn_states.specs.declared.op.FlowName.{FlowName}
+use Rattle.dyn_states.specs.declared.op.FlowName.TheVariants.{Any, Named}
 use Rattle.dyn_states.specs.declared.op.Op.{Op}
 use Rattle.eval_engine.specs.declared.judgement.Judgement.{Judgement}
 

@@ -7,13 +7,13 @@ use Rattle.fw_rule.specs.declared.rule.Rule.{Rule}
 use Rattle.fw_rule.specs.declared.state_opt.StateOpt.{StateOpt}
 use Rattle.dyn_states.specs.declared.reply.Reply.{Reply}
 use Rattle.dyn_states.specs.declared.reply.Reply.TheVariants.{Found, NotFound, Created, Exists, LimitReached, TableFull}
-use Rattle.dyn_states.specs.declared.rule_ref.RuleRef.{RuleRef}
+use Rattle.dyn_states.specs.declared.state.RuleRef.{RuleRef}
 use Rattle.generation_store.specs.Published.{is_identity}
 use Rattle.packet_headers.specs.declared.flows.Flow.{Flow}
 use Rattle.eval_engine.specs.declared.judgement.Cause.{Cause}
 use Rattle.eval_engine.specs.declared.judgement.Cause.TheVariants as cause
-use Rattle.eval_engine.specs.declared.verdict.Verdict.{Verdict}
-use Rattle.eval_engine.specs.declared.verdict.Verdict.TheVariants as verdict
+use Rattle.eval_engine.specs.declared.judgement.Verdict.{Verdict}
+use Rattle.eval_engine.specs.declared.judgement.Verdict.TheVariants as verdict
 use Rattle.eval_engine.specs.Encounter.{is_disabled, is_held, is_check_state, state_of, looks_up, any_flow_of, name_at, rule_ref, lookup_by, install_by}
 use Rattle.eval_engine.specs.Question.{Question}
 use Rattle.eval_engine.specs.Trace.{Seen, Done, is_name_due, with_seen, no_names, Pause, EndsWith, WaitsFor, Trace, PassesOver, Counts, Stops}

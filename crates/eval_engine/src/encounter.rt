@@ -1,5 +1,5 @@
 ghost use Rattle.std.specs.Prelude.{◌≡◌, ℕ, ◌+◌, false, Some, [], MatchOption, drop};
-ghost use Rattle.dyn_states.specs.declared.flow_name.FlowName.TheVariants.{Named};
+ghost use Rattle.dyn_states.specs.declared.op.FlowName.TheVariants.{Named};
 ghost use Rattle.generation_store.specs.Jumps as jumps;
 ghost use Rattle.eval_engine.specs.Encounter as spec;
 ghost use Rattle.eval_engine.specs.Place.{IsNumbered, IsRuleAt};

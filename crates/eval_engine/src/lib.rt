@@ -6,15 +6,13 @@ pub use beginning::begin;
 pub use callers::MOST_CALLS;
 pub use docket::Docket;
 pub use docket_entry::DocketEntry;
-pub use judgement::{Cause, Judgement};
+pub use judgement::{Cause, Judgement, Verdict};
 pub use laws::{evaluations_end_once, first_match_decides, hits_are_of_rules};
 pub use paused::Paused;
 pub use replies::is_reply_to;
 pub use resuming::resume;
 pub use stage::Stage;
-pub use verdict::Verdict;
 
-mod ask_kind;
 mod beginning;
 mod callers;
 mod docket;
@@ -29,8 +27,6 @@ mod resuming;
 mod search;
 mod searched;
 mod stage;
-mod step;
 #[cfg(test)]
 mod tests;
-mod verdict;
 mod walking;

@@ -1,4 +1,3 @@
-use crate::ask_kind::AskKind;
 use crate::callers::Callers;
 use crate::searched::Searched;
 
@@ -13,4 +12,11 @@ pub struct Paused {
     pub(crate) searched: Searched,
     /// Which ask it is.
     pub(crate) kind: AskKind,
+}
+
+/// Which ask an evaluation waits at.
+#[derive(Clone, Copy, Debug, PartialEq, Eq)]
+pub(crate) enum AskKind {
+    Lookup,
+    Install,
 }

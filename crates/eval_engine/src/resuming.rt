@@ -1,7 +1,7 @@
 ghost use Rattle.std.specs.Prelude.{◌≡◌, ◌<◌, [], ◌∷◌, ◌++◌, List, length, drop};
 ghost use Rattle.dyn_states.specs.declared.op.Op.{Op};
 ghost use Rattle.dyn_states.specs.declared.reply.Reply.{Reply};
-ghost use Rattle.counter_book.specs.declared.count.Count.{Count};
+ghost use Rattle.counter_book.specs.declared.tally.Count.{Count};
 ghost use Rattle.eval_engine.specs.Standing.{StandsAt, AnswersOpenAsk, callers_of, seen_by};
 ghost use Rattle.eval_engine.specs.Steps.{question_of, LeadsOn};
 ghost use Rattle.eval_engine.specs.Trace.{Seen};
@@ -9,10 +9,9 @@ ghost use Rattle.eval_engine.specs.Walk as definition;
 ghost use Rattle.eval_engine.specs.declared.stage.Stage.TheVariants.{Asks};
 
 use crate::encounter::{name_at, rule_at, search_for};
-use crate::position::Position;
+use crate::position::{Position, Step};
 use crate::search::Search;
 use crate::searched::Searched;
-use crate::step::Step;
 use crate::walking::{act, judgement_at, test, waiting, walk};
 use crate::{Cause, Paused, Stage, Verdict};
 use counter_book::Tally;

@@ -9,17 +9,16 @@ ghost use Rattle.eval_engine.specs.Trace.{Seen};
 ghost use Rattle.eval_engine.specs.Walk as definition;
 ghost use Rattle.eval_engine.specs.declared.judgement.Cause.TheVariants as cause;
 ghost use Rattle.eval_engine.specs.declared.searched.Searched.{Searched};
-ghost use Rattle.eval_engine.specs.declared.step.Step.TheVariants.{On};
+ghost use Rattle.eval_engine.specs.declared.position.Step.TheVariants.{On};
 
-use crate::ask_kind::AskKind;
+use crate::paused::AskKind;
 use crate::encounter::{
     first_behind, install_by, is_disabled, is_held, lookup_by, lookup_flow, rule_at, rule_ref,
     target,
 };
-use crate::position::Position;
+use crate::position::{Position, Step};
 use crate::search::{Search, flow_of};
 use crate::searched::Searched;
-use crate::step::Step;
 use crate::{Cause, Judgement, Paused, Stage, Verdict};
 use counter_book::Tally;
 use dyn_states::{Op, RuleRef};

@@ -20,8 +20,8 @@ use Rattle.eval_engine.specs.Question.{Question}
 use Rattle.eval_engine.specs.Trace.{Seen, Done, with_seen, no_names, Pause, Trace, Stops, WaitsFor}
 use Rattle.eval_engine.specs.Walk.{Walk, walk_from, follows, lookup_flow, resumed, call_from, return_to, acts_before, tests_before, acts_from, pause_at, judged, deeper_walk, way_back, calls_left}
 use Rattle.eval_engine.specs.declared.judgement.Cause.TheVariants as cause
-use Rattle.eval_engine.specs.declared.verdict.Verdict.{Verdict}
-use Rattle.eval_engine.specs.declared.verdict.Verdict.TheVariants as verdicts
+use Rattle.eval_engine.specs.declared.judgement.Verdict.{Verdict}
+use Rattle.eval_engine.specs.declared.judgement.Verdict.TheVariants as verdicts
 use Rattle.eval_engine.proofs.Configured.{rule_read}
 use Rattle.eval_engine.proofs.Walks.{walk_skips, walk_ends, walk_calls, walk_stays, returns_none, returns_some, disabled_passed, looked_asks, unlooked_tests, check_passed, unheld_passed, held_installs, stateless_acts, flowless_passed, install_asks}
 use Rattle.evaluation_laws.specs.Story.{Ending, Ends, OpensAt, Mistakes, Returns, Story, plainly, asked, hit, behind, told_by}

@@ -5,7 +5,7 @@ use Rattle.dyn_states.specs.declared.op.Op.{Op}
 use Rattle.dyn_states.specs.declared.op.Op.TheVariants.{Lookup, Install}
 use Rattle.dyn_states.specs.declared.reply.Reply.{Reply}
 use Rattle.dyn_states.specs.declared.reply.Reply.TheVariants.{Found, NotFound, Created, Exists, LimitReached, TableFull}
-use Rattle.dyn_states.specs.declared.rule_ref.RuleRef.{RuleRef}
+use Rattle.dyn_states.specs.declared.state.RuleRef.{RuleRef}
 use Rattle.fw_rule.specs.declared.rule.Rule.{Rule}
 use Rattle.rule_chain.specs.Chain.{IsConfiguration}
 use Rattle.eval_engine.specs.Encounter.{is_disabled}

@@ -2,8 +2,8 @@
 use Rattle.std.specs.Prelude.{◌≡◌, ℕ, suc, ◌+◌, ◌<◌, ◌≤◌, ◌↔◌, true, false, ⊤, Option, Some, None, List, [], ◌∷◌, drop}
 use Rattle.dyn_states.specs.declared.reply.Reply.{Reply}
 use Rattle.dyn_states.specs.declared.reply.Reply.TheVariants.{Found, NotFound, Created, Exists, LimitReached, TableFull}
-use Rattle.dyn_states.specs.declared.rule_ref.RuleRef.{RuleRef}
-use Rattle.dyn_states.specs.declared.way.Way.{Way}
+use Rattle.dyn_states.specs.declared.state.RuleRef.{RuleRef}
+use Rattle.dyn_states.specs.declared.reply.Way.{Way}
 use Rattle.fw_rule.specs.declared.action.Action.TheVariants.{Count, SkipTo, Call, Return, CheckState}
 use Rattle.fw_rule.specs.declared.rule.Rule.{Rule}
 use Rattle.fw_rule.specs.declared.state_opt.StateOpt.{StateOpt}
@@ -20,8 +20,8 @@ use Rattle.eval_engine.specs.Walk.{lookup_flow, suffix_of}
 use Rattle.eval_engine.specs.declared.judgement.Cause.{Cause}
 use Rattle.eval_engine.specs.declared.judgement.Cause.TheVariants as cause
 use Rattle.eval_engine.specs.declared.judgement.Judgement.{Judgement}
-use Rattle.eval_engine.specs.declared.verdict.Verdict.{Verdict}
-use Rattle.eval_engine.specs.declared.verdict.Verdict.TheVariants as verdict
+use Rattle.eval_engine.specs.declared.judgement.Verdict.{Verdict}
+use Rattle.eval_engine.specs.declared.judgement.Verdict.TheVariants as verdict
 use Rattle.evaluation_laws.specs.Story.{Ending, Ends, OpensAt, Mistakes, Returns, Story, plainly, asked, hit, behind, told_by}
 
 -- Where a run is: it meets the first rule of these, it tests this rule behind its lookup, or this rule acts; the rules

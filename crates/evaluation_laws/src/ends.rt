@@ -1,7 +1,7 @@
 ghost use Rattle.std.specs.Prelude.{◌≡◌, IfOk};
 ghost use Rattle.eval_engine.specs.Encounter as spec;
 ghost use Rattle.eval_engine.specs.declared.judgement.Cause.TheVariants as causes;
-ghost use Rattle.eval_engine.specs.declared.verdict.Verdict.TheVariants as verdicts;
+ghost use Rattle.eval_engine.specs.declared.judgement.Verdict.TheVariants as verdicts;
 ghost use Rattle.evaluation_laws.specs.Runs as runs;
 ghost use Rattle.evaluation_laws.specs.Story as told;
 ghost use Rattle.evaluation_laws.specs.Views.{viewed_question, story_of};

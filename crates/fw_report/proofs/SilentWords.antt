@@ -6,8 +6,8 @@ use Rattle.std.specs.List.{AllByRecursion}
 use Rattle.fw_rule.specs.Canonical.{five_digits, code_word, unreach_names}
 use Rattle.eval_engine.specs.declared.judgement.Cause.{Cause}
 use Rattle.eval_engine.specs.declared.judgement.Cause.TheVariants.{Rule, Limit, Full}
-use Rattle.eval_engine.specs.declared.verdict.Verdict.{Verdict}
-use Rattle.eval_engine.specs.declared.verdict.Verdict.TheVariants.{Allow, Deny, Reset, Unreach}
+use Rattle.eval_engine.specs.declared.judgement.Verdict.{Verdict}
+use Rattle.eval_engine.specs.declared.judgement.Verdict.TheVariants.{Allow, Deny, Reset, Unreach}
 use Rattle.fw_report.specs.DocketText.{verdict_word, verdict_code, cause_word, cause_count}
 use Rattle.fw_report.specs.Lines.{lines_in}
 

@@ -12,9 +12,9 @@ use Rattle.rule_chain.specs.Configuration.{Configuration}
 use Rattle.rule_chain.specs.Words.{word_of}
 use Rattle.rule_chain.specs.declared.apply_fault.ApplyFault.{ApplyFault}
 use Rattle.generation_store.specs.Published.{Published}
-use Rattle.fw_report.specs.declared.answer.Answer.{Answer}
-use Rattle.fw_report.specs.declared.answer.Answer.TheVariants.{Refused, Listed}
-use Rattle.fw_report.specs.declared.line_answer.LineAnswer.{LineAnswer}
+use Rattle.fw_report.specs.declared.ends.Answer.{Answer}
+use Rattle.fw_report.specs.declared.ends.Answer.TheVariants.{Refused, Listed}
+use Rattle.fw_report.specs.declared.ends.LineAnswer.{LineAnswer}
 
 -- a rule, by its canonical text
 unfoldable pub rule_line : Rule → List ℕ

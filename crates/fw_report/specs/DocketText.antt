@@ -8,8 +8,8 @@ use Rattle.eval_engine.specs.declared.docket_entry.DocketEntry.TheVariants.{Othe
 use Rattle.eval_engine.specs.declared.judgement.Cause.{Cause}
 use Rattle.eval_engine.specs.declared.judgement.Cause.TheVariants.{Rule, Limit, Full}
 use Rattle.eval_engine.specs.declared.judgement.Judgement.{Judgement}
-use Rattle.eval_engine.specs.declared.verdict.Verdict.{Verdict}
-use Rattle.eval_engine.specs.declared.verdict.Verdict.TheVariants.{Allow, Deny, Reset, Unreach}
+use Rattle.eval_engine.specs.declared.judgement.Verdict.{Verdict}
+use Rattle.eval_engine.specs.declared.judgement.Verdict.TheVariants.{Allow, Deny, Reset, Unreach}
 use Rattle.fw_report.specs.declared.capture_end.CaptureEnd.{CaptureEnd}
 use Rattle.fw_report.specs.declared.capture_end.CaptureEnd.TheVariants.{Read, Stopped}
 

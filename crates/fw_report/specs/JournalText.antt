@@ -6,14 +6,14 @@ use Rattle.fw_rule.specs.Bits.{has_bit}
 use Rattle.fw_rule.specs.Canonical.{mask_word}
 use Rattle.fw_rule.specs.declared.state_opt.LimitMask.{LimitMask}
 use Rattle.dyn_states.specs.StateTexts.{flow_text}
-use Rattle.dyn_states.specs.declared.flow_name.FlowName.{FlowName}
-use Rattle.dyn_states.specs.declared.flow_name.FlowName.TheVariants.{Any, Named}
+use Rattle.dyn_states.specs.declared.op.FlowName.{FlowName}
+use Rattle.dyn_states.specs.declared.op.FlowName.TheVariants.{Any, Named}
 use Rattle.dyn_states.specs.declared.op.Op.{Op}
 use Rattle.dyn_states.specs.declared.op.Op.TheVariants.{Lookup, Install}
 use Rattle.dyn_states.specs.declared.reply.Reply.{Reply}
 use Rattle.dyn_states.specs.declared.reply.Reply.TheVariants.{Found, NotFound, Created, Exists, LimitReached, TableFull}
-use Rattle.dyn_states.specs.declared.way.Way.{Way}
-use Rattle.dyn_states.specs.declared.way.Way.TheVariants.{Forward, Reverse}
+use Rattle.dyn_states.specs.declared.reply.Way.{Way}
+use Rattle.dyn_states.specs.declared.reply.Way.TheVariants.{Forward, Reverse}
 use Rattle.eval_engine.specs.Dockets.{DocketValue}
 use Rattle.state_journal.specs.declared.entry.Entry.{Entry}
 use Rattle.state_journal.specs.declared.entry.Entry.TheVariants.{Publish, Ask}

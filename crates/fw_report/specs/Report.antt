@@ -1,6 +1,6 @@
 -- The text of the report: its sections one after another.
 use Rattle.std.specs.Prelude.{ℕ, Bool, Option, None, Some, List, [], ◌∷◌, ◌++◌, length}
-use Rattle.counter_book.specs.declared.count.Count.{Count}
+use Rattle.counter_book.specs.declared.tally.Count.{Count}
 use Rattle.dyn_states.specs.StateObject.{StateObject}
 use Rattle.dyn_states.specs.StateTexts.{states_text}
 use Rattle.eval_engine.specs.Dockets.{DocketValue}
@@ -12,7 +12,7 @@ use Rattle.fw_report.specs.JournalText.{hits_text, optional_journal}
 use Rattle.fw_report.specs.Recorded.{Recorded}
 use Rattle.fw_report.specs.RulesText.{editions_line, disabled_text, rules_text}
 use Rattle.fw_report.specs.declared.capture_end.CaptureEnd.{CaptureEnd}
-use Rattle.fw_report.specs.declared.line_answer.LineAnswer.{LineAnswer}
+use Rattle.fw_report.specs.declared.ends.LineAnswer.{LineAnswer}
 
 -- the edition that was published last
 abbrev pub last_edition : List Published → Option Published

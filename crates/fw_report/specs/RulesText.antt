@@ -2,7 +2,7 @@
 use Rattle.std.specs.Prelude.{ℕ, zero, suc, ◌+◌, ◌==◌, if◌then◌else◌, List, [], ◌++◌, length, codes, decimal}
 use Rattle.std.specs.List.{flat_map}
 use Rattle.counter_book.specs.Counts.{total_under}
-use Rattle.counter_book.specs.declared.count.Count.{Count}
+use Rattle.counter_book.specs.declared.tally.Count.{Count}
 use Rattle.fw_rule.specs.Bits.{has_bit}
 use Rattle.fw_rule.specs.Canonical.{five_digits, rest_text}
 use Rattle.fw_rule.specs.declared.rule.Rule.{Rule}

@@ -3,8 +3,8 @@ use Rattle.std.specs.Prelude.{ℕ, Bool, true, false, List, ◌++◌, length, su
 use Rattle.eval_engine.specs.Dockets.{DocketValue}
 use Rattle.eval_engine.specs.declared.docket_entry.DocketEntry.{DocketEntry}
 use Rattle.eval_engine.specs.declared.docket_entry.DocketEntry.TheVariants.{Other, Malformed, Judged}
-use Rattle.eval_engine.specs.declared.verdict.Verdict.{Verdict}
-use Rattle.eval_engine.specs.declared.verdict.Verdict.TheVariants.{Allow, Deny, Reset, Unreach}
+use Rattle.eval_engine.specs.declared.judgement.Verdict.{Verdict}
+use Rattle.eval_engine.specs.declared.judgement.Verdict.TheVariants.{Allow, Deny, Reset, Unreach}
 
 -- the packet was let through
 abbrev pub is_allow : Verdict → Bool

@@ -9,8 +9,8 @@ use Rattle.state_journal.specs.Items.{asks_of}
 use Rattle.state_journal.specs.Journal.{Journal, with_ask}
 use Rattle.state_journal.specs.declared.entry.Entry.{Entry}
 use Rattle.state_journal.specs.declared.entry.Entry.TheVariants.{Publish, Ask}
-use Rattle.state_journal.specs.declared.item.Item.{Item}
-use Rattle.state_journal.specs.declared.item.Item.TheVariants.{Lanes, Published, Asked}
+use Rattle.state_journal.specs.declared.entry.Item.{Item}
+use Rattle.state_journal.specs.declared.entry.Item.TheVariants.{Lanes, Published, Asked}
 use Rattle.fw_world.specs.AskRuns.{EntersEach}
 use Rattle.fw_world.specs.Asks.{LaneAsk, asks_in, ops_of, replies_of, AreOfLanes}
 use Rattle.fw_world.specs.Legal.{lane_asks}

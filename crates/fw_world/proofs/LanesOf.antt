@@ -2,7 +2,7 @@
 use Rattle.std.proofs.Common.{◌≡◌, ℕ, ◌≤◌, true, List, [], ◌∷◌, ◌++◌, length, sym, ap, subst, arith}
 use Rattle.std.proofs.lemmas.List.Elements.{All-push}
 use Rattle.std.specs.Prelude.{All, IfSome, Result, Ok, Err, IfOk, OnErr, is_ok}
-use Rattle.counter_book.specs.declared.count.Count.{Count}
+use Rattle.counter_book.specs.declared.tally.Count.{Count}
 use Rattle.fw_base.specs.declared.failure.OutOfMemory.{OutOfMemory}
 use Rattle.eval_engine.specs.Dockets.{judged_entry}
 use Rattle.eval_engine.specs.declared.judgement.Judgement.{Judgement}

@@ -4,8 +4,8 @@ use Rattle.std.specs.Prelude.{nat_le}
 use Rattle.std.specs.List.{list_any}
 use Rattle.packet_headers.specs.declared.flows.Flow.{Flow}
 use Rattle.dyn_states.specs.RuleLists.{has_id}
-use Rattle.dyn_states.specs.declared.flow_name.FlowName.{FlowName}
-use Rattle.dyn_states.specs.declared.flow_name.FlowName.TheVariants.{Named}
+use Rattle.dyn_states.specs.declared.op.FlowName.{FlowName}
+use Rattle.dyn_states.specs.declared.op.FlowName.TheVariants.{Named}
 use Rattle.dyn_states.specs.declared.op.Op.{Op}
 use Rattle.dyn_states.specs.declared.op.Op.TheVariants.{Lookup, Install}
 use Rattle.dyn_states.specs.declared.reply.Reply.{Reply}

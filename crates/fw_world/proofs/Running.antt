@@ -7,7 +7,7 @@ use Rattle.std.proofs.Math.Dec.{T}
 use Rattle.std.proofs.Math.Facts.{eqb_yes}
 use Rattle.std.specs.Prelude.{◌==◌, All, slice_set}
 use Rattle.counter_book.specs.Counts.{counted_under, raised, no_count}
-use Rattle.counter_book.specs.declared.count.Count.{Count}
+use Rattle.counter_book.specs.declared.tally.Count.{Count}
 use Rattle.dyn_states.specs.declared.op.Op.{Op}
 use Rattle.dyn_states.specs.declared.reply.Reply.{Reply}
 use Rattle.rule_chain.specs.Chain.{IsConfiguration}

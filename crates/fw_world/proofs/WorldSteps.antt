@@ -4,7 +4,7 @@ use Rattle.std.proofs.lemmas.List.{length-append, map-append}
 use Rattle.std.specs.Prelude.{Some, slice_get}
 use Rattle.fw_base.specs.declared.port.Port.{Port}
 use Rattle.ip6_headers.specs.declared.any_ip.AnyIp.{AnyIp}
-use Rattle.counter_book.specs.declared.count.Count.{Count}
+use Rattle.counter_book.specs.declared.tally.Count.{Count}
 use Rattle.dyn_states.specs.RuleLists.{has_id}
 use Rattle.dyn_states.specs.declared.facts.Facts.{Facts}
 use Rattle.dyn_states.specs.declared.op.Op.{Op}

@@ -8,8 +8,8 @@ use Rattle.eval_engine.specs.declared.docket_entry.DocketEntry.{DocketEntry}
 use Rattle.eval_engine.specs.declared.docket_entry.DocketEntry.TheVariants.{Other, Malformed, Judged}
 use Rattle.state_journal.specs.declared.entry.Entry.{Entry}
 use Rattle.state_journal.specs.declared.entry.Entry.TheVariants.{Publish, Ask}
-use Rattle.state_journal.specs.declared.item.Item.{Item}
-use Rattle.state_journal.specs.declared.item.Item.TheVariants.{Lanes, Published, Asked}
+use Rattle.state_journal.specs.declared.entry.Item.{Item}
+use Rattle.state_journal.specs.declared.entry.Item.TheVariants.{Lanes, Published, Asked}
 
 -- an ask of a lane: the publication before it, its record, what was asked and what was replied
 pub record LaneAsk : Type 0 where

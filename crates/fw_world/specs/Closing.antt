@@ -1,7 +1,7 @@
 -- What closing a world leaves.
 use Rattle.std.specs.Prelude.{◌≡◌, ℕ, ◌+◌, ⊤, nat_le, if◌then◌else◌, List, [], ◌∷◌, length, map}
 use Rattle.std.specs.List.Sorted.{IsNonDecreasing}
-use Rattle.counter_book.specs.declared.count.Count.{Count}
+use Rattle.counter_book.specs.declared.tally.Count.{Count}
 use Rattle.eval_engine.specs.Dockets.{DocketValue}
 use Rattle.fw_rule.specs.declared.command.Command.{Command}
 use Rattle.rule_chain.specs.Configuration.{Configuration}

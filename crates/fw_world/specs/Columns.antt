@@ -1,6 +1,6 @@
 -- What the lanes of a run leave, column by column.
 use Rattle.std.specs.Prelude.{ℕ, ◌-◌, List, [], ◌∷◌, ◌++◌}
-use Rattle.counter_book.specs.declared.count.Count.{Count}
+use Rattle.counter_book.specs.declared.tally.Count.{Count}
 use Rattle.eval_engine.specs.Dockets.{DocketValue}
 use Rattle.fw_world.specs.Lane.{LaneValue}
 

@@ -1,8 +1,8 @@
 -- What an entry into a section of the serial world answers.
 use Rattle.std.specs.Prelude.{ℕ, ◌==◌, if◌then◌else◌}
 use Rattle.fw_world.specs.Lane.{LaneValue, entered, refused}
-use Rattle.fw_world.specs.declared.serial_entry.SerialEntry.{SerialEntry}
-use Rattle.fw_world.specs.declared.serial_entry.SerialEntry.TheVariants.{In, Revoked}
+use Rattle.fw_world.specs.declared.serial_lane.SerialEntry.{SerialEntry}
+use Rattle.fw_world.specs.declared.serial_lane.SerialEntry.TheVariants.{In, Revoked}
 
 -- the lane is in exactly where its number is the published one
 abbrev pub entry_of : ℕ → LaneValue → SerialEntry

@@ -1,6 +1,6 @@
 -- What judging a packet and publishing an edition leave in a world.
 use Rattle.std.specs.Prelude.{◌≡◌, ◌≢◌, ℕ, ◌+◌, ◌-◌, Ok, List, [], ◌∷◌, ◌++◌, length, slice_get, Option, Some}
-use Rattle.counter_book.specs.declared.count.Count.{Count}
+use Rattle.counter_book.specs.declared.tally.Count.{Count}
 use Rattle.dyn_states.specs.declared.op.Op.{Op}
 use Rattle.dyn_states.specs.declared.reply.Reply.{Reply}
 use Rattle.eval_engine.specs.Evaluated.{Whole}

@@ -1,6 +1,7 @@
 ghost use Rattle.std.specs.Prelude.{◌≡◌};
 
 use crate::lane_state::LaneState;
+use crate::SerialInside;
 use std::marker::Model;
 
 /// A lane of the serial world outside of a section: who judges the records of one capture.
@@ -34,4 +35,13 @@ impl SerialLane {
     {
         self.state.has_failed()
     }
+}
+
+/// What a lane is answered that tries to begin a section.
+#[derive(Debug, Drop)]
+pub enum SerialEntry {
+    /// It is in.
+    In(SerialInside),
+    /// It is refused, since the edition of this number is published and it holds another.
+    Revoked(SerialLane, u64),
 }

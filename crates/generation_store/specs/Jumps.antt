@@ -4,7 +4,7 @@ use Rattle.std.specs.List.{position_or_len}
 use Rattle.fw_rule.specs.declared.action.Action.{Action}
 use Rattle.fw_rule.specs.declared.action.Action.TheVariants.{Allow, Deny, Reset, Unreach, Count, SkipTo, Call, Return, CheckState}
 use Rattle.fw_rule.specs.declared.rule.Rule.{Rule}
-use Rattle.generation_store.specs.declared.jump.Jump.{Jump}
+use Rattle.generation_store.specs.declared.jumps.Jump.{Jump}
 
 -- the rule is numbered so or higher
 abbrev pub is_from : ℕ → Rule → Bool

@@ -7,8 +7,8 @@ use Rattle.rule_chain.specs.Configuration.{Configuration}
 use Rattle.rule_chain.specs.Names.{name_of, number_of}
 use Rattle.dyn_states.specs.RuleLists.{has_id}
 use Rattle.dyn_states.specs.declared.facts.Facts.{Facts}
-use Rattle.dyn_states.specs.declared.flow_name.FlowName.{FlowName}
-use Rattle.dyn_states.specs.declared.flow_name.FlowName.TheVariants.{Any, Named}
+use Rattle.dyn_states.specs.declared.op.FlowName.{FlowName}
+use Rattle.dyn_states.specs.declared.op.FlowName.TheVariants.{Any, Named}
 
 -- its number, its configuration, and what its publication tells the states
 pub record Published : Type 0 where

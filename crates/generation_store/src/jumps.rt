@@ -4,7 +4,6 @@ ghost use Rattle.fw_rule.specs.declared.rule.Rule.{Rule};
 ghost use Rattle.rule_chain.specs.Chain.{AscendsFrom};
 ghost use Rattle.generation_store.specs.Jumps as spec;
 
-use crate::Jump;
 use fw_base::OutOfMemory;
 use fw_rule::{Action, Rule};
 use std::alloc::Global;
@@ -67,4 +66,14 @@ pub(crate) fn jumps_of(alloc: Global, rules: &[Arc<Rule>]) -> Result<Vec<Jump>, 
         jumps.push(jump_of(rules, place))?;
     }
     Ok(jumps)
+}
+
+/// Where the search goes on behind a rule, as places in the list of rules.
+#[derive(Clone, Copy, Debug, PartialEq, Eq, Hash)]
+pub struct Jump {
+    /// For `skipto N` and `call N` the first rule numbered N or higher, for `skipto` behind its own
+    /// place; for others the next place. The list's length stands for its end.
+    pub target: u32,
+    /// The first rule of a greater number than its own.
+    pub after: u32,
 }

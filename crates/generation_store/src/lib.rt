@@ -1,15 +1,14 @@
 //! Editions: configurations that were published under a number, with what an evaluation asks of them.
 #![tactic(auto)]
 
+pub use jumps::Jump;
 pub use edition::Edition;
-pub use jump::Jump;
 pub use store::Store;
 
 mod edition;
 mod flow_names;
 mod gates;
 mod index;
-mod jump;
 mod jumps;
 mod placed;
 mod store;

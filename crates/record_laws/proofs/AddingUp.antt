@@ -7,7 +7,7 @@ use Rattle.fw_base.specs.declared.port.Port.{Port}
 use Rattle.ip6_headers.specs.Either.{total_of}
 use Rattle.ip6_headers.specs.declared.any_ip.AnyIp.{AnyIp}
 use Rattle.counter_book.specs.Counts.{counted_under}
-use Rattle.counter_book.specs.declared.count.Count.{Count}
+use Rattle.counter_book.specs.declared.tally.Count.{Count}
 use Rattle.generation_store.specs.Published.{Published}
 use Rattle.eval_engine.specs.Dockets.{DocketValue, judgement_of}
 use Rattle.eval_engine.specs.Evaluated.{Outcome, Whole}

@@ -7,9 +7,9 @@ use Rattle.fw_base.proofs.Lists.{all_push, all_weaker}
 use Rattle.fw_command.specs.declared.script.Line.{Line}
 use Rattle.fw_command.specs.declared.script.Step.{Step}
 use Rattle.fw_report.specs.AnswerText.{edition_of}
-use Rattle.fw_report.specs.declared.answer.Answer.{Answer}
-use Rattle.fw_report.specs.declared.answer.Answer.TheVariants.{Refused, Listed}
-use Rattle.fw_report.specs.declared.line_answer.LineAnswer.{LineAnswer}
+use Rattle.fw_report.specs.declared.ends.Answer.{Answer}
+use Rattle.fw_report.specs.declared.ends.Answer.TheVariants.{Refused, Listed}
+use Rattle.fw_report.specs.declared.ends.LineAnswer.{LineAnswer}
 use Rattle.fw_rule.specs.declared.command.Command.{Command}
 use Rattle.fw_world.specs.Editions.{AreEditionsFrom}
 use Rattle.fw_world.specs.Legal.{IsLegal}

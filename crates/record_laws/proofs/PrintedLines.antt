@@ -5,7 +5,7 @@ use Rattle.std.proofs.lemmas.List.{length-map}
 use Rattle.std.proofs.lemmas.List.Sums.{sum_by-cons}
 use Rattle.std.specs.Fmt.{decimal, digits, digits_onto, digit_glyph}
 use Rattle.std.specs.List.{onto_first}
-use Rattle.counter_book.specs.declared.count.Count.{Count}
+use Rattle.counter_book.specs.declared.tally.Count.{Count}
 use Rattle.fw_rule.specs.Canonical.{five_digits}
 use Rattle.pcap_read.specs.Words.{word_of}
 use Rattle.pcap_read.specs.declared.capture_fault.CaptureFault.{CaptureFault}
@@ -29,7 +29,7 @@ use Rattle.fw_world.specs.Legal.{EachLane, LaneStands}
 use Rattle.fw_world.specs.RecordValue.{RecordValue}
 use Rattle.serial_replay.specs.Reading.{Track, AllRead, track_inputs}
 use Rattle.serial_replay.specs.Replay.{limit_for, lines_outcome}
-use Rattle.serial_replay.specs.declared.opened_capture.OpenedCapture.{OpenedCapture}
+use Rattle.serial_replay.specs.declared.replay.OpenedCapture.{OpenedCapture}
 use Rattle.record_laws.specs.VerdictLines.{begins_with_digit, verdict_lines, other_lines, input_count, recorded_with, VerdictLinesAreRecords, ReplaysPrintEachRecord}
 
 -- a text that is one line: bytes with no line's end, and one

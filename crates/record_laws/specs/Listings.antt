@@ -3,14 +3,14 @@ use Rattle.std.specs.Prelude.{◌≡◌, ℕ, ◌≤◌, ⊤, Some, List, length
 use Rattle.std.specs.List.{AllByRecursion}
 use Rattle.fw_command.specs.declared.script.Step.{Step}
 use Rattle.fw_report.specs.AnswerText.{edition_of}
-use Rattle.fw_report.specs.declared.answer.Answer.{Answer}
-use Rattle.fw_report.specs.declared.answer.Answer.TheVariants.{Refused, Listed}
+use Rattle.fw_report.specs.declared.ends.Answer.{Answer}
+use Rattle.fw_report.specs.declared.ends.Answer.TheVariants.{Refused, Listed}
 use Rattle.fw_world.specs.RecordValue.{RecordValue}
 use Rattle.generation_store.specs.Published.{Published}
 use Rattle.rule_chain.specs.Configuration.{Configuration}
 use Rattle.serial_replay.specs.Replay.{IsReplay}
-use Rattle.serial_replay.specs.declared.opened_capture.OpenedCapture.{OpenedCapture}
-use Rattle.serial_replay.specs.declared.replayed.Replayed.{Replayed}
+use Rattle.serial_replay.specs.declared.replay.OpenedCapture.{OpenedCapture}
+use Rattle.serial_replay.specs.declared.replay.Replayed.{Replayed}
 use Rattle.state_journal.specs.declared.entry.Entry.TheVariants.{Publish}
 
 -- The journal publishes the edition of this number, and the report shows that edition for it.

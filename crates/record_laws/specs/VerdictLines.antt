@@ -6,7 +6,7 @@ use Rattle.fw_report.specs.DocketText.{captures_text}
 use Rattle.fw_report.specs.Recorded.{Recorded}
 use Rattle.fw_report.specs.Report.{report_text}
 use Rattle.fw_report.specs.declared.capture_end.CaptureEnd.{CaptureEnd}
-use Rattle.fw_report.specs.declared.line_answer.LineAnswer.{LineAnswer}
+use Rattle.fw_report.specs.declared.ends.LineAnswer.{LineAnswer}
 use Rattle.fw_rule.specs.declared.command.Command.{Command}
 use Rattle.fw_world.specs.Inputs.{Input}
 use Rattle.fw_world.specs.Legal.{IsLegal}
@@ -14,8 +14,8 @@ use Rattle.fw_world.specs.RecordValue.{RecordValue}
 use Rattle.rule_chain.specs.Configuration.{Configuration}
 use Rattle.serial_replay.specs.Reading.{track_inputs}
 use Rattle.serial_replay.specs.Replay.{IsReplay}
-use Rattle.serial_replay.specs.declared.opened_capture.OpenedCapture.{OpenedCapture}
-use Rattle.serial_replay.specs.declared.replayed.Replayed.{Replayed}
+use Rattle.serial_replay.specs.declared.replay.OpenedCapture.{OpenedCapture}
+use Rattle.serial_replay.specs.declared.replay.Replayed.{Replayed}
 
 -- The line begins with a digit. In the report's first section these are the lines of records, which begin with
 -- the capture's number; those of a capture's end begin with a word.

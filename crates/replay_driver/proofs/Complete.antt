@@ -17,7 +17,7 @@ use Rattle.fw_command.specs.Scripts.{script_of}
 use Rattle.fw_report.specs.declared.capture_end.CaptureEnd.{CaptureEnd}
 use Rattle.fw_report.specs.declared.capture_end.CaptureEnd.TheVariants.{Read, Stopped}
 use Rattle.fw_report.specs.declared.ends.Ends.{Ends}
-use Rattle.fw_report.specs.declared.line_answer.LineAnswer.{LineAnswer}
+use Rattle.fw_report.specs.declared.ends.LineAnswer.{LineAnswer}
 use Rattle.fw_world.specs.RecordValue.{RecordValue}
 use Rattle.load_maker.specs.Load as load
 use Rattle.pcap_read.specs.Reading.{Captured, Place, Open, Closed, AtBoundary, HasFront, Stops, at_end}
@@ -29,7 +29,7 @@ use Rattle.rule_chain.specs.First.{first_configuration}
 use Rattle.serial_replay.specs.Commands.{Listing, Rules, Entries, listing_of}
 use Rattle.serial_replay.specs.Reading.{Track, IsRead, AllRead, IsEnd}
 use Rattle.serial_replay.specs.Replay.{limit_for, lines_outcome}
-use Rattle.serial_replay.specs.declared.opened_capture.OpenedCapture.{OpenedCapture}
+use Rattle.serial_replay.specs.declared.replay.OpenedCapture.{OpenedCapture}
 use Rattle.replay_driver.specs.FirstEdition.{◌>>=◌, first_edition, configured, listings_of, listed_first, table_shown, shown, with_answer, read_script}
 use Rattle.replay_driver.specs.Found.{FailsEarly, ReadsScript, Finds, FindsReplay, FindsLoad, IsReplayOf, known_left, no_failures, made_capture}
 use Rattle.replay_driver.specs.Openings.{OpensAll, sources_of}

@@ -9,17 +9,17 @@ use Rattle.fw_base.specs.Pairs.{Pair}
 use Rattle.fw_report.specs.Report.{report_text}
 use Rattle.fw_report.specs.declared.capture_end.CaptureEnd.{CaptureEnd}
 use Rattle.fw_report.specs.declared.ends.Ends.{Ends}
-use Rattle.fw_report.specs.declared.line_answer.LineAnswer.{LineAnswer}
+use Rattle.fw_report.specs.declared.ends.LineAnswer.{LineAnswer}
 use Rattle.fw_world.specs.RecordValue.{RecordValue}
 use Rattle.serial_replay.specs.Reading.{Track, AllRead}
-use Rattle.serial_replay.specs.declared.opened_capture.OpenedCapture.{OpenedCapture}
+use Rattle.serial_replay.specs.declared.replay.OpenedCapture.{OpenedCapture}
 use Rattle.replay_driver.specs.Found.{Finds, FindsWords, FindsReplay, IsReplayOf, ReplaysNames, ReplaysLoad, known_left, no_failures}
 use Rattle.replay_driver.specs.Openings.{without, sources_of}
 use Rattle.replay_driver.specs.Promises.{IsKept, IsReported, IsSummed, IsUnreadJob, IsUnreadyJob, IsQuiet, IsRefused, IsFaulty, HasFailedRead, opening_order}
 use Rattle.replay_driver.specs.Run.{Writes, WritesResult, IsUsage, IsNoCommand, IsRun, IsAnswered, IsWithoutMemory, IsFoundRun}
 use Rattle.replay_driver.specs.RunResult.{result_status, result_text, usage_text, recorded, report_status, is_unread, is_stopped, is_refused}
 use Rattle.replay_driver.specs.Served.{ReplayNames, Job, Replays, Loads}
-use Rattle.replay_driver.specs.declared.found.Found.{Found}
+use Rattle.replay_driver.specs.declared.run_result.Found.{Found}
 use Rattle.replay_driver.specs.declared.outcome.Outcome.{Outcome}
 use Rattle.replay_driver.specs.declared.run_result.RunResult.{RunResult}
 use Rattle.replay_driver.specs.declared.run_result.RunResult.TheVariants.{Usage, Unread, Unready, Reported, Summed}

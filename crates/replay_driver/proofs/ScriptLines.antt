@@ -5,7 +5,7 @@ use Rattle.rule_chain.specs.Apply.{apply}
 use Rattle.rule_chain.specs.Configuration.{Configuration}
 use Rattle.serial_replay.specs.Commands.{listing_of}
 use Rattle.replay_driver.specs.FirstEdition.{◌>>=◌, GivesView, configured_line, configured, listed_first, with_answer, listings_of}
-use Rattle.fw_report.specs.declared.line_answer.LineAnswer.{LineAnswer}
+use Rattle.fw_report.specs.declared.ends.LineAnswer.{LineAnswer}
 use Rattle.replay_driver.specs.declared.script_error.ScriptError.{ScriptError}
 use Rattle.replay_driver.specs.declared.script_error.ScriptError.TheVariants.{Fault, Refused, OutOfMemory}
 

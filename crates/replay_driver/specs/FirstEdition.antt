@@ -7,8 +7,8 @@ use Rattle.fw_command.specs.declared.script.Pace.TheVariants.{Serial}
 use Rattle.fw_command.specs.declared.script.Script.{Script}
 use Rattle.fw_command.specs.declared.script_fault.ScriptFault.{ScriptFault}
 use Rattle.fw_command.specs.Scripts.{script_of}
-use Rattle.fw_report.specs.declared.answer.Answer.TheVariants.{Listed}
-use Rattle.fw_report.specs.declared.line_answer.LineAnswer.{LineAnswer}
+use Rattle.fw_report.specs.declared.ends.Answer.TheVariants.{Listed}
+use Rattle.fw_report.specs.declared.ends.LineAnswer.{LineAnswer}
 use Rattle.lookup_tables.specs.Tables.{table_named}
 use Rattle.rule_chain.specs.Answers.{Answer}
 use Rattle.rule_chain.specs.Apply.{apply}

@@ -10,8 +10,8 @@ use Rattle.fw_report.specs.declared.ends.Ends.{Ends}
 use Rattle.fw_world.specs.RecordValue.{RecordValue}
 use Rattle.load_maker.specs.Load.{script_of, capture_of}
 use Rattle.serial_replay.specs.Replay.{IsReplay}
-use Rattle.serial_replay.specs.declared.opened_capture.OpenedCapture.{OpenedCapture}
-use Rattle.serial_replay.specs.declared.replayed.Replayed.{Replayed}
+use Rattle.serial_replay.specs.declared.replay.OpenedCapture.{OpenedCapture}
+use Rattle.serial_replay.specs.declared.replay.Replayed.{Replayed}
 use Rattle.replay_driver.specs.FirstEdition.{first_edition}
 use Rattle.replay_driver.specs.Openings.{Opens, Refuses, OpensAll, sources_of}
 use Rattle.replay_driver.specs.Served.{ReplayNames, Job, Replays, Loads}

@@ -13,7 +13,7 @@ use Rattle.load_maker.specs.Load.{script_of, capture_of}
 use Rattle.pcap_read.specs.Reading.{Captured, HasFront, Open, AtBoundary}
 use Rattle.pcap_read.specs.declared.capture_fault.CaptureFault.TheVariants.{ReadFault}
 use Rattle.serial_replay.specs.Replay.{limit_for, lines_outcome}
-use Rattle.serial_replay.specs.declared.opened_capture.OpenedCapture.{OpenedCapture}
+use Rattle.serial_replay.specs.declared.replay.OpenedCapture.{OpenedCapture}
 use Rattle.replay_driver.specs.FirstEdition.{first_edition}
 use Rattle.replay_driver.specs.Found.{ReadsNames, HasNoEdition, FindsReplay, IsReplayOf, ReplaysLoad}
 use Rattle.replay_driver.specs.Openings.{file_names, without}

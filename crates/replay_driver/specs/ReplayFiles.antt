@@ -8,7 +8,7 @@ use Rattle.replay_driver.specs.Found.{IsReplayOf}
 use Rattle.replay_driver.specs.Openings.{OpensAll, sources_of}
 use Rattle.replay_driver.specs.declared.run_result.RunResult.{RunResult}
 use Rattle.replay_driver.specs.declared.run_result.RunResult.TheVariants.{Usage, Unread, Unready, Reported, Summed}
-use Rattle.serial_replay.specs.declared.opened_capture.OpenedCapture.{OpenedCapture}
+use Rattle.serial_replay.specs.declared.replay.OpenedCapture.{OpenedCapture}
 
 module _ {S : Type 0} (left : S → Option (List ℕ)) (failures : S → ℕ) where
   -- the captures that were opened, beside the script that was read

@@ -8,7 +8,7 @@ use Rattle.fw_base.specs.declared.failure.Failed.{Failed}
 use Rattle.replay_driver.specs.Found.{Finds}
 use Rattle.replay_driver.specs.RunResult.{usage_text, result_status, result_text, result_kept, result_ends, result_answers}
 use Rattle.replay_driver.specs.Served.{Job}
-use Rattle.replay_driver.specs.declared.found.Found.{Found}
+use Rattle.replay_driver.specs.declared.run_result.Found.{Found}
 use Rattle.replay_driver.specs.declared.outcome.Outcome.{Outcome}
 use Rattle.replay_driver.specs.declared.run_result.RunResult.{RunResult}
 

@@ -5,7 +5,7 @@ use Rattle.replay_driver.specs.Found.{IsReplayOf}
 use Rattle.replay_driver.specs.Openings.{sources_of}
 use Rattle.replay_driver.specs.declared.script_replay.ScriptReplay.{ScriptReplay}
 use Rattle.replay_driver.specs.declared.script_replay.ScriptReplay.TheVariants.{Unready, Replayed}
-use Rattle.serial_replay.specs.declared.opened_capture.OpenedCapture.{OpenedCapture}
+use Rattle.serial_replay.specs.declared.replay.OpenedCapture.{OpenedCapture}
 
 module _ {S : Type 0} (left : S → Option (List ℕ)) (failures : S → ℕ) where
   -- the script gives no edition, and no capture was read; or the captures were replayed beside it

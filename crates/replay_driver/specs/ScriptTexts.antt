@@ -2,7 +2,7 @@
 use Rattle.std.specs.Prelude.{ℕ, List, [], ◌++◌, codes, decimal}
 use Rattle.fw_command.specs.FaultText.{fault_text}
 use Rattle.rule_chain.specs.Words.{word_of}
-use Rattle.replay_driver.specs.declared.refused_line.RefusedLine.{RefusedLine}
+use Rattle.replay_driver.specs.declared.script_error.RefusedLine.{RefusedLine}
 use Rattle.replay_driver.specs.declared.script_error.ScriptError.{ScriptError}
 use Rattle.replay_driver.specs.declared.script_error.ScriptError.TheVariants.{Fault, Refused, OutOfMemory}
 

@@ -2,16 +2,13 @@
 #![tactic(auto)]
 
 pub use outcome::Outcome;
-pub use refused_line::RefusedLine;
 pub use run_command::run;
-pub use script_error::ScriptError;
+pub use script_error::{RefusedLine, ScriptError};
 
 mod capture_openings;
 mod first_edition;
-mod found;
 mod outcome;
 mod piece_sink;
-mod refused_line;
 mod replay_files;
 mod replay_load;
 mod run_command;

@@ -5,8 +5,7 @@ ghost use Rattle.replay_driver.specs.RunResult.{IsWritable};
 ghost use Rattle.replay_driver.specs.ReplayFiles.{FindsBehind, ReplaysOpened};
 
 use crate::capture_openings::{CaptureOpenings, open_captures};
-use crate::found::Found;
-use crate::run_result::RunResult;
+use crate::run_result::{Found, RunResult};
 use crate::script_replay::{ScriptReplay, into_sources, replay_script};
 use crate::script_source::{ScriptSource, read_script_source};
 use command_words::CaptureWord;

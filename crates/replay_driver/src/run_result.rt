@@ -221,3 +221,10 @@ fn write_usage<K: Sink>(out: &mut K) -> Result<(), Failed>
         b"usage: ipfw_replay serial|live [--journal] SCRIPT in|out:IF:CAPTURE .. | load N\n",
     )
 }
+
+/// What a run finds before a byte is written, and the sources that it hands back.
+#[derive(Drop)]
+pub(crate) struct Found<S> {
+    pub(crate) result: RunResult,
+    pub(crate) sources: Vec<S>,
+}

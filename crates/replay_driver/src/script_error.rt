@@ -3,10 +3,10 @@ ghost use Rattle.fw_base.specs.Texts.{WritesText};
 ghost use Rattle.replay_driver.specs.ScriptTexts as spec;
 ghost use Rattle.replay_driver.specs.declared.script_error.ScriptError.TheVariants as errors;
 
-use crate::RefusedLine;
 use fw_base::{Failed, OutOfMemory, Sink, write_pieces};
 use fw_command::ScriptFault;
 use itoa::Buffer;
+use rule_chain::ApplyFault;
 use std::alloc::{AllocError, AllocFailed};
 
 /// Why a script gives no edition, in the order in which it is tested.
@@ -71,4 +71,12 @@ impl ScriptError {
             ScriptError::OutOfMemory => Ok(()),
         }
     }
+}
+
+/// A command that is refused.
+#[derive(Clone, Copy, Debug, PartialEq, Eq)]
+pub struct RefusedLine {
+    /// The line where it stands, from 1.
+    pub line: u32,
+    pub fault: ApplyFault,
 }

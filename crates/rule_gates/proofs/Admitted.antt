@@ -22,11 +22,11 @@ use Rattle.rule_gates.specs.Keys.{is_six}
 use Rattle.rule_gates.specs.Within.{is_within}
 use Rattle.rule_gates.specs.Words.{address_number, word, words_of}
 use Rattle.rule_gates.specs.declared.address_gate.AddressGate.{AddressGate}
-use Rattle.rule_gates.specs.declared.chosen_word.ChosenWord.{ChosenWord}
+use Rattle.rule_gates.specs.declared.address_gate.ChosenWord.{ChosenWord}
 use Rattle.rule_gates.specs.declared.gate.Gate.{Gate}
 use Rattle.rule_gates.specs.declared.interval.Interval.{Interval}
 use Rattle.rule_gates.specs.declared.key.Key.{Key}
-use Rattle.rule_gates.specs.declared.port_gate.PortGate.{PortGate}
+use Rattle.rule_gates.specs.declared.gate.PortGate.{PortGate}
 
 -- every number of thirty-two bits
 pub every_has : (interval : Interval) (n : ℕ) → interval.low ≡ 0 → interval.span ≡ 4294967295 → n < 2 ^ 32 → is_within interval n ≡ true

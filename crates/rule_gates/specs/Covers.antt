@@ -23,11 +23,11 @@ use Rattle.rule_gates.specs.Told.{has_four}
 use Rattle.rule_gates.specs.Within.{is_within}
 use Rattle.rule_gates.specs.Words.{address_number, word}
 use Rattle.rule_gates.specs.declared.address_gate.AddressGate.{AddressGate}
-use Rattle.rule_gates.specs.declared.chosen_word.ChosenWord.{ChosenWord}
+use Rattle.rule_gates.specs.declared.address_gate.ChosenWord.{ChosenWord}
 use Rattle.rule_gates.specs.declared.gate.Gate.{Gate}
 use Rattle.rule_gates.specs.declared.interval.Interval.{Interval}
 use Rattle.rule_gates.specs.declared.key.Key.{Key}
-use Rattle.rule_gates.specs.declared.port_gate.PortGate.{PortGate}
+use Rattle.rule_gates.specs.declared.gate.PortGate.{PortGate}
 
 -- the chosen word of the address is one of the numbers
 abbrev pub HasAddress : ChosenWord → ℕ → Type 0

@@ -1,4 +1,6 @@
-use crate::chosen_word::ChosenWord;
+ghost use Rattle.std.specs.Prelude.{◌<◌};
+
+use crate::Interval;
 use fw_rule::Family;
 
 /// What is told of the addresses that a rule asks for.
@@ -10,4 +12,13 @@ pub(crate) struct AddressGate {
     pub(crate) family: Family,
     /// Each address of which this is true is one of them.
     pub(crate) is_exact: bool,
+}
+
+/// One word of an address, and the numbers that it may be.
+#[derive(Clone, Copy, Debug)]
+pub(crate) struct ChosenWord {
+    /// Which word; word 0 is the last one.
+    pub(crate) place: u8,
+    pub(crate) numbers: Interval,
+    ghost within: { place < 4 },
 }

@@ -3,8 +3,7 @@ ghost use Rattle.rule_gates.specs.Covers.{CoversAddresses, CoversItem, HasAddres
 ghost use Rattle.rule_gates.specs.Told as spec;
 
 use crate::Interval;
-use crate::address_gate::AddressGate;
-use crate::chosen_word::ChosenWord;
+use crate::address_gate::{AddressGate, ChosenWord};
 use crate::versions::has_four;
 use crate::words::word;
 use fw_rule::{AddrItem, AddrSpec, Family};

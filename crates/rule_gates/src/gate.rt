@@ -27,3 +27,12 @@ pub struct Gate {
     pub(crate) is_exact: bool,
     ghost chosen: { (source_word < 4) × (destination_word < 4) },
 }
+
+/// What is told of the ports that a rule asks for.
+#[derive(Clone, Copy, Debug)]
+pub(crate) struct PortGate {
+    /// Each of them is one of these numbers.
+    pub(crate) numbers: Interval,
+    /// Each of these numbers is one of them, and that of no port where the rule asks for no port.
+    pub(crate) is_exact: bool,
+}

@@ -5,7 +5,7 @@ ghost use Rattle.rule_gates.specs.Told.{is_told_body};
 
 use crate::address_gate::AddressGate;
 use crate::addresses::addresses;
-use crate::port_gate::PortGate;
+use crate::gate::PortGate;
 use crate::ports::ports;
 use crate::stateful::looks_up;
 use crate::versions::narrower;

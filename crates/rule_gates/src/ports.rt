@@ -3,7 +3,7 @@ ghost use Rattle.rule_gates.specs.Covers.{CoversList, CoversPorts, IsExactPorts,
 ghost use Rattle.rule_gates.specs.Told.{are_told_ports};
 
 use crate::Interval;
-use crate::port_gate::PortGate;
+use crate::gate::PortGate;
 use fw_base::PortRange;
 use fw_rule::PortList;
 

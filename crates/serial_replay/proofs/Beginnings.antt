@@ -9,7 +9,7 @@ use Rattle.pcap_read.specs.declared.capture_fault.OpenFault.{OpenFault}
 use Rattle.serial_replay.specs.Reading.{Origin, origin_of}
 use Rattle.serial_replay.specs.Tracks.{IsOpenTrack, StepsOn, Begins, BeginsRefused, held_in}
 use Rattle.serial_replay.specs.declared.open_track.OpenTrack.{OpenTrack}
-use Rattle.serial_replay.specs.declared.opened_capture.OpenedCapture.{OpenedCapture}
+use Rattle.serial_replay.specs.declared.replay.OpenedCapture.{OpenedCapture}
 use Rattle.serial_replay.specs.declared.track.Track.TheVariants.{Open, Refused}
 
 module _ {S : Type 0} (left : S → Option (List ℕ)) (faults : S → ℕ) where

@@ -11,7 +11,7 @@ use Rattle.serial_replay.specs.Reading as reading
 use Rattle.serial_replay.specs.Reading.{Origin, origin_of, IsRead, AllRead, track_inputs, input_of}
 use Rattle.serial_replay.specs.Running.{inputs_of, joined, first_of}
 use Rattle.serial_replay.specs.Tracks.{AreTracks, IsTrack, IsSettled, GoesOn, HasEnded, end_of, held_in, held_of, source_at}
-use Rattle.serial_replay.specs.declared.opened_capture.OpenedCapture.{OpenedCapture}
+use Rattle.serial_replay.specs.declared.replay.OpenedCapture.{OpenedCapture}
 use Rattle.serial_replay.specs.declared.track.Track.{Track}
 use Rattle.serial_replay.specs.declared.track.Track.TheVariants.{Open, Refused}
 use Rattle.serial_schedule.specs.Order.{next_of}

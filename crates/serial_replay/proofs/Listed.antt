@@ -3,8 +3,8 @@ use Rattle.std.proofs.Common.{◌≡◌, ℕ, Bool, true, false, Option, Some, N
 use Rattle.std.specs.Prelude.{is_some, if◌then◌else◌}
 use Rattle.std.specs.Borrow.{Bor}
 use Rattle.std.specs.Option.{option_copied}
-use Rattle.fw_report.specs.declared.answer.Answer.{Answer}
-use Rattle.fw_report.specs.declared.answer.Answer.TheVariants.{Refused, Listed}
+use Rattle.fw_report.specs.declared.ends.Answer.{Answer}
+use Rattle.fw_report.specs.declared.ends.Answer.TheVariants.{Refused, Listed}
 use Rattle.fw_world.specs.Editions.{IsLastOf}
 use Rattle.fw_world.specs.World.{WorldValue}
 use Rattle.generation_store.specs.Published.{Published}

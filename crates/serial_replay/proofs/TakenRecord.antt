@@ -17,7 +17,7 @@ use Rattle.serial_replay.specs.Reading.{Origin, input_of}
 use Rattle.serial_replay.specs.Running.{inputs_of, joined, with_last, first_of, IsReady, TakesRecord}
 use Rattle.serial_replay.specs.Tracks.{AreTracks, IsTrack, GoesOn, HasEnded, GoesFurther, GoesFurtherAt, held_in, held_of, open_of, room_of, rooms_of}
 use Rattle.serial_replay.specs.declared.open_track.OpenTrack.{OpenTrack}
-use Rattle.serial_replay.specs.declared.opened_capture.OpenedCapture.{OpenedCapture}
+use Rattle.serial_replay.specs.declared.replay.OpenedCapture.{OpenedCapture}
 use Rattle.serial_replay.specs.declared.track.Track.{Track}
 use Rattle.serial_replay.specs.declared.track.Track.TheVariants.{Open, Refused}
 use Rattle.serial_replay.specs.declared.running.Running.{Running}

@@ -8,7 +8,7 @@ use Rattle.serial_schedule.specs.Order.{moment_of}
 use Rattle.serial_schedule.specs.declared.moment.Moment.{Moment}
 use Rattle.serial_replay.specs.Reading.{Origin}
 use Rattle.serial_replay.specs.Tracks.{Begins, BeginAll, GoesFurther, GoesFurtherAt, AreTracks, room_of, rooms_of, held_of}
-use Rattle.serial_replay.specs.declared.opened_capture.OpenedCapture.{OpenedCapture}
+use Rattle.serial_replay.specs.declared.replay.OpenedCapture.{OpenedCapture}
 use Rattle.serial_replay.specs.declared.track.Track.{Track}
 
 -- a list, each element as it is

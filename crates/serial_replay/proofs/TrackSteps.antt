@@ -15,7 +15,7 @@ use Rattle.serial_replay.specs.Reading.{Origin, origin_of, link_in, IsEnd}
 use Rattle.serial_replay.specs.Tracks.{GoesOn, HasEnded, IsOpenTrack, IsSettled, StepsOn, StepsOnOrEnded, GoesFurther, held_in, steps_left, while_open}
 use Rattle.serial_replay.specs.declared.open_track.OpenTrack.{OpenTrack}
 use Rattle.serial_replay.specs.declared.track.Track.TheVariants.{Open, Refused}
-use Rattle.serial_replay.specs.declared.opened_capture.OpenedCapture.{OpenedCapture}
+use Rattle.serial_replay.specs.declared.replay.OpenedCapture.{OpenedCapture}
 
 at_none : {T : Type 0} (o : Option T) (P : Type 0) (Q : T → Type 0) → o ≡ None → MatchOption o P Q → P
 at_none o P Q is h = subst (λ o. MatchOption o P Q) is h

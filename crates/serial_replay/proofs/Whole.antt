@@ -24,8 +24,8 @@ use Rattle.serial_replay.specs.Reading.{Origin, origin_of, AllRead, track_inputs
 use Rattle.serial_replay.specs.Replay.{limit_for, lines_outcome, IsReplay}
 use Rattle.serial_replay.specs.Running.{inputs_of, joined, IsReady, Goes, Closes, RunsOut}
 use Rattle.serial_replay.specs.Tracks.{AreTracks, BeginAll, held_of, source_at}
-use Rattle.serial_replay.specs.declared.opened_capture.OpenedCapture.{OpenedCapture}
-use Rattle.serial_replay.specs.declared.replayed.Replayed.{Replayed}
+use Rattle.serial_replay.specs.declared.replay.OpenedCapture.{OpenedCapture}
+use Rattle.serial_replay.specs.declared.replay.Replayed.{Replayed}
 use Rattle.serial_replay.specs.declared.running.Running.{Running}
 use Rattle.serial_replay.specs.declared.track.Track.{Track}
 use Rattle.serial_schedule.specs.Agenda.{all_lines}

@@ -2,9 +2,9 @@
 -- is answered by the edition that stands then (ipfw(8)).
 use Rattle.std.specs.Prelude.{ℕ, ◌+◌, is_some, if◌then◌else◌, Option, Some, None, Ok, Err, List, [], ◌∷◌, ◌++◌}
 use Rattle.fw_command.specs.declared.script.Line.{Line}
-use Rattle.fw_report.specs.declared.answer.Answer.{Answer}
-use Rattle.fw_report.specs.declared.answer.Answer.TheVariants.{Refused, Listed}
-use Rattle.fw_report.specs.declared.line_answer.LineAnswer.{LineAnswer}
+use Rattle.fw_report.specs.declared.ends.Answer.{Answer}
+use Rattle.fw_report.specs.declared.ends.Answer.TheVariants.{Refused, Listed}
+use Rattle.fw_report.specs.declared.ends.LineAnswer.{LineAnswer}
 use Rattle.fw_rule.specs.declared.command.Command.{Command}
 use Rattle.fw_rule.specs.declared.command.Command.TheVariants.{Add, Delete, DeleteSet, Flush, Zero, ListRules, SetMask, MoveSet, MoveRule, SwapSets, Table, Sysctl, Local}
 use Rattle.fw_rule.specs.declared.table_command.TableCommand.{TableCommand}

@@ -1,7 +1,7 @@
 -- What each event of a run leaves: a record that is judged by its lane, or a command.
 use Rattle.std.specs.Prelude.{◌≡◌, ℕ, ◌+◌, Option, Some, None, ◌⊎◌, List, [], ◌∷◌, length, slice_get, slice_set}
 use Rattle.fw_base.specs.declared.port.Port.{Port}
-use Rattle.counter_book.specs.declared.count.Count.{Count}
+use Rattle.counter_book.specs.declared.tally.Count.{Count}
 use Rattle.eval_engine.specs.Dockets.{judged_entry}
 use Rattle.eval_engine.specs.declared.docket_entry.DocketEntry.{DocketEntry}
 use Rattle.eval_engine.specs.declared.docket_entry.DocketEntry.TheVariants as entry

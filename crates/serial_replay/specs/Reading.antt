@@ -13,7 +13,7 @@ use Rattle.pcap_read.specs.Reading.{Captured, header_of}
 use Rattle.pcap_read.specs.Capture.{StopsWith}
 use Rattle.pcap_read.specs.declared.capture_fault.CaptureFault.{CaptureFault}
 use Rattle.pcap_read.specs.declared.format.Format.{Format}
-use Rattle.serial_replay.specs.declared.opened_capture.OpenedCapture.{OpenedCapture}
+use Rattle.serial_replay.specs.declared.replay.OpenedCapture.{OpenedCapture}
 
 -- a frame of a capture that was taken there, as the input of a lane
 abbrev pub input_for : Port → ℕ → AnyPacket → Input

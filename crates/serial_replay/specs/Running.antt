@@ -13,12 +13,12 @@ use Rattle.serial_replay.specs.Live.{run_state, IsSound, IsLive}
 use Rattle.serial_replay.specs.Reading.{Origin, input_of}
 use Rattle.serial_replay.specs.Replay.{lines_outcome}
 use Rattle.serial_replay.specs.Tracks.{AreTracks, end_of, held_of, rooms_of, source_at}
-use Rattle.serial_replay.specs.declared.opened_capture.OpenedCapture.{OpenedCapture}
+use Rattle.serial_replay.specs.declared.replay.OpenedCapture.{OpenedCapture}
 use Rattle.fw_rule.specs.declared.command.Command.{Command}
 use Rattle.fw_world.specs.Closing.{EachStandsFor, record_of}
 use Rattle.fw_world.specs.Legal.{IsLegal}
 use Rattle.fw_world.specs.World.{DeskStandsFor}
-use Rattle.serial_replay.specs.declared.replayed.Replayed.{Replayed}
+use Rattle.serial_replay.specs.declared.replay.Replayed.{Replayed}
 use Rattle.serial_replay.specs.declared.running.Running.{Running}
 use Rattle.serial_replay.specs.declared.track.Track.{Track}
 use Rattle.serial_schedule.specs.Agenda.{all_lines, NoneIsDue}

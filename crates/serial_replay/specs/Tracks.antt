@@ -8,7 +8,7 @@ use Rattle.pcap_read.specs.Capture.{IsReading, IsRefused, current_of, given_of, 
 use Rattle.pcap_read.specs.Reading.{Captured}
 use Rattle.serial_replay.specs.Reading.{Origin, origin_of, IsRead}
 use Rattle.serial_replay.specs.declared.open_track.OpenTrack.{OpenTrack}
-use Rattle.serial_replay.specs.declared.opened_capture.OpenedCapture.{OpenedCapture}
+use Rattle.serial_replay.specs.declared.replay.OpenedCapture.{OpenedCapture}
 use Rattle.serial_replay.specs.declared.track.Track.{Track}
 use Rattle.serial_replay.specs.declared.track.Track.TheVariants.{Open, Refused}
 

@@ -1,16 +1,16 @@
 ghost use Rattle.std.specs.Prelude.{◌≡◌, ◌≤◌, ◌*◌, IfOk, vec_len};
 ghost use Rattle.std.specs.List.{AllByRecursion};
 ghost use Rattle.fw_command.specs.WellFormed.{IsStepInRange};
-ghost use Rattle.serial_replay.specs.Replay as replay;
 ghost use Rattle.serial_replay.specs.Replay.{IsReplay};
+ghost use Rattle.serial_replay.specs.Replay as replay;
 
 use crate::live_world::LiveWorld;
 use crate::running::Running;
 use crate::tracks::Tracks;
-use crate::{OpenedCapture, Replayed};
-use fw_base::{OutOfMemory, Source};
+use fw_base::{OutOfMemory, Port, Source};
 use fw_command::Step;
-use fw_world::{OpenSerial, SerialWorld};
+use fw_report::Ends;
+use fw_world::{OpenSerial, Record, SerialWorld};
 use rule_chain::Config;
 use serial_schedule::Agenda;
 use std::alloc::Global;
@@ -60,4 +60,21 @@ pub fn replay_serial<S: Source>(
     };
     run.run_all(alloc)?;
     run.close(alloc)
+}
+
+/// A source that is to be read as a capture, and where that was taken.
+#[derive(Drop)]
+pub struct OpenedCapture<S> {
+    pub port: Port,
+    pub source: S,
+}
+
+/// What a replay comes to.
+#[derive(Drop)]
+pub struct Replayed<S> {
+    pub record: Record,
+    /// How the captures ended, in their order, and the answers to the lines behind `live`.
+    pub ends: Ends,
+    /// The captures' sources, in their order.
+    pub sources: Vec<S>,
 }

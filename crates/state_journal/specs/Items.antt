@@ -5,8 +5,8 @@ use Rattle.fw_rule.specs.Settings.{IsLifetime, IsMostStates}
 use Rattle.dyn_states.specs.declared.facts.Facts.{Facts}
 use Rattle.state_journal.specs.declared.entry.Entry.{Entry}
 use Rattle.state_journal.specs.declared.entry.Entry.TheVariants.{Publish, Ask}
-use Rattle.state_journal.specs.declared.item.Item.{Item}
-use Rattle.state_journal.specs.declared.item.Item.TheVariants.{Lanes, Published, Asked}
+use Rattle.state_journal.specs.declared.entry.Item.{Item}
+use Rattle.state_journal.specs.declared.entry.Item.TheVariants.{Lanes, Published, Asked}
 use Rattle.state_journal.specs.Journal.{Journal}
 
 -- the asks of a lane, each with the number of the last publication before it

@@ -1,6 +1,6 @@
 ghost use Rattle.std.specs.Prelude.{◌≡◌, ◌≢◌, ℕ, ◌≤◌, ◌+◌, ◌++◌, ◌∷◌, [], IfOk, OnOk, OnErr, true, length};
 ghost use Rattle.state_journal.specs.Items.{items_of, last_facts};
-ghost use Rattle.state_journal.specs.declared.item.Item.TheVariants.{Published};
+ghost use Rattle.state_journal.specs.declared.entry.Item.TheVariants.{Published};
 ghost use Rattle.state_journal.specs.Journal as journal;
 ghost use Rattle.state_journal.specs.Journal.{IsJournal, first_journal, with_ask, with_publication, NamesRuleOf, IsFoundOf, last_rules};
 ghost use Rattle.dyn_states.specs.RuleLists.{has_id};

@@ -1,4 +1,4 @@
-use dyn_states::{Op, Reply};
+use dyn_states::{Facts, Op, Reply};
 
 /// What the state object met.
 #[derive(Clone, Copy, Debug, PartialEq, Eq, Hash)]
@@ -13,4 +13,14 @@ pub enum Entry {
         reply: Reply,
         at: u64,
     },
+}
+
+/// What stands in the lists by which contracts see a book that is shared: list 0 has the number of lanes
+/// and then the facts of each publication, list k the asks of lane k.
+#[derive(Debug, Drop)]
+pub enum Item {
+    Lanes(u32),
+    Published(Facts),
+    /// An ask, with the number of the last publication before it.
+    Asked { after: u64, entry: Entry },
 }

@@ -3,11 +3,9 @@
 #![tactic(auto)]
 
 pub use book::Book;
-pub use entry::Entry;
-pub use item::Item;
+pub use entry::{Entry, Item};
 
 mod book;
 mod entry;
-mod item;
 #[cfg(test)]
 mod tests;

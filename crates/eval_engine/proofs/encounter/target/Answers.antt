@@ -1,5 +1,5 @@
 use Rattle.std.proofs.Common.{ap}
-use Rattle.generation_store.specs.declared.jump.Jump.{Jump}
+use Rattle.generation_store.specs.declared.jumps.Jump.{Jump}
 use Rattle.eval_engine.proofs.Configured.{jumps_within, jump_there, rule_read}
 use Rattle.eval_engine.proofs.encounter.target.Goals as goal
 

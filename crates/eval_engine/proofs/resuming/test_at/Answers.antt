@@ -4,7 +4,7 @@ use Rattle.eval_engine.specs.Standing.{callers_of, seen_by}
 use Rattle.eval_engine.specs.Steps.{question_of, judged_at}
 use Rattle.eval_engine.specs.Walk.{tests_from}
 use Rattle.eval_engine.specs.declared.judgement.Cause.TheVariants as causes
-use Rattle.eval_engine.specs.declared.verdict.Verdict.TheVariants as verdicts
+use Rattle.eval_engine.specs.declared.judgement.Verdict.TheVariants as verdicts
 use Rattle.eval_engine.proofs.Leading.{comes_at_once, denied_there}
 use Rattle.eval_engine.proofs.resuming.test_at.Goals as goal
 

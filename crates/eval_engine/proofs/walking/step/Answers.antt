@@ -4,8 +4,8 @@ use Rattle.eval_engine.specs.Standing.{callers_of, seen_by}
 use Rattle.eval_engine.specs.Steps.{question_of, judged_at, walk_at, PassesTo}
 use Rattle.eval_engine.specs.Walk.{walk_from}
 use Rattle.eval_engine.specs.declared.judgement.Cause.TheVariants as causes
-use Rattle.eval_engine.specs.declared.step.Step.TheVariants.{Decides}
-use Rattle.eval_engine.specs.declared.verdict.Verdict.TheVariants as verdicts
+use Rattle.eval_engine.specs.declared.position.Step.TheVariants.{Decides}
+use Rattle.eval_engine.specs.declared.judgement.Verdict.TheVariants as verdicts
 use Rattle.eval_engine.proofs.Leading.{comes_at_once, denied_there, leads_passed}
 use Rattle.eval_engine.proofs.Walks.{walk_ends}
 use Rattle.eval_engine.proofs.walking.step.Goals as goal

@@ -9,7 +9,7 @@ use Rattle.eval_engine.specs.declared.judgement.Judgement.{Judgement}
 use Rattle.eval_engine.specs.Question.{Question}
 use Rattle.eval_engine.specs.Trace.{Seen, with_seen}
 use Rattle.eval_engine.specs.declared.judgement.Cause.TheVariants as causes
-use Rattle.eval_engine.specs.declared.verdict.Verdict.TheVariants as verdicts
+use Rattle.eval_engine.specs.declared.judgement.Verdict.TheVariants as verdicts
 use Rattle.evaluation_laws.specs.Story as told
 use Rattle.evaluation_laws.specs.Runs.{Moment, Meets, Tests, Acts, HasEnded, judgement_under}
 use Rattle.evaluation_laws.specs.Running.{IsRun}

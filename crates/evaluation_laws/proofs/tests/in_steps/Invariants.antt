@@ -1,5 +1,5 @@
 use Rattle.std.proofs.Common.{◌≡◌, List, length}
-use Rattle.counter_book.specs.declared.count.Count.{Count}
+use Rattle.counter_book.specs.declared.tally.Count.{Count}
 use Rattle.dyn_states.specs.declared.op.Op.{Op}
 use Rattle.dyn_states.specs.declared.reply.Reply.{Reply}
 use Rattle.eval_engine.specs.Standing.{StandsAt}

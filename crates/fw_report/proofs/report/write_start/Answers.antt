@@ -8,7 +8,7 @@ use Rattle.fw_report.specs.DocketText.{captures_text}
 use Rattle.fw_report.specs.RulesText.{editions_line}
 use Rattle.fw_report.specs.Report.{start_text}
 use Rattle.fw_report.specs.declared.capture_end.CaptureEnd.{CaptureEnd}
-use Rattle.fw_report.specs.declared.line_answer.LineAnswer.{LineAnswer}
+use Rattle.fw_report.specs.declared.ends.LineAnswer.{LineAnswer}
 use Rattle.fw_report.proofs.report.write_start.Goals as goal
 
 pub returns-in_err-write_captures : goal.returns-in_err-write_captures

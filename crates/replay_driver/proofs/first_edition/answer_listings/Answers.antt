@@ -1,6 +1,6 @@
 use Rattle.std.proofs.Common.{◌≡◌, ◌∙◌, ◌+◌, drop, sym, ap, Option, Vec, Global}
 use Rattle.std.proofs.lemmas.Result.{err_from_is_err_and}
-use Rattle.fw_report.specs.declared.line_answer.LineAnswer.{LineAnswer}
+use Rattle.fw_report.specs.declared.ends.LineAnswer.{LineAnswer}
 use Rattle.replay_driver.specs.FirstEdition.{listings_of}
 use Rattle.replay_driver.proofs.ScriptLines.{behind, line_at, passed_on, listings_on, listings_stops, listings_none}
 use Rattle.replay_driver.proofs.first_edition.answer_listings.Goals as goal

@@ -2,7 +2,7 @@ use Rattle.std.proofs.Common.{◌≡◌, ◌∙◌, sym, ap, subst, List, Vec, G
 use Rattle.std.proofs.lemmas.Result.{err_from_is_err_and}
 use Rattle.fw_command.specs.declared.script.Line.{Line}
 use Rattle.fw_command.specs.declared.script.Script.{Script}
-use Rattle.fw_report.specs.declared.line_answer.LineAnswer.{LineAnswer}
+use Rattle.fw_report.specs.declared.ends.LineAnswer.{LineAnswer}
 use Rattle.rule_chain.specs.Configuration.{Configuration}
 use Rattle.rule_chain.specs.First.{first_configuration}
 use Rattle.replay_driver.specs.FirstEdition.{first_edition, configured, listings_of}

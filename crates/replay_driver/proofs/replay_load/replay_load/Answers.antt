@@ -1,7 +1,7 @@
 use Rattle.std.proofs.Common.{◌≡◌, ◌∙◌, ap, sym, subst, List, [], ◌∷◌, ◌++◌, ℕ}
 use Rattle.load_maker.specs.Load.{script_of, capture_of}
 use Rattle.replay_driver.specs.Found.{IsReplayOf, made_capture, known_left, no_failures}
-use Rattle.serial_replay.specs.declared.opened_capture.OpenedCapture.{OpenedCapture}
+use Rattle.serial_replay.specs.declared.replay.OpenedCapture.{OpenedCapture}
 use Rattle.replay_driver.proofs.replay_load.replay_load.Goals as goal
 
 pub returns-clause-finds : goal.returns-clause-finds

@@ -1,6 +1,0 @@
-/// Which ask an evaluation waits at.
-#[derive(Clone, Copy, Debug, PartialEq, Eq)]
-pub(crate) enum AskKind {
-    Lookup,
-    Install,
-}
