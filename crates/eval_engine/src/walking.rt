@@ -11,11 +11,11 @@ ghost use Rattle.eval_engine.specs.declared.judgement.Cause.TheVariants as cause
 ghost use Rattle.eval_engine.specs.declared.searched.Searched.{Searched};
 ghost use Rattle.eval_engine.specs.declared.position.Step.TheVariants.{On};
 
-use crate::paused::AskKind;
 use crate::encounter::{
     first_behind, install_by, is_disabled, is_held, lookup_by, lookup_flow, rule_at, rule_ref,
     target,
 };
+use crate::paused::AskKind;
 use crate::position::{Position, Step};
 use crate::search::{Search, flow_of};
 use crate::searched::Searched;

@@ -5,9 +5,9 @@ ghost use Rattle.generation_store.specs.Published.{has_identity};
 ghost use Rattle.fw_world.specs.AskRuns.{Evaluates, AsksSome};
 ghost use Rattle.fw_world.specs.Lane.{one_looser};
 
-use counter_book::Tally;
 use crate::asks_book::AsksBook;
 use crate::evaluating::evaluate_packet;
+use counter_book::Tally;
 use eval_engine::{Docket, DocketEntry, Judgement};
 use fw_base::{OutOfMemory, Port};
 use generation_store::Edition;

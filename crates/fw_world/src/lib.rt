@@ -1,8 +1,8 @@
 //! The world that packets are judged in: editions, the one book of the states, and the lanes.
 #![tactic(auto)]
 
-pub use lane_work::Skipped;
 pub use commit_fault::CommitFault;
+pub use lane_work::Skipped;
 pub use open_serial::OpenSerial;
 pub use record::Record;
 pub use serial_desk::SerialDesk;

@@ -1,7 +1,7 @@
 ghost use Rattle.std.specs.Prelude.{◌≡◌};
 
-use crate::lane_state::LaneState;
 use crate::SerialInside;
+use crate::lane_state::LaneState;
 use std::marker::Model;
 
 /// A lane of the serial world outside of a section: who judges the records of one capture.

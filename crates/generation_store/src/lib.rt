@@ -1,8 +1,8 @@
 //! Editions: configurations that were published under a number, with what an evaluation asks of them.
 #![tactic(auto)]
 
-pub use jumps::Jump;
 pub use edition::Edition;
+pub use jumps::Jump;
 pub use store::Store;
 
 mod edition;

@@ -10,10 +10,7 @@ use serial_replay::OpenedCapture;
 use std::alloc::Global;
 
 /// The made capture, as it would be taken at `in:em0`.
-fn open_made(
-    alloc: Global,
-    capture: MadeCapture,
-) -> Result<OpenedCapture<MadeCapture>, OutOfMemory>
+fn open_made(alloc: Global, capture: MadeCapture) -> Result<OpenedCapture<MadeCapture>, OutOfMemory>
     ensures { IfOk result (λ opened. opened ≡ made_capture capture) }
 {
     let port = Port {

@@ -10,10 +10,10 @@ ghost use Rattle.replay_driver.specs.RunResult as results;
 ghost use Rattle.replay_driver.specs.Served.{job_of};
 
 use crate::Outcome;
-use crate::run_result::{Found, RunResult, no_ends};
 use crate::piece_sink::write_pieced;
 use crate::replay_files::replay_files;
 use crate::replay_load::replay_load;
+use crate::run_result::{Found, RunResult, no_ends};
 use command_words::{Invocation, Mode, read_words};
 use core::mem::replace_with;
 use fw_base::{BUFFER_BYTES, Failed, Gate, Library, OutOfMemory, Sink};
