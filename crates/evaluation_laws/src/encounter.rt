@@ -82,7 +82,8 @@ pub(crate) fn lookup_flow(
     rule: &Rule,
 ) -> Option<Flow>
     requires { IsRuleAt (viewed_question question.now) place rule.now }
-    ensures { result ≡ walk.lookup_flow (viewed_question question.now) (viewed_names looked.now) rule.now }
+    ensures { result
+        ≡ walk.lookup_flow (viewed_question question.now) (viewed_names looked.now) rule.now }
 {
     if looks_up(rule) && looked.is_due(name_at(question, place, rule)) {
         flow_of(question)
