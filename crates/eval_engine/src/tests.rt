@@ -338,7 +338,7 @@ fn check(rt: &impl Abort, alloc: Global, row: &Row) -> Result<(), Fail> {
 
 #[test]
 fn rows_without_states(rt: HostRuntime) -> Result<(), Fail> {
-    assert_eq!(rt; size_of::<DocketEntry>(), 32);
+    assert_eq!(rt; size_of::<DocketEntry>(), 24);
     assert_eq!(rt; DocketEntry::Other.judgement(), None);
     for row in COUNTED {
         check(&rt, rt.alloc(), row)?;

@@ -4,7 +4,8 @@ use Rattle.std.specs.Fmt.{decimal}
 use Rattle.fw_rule.specs.Canonical.{five_digits}
 use Rattle.eval_engine.specs.Dockets.{judgement_of}
 use Rattle.eval_engine.specs.declared.docket_entry.DocketEntry.{DocketEntry}
-use Rattle.eval_engine.specs.declared.docket_entry.DocketEntry.TheVariants.{Other, Malformed, Judged}
+use Rattle.eval_engine.specs.declared.docket_entry.DocketEntry.TheVariants as entry
+use Rattle.eval_engine.specs.declared.judgement.Cause.TheVariants.{Rule, Limit, Full}
 use Rattle.eval_engine.specs.declared.judgement.Judgement.{Judgement}
 use Rattle.fw_report.specs.DocketText.{verdict_word, verdict_code, cause_word, cause_count, judged_text, entry_text, record_line, record_lines}
 use Rattle.fw_report.specs.Lines.{lines_in, RecordLinesAreRecords}
@@ -26,9 +27,11 @@ judged_line j =
 
 entry_line : (entry : DocketEntry) → lines_in (entry_text entry) ≡ 1
 unfolding entry_text lines_in
-entry_line Other = refl
-entry_line (Malformed kind) = behind (decimal kind) _ (number_is_silent kind)
-entry_line (Judged verdict cause rule edition) = judged_line (judgement_of verdict cause rule edition)
+entry_line entry.Other = refl
+entry_line (entry.Malformed kind) = behind (decimal kind) _ (number_is_silent kind)
+entry_line (entry.Judged verdict rule edition) = judged_line (judgement_of verdict Rule rule edition)
+entry_line (entry.Limited verdict rule states edition) = judged_line (judgement_of verdict (Limit states) rule edition)
+entry_line (entry.Full verdict rule states edition) = judged_line (judgement_of verdict (Full states) rule edition)
 
 one_line : (capture at : ℕ) (entry : DocketEntry) → lines_in (record_line capture at entry) ≡ 1
 unfolding record_line lines_in

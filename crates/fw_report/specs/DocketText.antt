@@ -4,7 +4,7 @@ use Rattle.fw_rule.specs.Canonical.{code_word, five_digits}
 use Rattle.pcap_read.specs.Words.{word_of}
 use Rattle.eval_engine.specs.Dockets.{DocketValue, judgement_of}
 use Rattle.eval_engine.specs.declared.docket_entry.DocketEntry.{DocketEntry}
-use Rattle.eval_engine.specs.declared.docket_entry.DocketEntry.TheVariants.{Other, Malformed, Judged}
+use Rattle.eval_engine.specs.declared.docket_entry.DocketEntry.TheVariants as entry
 use Rattle.eval_engine.specs.declared.judgement.Cause.{Cause}
 use Rattle.eval_engine.specs.declared.judgement.Cause.TheVariants.{Rule, Limit, Full}
 use Rattle.eval_engine.specs.declared.judgement.Judgement.{Judgement}
@@ -48,9 +48,11 @@ judged_text j =
 
 -- what the record is, or how it was judged
 unfoldable pub entry_text : DocketEntry → List ℕ
-entry_text Other = codes " other\n"
-entry_text (Malformed kind) = codes " malformed " ++ (decimal kind ++ codes "\n")
-entry_text (Judged verdict cause rule edition) = judged_text (judgement_of verdict cause rule edition)
+entry_text entry.Other = codes " other\n"
+entry_text (entry.Malformed kind) = codes " malformed " ++ (decimal kind ++ codes "\n")
+entry_text (entry.Judged verdict rule edition) = judged_text (judgement_of verdict Rule rule edition)
+entry_text (entry.Limited verdict rule states edition) = judged_text (judgement_of verdict (Limit states) rule edition)
+entry_text (entry.Full verdict rule states edition) = judged_text (judgement_of verdict (Full states) rule edition)
 
 -- the line of a record: the capture's number, the record's, and what is told of it
 unfoldable pub record_line : ℕ → ℕ → DocketEntry → List ℕ

@@ -2,7 +2,7 @@
 use Rattle.std.specs.Prelude.{ℕ, Bool, true, false, List, ◌++◌, length, sum_by, count_by, codes, decimal}
 use Rattle.eval_engine.specs.Dockets.{DocketValue}
 use Rattle.eval_engine.specs.declared.docket_entry.DocketEntry.{DocketEntry}
-use Rattle.eval_engine.specs.declared.docket_entry.DocketEntry.TheVariants.{Other, Malformed, Judged}
+use Rattle.eval_engine.specs.declared.docket_entry.DocketEntry.TheVariants.{Other, Malformed, Judged, Limited, Full}
 use Rattle.eval_engine.specs.declared.judgement.Verdict.{Verdict}
 use Rattle.eval_engine.specs.declared.judgement.Verdict.TheVariants.{Allow, Deny, Reset, Unreach}
 
@@ -24,7 +24,9 @@ is_deny (Unreach code) = false
 abbrev pub is_judged : (Verdict → Bool) → DocketEntry → Bool
 is_judged is Other = false
 is_judged is (Malformed kind) = false
-is_judged is (Judged verdict cause rule edition) = is verdict
+is_judged is (Judged verdict rule edition) = is verdict
+is_judged is (Limited verdict rule states edition) = is verdict
+is_judged is (Full verdict rule states edition) = is verdict
 
 -- how many records there are, and how many were judged so
 abbrev pub records_in : List DocketValue → ℕ

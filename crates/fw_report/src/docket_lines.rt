@@ -1,11 +1,13 @@
 ghost use Rattle.std.specs.Prelude.{◌≡◌, ◌+◌, ◌<◌, ◌≤◌, ◌++◌, Some, length, map, slice_get};
 ghost use Rattle.fw_base.specs.Texts.{WritesText};
+ghost use Rattle.eval_engine.specs.Dockets as definition;
 ghost use Rattle.fw_rule.specs.Canonical.{code_word};
 ghost use Rattle.fw_report.specs.DocketText as text;
 ghost use Rattle.pcap_read.specs.Words.{word_of};
 
 use crate::CaptureEnd;
 use crate::line::{LINE_BYTES, Line};
+use dyn_states::RuleRef;
 use eval_engine::{Cause, Docket, DocketEntry, Judgement, Verdict};
 use fw_base::{Failed, Sink};
 use fw_rule::UNREACH_NAMES;
@@ -64,6 +66,19 @@ fn put_cause(line: &mut Line, cause: Cause)
     }
 }
 
+/// The judgement of these fields.
+#[inline(always)]
+fn judgement_of(verdict: Verdict, cause: Cause, rule: RuleRef, edition: u64) -> Judgement
+    ensures { result ≡ definition.judgement_of verdict cause rule edition }
+{
+    Judgement {
+        edition,
+        verdict,
+        rule,
+        cause,
+    }
+}
+
 /// Puts what is told of a packet that was judged.
 #[tactic(auto, unfolding(crate::specs::DocketText::judged_text))]
 #[inline(always)]
@@ -80,6 +95,15 @@ fn put_judged(line: &mut Line, judgement: Judgement)
     line.put_text(b" ");
     put_verdict(line, judgement.verdict);
     line.put_text(b" ");
+}
+
+/// Puts what is told of a packet that a count of states refused, which is seldom.
+#[inline(never)]
+fn put_refused(line: &mut Line, judgement: Judgement)
+    ensures items { line.new ≡ text.judged_text judgement }
+    ensures room { length line.new ≤ 87 }
+{
+    put_judged(line, judgement);
 }
 
 /// Puts that a record is no packet of IP.
@@ -118,18 +142,27 @@ fn put_entry(line: &mut Line, entry: DocketEntry)
         DocketEntry::Malformed(kind) => put_malformed(line, kind),
         DocketEntry::Judged {
             verdict,
-            cause,
             rule,
             edition,
-        } => {
-            let judgement = Judgement {
-                edition,
-                verdict,
-                rule,
-                cause,
-            };
-            put_judged(line, judgement)
-        }
+        } => put_judged(line, judgement_of(verdict, Cause::Rule, rule, edition)),
+        DocketEntry::Limited {
+            verdict,
+            rule,
+            states,
+            edition,
+        } => put_refused(
+            line,
+            judgement_of(verdict, Cause::Limit(states), rule, edition),
+        ),
+        DocketEntry::Full {
+            verdict,
+            rule,
+            states,
+            edition,
+        } => put_refused(
+            line,
+            judgement_of(verdict, Cause::Full(states), rule, edition),
+        ),
     }
 }
 

@@ -17,7 +17,9 @@ fn is_allowed(entry: &DocketEntry) -> bool
 {
     match entry {
         DocketEntry::Other | DocketEntry::Malformed(_) => false,
-        DocketEntry::Judged { verdict, .. } => match verdict {
+        DocketEntry::Judged { verdict, .. }
+        | DocketEntry::Limited { verdict, .. }
+        | DocketEntry::Full { verdict, .. } => match verdict {
             Verdict::Allow => true,
             Verdict::Deny | Verdict::Reset | Verdict::Unreach(_) => false,
         },
@@ -29,7 +31,9 @@ fn is_denied(entry: &DocketEntry) -> bool
 {
     match entry {
         DocketEntry::Other | DocketEntry::Malformed(_) => false,
-        DocketEntry::Judged { verdict, .. } => match verdict {
+        DocketEntry::Judged { verdict, .. }
+        | DocketEntry::Limited { verdict, .. }
+        | DocketEntry::Full { verdict, .. } => match verdict {
             Verdict::Deny => true,
             Verdict::Allow | Verdict::Reset | Verdict::Unreach(_) => false,
         },

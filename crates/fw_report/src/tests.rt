@@ -370,12 +370,12 @@ fn assert_reported(rt: &impl Abort, alloc: Global, row: &Row<'_>) -> Result<(), 
 }
 
 const fn judged(verdict: Verdict, number: u16, edition: u64, cause: Cause) -> DocketEntry {
-    DocketEntry::Judged {
-        verdict,
-        cause,
-        rule: RuleRef { id: 0, number },
+    DocketEntry::judged(Judgement {
         edition,
-    }
+        verdict,
+        rule: RuleRef { id: 0, number },
+        cause,
+    })
 }
 
 #[test]

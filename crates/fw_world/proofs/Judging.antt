@@ -2,7 +2,7 @@
 use Rattle.std.proofs.Common.{◌≡◌, ℕ, ◌+◌, ◌-◌, ◌%◌, ◌^◌, ◌<◌, ◌≤◌, Bool, true, false, List, [], ◌∷◌, ◌++◌, length, refl, sym, ap, ◌∙◌, subst, cond, arith, append_assoc}
 use Rattle.std.proofs.lemmas.List.{append-nil}
 use Rattle.std.proofs.lemmas.List.Sums.{sum_by_push}
-use Rattle.std.specs.Prelude.{◌==◌, Option, Some, IsSomeAnd, slice_get, sum_by, count_by}
+use Rattle.std.specs.Prelude.{◌==◌, Option, Some, is_some, IfSome, IsSomeAnd, option_and_then, slice_get, sum_by, count_by}
 use Rattle.fw_base.specs.declared.port.Port.{Port}
 use Rattle.fw_base.proofs.Lists.{all_weaker}
 use Rattle.ip6_headers.specs.Either.{total_of}
@@ -12,16 +12,16 @@ use Rattle.counter_book.specs.declared.tally.Count.{Count}
 use Rattle.dyn_states.specs.declared.op.Op.{Op}
 use Rattle.dyn_states.specs.declared.reply.Reply.{Reply}
 use Rattle.generation_store.specs.Published.{Published}
-use Rattle.eval_engine.specs.Dockets.{DocketValue, judged_entry}
+use Rattle.eval_engine.proofs.Dockets.{judgement_in-judged}
+use Rattle.eval_engine.specs.Dockets.{DocketValue, judged_entry, judgement_in}
 use Rattle.eval_engine.specs.Evaluated.{Whole}
 use Rattle.eval_engine.specs.Evaluation.{evaluate}
 use Rattle.eval_engine.specs.declared.docket_entry.DocketEntry.{DocketEntry}
-use Rattle.eval_engine.specs.declared.docket_entry.DocketEntry.TheVariants as entry
 use Rattle.eval_engine.specs.declared.judgement.Judgement.{Judgement}
 use Rattle.fw_world.specs.AskRuns.{RisesBy, raised_by}
 use Rattle.fw_world.specs.Asks.{LaneAsk, asks_of_record, replies_of, ops_of, AreAsksOf, IsJudgedUnder}
-use Rattle.fw_world.specs.Editions.{edition_numbered}
-use Rattle.fw_world.specs.Entries.{EachRecord, IsEntryFor, IsEvaluated, IsEvaluation, evaluated}
+use Rattle.fw_world.specs.Editions.{edition_numbered, judging_edition}
+use Rattle.fw_world.specs.Entries.{EachRecord, IsEntryFor, IsEvaluated, IsEvaluatedTo, IsEvaluation, evaluated}
 use Rattle.fw_world.specs.Inputs.{Input, Other, Malformed, Packet}
 use Rattle.fw_world.specs.Legal.{StandFor}
 use Rattle.fw_world.specs.Steps.{question_under}
@@ -47,10 +47,8 @@ record_hits-asks : (editions : List Published) (asks more : List LaneAsk) (at : 
     → asks_of_record at more ≡ asks_of_record at asks → record_hits editions more at input entered ≡ record_hits editions asks at input entered
 record_hits-asks editions asks more at Other entered same = refl
 record_hits-asks editions asks more at (Malformed kind) entered same = refl
-record_hits-asks editions asks more at (Packet packet port second) entry.Other same = refl
-record_hits-asks editions asks more at (Packet packet port second) (entry.Malformed kind) same = refl
-record_hits-asks editions asks more at (Packet packet port second) (entry.Judged verdict cause rule edition) same =
-    ap (λ (own : List LaneAsk). packet_hits (edition_numbered editions edition) packet port second own) same
+record_hits-asks editions asks more at (Packet packet port second) entered same =
+    ap (λ (own : List LaneAsk). packet_hits (judging_edition editions entered) packet port second own) same
 
 lane_hits-asks : (editions : List Published) (asks more : List LaneAsk) (at : ℕ) (inputs : List Input) (entries : List DocketEntry)
     → ((n : ℕ) → n < at + length entries → asks_of_record n more ≡ asks_of_record n asks) → lane_hits editions more at inputs entries ≡ lane_hits editions asks at inputs entries
@@ -127,6 +125,8 @@ module _ (editions : List Published) (asks : List LaneAsk) (docket : DocketValue
       let all : List LaneAsk = asks ++ own in
       let input : Input = Packet packet port second in
       let entered : DocketEntry = judged_entry judgement in
+      let judged : judgement_in entered ≡ Some judgement = judgement_in-judged judgement in
+      let named : judging_edition editions entered ≡ Some edition = ap (λ (j : Option Judgement). option_and_then (λ (one : Judgement). edition_numbered editions one.edition) j) judged ∙ found in
       let within = asks_are_within docket.entries asks stands.asked in
       let earlier = (λ (k : ℕ) (below : k < 1 + n). asks_of_record-earlier k judgement.edition (n + 1) asks ops replies (λ (e : k ≡ n + 1). omega arith)) in
       let next : asks_of_record (1 + n) all ≡ own = subst (λ (k : ℕ). asks_of_record k all ≡ own) (omega arith) (asks_of_record-next n judgement.edition (n + 1) asks ops replies within (omega arith)) in
@@ -136,22 +136,24 @@ module _ (editions : List Published) (asks : List LaneAsk) (docket : DocketValue
         asked = ap (λ (r : List Reply). (evaluate (question_under edition packet port second) r).asks) told ∙ asked ∙ sym (ap ops_of next ∙ ops-record_asks judgement.edition (n + 1) ops replies same);
       } in
       let hits : record_hits editions all (1 + n) input entered ≡ hits_under (total_of packet) (evaluate (question_under edition packet port second) replies).hits =
-      ap (λ (o : Option Published). packet_hits o packet port second (asks_of_record (1 + n) all)) found ∙ ap (λ (r : List Reply). hits_under (total_of packet) (evaluate (question_under edition packet port second) r).hits) told in
+      ap (λ (o : Option Published). packet_hits o packet port second (asks_of_record (1 + n) all)) named ∙ ap (λ (r : List Reply). hits_under (total_of packet) (evaluate (question_under edition packet port second) r).hits) told in
       let all_hits = lane_hits-append editions all 1 inputs docket.entries input entered stands.entered
       ∙ ap (λ (h : List Hit). h ++ record_hits editions all (1 + n) input entered) (lane_hits-asks editions asks all 1 inputs docket.entries earlier)
       ∙ ap (λ (h : List Hit). lane_hits editions asks 1 inputs docket.entries ++ h) hits in
       StandFor-entries editions all (record docket { entries = docket.entries ++ entered ∷ [] }) more after (inputs ++ input ∷ []) is (record {
-        entered = EachRecord-append IsEntryFor 1 inputs docket.entries input entered stands.entered tt;
+        entered = EachRecord-append IsEntryFor 1 inputs docket.entries input entered stands.entered (ap (λ (j : Option Judgement). is_some j) judged);
         evaluated = EachRecord-append (IsEvaluated editions all) 1 inputs docket.entries input entered
             (EachRecord-weaker (IsEvaluated editions asks) (IsEvaluated editions all) 1 inputs docket.entries (λ k i e below. IsEvaluated-asks editions asks all k i e (earlier k below)) stands.evaluated)
-            (subst (λ (o : Option Published). IsSomeAnd o (λ edition. IsEvaluation edition packet port second (asks_of_record (1 + n) all) judgement)) (sym found) evaluation);
+            (subst (λ (j : Option Judgement). IfSome j (IsEvaluatedTo editions packet port second (asks_of_record (1 + n) all))) (sym judged)
+            (subst (λ (o : Option Published). IsSomeAnd o (λ edition. IsEvaluation edition packet port second (asks_of_record (1 + n) all) judgement)) (sym found) evaluation));
         tallied = subst (λ (h : List Hit). IsTallyOf h after) (sym all_hits)
             (λ id. rises id ∙ ap (raised_by (total_of packet) (evaluate (question_under edition packet port second) replies).hits id) (stands.tallied id) ∙ sym (count_in-hits (total_of packet) _ (lane_hits editions asks 1 inputs docket.entries) id));
         asked =
             let entered_at : IsSomeAnd (slice_get (docket.entries ++ entered ∷ []) (n + 1 - 1)) (IsJudgedUnder judgement.edition) =
             let same_place : n ≡ n + 1 - 1 = omega arith in
             subst (λ (k : ℕ). IsSomeAnd (slice_get (docket.entries ++ entered ∷ []) k) (IsJudgedUnder judgement.edition)) same_place
-            (subst (λ (o : Option DocketEntry). IsSomeAnd o (IsJudgedUnder judgement.edition)) (sym (slice_get-last docket.entries entered)) refl) in
+            (subst (λ (o : Option DocketEntry). IsSomeAnd o (IsJudgedUnder judgement.edition)) (sym (slice_get-last docket.entries entered))
+            (subst (λ (j : Option Judgement). IsSomeAnd j (λ (one : Judgement). one.edition ≡ judgement.edition)) (sym judged) refl)) in
             AreAsksOf-record (docket.entries ++ entered ∷ []) asks judgement.edition (n + 1) ops replies (AreAsksOf-entries docket.entries entered asks stands.asked)
             (all_weaker (λ (one : LaneAsk). one.at ≤ n) (λ (one : LaneAsk). one.at ≤ n + 1) (λ one below. omega arith) asks within) (omega arith) entered_at;
       })

@@ -2,17 +2,17 @@
 use Rattle.std.proofs.Common.{◌≡◌, ◌≢◌, ℕ, ◌+◌, ◌-◌, ◌≤◌, List, [], ◌∷◌, ◌++◌, length, refl, sym, ap, ◌∙◌, subst, arith}
 use Rattle.std.proofs.lemmas.List.{length-append}
 use Rattle.std.proofs.lemmas.List.Elements.{All-weaker}
-use Rattle.std.specs.Prelude.{All, IfSome, IsSomeAnd, Option, Some, None}
+use Rattle.std.specs.Prelude.{All, IfSome, IsSomeAnd, Option, Some, None, option_and_then}
 use Rattle.fw_rule.specs.declared.command.Command.{Command}
 use Rattle.generation_store.specs.Published.{Published}
 use Rattle.state_journal.specs.Journal.{Journal}
 use Rattle.state_journal.proofs.ItemLists.{asks_of-publication}
-use Rattle.eval_engine.specs.Dockets.{judgement_of}
+use Rattle.eval_engine.specs.Dockets.{judgement_in}
 use Rattle.eval_engine.specs.declared.docket_entry.DocketEntry.{DocketEntry}
-use Rattle.eval_engine.specs.declared.docket_entry.DocketEntry.TheVariants as entry
+use Rattle.eval_engine.specs.declared.judgement.Judgement.{Judgement}
 use Rattle.fw_world.specs.Asks.{LaneAsk, asks_in, asks_of_record}
 use Rattle.fw_world.specs.Editions.{edition_numbered}
-use Rattle.fw_world.specs.Entries.{EachRecord, IsEvaluated, IsEvaluation}
+use Rattle.fw_world.specs.Entries.{EachRecord, IsEvaluated, IsEvaluatedTo, IsEvaluation}
 use Rattle.fw_world.specs.Inputs.{Input, Other, Malformed, Packet}
 use Rattle.fw_world.specs.Lane.{LaneValue}
 use Rattle.fw_world.specs.Legal.{StandFor, lane_asks}
@@ -44,23 +44,34 @@ is_lane_beside lane old new aside changes is =
 IsEvaluated-append : (editions more : List Published) (asks : List LaneAsk) (at : ℕ) (input : Input) (entered : DocketEntry) → IsEvaluated editions asks at input entered → IsEvaluated (editions ++ more) asks at input entered
 IsEvaluated-append editions more asks at Other entered is = is
 IsEvaluated-append editions more asks at (Malformed kind) entered is = is
-IsEvaluated-append editions more asks at (Packet packet port second) entry.Other is = is
-IsEvaluated-append editions more asks at (Packet packet port second) (entry.Malformed kind) is = is
-IsEvaluated-append editions more asks at (Packet packet port second) (entry.Judged verdict cause rule number) is =
-    IsSomeAnd-append (λ edition. IsEvaluation edition packet port second (asks_of_record at asks) (judgement_of verdict cause rule number)) editions more (number - 1) is
+IsEvaluated-append editions more asks at (Packet packet port second) entered is = still (judgement_in entered) is
+  where
+    own : List LaneAsk
+    own = asks_of_record at asks
+
+    still : (judged : Option Judgement) → IfSome judged (IsEvaluatedTo editions packet port second own) → IfSome judged (IsEvaluatedTo (editions ++ more) packet port second own)
+    still None is = is
+    still (Some judgement) is = IsSomeAnd-append (λ edition. IsEvaluation edition packet port second own judgement) editions more (judgement.edition - 1) is
+
+-- an edition that is there has its number beside more editions
+edition_numbered-append : (editions more : List Published) (number : ℕ) (P : Published → Type 0) → IsSomeAnd (edition_numbered editions number) P → edition_numbered (editions ++ more) number ≡ edition_numbered editions number
+edition_numbered-append editions more number P is = decided (edition_numbered editions number) refl is
+  where
+    decided : (found : Option Published) → edition_numbered editions number ≡ found → IsSomeAnd found P → edition_numbered (editions ++ more) number ≡ edition_numbered editions number
+    decided None same is = absurd is
+    decided (Some edition) same is = slice_get-append editions more (number - 1) edition same ∙ sym same
 
 -- and its hits are the same
 record_hits-append : (editions more : List Published) (asks : List LaneAsk) (at : ℕ) (input : Input) (entered : DocketEntry) → IsEvaluated editions asks at input entered → record_hits (editions ++ more) asks at input entered ≡ record_hits editions asks at input entered
 record_hits-append editions more asks at Other entered is = refl
 record_hits-append editions more asks at (Malformed kind) entered is = refl
-record_hits-append editions more asks at (Packet packet port second) entry.Other is = refl
-record_hits-append editions more asks at (Packet packet port second) (entry.Malformed kind) is = refl
-record_hits-append editions more asks at (Packet packet port second) (entry.Judged verdict cause rule number) is = decided (edition_numbered editions number) refl is
+record_hits-append editions more asks at (Packet packet port second) entered is =
+    ap (λ (edition : Option Published). packet_hits edition packet port second (asks_of_record at asks)) (still (judgement_in entered) is)
   where
-    decided : (found : Option Published) → edition_numbered editions number ≡ found → IsSomeAnd found (λ edition. IsEvaluation edition packet port second (asks_of_record at asks) (judgement_of verdict cause rule number))
-        → packet_hits (edition_numbered (editions ++ more) number) packet port second (asks_of_record at asks) ≡ packet_hits (edition_numbered editions number) packet port second (asks_of_record at asks)
-    decided None same is = absurd is
-    decided (Some edition) same is = ap (λ (o : Option Published). packet_hits o packet port second (asks_of_record at asks)) (slice_get-append editions more (number - 1) edition same ∙ sym same)
+    still : (judged : Option Judgement) → IfSome judged (IsEvaluatedTo editions packet port second (asks_of_record at asks))
+        → option_and_then (λ (one : Judgement). edition_numbered (editions ++ more) one.edition) judged ≡ option_and_then (λ (one : Judgement). edition_numbered editions one.edition) judged
+    still None is = refl
+    still (Some judgement) is = edition_numbered-append editions more judgement.edition (λ edition. IsEvaluation edition packet port second (asks_of_record at asks) judgement) is
 
 each-append : (editions more : List Published) (asks : List LaneAsk) (at : ℕ) (inputs : List Input) (entries : List DocketEntry) → EachRecord (IsEvaluated editions asks) at inputs entries → EachRecord (IsEvaluated (editions ++ more) asks) at inputs entries
 each-append editions more asks at [] [] each = tt

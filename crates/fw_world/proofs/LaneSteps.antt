@@ -1,12 +1,13 @@
 -- What holds of every lane holds after each of its steps.
-use Rattle.std.proofs.Common.{◌≡◌, ◌≢◌, ℕ, suc, ◌+◌, ◌-◌, ◌*◌, ◌%◌, ◌^◌, ◌<◌, ◌≤◌, min, cond, eq-eqb, Bool, true, false, List, [], ◌∷◌, ◌++◌, length, Option, Some, None, refl, sym, ap, ◌∙◌, subst, arith}
-use Rattle.std.proofs.lemmas.List.{append-nil, length-append}
+use Rattle.std.proofs.Common.{◌≡◌, ◌≢◌, ℕ, suc, ◌+◌, ◌-◌, ◌*◌, ◌%◌, ◌^◌, ◌<◌, ◌≤◌, min, cond, eq-eqb, Bool, true, false, List, [], ◌∷◌, ◌++◌, length, map, Option, Some, None, refl, sym, ap, ◌∙◌, subst, arith}
+use Rattle.std.proofs.lemmas.List.{append-nil, length-append, map-append}
 use Rattle.std.specs.Prelude.{◌==◌, All, IfSome, is_some, not, unwrap_or, get_or}
 use Rattle.std.specs.List.{AllByRecursion}
+use Rattle.std.specs.List.Sorted.{IsNonDecreasing}
 use Rattle.counter_book.specs.declared.tally.Count.{Count}
-use Rattle.eval_engine.specs.Dockets.{judged_entry}
+use Rattle.eval_engine.proofs.Dockets.{judgements-append, judgements-judged}
+use Rattle.eval_engine.specs.Dockets.{judged_entry, judgements}
 use Rattle.eval_engine.specs.declared.docket_entry.DocketEntry.{DocketEntry}
-use Rattle.eval_engine.specs.declared.docket_entry.DocketEntry.TheVariants.{Other, Malformed, Judged}
 use Rattle.eval_engine.specs.declared.judgement.Judgement.{Judgement}
 use Rattle.fw_world.specs.Lane.{LaneValue, InsideValue, one_looser, entered, refused, left, regained, admitted, with_entry}
 use Rattle.fw_world.specs.LaneKept.{IsLane, IsInside, pending_of}
@@ -15,10 +16,14 @@ use Rattle.fw_world.proofs.Records.{IsNonDecreasing-push}
 
 -- the judged editions of two lists of entries stand one behind the other
 pub judged_editions-append : (entries more : List DocketEntry) → judged_editions (entries ++ more) ≡ judged_editions entries ++ judged_editions more
-judged_editions-append [] more = refl
-judged_editions-append (Other ∷ entries) more = judged_editions-append entries more
-judged_editions-append (Malformed kind ∷ entries) more = judged_editions-append entries more
-judged_editions-append (Judged verdict cause rule edition ∷ entries) more = ap (λ (rest : List ℕ). edition ∷ rest) (judged_editions-append entries more)
+judged_editions-append entries more =
+    ap (λ (all : List Judgement). map (λ (one : Judgement). one.edition) all) (judgements-append entries more) ∙ map-append (λ (one : Judgement). one.edition) (judgements entries) (judgements more)
+
+-- behind other entries, that of a judgement has its edition behind theirs
+pub judged_editions-judged : (entries : List DocketEntry) (judgement : Judgement) → judged_editions (entries ++ judged_entry judgement ∷ []) ≡ judged_editions entries ++ judgement.edition ∷ []
+judged_editions-judged entries judgement =
+    judged_editions-append entries (judged_entry judgement ∷ [])
+    ∙ ap (λ (all : List Judgement). judged_editions entries ++ map (λ (one : Judgement). one.edition) all) (judgements-judged (judged_entry judgement) [] judgement refl)
 
 pub AllByRecursion-from_All : (P : ℕ → Type 0) (xs : List ℕ) → All P xs → AllByRecursion P xs
 AllByRecursion-from_All P [] all = tt
@@ -101,11 +106,11 @@ IsLane-left inside is = record {
 pub IsLane-judged : (lane : LaneValue) (judgement : Judgement) (tally : List Count) → IsLane 1 lane → All (λ number. number ≤ judgement.edition) (judged_editions lane.docket.entries)
     → IsLane 0 (record (with_entry (judged_entry judgement) lane) { tally = tally })
 IsLane-judged lane judgement tally is below =
-    let grown = judged_editions-append lane.docket.entries (judged_entry judgement ∷ []) in
+    let grown = judged_editions-judged lane.docket.entries judgement in
     record {
       numbered = is.numbered;
       above = is.above;
-      rising = rw grown (IsNonDecreasing-push (judged_editions lane.docket.entries) judgement.edition is.rising (AllByRecursion-from_All (λ number. number ≤ judgement.edition) (judged_editions lane.docket.entries) below));
+      rising = subst (λ (numbers : List ℕ). IsNonDecreasing numbers) (sym grown) (IsNonDecreasing-push (judged_editions lane.docket.entries) judgement.edition is.rising (AllByRecursion-from_All (λ number. number ≤ judgement.edition) (judged_editions lane.docket.entries) below));
       few = is.few;
       tracked = λ none.
           let longer = ap length grown ∙ length-append (judged_editions lane.docket.entries) (judgement.edition ∷ []) in

@@ -10,7 +10,7 @@ use Rattle.fw_world.specs.Lane.{LaneValue, with_entry, admitted}
 use Rattle.fw_world.specs.LaneKept.{IsLane, pending_of}
 use Rattle.fw_world.specs.Sections.{judged_editions}
 use Rattle.fw_world.specs.World.{WorldValue, published_count, IsLaneOf}
-use Rattle.fw_world.proofs.LaneSteps.{judged_editions-append, IsLane-judged, IsLane-failed}
+use Rattle.fw_world.proofs.LaneSteps.{judged_editions-judged, IsLane-judged, IsLane-failed}
 
 -- a lane of a world is one of any with as many lanes and the same editions
 IsLaneOf-same : (old new : WorldValue) (lane : LaneValue) → new.journal.lanes ≡ old.journal.lanes → new.editions ≡ old.editions → IsLaneOf old lane → IsLaneOf new lane
@@ -31,7 +31,8 @@ IsLaneOf-judged world lane judgement tally numbered is = record {
   last = is.last;
   held = is.held;
   heard = is.heard;
-  judged = rw (judged_editions-append lane.docket.entries (judged_entry judgement ∷ [])) (All-push (λ number. number ≤ published_count world) (judged_editions lane.docket.entries) judgement.edition is.judged (omega (arith, numbered)));
+  judged = subst (λ (numbers : List ℕ). All (λ number. number ≤ published_count world) numbers) (sym (judged_editions-judged lane.docket.entries judgement))
+      (All-push (λ number. number ≤ published_count world) (judged_editions lane.docket.entries) judgement.edition is.judged (omega (arith, numbered)));
 }
 
 IsLaneOf-failed : (world : WorldValue) (lane : LaneValue) (tally : List Count) → IsLaneOf world lane → IsLaneOf world (record lane { tally = tally; failed = true })

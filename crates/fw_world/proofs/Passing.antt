@@ -24,7 +24,7 @@ not_judged (Malformed kind) = refl
 pub LaneStandsFor-skipped : (world : WorldValue) (lane : LaneValue) (entry : Skipped) (inputs : List Input) → LaneStandsFor world lane inputs → LaneStandsFor world (with_entry (entry_for entry) lane) (inputs ++ skipped_input entry ∷ [])
 LaneStandsFor-skipped world lane Other inputs stands =
     let after = with_entry (entry_for Other) lane in
-    StandFor-skipped world.editions (lane_asks lane.place world.journal.entries) lane.docket lane.tally inputs stands (skipped_input Other) (entry_for Other) tt tt refl after.docket refl
+    StandFor-skipped world.editions (lane_asks lane.place world.journal.entries) lane.docket lane.tally inputs stands (skipped_input Other) (entry_for Other) refl tt refl after.docket refl
 LaneStandsFor-skipped world lane (Malformed kind) inputs stands =
     let after = with_entry (entry_for (Malformed kind)) lane in
     StandFor-skipped world.editions (lane_asks lane.place world.journal.entries) lane.docket lane.tally inputs stands (skipped_input (Malformed kind)) (entry_for (Malformed kind)) refl tt refl after.docket refl

@@ -7,19 +7,17 @@ use Rattle.std.proofs.Math.Seq.{get_or-append_seam}
 use Rattle.std.proofs.lemmas.List.{append-nil, length-append, map-append}
 use Rattle.std.proofs.lemmas.List.Elements.{filter-append}
 use Rattle.std.proofs.lemmas.Option.{slice_get_within, slice_get-get_or}
-use Rattle.std.specs.Prelude.{◌⊎◌, ◌==◌, get_or, Option, Some, None, IsSomeAnd, slice_get}
+use Rattle.std.specs.Prelude.{◌⊎◌, ◌==◌, get_or, Option, Some, None, IfSome, IsSomeAnd, slice_get}
 use Rattle.std.specs.List.{AllByRecursion}
 use Rattle.std.specs.List.Sorted.{IsNonDecreasing}
 use Rattle.fw_base.proofs.Lists.{all_push, all_weaker}
 use Rattle.dyn_states.specs.declared.op.Op.{Op}
 use Rattle.dyn_states.specs.declared.reply.Reply.{Reply}
 use Rattle.generation_store.specs.Published.{Published}
-use Rattle.eval_engine.specs.Dockets.{judgement_of}
+use Rattle.eval_engine.specs.Dockets.{judgement_in}
 use Rattle.eval_engine.specs.declared.docket_entry.DocketEntry.{DocketEntry}
-use Rattle.eval_engine.specs.declared.docket_entry.DocketEntry.TheVariants as entry
 use Rattle.fw_world.specs.Asks.{LaneAsk, asks_of_record, AreAsksOf, IsAskOfEntry, IsJudgedUnder}
-use Rattle.fw_world.specs.Editions.{edition_numbered}
-use Rattle.fw_world.specs.Entries.{EachRecord, IsEvaluated, IsEvaluation}
+use Rattle.fw_world.specs.Entries.{EachRecord, IsEvaluated, IsEvaluatedTo}
 use Rattle.fw_world.specs.Inputs.{Input, Other, Malformed, Packet}
 use Rattle.fw_world.proofs.AskLists.{record_asks}
 
@@ -49,10 +47,8 @@ pub IsEvaluated-asks : (editions : List Published) (asks more : List LaneAsk) (a
     → asks_of_record at more ≡ asks_of_record at asks → IsEvaluated editions asks at input entered → IsEvaluated editions more at input entered
 IsEvaluated-asks editions asks more at Other entered same is = is
 IsEvaluated-asks editions asks more at (Malformed kind) entered same is = is
-IsEvaluated-asks editions asks more at (Packet packet port second) entry.Other same is = is
-IsEvaluated-asks editions asks more at (Packet packet port second) (entry.Malformed kind) same is = is
-IsEvaluated-asks editions asks more at (Packet packet port second) (entry.Judged verdict cause rule number) same is =
-    subst (λ (own : List LaneAsk). IsSomeAnd (edition_numbered editions number) (λ edition. IsEvaluation edition packet port second own (judgement_of verdict cause rule number))) (sym same) is
+IsEvaluated-asks editions asks more at (Packet packet port second) entered same is =
+    subst (λ (own : List LaneAsk). IfSome (judgement_in entered) (IsEvaluatedTo editions packet port second own)) (sym same) is
 
 -- no ask of a record that none was asked for
 pub asks_of_record-none : (n at : ℕ) (asks : List LaneAsk) → AllByRecursion (λ ask. ask.at ≤ n) asks → n < at → asks_of_record at asks ≡ []

@@ -4,8 +4,8 @@ use Rattle.std.specs.List.Sorted.{IsNonDecreasing}
 use Rattle.std.specs.List.{AllByRecursion}
 use Rattle.dyn_states.specs.declared.op.Op.{Op}
 use Rattle.dyn_states.specs.declared.reply.Reply.{Reply}
+use Rattle.eval_engine.specs.Dockets.{judgement_in}
 use Rattle.eval_engine.specs.declared.docket_entry.DocketEntry.{DocketEntry}
-use Rattle.eval_engine.specs.declared.docket_entry.DocketEntry.TheVariants.{Other, Malformed, Judged}
 use Rattle.state_journal.specs.declared.entry.Entry.{Entry}
 use Rattle.state_journal.specs.declared.entry.Entry.TheVariants.{Publish, Ask}
 use Rattle.state_journal.specs.declared.entry.Item.{Item}
@@ -40,9 +40,7 @@ replies_of asks = map (λ ask. ask.reply) asks
 
 -- the entry was judged under the edition of that number
 abbrev pub IsJudgedUnder : ℕ → DocketEntry → Type 0
-IsJudgedUnder number Other = ⊥
-IsJudgedUnder number (Malformed kind) = ⊥
-IsJudgedUnder number (Judged verdict cause rule edition) = edition ≡ number
+IsJudgedUnder number entry = IsSomeAnd (judgement_in entry) (λ judgement. judgement.edition ≡ number)
 
 -- the ask's record has a judged entry, whose edition is the one that was published last before the ask
 abbrev pub IsAskOfEntry : List DocketEntry → LaneAsk → Type 0

@@ -1,5 +1,7 @@
 -- The editions of a run: each command that was accepted made the next one.
-use Rattle.std.specs.Prelude.{◌≡◌, ℕ, ◌+◌, ◌-◌, Option, Some, Ok, List, [], ◌∷◌, length, slice_get}
+use Rattle.std.specs.Prelude.{◌≡◌, ℕ, ◌+◌, ◌-◌, Option, Some, Ok, List, [], ◌∷◌, length, slice_get, option_and_then}
+use Rattle.eval_engine.specs.Dockets.{judgement_in}
+use Rattle.eval_engine.specs.declared.docket_entry.DocketEntry.{DocketEntry}
 use Rattle.fw_rule.specs.declared.command.Command.{Command}
 use Rattle.generation_store.specs.Published.{Published, IsBuilt}
 use Rattle.rule_chain.specs.Apply.{apply}
@@ -21,6 +23,10 @@ AreEditions first commands editions = AreEditionsFrom 1 first commands editions
 -- the edition of that number, from 1
 abbrev pub edition_numbered : List Published → ℕ → Option Published
 edition_numbered editions number = slice_get editions (number - 1)
+
+-- the edition under which an entry was judged, if it was
+abbrev pub judging_edition : List Published → DocketEntry → Option Published
+judging_edition editions entry = option_and_then (λ judgement. edition_numbered editions judgement.edition) (judgement_in entry)
 
 -- this edition is the last of these
 abbrev pub IsLastOf : List Published → Published → Type 0

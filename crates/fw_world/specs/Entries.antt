@@ -1,9 +1,9 @@
 -- The entries of a docket beside the inputs of its lane.
-use Rattle.std.specs.Prelude.{◌≡◌, ℕ, ◌+◌, ⊤, IsSomeAnd, List, [], ◌∷◌}
+use Rattle.std.specs.Prelude.{◌≡◌, ℕ, ◌+◌, ⊤, IsSome, IfSome, IsSomeAnd, List, [], ◌∷◌}
 use Rattle.fw_base.specs.declared.port.Port.{Port}
 use Rattle.ip6_headers.specs.declared.any_ip.AnyIp.{AnyIp}
 use Rattle.generation_store.specs.Published.{Published}
-use Rattle.eval_engine.specs.Dockets.{judgement_of}
+use Rattle.eval_engine.specs.Dockets.{judgement_in}
 use Rattle.eval_engine.specs.Evaluated.{Evaluated, Whole}
 use Rattle.eval_engine.specs.Evaluation.{evaluate}
 use Rattle.eval_engine.specs.Question.{Question}
@@ -24,15 +24,9 @@ EachRecord P at (input ∷ inputs) (entry ∷ entries) = P at input entry × Eac
 
 -- the entry is other or malformed as the input is, and a judgement for a packet
 abbrev pub IsEntryFor : ℕ → Input → DocketEntry → Type 0
-IsEntryFor at Other entry.Other = ⊤
-IsEntryFor at Other (entry.Malformed kind) = ⊥
-IsEntryFor at Other (entry.Judged verdict cause rule edition) = ⊥
-IsEntryFor at (Malformed kind) entry.Other = ⊥
-IsEntryFor at (Malformed kind) (entry.Malformed entered) = entered ≡ kind
-IsEntryFor at (Malformed kind) (entry.Judged verdict cause rule edition) = ⊥
-IsEntryFor at (Packet packet port second) entry.Other = ⊥
-IsEntryFor at (Packet packet port second) (entry.Malformed kind) = ⊥
-IsEntryFor at (Packet packet port second) (entry.Judged verdict cause rule edition) = ⊤
+IsEntryFor at Other entered = entered ≡ entry.Other
+IsEntryFor at (Malformed kind) entered = entered ≡ entry.Malformed kind
+IsEntryFor at (Packet packet port second) entered = IsSome (judgement_in entered)
 
 -- the evaluation of a packet under an edition, with the replies to these asks
 abbrev pub evaluated : Published → AnyIp → Port → ℕ → List LaneAsk → Evaluated
@@ -45,11 +39,14 @@ pub record IsEvaluation (edition : Published) (packet : AnyIp) (port : Port) (se
   pub outcome : (evaluated edition packet port second asks).outcome ≡ Whole judgement
   pub asked : (evaluated edition packet port second asks).asks ≡ ops_of asks
 
+-- the packet was evaluated to this judgement, under the edition that it names
+abbrev pub IsEvaluatedTo : List Published → AnyIp → Port → ℕ → List LaneAsk → Judgement → Type 0
+IsEvaluatedTo editions packet port second asks judgement =
+    IsSomeAnd (edition_numbered editions judgement.edition) (λ edition. IsEvaluation edition packet port second asks judgement)
+
 -- a judged packet was evaluated under the edition that its entry names
 abbrev pub IsEvaluated : List Published → List LaneAsk → ℕ → Input → DocketEntry → Type 0
-IsEvaluated editions asks at (Packet packet port second) (entry.Judged verdict cause rule number) =
-    IsSomeAnd (edition_numbered editions number) (λ edition. IsEvaluation edition packet port second (asks_of_record at asks) (judgement_of verdict cause rule number))
-IsEvaluated editions asks at (Packet packet port second) entry.Other = ⊤
-IsEvaluated editions asks at (Packet packet port second) (entry.Malformed kind) = ⊤
+IsEvaluated editions asks at (Packet packet port second) entered =
+    IfSome (judgement_in entered) (IsEvaluatedTo editions packet port second (asks_of_record at asks))
 IsEvaluated editions asks at Other entered = ⊤
 IsEvaluated editions asks at (Malformed kind) entered = ⊤

@@ -1,16 +1,12 @@
 -- The sections that a lane began: one for each judged packet, and one for each entry that was refused.
-use Rattle.std.specs.Prelude.{◌≡◌, ℕ, ◌+◌, ◌-◌, ◌*◌, ◌%◌, ◌^◌, ◌≤◌, List, [], ◌∷◌, length}
+use Rattle.std.specs.Prelude.{◌≡◌, ℕ, ◌+◌, ◌-◌, ◌*◌, ◌%◌, ◌^◌, ◌≤◌, List, length, map}
 use Rattle.std.specs.List.Sorted.{IsNonDecreasing}
-use Rattle.eval_engine.specs.Dockets.{DocketValue}
+use Rattle.eval_engine.specs.Dockets.{DocketValue, judgements}
 use Rattle.eval_engine.specs.declared.docket_entry.DocketEntry.{DocketEntry}
-use Rattle.eval_engine.specs.declared.docket_entry.DocketEntry.TheVariants.{Other, Malformed, Judged}
 
 -- the editions of the judged entries, in order
 abbrev pub judged_editions : List DocketEntry → List ℕ
-judged_editions [] = []
-judged_editions (Other ∷ entries) = judged_editions entries
-judged_editions (Malformed kind ∷ entries) = judged_editions entries
-judged_editions (Judged verdict cause rule edition ∷ entries) = edition ∷ judged_editions entries
+judged_editions entries = map (λ judgement. judgement.edition) (judgements entries)
 
 -- a tracker word after so many sections: each adds 2, modulo 2^64
 abbrev pub tracker_after : ℕ → ℕ

@@ -7,9 +7,8 @@ use Rattle.counter_book.specs.Counts.{counted_under}
 use Rattle.counter_book.specs.declared.tally.Count.{Count}
 use Rattle.generation_store.specs.Published.{Published}
 use Rattle.eval_engine.specs.declared.docket_entry.DocketEntry.{DocketEntry}
-use Rattle.eval_engine.specs.declared.docket_entry.DocketEntry.TheVariants as entry
 use Rattle.fw_world.specs.Asks.{LaneAsk, asks_of_record}
-use Rattle.fw_world.specs.Editions.{edition_numbered}
+use Rattle.fw_world.specs.Editions.{judging_edition}
 use Rattle.fw_world.specs.Entries.{evaluated}
 use Rattle.fw_world.specs.Inputs.{Input, Other, Malformed, Packet}
 
@@ -29,10 +28,7 @@ packet_hits (Some edition) packet port second asks = hits_under (total_of packet
 
 -- those of a record, under the edition that its entry names
 abbrev pub record_hits : List Published → List LaneAsk → ℕ → Input → DocketEntry → List Hit
-record_hits editions asks at (Packet packet port second) (entry.Judged verdict cause rule edition) =
-    packet_hits (edition_numbered editions edition) packet port second (asks_of_record at asks)
-record_hits editions asks at (Packet packet port second) entry.Other = []
-record_hits editions asks at (Packet packet port second) (entry.Malformed kind) = []
+record_hits editions asks at (Packet packet port second) entered = packet_hits (judging_edition editions entered) packet port second (asks_of_record at asks)
 record_hits editions asks at Other entered = []
 record_hits editions asks at (Malformed kind) entered = []
 

@@ -2,27 +2,27 @@
 use Rattle.std.proofs.Common.{◌≡◌, ℕ, ◌+◌, ◌*◌, ◌%◌, ◌^◌, Bool, true, false, cond, List, [], ◌∷◌, ◌++◌, map, refl, sym, ap, ◌∙◌, arith}
 use Rattle.std.proofs.lemmas.List.{map-append}
 use Rattle.std.proofs.lemmas.List.Sums.{sum_by-cons, sum_by-append}
-use Rattle.std.specs.Prelude.{◌==◌, Option, Some, None, IsSomeAnd, sum_by, count_by}
+use Rattle.std.specs.Prelude.{◌==◌, Option, Some, None, IsSome, IfSome, IsSomeAnd, option_and_then, sum_by, count_by}
+use Rattle.std.specs.List.{cons_option}
 use Rattle.fw_base.specs.declared.port.Port.{Port}
 use Rattle.ip6_headers.specs.Either.{total_of}
 use Rattle.ip6_headers.specs.declared.any_ip.AnyIp.{AnyIp}
 use Rattle.counter_book.specs.Counts.{counted_under}
 use Rattle.counter_book.specs.declared.tally.Count.{Count}
 use Rattle.generation_store.specs.Published.{Published}
-use Rattle.eval_engine.specs.Dockets.{DocketValue, judgement_of}
+use Rattle.eval_engine.specs.Dockets.{DocketValue, judgement_in, judgements}
 use Rattle.eval_engine.specs.Evaluated.{Outcome, Whole}
 use Rattle.eval_engine.specs.declared.docket_entry.DocketEntry.{DocketEntry}
-use Rattle.eval_engine.specs.declared.docket_entry.DocketEntry.TheVariants as entry
 use Rattle.eval_engine.specs.declared.judgement.Judgement.{Judgement}
 use Rattle.fw_world.specs.Asks.{LaneAsk, asks_of_record, replies_of}
-use Rattle.fw_world.specs.Editions.{edition_numbered}
-use Rattle.fw_world.specs.Entries.{EachRecord, IsEntryFor, IsEvaluated, IsEvaluation, evaluated}
+use Rattle.fw_world.specs.Editions.{edition_numbered, judging_edition}
+use Rattle.fw_world.specs.Entries.{EachRecord, IsEntryFor, IsEvaluated, IsEvaluatedTo, IsEvaluation, evaluated}
 use Rattle.fw_world.specs.Inputs.{Input, Other, Malformed, Packet}
 use Rattle.fw_world.specs.Legal.{lane_asks, EachLane, LaneStands}
 use Rattle.fw_world.specs.RecordValue.{RecordValue}
 use Rattle.fw_world.specs.Tallies.{Hit, hits_under, packet_hits, record_hits, lane_hits, count_in}
 use Rattle.record_laws.specs.Counters.{CountersAddUp}
-use Rattle.record_laws.specs.JudgedPackets.{JudgedPacket, evaluation_of, hits_on, bytes_on, judged_under, judged_record, judged_records, judged_lanes, judgements, all_judgements}
+use Rattle.record_laws.specs.JudgedPackets.{JudgedPacket, evaluation_of, hits_on, bytes_on, judged_under, judged_record, judged_records, judged_lanes, all_judgements}
 
 -- the judged packet of an edition and these asks
 abbrev packet_of : Published → AnyIp → Port → ℕ → List LaneAsk → JudgedPacket
@@ -50,9 +50,7 @@ module _ (id : ℕ) (part : Count → ℕ) (of_hit : Hit → ℕ) (of_packet : J
       → sum_by of_hit (record_hits editions asks at input entered) ≡ sum_by of_packet (judged_record editions asks at input entered)
   of_record editions asks at Other entered = refl
   of_record editions asks at (Malformed kind) entered = refl
-  of_record editions asks at (Packet packet port second) entry.Other = refl
-  of_record editions asks at (Packet packet port second) (entry.Malformed kind) = refl
-  of_record editions asks at (Packet packet port second) (entry.Judged verdict cause rule edition) = under (edition_numbered editions edition) packet port second (asks_of_record at asks)
+  of_record editions asks at (Packet packet port second) entered = under (judging_edition editions entered) packet port second (asks_of_record at asks)
 
   of_records : (editions : List Published) (asks : List LaneAsk) (at : ℕ) (inputs : List Input) (entries : List DocketEntry)
       → sum_by of_hit (lane_hits editions asks at inputs entries) ≡ sum_by of_packet (judged_records editions asks at inputs entries)
@@ -121,28 +119,28 @@ judged_one : (edition : Option Published) (packet : AnyIp) (port : Port) (second
 judged_one None packet port second asks judgement is = absurd is
 judged_one (Some edition) packet port second asks judgement is = ap (λ (o : Outcome). o ∷ []) is.outcome
 
+-- a judged packet before others
+judged_first : (editions : List Published) (packet : AnyIp) (port : Port) (second : ℕ) (own : List LaneAsk) (judged : Option Judgement) (others : List JudgedPacket) (rest : List Judgement)
+    → IsSome judged → IfSome judged (IsEvaluatedTo editions packet port second own) → map judged_outcome others ≡ map Whole rest
+    → map judged_outcome (judged_under (option_and_then (λ (one : Judgement). edition_numbered editions one.edition) judged) packet port second own) ++ map judged_outcome others ≡ map Whole (cons_option judged rest)
+judged_first editions packet port second own None others rest some is behind = cc
+judged_first editions packet port second own (Some judgement) others rest some is behind =
+    ap (λ (first : List Outcome). first ++ map judged_outcome others) (judged_one (edition_numbered editions judgement.edition) packet port second own judgement is)
+    ∙ ap (λ (all : List Outcome). Whole judgement ∷ all) behind
+
 judged_all : (editions : List Published) (asks : List LaneAsk) (at : ℕ) (inputs : List Input) (entries : List DocketEntry)
     → EachRecord IsEntryFor at inputs entries → EachRecord (IsEvaluated editions asks) at inputs entries
     → map judged_outcome (judged_records editions asks at inputs entries) ≡ map Whole (judgements entries)
 judged_all editions asks at [] [] fits is = refl
 judged_all editions asks at [] (entered ∷ entries) fits is = absurd fits
 judged_all editions asks at (input ∷ inputs) [] fits is = absurd fits
-judged_all editions asks at (Other ∷ inputs) (entry.Other ∷ entries) fits is = judged_all editions asks (at + 1) inputs entries fits.1 is.1
-judged_all editions asks at (Other ∷ inputs) (entry.Malformed kind ∷ entries) fits is = absurd fits.0
-judged_all editions asks at (Other ∷ inputs) (entry.Judged verdict cause rule edition ∷ entries) fits is = absurd fits.0
-judged_all editions asks at (Malformed kind ∷ inputs) (entry.Other ∷ entries) fits is = absurd fits.0
-judged_all editions asks at (Malformed kind ∷ inputs) (entry.Malformed entered ∷ entries) fits is = judged_all editions asks (at + 1) inputs entries fits.1 is.1
-judged_all editions asks at (Malformed kind ∷ inputs) (entry.Judged verdict cause rule edition ∷ entries) fits is = absurd fits.0
-judged_all editions asks at (Packet packet port second ∷ inputs) (entry.Other ∷ entries) fits is = absurd fits.0
-judged_all editions asks at (Packet packet port second ∷ inputs) (entry.Malformed kind ∷ entries) fits is = absurd fits.0
-judged_all editions asks at (Packet packet port second ∷ inputs) (entry.Judged verdict cause rule number ∷ entries) fits is =
-    let own = asks_of_record at asks in
-    let edition = edition_numbered editions number in
-    let judgement = judgement_of verdict cause rule number in
-    let others = judged_records editions asks (at + 1) inputs entries in
-    map-append judged_outcome (judged_under edition packet port second own) others
-    ∙ ap (λ (first : List Outcome). first ++ map judged_outcome others) (judged_one edition packet port second own judgement is.0)
-    ∙ ap (λ (rest : List Outcome). Whole judgement ∷ rest) (judged_all editions asks (at + 1) inputs entries fits.1 is.1)
+judged_all editions asks at (Other ∷ inputs) (entered ∷ entries) fits is =
+    judged_all editions asks (at + 1) inputs entries fits.1 is.1 ∙ ap (λ (e : DocketEntry). map Whole (cons_option (judgement_in e) (judgements entries))) (sym fits.0)
+judged_all editions asks at (Malformed kind ∷ inputs) (entered ∷ entries) fits is =
+    judged_all editions asks (at + 1) inputs entries fits.1 is.1 ∙ ap (λ (e : DocketEntry). map Whole (cons_option (judgement_in e) (judgements entries))) (sym fits.0)
+judged_all editions asks at (Packet packet port second ∷ inputs) (entered ∷ entries) fits is =
+    map-append judged_outcome (judged_record editions asks at (Packet packet port second) entered) (judged_records editions asks (at + 1) inputs entries)
+    ∙ judged_first editions packet port second (asks_of_record at asks) (judgement_in entered) _ (judgements entries) fits.0 is.0 (judged_all editions asks (at + 1) inputs entries fits.1 is.1)
 
 judged_everywhere : (r : RecordValue) (lane : ℕ) (inputs : List (List Input)) (dockets : List DocketValue) (tallies : List (List Count)) (trackers : List ℕ)
     → EachLane (LaneStands r) lane inputs dockets tallies trackers → map judged_outcome (judged_lanes r lane inputs dockets) ≡ map Whole (all_judgements dockets)

@@ -12,7 +12,8 @@ use Rattle.pcap_read.specs.declared.capture_fault.CaptureFault.{CaptureFault}
 use Rattle.pcap_read.specs.declared.capture_fault.CaptureFault.TheVariants.{ShortHeader, BadMagic, BadVersion, UnknownLink, ShortRecordHeader, RecordTooLong, ShortRecord, TooManyPackets, ReadFault, OutOfMemory}
 use Rattle.eval_engine.specs.Dockets.{DocketValue, judgement_of}
 use Rattle.eval_engine.specs.declared.docket_entry.DocketEntry.{DocketEntry}
-use Rattle.eval_engine.specs.declared.docket_entry.DocketEntry.TheVariants.{Other, Malformed, Judged}
+use Rattle.eval_engine.specs.declared.docket_entry.DocketEntry.TheVariants as entry
+use Rattle.eval_engine.specs.declared.judgement.Cause.TheVariants.{Rule, Limit, Full}
 use Rattle.eval_engine.specs.declared.judgement.Judgement.{Judgement}
 use Rattle.fw_command.specs.Lines.{lines_of}
 use Rattle.fw_report.specs.AnswerText.{answers_text}
@@ -103,9 +104,11 @@ judged_line j =
 
 entry_line : (entry : DocketEntry) → IsLine (entry_text entry)
 unfolding entry_text lines_in
-entry_line Other = record { body = codes " other"; ends = refl; silent = refl }
-entry_line (Malformed kind) = before (codes " malformed ") _ refl (before (decimal kind) _ (number_is_silent kind) ended)
-entry_line (Judged verdict cause rule edition) = judged_line (judgement_of verdict cause rule edition)
+entry_line entry.Other = record { body = codes " other"; ends = refl; silent = refl }
+entry_line (entry.Malformed kind) = before (codes " malformed ") _ refl (before (decimal kind) _ (number_is_silent kind) ended)
+entry_line (entry.Judged verdict rule edition) = judged_line (judgement_of verdict Rule rule edition)
+entry_line (entry.Limited verdict rule states edition) = judged_line (judgement_of verdict (Limit states) rule edition)
+entry_line (entry.Full verdict rule states edition) = judged_line (judgement_of verdict (Full states) rule edition)
 
 -- A line of a record begins with a digit.
 record IsVerdictLine (text : List ℕ) : Type 0 where

@@ -5,14 +5,13 @@ use Rattle.ip6_headers.specs.Either.{total_of}
 use Rattle.ip6_headers.specs.declared.any_ip.AnyIp.{AnyIp}
 use Rattle.dyn_states.specs.declared.reply.Reply.{Reply}
 use Rattle.generation_store.specs.Published.{Published}
-use Rattle.eval_engine.specs.Dockets.{DocketValue, judgement_of}
+use Rattle.eval_engine.specs.Dockets.{DocketValue, judgements}
 use Rattle.eval_engine.specs.Evaluated.{Evaluated}
 use Rattle.eval_engine.specs.Evaluation.{evaluate}
 use Rattle.eval_engine.specs.declared.docket_entry.DocketEntry.{DocketEntry}
-use Rattle.eval_engine.specs.declared.docket_entry.DocketEntry.TheVariants as entry
 use Rattle.eval_engine.specs.declared.judgement.Judgement.{Judgement}
 use Rattle.fw_world.specs.Asks.{LaneAsk, asks_of_record, replies_of}
-use Rattle.fw_world.specs.Editions.{edition_numbered}
+use Rattle.fw_world.specs.Editions.{judging_edition}
 use Rattle.fw_world.specs.Inputs.{Input, Other, Malformed, Packet}
 use Rattle.fw_world.specs.Legal.{lane_asks}
 use Rattle.fw_world.specs.RecordValue.{RecordValue}
@@ -46,9 +45,7 @@ judged_under (Some edition) packet port second asks = record { edition = edition
 
 -- the packet of a record, where its entry is a judgement
 abbrev pub judged_record : List Published → List LaneAsk → ℕ → Input → DocketEntry → List JudgedPacket
-judged_record editions asks at (Packet packet port second) (entry.Judged verdict cause rule edition) = judged_under (edition_numbered editions edition) packet port second (asks_of_record at asks)
-judged_record editions asks at (Packet packet port second) entry.Other = []
-judged_record editions asks at (Packet packet port second) (entry.Malformed kind) = []
+judged_record editions asks at (Packet packet port second) entered = judged_under (judging_edition editions entered) packet port second (asks_of_record at asks)
 judged_record editions asks at Other entered = []
 judged_record editions asks at (Malformed kind) entered = []
 
@@ -69,14 +66,7 @@ judged_lanes r lane (inputs ∷ others) (docket ∷ dockets) =
 abbrev pub judged_packets : List (List Input) → RecordValue → List JudgedPacket
 judged_packets inputs r = judged_lanes r 1 inputs r.dockets
 
--- the judgements of a docket, in order
-abbrev pub judgements : List DocketEntry → List Judgement
-judgements [] = []
-judgements (entry.Other ∷ entries) = judgements entries
-judgements (entry.Malformed kind ∷ entries) = judgements entries
-judgements (entry.Judged verdict cause rule edition ∷ entries) = judgement_of verdict cause rule edition ∷ judgements entries
-
--- those of all dockets
+-- the judgements of all dockets, in order
 abbrev pub all_judgements : List DocketValue → List Judgement
 all_judgements [] = []
 all_judgements (docket ∷ dockets) = judgements docket.entries ++ all_judgements dockets
