@@ -41,7 +41,7 @@ fn counter_numbers_run_out(rt: HostRuntime) -> Result<(), Fail> {
 }
 
 /// The number, that many times.
-#[tactic(auto, using(crate::proofs::Lists::all_push))]
+#[tactic(auto, using(fw_base::proofs::Lists::all_push))]
 fn repeated(alloc: Global, number: u16, count: u16) -> Result<Items<u16>, AllocError>
     ensures { IfOk result (λ numbers. AllByRecursion IsNumber numbers) }
 {
