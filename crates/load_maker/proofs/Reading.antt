@@ -1,5 +1,5 @@
 -- How a made capture is read: a piece to its end, and then the next record.
-use Rattle.std.proofs.Common.{◌≡◌, ◌≢◌, ◌∙◌, ℕ, ◌+◌, ◌-◌, ◌<◌, ◌≤◌, zero, suc, List, [], ◌++◌, length, take, drop, refl, ap, sym, arith, append_assoc, length-drop}
+use Rattle.std.proofs.Common.{◌≡◌, ◌≢◌, ◌∙◌, ℕ, ◌+◌, ◌-◌, ◌<◌, ◌≤◌, zero, suc, List, [], ◌++◌, length, take, drop, refl, ap, arith, append_assoc, length-drop}
 use Rattle.std.proofs.Math.Seq.{drop-length}
 use Rattle.fw_base.proofs.Parts.{front_then_rest}
 use Rattle.load_maker.specs.Load.{records_from, record_drawn, next_draw}

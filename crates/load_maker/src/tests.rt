@@ -21,24 +21,22 @@ const CAPTURE: [u8; 224] = [
     0x00, 0x00, 0x00, 0x00, 0x00, 0x00, 0x00, 0x00, 0x50, 0x02, 0xff, 0xff, 0x00, 0x00, 0x00, 0x00,
 ];
 
-/// What the capture gives to its end, read in pieces of at most so many bytes, 1 to 64.
-fn read_to_end(alloc: Global, mut capture: MadeCapture, most: usize) -> Result<Vec<u8>, Fail> {
+/// What the capture gives in 1,000 reads, of at most so many bytes each, and no more than 64.
+fn bytes_of(alloc: Global, mut capture: MadeCapture, most: usize) -> Result<Vec<u8>, Fail> {
     let mut bytes = Vec::new(alloc);
     let mut buffer = [0; 64];
-    loop {
-        let count = capture.read(&mut buffer[..most])?;
-        if count == 0 {
-            return Ok(bytes);
-        }
+    for _ in 0..1000 {
+        let count = capture.read(&mut buffer[..most.min(64)])?;
         bytes.extend_from_slice(&buffer[..count])?;
     }
+    Ok(bytes)
 }
 
 #[test]
 fn load_of_4_records(rt: HostRuntime) -> Result<(), Fail> {
     for most in [1, 7, 55, 56, 64] {
         let load = make(rt.alloc(), 4)?;
-        let bytes = read_to_end(rt.alloc(), load.capture, most)?;
+        let bytes = bytes_of(rt.alloc(), load.capture, most)?;
         assert_eq!(rt; bytes.as_slice(), CAPTURE.as_slice());
         let end = load
             .script
@@ -54,7 +52,7 @@ fn load_of_4_records(rt: HostRuntime) -> Result<(), Fail> {
 fn load_of_one_record(rt: HostRuntime) -> Result<(), Fail> {
     let load = make(rt.alloc(), 1)?;
     assert!(rt; load.script.ends_with(b"\nlive\nafter 0\ndelete 300\n"));
-    let bytes = read_to_end(rt.alloc(), load.capture, 64)?;
+    let bytes = bytes_of(rt.alloc(), load.capture, 64)?;
     assert_eq!(rt; bytes.len(), 24 + 16 + 40);
     assert!(rt; bytes.starts_with(b"\xd4\xc3\xb2\xa1\x02\x00\x04\x00"));
     Ok(())

@@ -1,4 +1,4 @@
-use Rattle.std.proofs.Common.{◌++◌, refl, append-nil}
+use Rattle.std.proofs.Common.{append-nil}
 use Rattle.load_maker.specs.Packets.{tcp_packet}
 use Rattle.load_maker.proofs.packets.put_tcp.Goals as goal
 

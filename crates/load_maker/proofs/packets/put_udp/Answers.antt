@@ -1,4 +1,4 @@
-use Rattle.std.proofs.Common.{◌++◌, refl, append-nil}
+use Rattle.std.proofs.Common.{append-nil}
 use Rattle.load_maker.specs.Packets.{udp_packet}
 use Rattle.load_maker.proofs.packets.put_udp.Goals as goal
 

@@ -1,4 +1,4 @@
-use Rattle.std.proofs.Common.{◌≡◌, ◌∙◌, ◌+◌, ◌-◌, ◌<◌, ◌≤◌, ℕ, List, [], ◌++◌, take, drop, length, min, refl, sym, subst, arith}
+use Rattle.std.proofs.Common.{◌≡◌, ◌∙◌, ◌-◌, ◌<◌, ℕ, List, [], ◌++◌, drop, length, min, refl, sym, subst, arith}
 use Rattle.load_maker.specs.Load.{records_from}
 use Rattle.load_maker.proofs.Reading.{behind_the_end, has_bytes, next_then_others, front_is_given}
 use Rattle.load_maker.proofs.made_capture.MadeCaptureSource.read.Goals as goal
