@@ -278,7 +278,7 @@ impl SerialWorld {
         requires desk { desk ≡ self.old.editions }
         requires command { IsWellFormed command.now }
         requires changing { IsChanging command.now }
-        ensures published_count { OnOk result.1 (Publishes self.old self.new command.now) }
+        ensures published { OnOk result.1 (Publishes self.old self.new command.now) }
         ensures number { IfOk result.1 (λ number. number ≡ published_count self.new) }
         ensures desk { result.0 ≡ self.new.editions }
         ensures cause { IfErr result.1 (IsCommitFault self.old command.now) }
@@ -300,7 +300,7 @@ impl SerialWorld {
         requires desk { desk.old ≡ self.old.editions }
         requires command { IsWellFormed command.now }
         requires changing { IsChanging command.now }
-        ensures published_count { OnOk result (Publishes self.old self.new command.now) }
+        ensures published { OnOk result (Publishes self.old self.new command.now) }
         ensures number { IfOk result (λ number. number ≡ published_count self.new) }
         ensures desk { desk.new ≡ self.new.editions }
         ensures lanes { OnOk result ((lane : LaneValue)
@@ -324,7 +324,7 @@ impl SerialWorld {
         requires shown { shown.old.editions ≡ self.old.editions }
         requires command { IsWellFormed command.now }
         requires changing { IsChanging command.now }
-        ensures published_count { OnOk result (Publishes self.old self.new command.now) }
+        ensures published { OnOk result (Publishes self.old self.new command.now) }
         ensures number { IfOk result (λ number. number ≡ published_count self.new) }
         ensures shown { shown.new.editions ≡ self.new.editions }
         ensures more { length shown.old.editions ≤ length shown.new.editions }
