@@ -3,12 +3,15 @@ use Rattle.std.specs.Prelude.{Result, IfErr}
 use Rattle.std.proofs.lemmas.Result.{IfOk-weaker}
 use Rattle.fw_world.specs.World.{DeskStandsFor}
 use Rattle.fw_world.proofs.Accepting.{accepts_one_more, commit_fault_of}
-use Rattle.fw_world.proofs.Keeping.{stands_behind}
+use Rattle.fw_world.proofs.Keeping.{is_lane_behind, stands_behind}
 use Rattle.fw_world.proofs.serial_world.SerialWorld.edit.Goals as goal
 
 IfErr-then : {T E : Type 0} (result : Result T E) (P Q : E → Type 0) → ((fault : E) → P fault → Q fault) → IfErr result P → IfErr result Q
 IfErr-then (Ok value) P Q goes is = tt
 IfErr-then (Err fault) P Q goes is = goes fault is
+
+pub returns-clause-lanes : goal.returns-clause-lanes
+returns-clause-lanes c = IfOk-weaker c.publish.result _ _ (λ number published lane is. is_lane_behind c.args.self.now c.publish.new.self c.args.command.now lane published is) c.publish.ensures.published
 
 pub returns-clause-stands : goal.returns-clause-stands
 returns-clause-stands c = IfOk-weaker c.publish.result _ _ (λ number published lane inputs stands. stands_behind c.args.self.now c.publish.new.self c.args.command.now lane inputs published stands) c.publish.ensures.published
