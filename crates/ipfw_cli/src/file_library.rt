@@ -2,10 +2,12 @@ ghost use Rattle.std.specs.Prelude.{None, Some, ◌≡◌};
 
 use crate::file_source::FileSource;
 use fw_base::{Failed, Library, Name};
+use std::marker::Model;
 use std::rt::Files;
 use std::{fs, str};
 
-/// The files of the system, opened by their paths. It tells no list.
+/// The files of the system, opened by their paths. It tells no list; contracts see it as its count of faults
+/// and the last name that it refused.
 #[derive(Drop)]
 pub struct FileLibrary<'a, R> {
     rt: &'a R,
@@ -13,8 +15,19 @@ pub struct FileLibrary<'a, R> {
     refused: Option<Name>,
 }
 
+impl<'a, R> Model for FileLibrary<'a, R> {
+    ghost use Rattle.std.specs.Prelude.{ℕ, List, Option};
+
+    ghost Value = { ℕ × Option (List ℕ) };
+
+    ghost view = { λ l. (l.faults, l.refused) };
+}
+
 impl<'a, R: Files> FileLibrary<'a, R> {
-    pub fn new(rt: &'a R) -> FileLibrary<'a, R> {
+    /// No opening failed yet.
+    pub fn new(rt: &'a R) -> FileLibrary<'a, R>
+        ensures { result ≡ (0, None) }
+    {
         FileLibrary {
             rt,
             faults: 0,
@@ -34,9 +47,9 @@ impl<'a, R: Files> Library for FileLibrary<'a, R> {
 
     ghost pairs = { λ _. None };
 
-    ghost faults = { λ l. l.faults };
+    ghost faults = { λ l. l.0 };
 
-    ghost refused = { λ l. l.refused };
+    ghost refused = { λ l. l.1 };
 
     fn open(&mut self, name: Name) -> Result<FileSource<R::File>, Failed> {
         match self.file(&name) {
