@@ -11,7 +11,7 @@ use Rattle.fw_rule.specs.declared.state_opt.LimitMask.TheVariants.{SrcAddr, SrcP
 use Rattle.dyn_states.specs.declared.tallies.Tallies.{Tallies}
 use Rattle.dyn_states.specs.StateTable.{IsTouched}
 use Rattle.dyn_states.specs.Tallies.{IsTallied}
-use Rattle.dyn_states.proofs.CountLaws.{Counts-touch, live-touch}
+use Rattle.dyn_states.proofs.CountLaws.{Counts-touch, Counts-held, live-touch, live-held}
 use Rattle.dyn_states.proofs.SlotLaws.{filter-same, dead_is}
 use Rattle.dyn_states.specs.declared.expiry_queue.ExpiryQueue.{ExpiryQueue}
 use Rattle.dyn_states.specs.declared.op.FlowName.TheVariants.{Named}
@@ -202,6 +202,16 @@ IsTallied-touch slots k y t was inside held still same =
       by_destination = Counts-touch DstAddr slots k y no_state t.by_destination was.by_destination inside kept same.flow same.rule;
       by_destination_port = Counts-touch DstPort slots k y no_state t.by_destination_port was.by_destination_port inside kept same.flow same.rule;
     }
+
+-- the tallies stay where slots that hold no state are left out
+pub IsTallied-held : (slots : List State) (t : Tallies) → IsTallied slots t → IsTallied (held_states slots) t
+IsTallied-held slots t was = record {
+  live = was.live ∙ sym (live-held slots);
+  by_source = Counts-held SrcAddr slots t.by_source was.by_source;
+  by_source_port = Counts-held SrcPort slots t.by_source_port was.by_source_port;
+  by_destination = Counts-held DstAddr slots t.by_destination was.by_destination;
+  by_destination_port = Counts-held DstPort slots t.by_destination_port was.by_destination_port;
+}
 
 -- a due entry that comes out is one less
 pub due-popped : (clock expiry k : ℕ) (old new : ExpiryQueue) → expiry ≤ clock → IsPermutation (entries old) ((record { 0 = (expiry, k) }) ∷ entries new) → due_count clock new + 1 ≤ due_count clock old

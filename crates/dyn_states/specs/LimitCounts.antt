@@ -1,5 +1,5 @@
 -- How many states a limit counts (ipfw(8), `limit`): by a rule's identity and a parameter's value.
-use Rattle.std.specs.Prelude.{◌≡◌, ℕ, ◌+◌, ◌≤◌, Bool, ◌==◌, ◌&&◌, List, length, count_by, unwrap_or}
+use Rattle.std.specs.Prelude.{◌≡◌, ℕ, ◌+◌, ◌≤◌, Bool, ◌==◌, ◌&&◌, List, count_by, unwrap_or}
 use Rattle.std.specs.HashMap.{get, hash_map_len, spare}
 use Rattle.fw_rule.specs.declared.state_opt.LimitMask.{LimitMask}
 use Rattle.dyn_states.specs.declared.state.State.{State}
@@ -38,4 +38,8 @@ is_counted_for mask pair s = is_held s && same_pair (pair_of mask s) pair
 -- the counts are those of the held states
 pub record Counts (mask : LimitMask) (slots : List State) (counts : LimitCounts) : Type 0 where
   pub amounts : (pair : ℕ × ℕ) → amount_of counts pair ≡ count_by (is_counted_for mask pair) slots
-  pub pairs : pair_count counts ≤ length slots
+
+-- so many pairs are known at most, and there is memory for so many
+pub record HasPairRoom (known most : ℕ) (counts : LimitCounts) : Type 0 where
+  pub pairs : pair_count counts ≤ known
+  pub room : most ≤ pair_room counts

@@ -19,20 +19,22 @@ slots_of t = t.slots.items
 abbrev pub states_of : StateTable → List State
 states_of t = held_states t.slots.items
 
--- each part has memory for as many slots as there may be
+-- Each part has memory for as many slots as there may be, and the tallies for more than as many states.
 pub record HasRoom (t : StateTable) : Type 0 where
   pub slots : t.most ≤ vec_capacity t.slots
   pub lines : t.most ≤ line_room t.lines
   pub queue : t.most ≤ entry_room t.queue
-  pub tallies : HasTallyRoom t.most t.tallies
+  pub tallies : HasTallyRoom t.tallies
+  pub pairs : t.most ≤ 2 * t.tallies.room
   pub few : vec_len t.slots ≤ t.most
   pub entries : entry_count t.queue ≤ entry_room t.queue
   pub small : t.most < 2 ^ 32
 
--- there is room for one more slot, and one more entry of the queue
+-- there is room for one more slot, one more entry of the queue, and one more pair of each tally
 pub record HasRoomForOne (t : StateTable) : Type 0 where
   pub slots : vec_len t.slots < t.most
   pub queue : entry_count t.queue < entry_room t.queue
+  pub pairs : t.tallies.counted < t.tallies.room
 
 -- lines, expiries and tallies are those of the states that the slots hold, and there is room
 pub record IsStateTable (t : StateTable) : Type 0 where
@@ -48,11 +50,10 @@ pub record IsTableBut (t : StateTable) (but : ℕ) : Type 0 where
   pub tallied : IsTallied (slots_of t) t.tallies
   pub room : HasRoom t
 
--- the parts are those of the first slots
+-- lines and expiries are those of the first slots
 pub record HasParts (front : List State) (t : StateTable) : Type 0 where
   pub leads : Leads front t.lines
   pub serves : Serves front t.queue
-  pub tallied : IsTallied front t.tallies
 
 -- the state keeps what its line and its counts go by
 pub record IsTouched (before after : State) : Type 0 where

@@ -1,9 +1,9 @@
 -- The tallies: how many states there are, and how many a limit counts.
-use Rattle.std.specs.Prelude.{◌≡◌, ℕ, ◌≤◌, List, count_by}
+use Rattle.std.specs.Prelude.{◌≡◌, List, count_by}
 use Rattle.fw_rule.specs.declared.state_opt.LimitMask.TheVariants.{SrcAddr, SrcPort, DstAddr, DstPort}
 use Rattle.dyn_states.specs.declared.state.State.{State}
 use Rattle.dyn_states.specs.declared.tallies.Tallies.{Tallies}
-use Rattle.dyn_states.specs.LimitCounts.{Counts, pair_room}
+use Rattle.dyn_states.specs.LimitCounts.{Counts, HasPairRoom}
 use Rattle.dyn_states.specs.Slots.{is_held}
 
 -- each tally is that of the held states
@@ -14,9 +14,9 @@ pub record IsTallied (slots : List State) (t : Tallies) : Type 0 where
   pub by_destination : Counts DstAddr slots t.by_destination
   pub by_destination_port : Counts DstPort slots t.by_destination_port
 
--- there is memory for the tallies of so many slots
-pub record HasTallyRoom (most : ℕ) (t : Tallies) : Type 0 where
-  pub source : most ≤ pair_room t.by_source
-  pub source_port : most ≤ pair_room t.by_source_port
-  pub destination : most ≤ pair_room t.by_destination
-  pub destination_port : most ≤ pair_room t.by_destination_port
+-- each tally knows no more pairs than states were counted, and has memory for as many as there is room
+pub record HasTallyRoom (t : Tallies) : Type 0 where
+  pub source : HasPairRoom t.counted t.room t.by_source
+  pub source_port : HasPairRoom t.counted t.room t.by_source_port
+  pub destination : HasPairRoom t.counted t.room t.by_destination
+  pub destination_port : HasPairRoom t.counted t.room t.by_destination_port

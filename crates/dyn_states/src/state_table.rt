@@ -5,6 +5,7 @@ ghost use Rattle.dyn_states.specs.declared.op.FlowName.TheVariants.{Any, Named};
 ghost use Rattle.dyn_states.specs.Lines.{line_at};
 ghost use Rattle.dyn_states.specs.ExpiryQueue.{entry_count, entry_room, due_count};
 ghost use Rattle.dyn_states.specs.Slots.{is_held, given_up, held_states, slot, no_state, holds_one, IsFirstPlace, earlier};
+ghost use Rattle.dyn_states.specs.Tallies.{IsTallied};
 ghost use Rattle.dyn_states.specs.StateTable.{slots_of, states_of, HasRoom, HasRoomForOne, HasParts, IsStateTable, IsTableBut, IsTouched, AreApart};
 
 use crate::expiry_queue::ExpiryQueue;
@@ -45,7 +46,7 @@ impl StateTable {
             slots: Vec::with_capacity(alloc, most)?,
             lines: Lines::open(alloc, most)?,
             queue: ExpiryQueue::open(alloc, most)?,
-            tallies: Tallies::open(alloc, most)?,
+            tallies: Tallies::open(alloc, (most / 2 + SPARE_SLOTS) as u32)?,
             most,
         })
     }
@@ -158,7 +159,7 @@ impl StateTable {
         }
     }
 
-    /// Takes the state in that place into all parts, behind those before it.
+    /// Takes the state in that place into the lines and the queue, behind those before it.
     fn enter(&mut self, place: usize)
         requires parts { HasParts (take place (slots_of self.old)) self.old }
         requires room { HasRoom self.old }
@@ -173,22 +174,25 @@ impl StateTable {
         ensures room { HasRoom self.new }
         ensures queue { entry_count self.new.queue ≤ place + 1 }
         ensures slots { self.new.slots ≡ self.old.slots }
+        ensures tallies { self.new.tallies ≡ self.old.tallies }
         ensures most { self.new.most ≡ self.old.most }
     {
         let state = self.slots[place];
         self.lines
             .put(line_of(&state.flow, state.name), place as u32);
         self.queue.push(state.expiry, place as u32);
-        self.tallies.add(&self.slots[..place], &state);
     }
 
-    /// Leaves the slots that hold a state, and makes all parts anew. It takes no memory.
-    pub fn compact(&mut self)
+    /// Leaves the slots that hold a state, and makes the lines and the queue anew. The tallies, which go by
+    /// states and not by slots, stay. It takes no memory.
+    fn compact(&mut self)
         requires room { HasRoom self.old }
         requires apart { AreApart (states_of self.old) }
         ensures slots { slots_of self.new ≡ states_of self.old }
-        ensures table { IsStateTable self.new }
+        ensures parts { HasParts (slots_of self.new) self.new }
+        ensures room { HasRoom self.new }
         ensures queue { entry_count self.new.queue ≤ length (slots_of self.new) }
+        ensures tallies { self.new.tallies ≡ self.old.tallies }
         ensures most { self.new.most ≡ self.old.most }
     {
         self.keep_held();
@@ -197,9 +201,48 @@ impl StateTable {
         }
     }
 
+    /// Counts the state in that place, behind those before it.
+    fn count(&mut self, place: usize)
+        requires tallied { IsTallied (take place (slots_of self.old)) self.old.tallies }
+        requires room { HasRoom self.old }
+        requires pairs { self.old.tallies.counted < self.old.tallies.room }
+        requires place { place < length (slots_of self.old) }
+        requires held { is_held (slot (slots_of self.old) place) ≡ true }
+        ensures tallied { IsTallied (take (place + 1) (slots_of self.old)) self.new.tallies }
+        ensures room { HasRoom self.new }
+        ensures counted { self.new.tallies.counted ≡ self.old.tallies.counted + 1 }
+        ensures pairs { self.new.tallies.room ≡ self.old.tallies.room }
+        ensures slots { self.new.slots ≡ self.old.slots }
+        ensures lines { self.new.lines ≡ self.old.lines }
+        ensures queue { self.new.queue ≡ self.old.queue }
+        ensures most { self.new.most ≡ self.old.most }
+    {
+        self.tallies.add(&self.slots[..place], &self.slots[place]);
+    }
+
+    /// Makes the tallies anew, where each slot holds a state. It takes no memory.
+    fn recount(&mut self)
+        requires held { states_of self.old ≡ slots_of self.old }
+        requires room { HasRoom self.old }
+        requires few { 2 * length (slots_of self.old) < self.old.most }
+        ensures tallied { IsTallied (slots_of self.new) self.new.tallies }
+        ensures room { HasRoom self.new }
+        ensures pairs { self.new.tallies.counted < self.new.tallies.room }
+        ensures slots { self.new.slots ≡ self.old.slots }
+        ensures lines { self.new.lines ≡ self.old.lines }
+        ensures queue { self.new.queue ≡ self.old.queue }
+        ensures most { self.new.most ≡ self.old.most }
+    {
+        self.tallies.clear();
+        for place in 0..self.slots.len() {
+            self.count(place);
+        }
+    }
+
     /// Drops the states whose rule isn't in the publication or, where they are kept, gives them rule 65535.
     pub fn take_over(&mut self, facts: &Facts)
-        requires { IsStateTable self.old }
+        requires table { IsStateTable self.old }
+        requires few { 2 * length (states_of self.old) < self.old.most }
         ensures states { states_of self.new
             ≡ object.states_after facts.now.settings.keep facts.now.rules (states_of self.old) }
         ensures count { length (states_of self.new) ≤ length (states_of self.old) }
@@ -211,38 +254,44 @@ impl StateTable {
         }
         take_over(&mut self.slots, facts);
         self.compact();
+        self.recount();
     }
 
-    /// Leaves the slots that hold a state, and empties all parts.
+    /// Leaves the slots that hold a state, and empties the lines and the queue.
     fn keep_held(&mut self)
         requires { HasRoom self.old }
         ensures slots { slots_of self.new ≡ states_of self.old }
         ensures parts { HasParts [] self.new }
         ensures queue { entry_count self.new.queue ≡ 0 }
         ensures room { HasRoom self.new }
+        ensures tallies { self.new.tallies ≡ self.old.tallies }
         ensures most { self.new.most ≡ self.old.most }
     {
         keep_held(&mut self.slots);
         self.lines.clear();
         self.queue.clear();
-        self.tallies.clear();
     }
 
-    /// Makes room for one more slot: where there is none, or few slots hold a state, it compacts. It takes
-    /// no memory.
+    /// Makes room for one more slot: where there is none, or few slots hold a state, it compacts, and where
+    /// the tallies are full it counts anew. It takes no memory.
     pub fn make_room(&mut self)
         requires table { IsStateTable self.old }
-        requires few { length (states_of self.old) < self.old.most }
+        requires few { 2 * length (states_of self.old) < self.old.most }
         ensures states { states_of self.new ≡ states_of self.old }
         ensures table { IsStateTable self.new }
         ensures room { HasRoomForOne self.new }
         ensures most { self.new.most ≡ self.old.most }
     {
-        let has_room = self.slots.len() < self.most && !self.queue.is_full();
+        let has_room = self.slots.len() < self.most
+            && !self.queue.is_full()
+            && !self.tallies.is_full();
         if has_room && self.slots.len() < SPARE_SLOTS + 4 * self.tallies.live() as usize {
             return;
         }
         self.compact();
+        if self.tallies.is_full() {
+            self.recount();
+        }
     }
 
     /// The slots, in the order of making. One of expiry 0 holds no state.

@@ -1,6 +1,6 @@
-ghost use Rattle.std.specs.Prelude.{◌≡◌, ℕ, ◌+◌, ◌-◌, ◌<◌, ◌≤◌, ◌^◌, [], ◌∷◌, ◌++◌, true, List, IfOk, length, count_by, slice_index_or, slice_set};
+ghost use Rattle.std.specs.Prelude.{◌≡◌, ℕ, ◌+◌, ◌-◌, ◌<◌, ◌≤◌, ◌^◌, [], ◌∷◌, ◌++◌, true, List, IfOk, length, count_by, nat_le, slice_index_or, slice_set};
 ghost use Rattle.dyn_states.specs.declared.state.State.{State};
-ghost use Rattle.dyn_states.specs.LimitCounts.{Counts, is_counted_for, amount_of, pair_of, pair_room};
+ghost use Rattle.dyn_states.specs.LimitCounts.{Counts, HasPairRoom, is_counted_for, amount_of, pair_count, pair_of, pair_room};
 ghost use Rattle.dyn_states.specs.Slots.{is_held, given_up, slot, no_state};
 ghost use Rattle.dyn_states.specs.Tallies.{IsTallied, HasTallyRoom};
 ghost use Rattle.dyn_states.specs.StateObject as object;
@@ -18,6 +18,11 @@ use std::alloc::Global;
 #[derive(Drop)]
 pub(crate) struct Tallies {
     live: u32,
+    /// How many states were counted since the tallies were empty. So many pairs are known at most, since a
+    /// pair stays known where its count falls to 0.
+    counted: u32,
+    /// For how many pairs each of the four has memory.
+    room: u32,
     by_source: LimitCounts,
     by_source_port: LimitCounts,
     by_destination: LimitCounts,
@@ -35,9 +40,10 @@ fn pair_of(mask: LimitMask, state: &State) -> (u32, u32)
 fn add(counts: &mut LimitCounts, mask: LimitMask, slots: &[State], state: &State)
     requires counts { Counts mask slots.now counts.old }
     requires held { is_held state.now ≡ true }
-    requires room { length slots.now < pair_room counts.old }
+    requires room { pair_count counts.old < pair_room counts.old }
     requires few { length slots.now < 2 ^ 32 - 1 }
     ensures counts { Counts mask (slots.now ++ state.now ∷ []) counts.new }
+    ensures pairs { pair_count counts.new ≤ pair_count counts.old + 1 }
     ensures room { pair_room counts.old ≤ pair_room counts.new }
 {
     counts.add(pair_of(mask, state));
@@ -50,24 +56,36 @@ fn take(counts: &mut LimitCounts, mask: LimitMask, slots: &[State], place: usize
     requires held { is_held (slot slots.now place) ≡ true }
     ensures counts { Counts mask (slice_set slots.now place (given_up (slot slots.now place)))
         counts.new }
+    ensures pairs { pair_count counts.new ≡ pair_count counts.old }
     ensures room { pair_room counts.old ≤ pair_room counts.new }
 {
     counts.take(pair_of(mask, &slots[place]));
 }
 
 impl Tallies {
-    /// No state. The memory for the states of so many slots is taken here.
-    pub fn open(alloc: Global, room: usize) -> Result<Tallies, OutOfMemory>
+    /// No state. The memory for so many pairs of each kind is taken here.
+    pub fn open(alloc: Global, room: u32) -> Result<Tallies, OutOfMemory>
         ensures none { IfOk result (IsTallied []) }
-        ensures room { IfOk result (HasTallyRoom room) }
+        ensures memory { IfOk result HasTallyRoom }
+        ensures room { IfOk result (λ made. made.room ≡ room) }
+        ensures counted { IfOk result (λ made. made.counted ≡ 0) }
     {
         Ok(Tallies {
             live: 0,
-            by_source: LimitCounts::open(alloc, room)?,
-            by_source_port: LimitCounts::open(alloc, room)?,
-            by_destination: LimitCounts::open(alloc, room)?,
-            by_destination_port: LimitCounts::open(alloc, room)?,
+            counted: 0,
+            room,
+            by_source: LimitCounts::open(alloc, room as usize)?,
+            by_source_port: LimitCounts::open(alloc, room as usize)?,
+            by_destination: LimitCounts::open(alloc, room as usize)?,
+            by_destination_port: LimitCounts::open(alloc, room as usize)?,
         })
+    }
+
+    /// Whether there may be no room for a pair more, until all are forgotten.
+    pub fn is_full(&self) -> bool
+        ensures { result ≡ nat_le self.now.room self.now.counted }
+    {
+        self.room <= self.counted
     }
 
     /// How many states there are.
@@ -95,12 +113,16 @@ impl Tallies {
     pub fn add(&mut self, slots: &[State], state: &State)
         requires tallied { IsTallied slots.now self.old }
         requires held { is_held state.now ≡ true }
-        requires room { (most : ℕ) × HasTallyRoom most self.old × (length slots.now < most) }
+        requires memory { HasTallyRoom self.old }
+        requires room { self.old.counted < self.old.room }
         requires few { length slots.now < 2 ^ 32 - 1 }
         ensures tallied { IsTallied (slots.now ++ state.now ∷ []) self.new }
-        ensures room { (most : ℕ) → HasTallyRoom most self.old → HasTallyRoom most self.new }
+        ensures memory { HasTallyRoom self.new }
+        ensures room { self.new.room ≡ self.old.room }
+        ensures counted { self.new.counted ≡ self.old.counted + 1 }
     {
         self.live += 1;
+        self.counted += 1;
         add(&mut self.by_source, LimitMask::SrcAddr, slots, state);
         add(&mut self.by_source_port, LimitMask::SrcPort, slots, state);
         add(&mut self.by_destination, LimitMask::DstAddr, slots, state);
@@ -119,7 +141,9 @@ impl Tallies {
         requires held { is_held (slot slots.now place) ≡ true }
         ensures tallied { IsTallied (slice_set slots.now place (given_up (slot slots.now place)))
             self.new }
-        ensures room { (most : ℕ) → HasTallyRoom most self.old → HasTallyRoom most self.new }
+        ensures memory { HasTallyRoom self.old → HasTallyRoom self.new }
+        ensures room { self.new.room ≡ self.old.room }
+        ensures counted { self.new.counted ≡ self.old.counted }
     {
         self.live -= 1;
         take(&mut self.by_source, LimitMask::SrcAddr, slots, place);
@@ -136,9 +160,12 @@ impl Tallies {
     /// Counts no state.
     pub fn clear(&mut self)
         ensures none { IsTallied [] self.new }
-        ensures room { (most : ℕ) → HasTallyRoom most self.old → HasTallyRoom most self.new }
+        ensures memory { HasTallyRoom self.old → HasTallyRoom self.new }
+        ensures room { self.new.room ≡ self.old.room }
+        ensures counted { self.new.counted ≡ 0 }
     {
         self.live = 0;
+        self.counted = 0;
         self.by_source.clear();
         self.by_source_port.clear();
         self.by_destination.clear();

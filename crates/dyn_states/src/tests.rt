@@ -491,3 +491,18 @@ fn states_full_and_given_up(rt: HostRuntime) -> Result<(), Fail> {
     }
     Ok(())
 }
+
+/// A limit of one state counts it, and nothing that died, however many were made before it.
+#[test]
+fn limits_hold_after_many_states(rt: HostRuntime) -> Result<(), Fail> {
+    let mut states = States::open(rt.alloc(), 16, settings(1, 1, 16, false))?;
+    for turn in 0..20_000u32 {
+        let second = 100 + 20 * turn;
+        let one = (LimitMask::SrcAddr, 1);
+        let made = limited(datagram(5), second, RULE, one);
+        assert_eq!(rt; states.step(&made), Reply::Created, "{turn}");
+        let above = limited(datagram(7), second, RULE, one);
+        assert_eq!(rt; states.step(&above), Reply::LimitReached(1), "{turn}");
+    }
+    Ok(())
+}

@@ -1,4 +1,4 @@
--- The first slots are taken into all parts, and each slot holds a state.
+-- The first slots are taken into the lines and the queue, and each slot holds a state.
 use Rattle.std.proofs.Common.{◌≡◌, ◌≤◌, take}
 use Rattle.dyn_states.specs.ExpiryQueue.{entry_count}
 use Rattle.dyn_states.specs.StateTable.{slots_of, HasParts, HasRoom}
@@ -10,5 +10,6 @@ invariant-loop-place l = record {
   room : HasRoom l.self;
   queue : entry_count l.self.queue ≤ l.place;
   slots : l.self.slots ≡ l.initial.self.slots;
+  tallies : l.self.tallies ≡ l.initial.self.tallies;
   most : l.self.most ≡ l.initial.self.most;
 }

@@ -16,5 +16,4 @@ returns-clause-parts c =
     record {
       leads = rw more (Leads-push front c.index.result.now c.args.self.now.lines c.put.new.self c.requires.parts.leads (rw (← is) at c.requires.first) (rw (c.line_of.ensures, long) at c.put.ensures.places) (rw c.line_of.ensures at c.put.ensures.names.0) c.put.ensures.names.1 c.put.ensures.ends c.put.ensures.count);
       serves = rw more (Serves-push front c.index.result.now c.args.self.now.queue c.push.new.self c.requires.parts.serves (rw long at c.push.ensures.entries) (c.push.ensures.order c.requires.parts.serves.order));
-      tallied = rw more (rw c.deref.ensures.value at c.add.ensures.tallied);
     }

@@ -1,3 +1,4 @@
+use Rattle.std.proofs.Common.{arith}
 use Rattle.dyn_states.proofs.LeadsLaws.{slot-read}
 use Rattle.dyn_states.proofs.TableLaws.{Leads-give_up, Serves-give_up}
 use Rattle.dyn_states.proofs.state_table.StateTable.give_up.Goals as goal
@@ -14,7 +15,8 @@ returns-clause-table c =
         slots = was.room.slots;
         lines = was.room.lines;
         queue = was.room.queue;
-        tallies = c.take.ensures.room c.args.self.now.most was.room.tallies;
+        tallies = c.take.ensures.memory was.room.tallies;
+        pairs = let h = was.room.pairs in let g = c.take.ensures.room in omega arith;
         few = was.room.few;
         entries = was.room.entries;
         small = was.room.small;

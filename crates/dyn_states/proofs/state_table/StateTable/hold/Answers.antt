@@ -14,7 +14,8 @@ returns-clause-table c =
         slots = let h = was.room.slots in omega arith;
         lines = let h = was.room.lines in let g = c.put.ensures.room in omega arith;
         queue = let h = was.room.queue in let g = c.push.ensures.room in omega arith;
-        tallies = c.add.ensures.room c.args.self.now.most was.room.tallies;
+        tallies = c.add.ensures.memory;
+        pairs = let h = was.room.pairs in let g = c.add.ensures.room in omega arith;
         few = let h = c.requires.room.slots in let g = c.push_reserved.ensures.len in omega arith;
         entries = let h = c.requires.room.queue in let g = c.push.ensures.room in let f = c.push.ensures.count in omega arith;
         small = was.room.small;

@@ -17,6 +17,7 @@ returns-clause-none c =
           lines = was.room.lines;
           queue = let f = was.room.queue in let g = c.pop_due.ensures.room in omega arith;
           tallies = was.room.tallies;
+          pairs = was.room.pairs;
           few = was.room.few;
           entries = let f = was.room.entries in let g = c.pop_due.ensures.room in omega arith;
           small = was.room.small;
@@ -38,6 +39,7 @@ returns-clause-some c =
           lines = was.room.lines;
           queue = let f = was.room.queue in let g = c.pop_due.ensures.room in omega arith;
           tallies = was.room.tallies;
+          pairs = was.room.pairs;
           few = was.room.few;
           entries = let f = was.room.entries in let g = c.pop_due.ensures.room in omega arith;
           small = was.room.small;

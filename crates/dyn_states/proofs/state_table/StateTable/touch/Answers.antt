@@ -14,7 +14,7 @@ returns-then-expiry-state-clause-table c =
       leads = Leads-touch c.args.self.now.slots.items c.args.place c.args.state c.args.self.now.lines was.leads c.requires.place c.requires.held c.requires.same.flow c.requires.same.name;
       serves = Serves-later c.args.self.now.slots.items c.args.place c.args.state c.args.self.now.queue was.serves c.requires.place c.requires.held later;
       tallied = IsTallied-touch c.args.self.now.slots.items c.args.place c.args.state c.args.self.now.tallies was.tallied c.requires.place c.requires.held c.requires.still c.requires.same;
-      room = record { slots = was.room.slots; lines = was.room.lines; queue = was.room.queue; tallies = was.room.tallies; few = was.room.few; entries = was.room.entries; small = was.room.small };
+      room = record { slots = was.room.slots; lines = was.room.lines; queue = was.room.queue; tallies = was.room.tallies; pairs = was.room.pairs; few = was.room.few; entries = was.room.entries; small = was.room.small };
     }
 
 pub returns-clause-table : goal.returns-clause-table
@@ -29,6 +29,7 @@ returns-clause-table c =
         lines = was.room.lines;
         queue = let h = was.room.queue in let g = c.push.ensures.room in omega arith;
         tallies = was.room.tallies;
+        pairs = was.room.pairs;
         few = was.room.few;
         entries = let h = c.requires.room.queue in let g = c.push.ensures.room in let f = c.push.ensures.count in omega arith;
         small = was.room.small;

@@ -34,6 +34,7 @@ returns-clause-table c =
         lines = was.room.lines;
         queue = let h = was.room.queue in let g = c.push.ensures.room in omega arith;
         tallies = was.room.tallies;
+        pairs = was.room.pairs;
         few = was.room.few;
         entries = let h = c.requires.room in let g = c.push.ensures.room in let f = c.push.ensures.count in omega arith;
         small = was.room.small;
