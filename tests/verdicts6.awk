@@ -1,34 +1,22 @@
 # The report of a capture with IPv6 packets beside a script, worked out from the packets' fields as tshark reads
 # them. It shares nothing with the program, so that each can be held against the other.
 #
-# usage: awk -v script=FILE -f verdicts6.awk FIELDS.tsv
+# usage: awk -v script=FILE -f fields6.awk -f verdicts6.awk FIELDS.tsv
 #
 # A line of the script is 'add NUMBER allow|deny PROTOCOL from ADDRESSES [PORTS] to ADDRESSES [PORTS] [OPTION ..]'; it
 # asks nothing of an IPv4 packet but that it is one, since FIELDS.tsv has none of its fields. An address is 'any', or
-# one of IPv6, perhaps with a length. The first line of FIELDS.tsv names its fields, by tshark's names, of which each
-# is the first in the frame: so the number of the next header is followed from one extension header to the next.
+# one of IPv6, perhaps with a length.
 
 BEGIN {
-    FS = "\t"
     split("icmp 1 tcp 6 udp 17 ipv6-icmp 58", pair, " ")
     for (n = 1; n in pair; n += 2)
         number_of[pair[n]] = pair[n + 1]
     split("fin 1 syn 2 rst 4 psh 8 ack 16 urg 32", pair, " ")
     for (n = 1; n in pair; n += 2)
         flag_of[pair[n]] = pair[n + 1]
-    next_of[0] = "ipv6.hopopts.nxt"
-    next_of[43] = "ipv6.routing.nxt"
-    next_of[44] = "ipv6.fraghdr.nxt"
-    next_of[60] = "ipv6.dstopts.nxt"
     while ((getline line < script) > 0)
         if (line != "")
             take_rule(line)
-}
-
-NR == 1 {
-    for (n = 1; n <= NF; n++)
-        column[$n] = n
-    next
 }
 
 {
@@ -38,35 +26,6 @@ NR == 1 {
 }
 
 END { print "end 1 records " records + 0 }
-
-function field(name) { return $column[name] }
-
-# Follows the extension headers to the protocol. A later fragment ends them.
-function read_fields(    number) {
-    version = field("sll.etype") == "0x86dd" ? 6 : 4
-    protocol = offset = source_port = target_port = flags = type = ""
-    if (version != 6)
-        return
-    number = field("ipv6.nxt")
-    offset = 0
-    while (offset == 0 && (number in next_of)) {
-        if (number == 44)
-            offset = field("ipv6.fraghdr.offset") + 0
-        number = field(next_of[number])
-    }
-    protocol = number
-    if (offset != 0)
-        return
-    if (protocol == 6) {
-        source_port = field("tcp.srcport")
-        target_port = field("tcp.dstport")
-        flags = field("tcp.flags")
-    } else if (protocol == 17) {
-        source_port = field("udp.srcport")
-        target_port = field("udp.dstport")
-    } else if (protocol == 58)
-        type = field("icmpv6.type")
-}
 
 function take_rule(text,    words) {
     split(text, words, " +")

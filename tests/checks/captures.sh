@@ -8,7 +8,17 @@ check empty_script_denies_one_syn 0 serial empty in:em0:syn.pcap <<<"$one_record
 
 bytes "a1b23c4d 0002 0004 00000000 00000000 00040000 00000071 00000064 00000000 00000038 00000038
     0000 0001 0006 020000000002 0000 0800 $syn" >cooked
-check cooked_big_endian_nanoseconds 0 serial empty in:em0:cooked <<<"$one_record"
+echo 'add allow tcp from any to any 80' >script
+check_whole cooked_big_endian_nanoseconds 0 serial script in:em0:cooked <<'END'
+1.1 allow 00100 at 1
+end 1 records 1
+editions 1
+rules 2
+00100 1 40 allow tcp from any to any 80
+65535 0 0 set 31 deny ip from any to any
+clock 0
+states 0
+END
 bytes "4d3cb2a1 0200 0400 00000000 00000000 00000400 01000000" "$(record 100 "$syn_frame")" >nanoseconds
 check little_endian_nanoseconds 0 serial empty in:em0:nanoseconds <<<"$one_record"
 bytes "a1b2c3d4 0002 0004 00000000 00000000 00040000 00000001 00000064 00000000 00000036 00000036 $syn_frame" >big

@@ -84,7 +84,7 @@ beside() {
         echo "add 100 allow $body" >script
         {
             echo "$body"
-            awk -v script=script -f "$tests/verdicts6.awk" "$tests/captures/v6_any_sll.tsv" | $filter
+            awk -v script=script -f "$tests/fields6.awk" -f "$tests/verdicts6.awk" "$tests/captures/v6_any_sll.tsv" | $filter
             echo 'status 0'
         } >>"$work/wanted"
         { echo "$body" && replay serial script "in:em0:$tests/captures/v6_any_sll.pcap" | $filter; } >>"$work/got"
@@ -100,5 +100,39 @@ printf '%s\n' 'add 100 deny 59 from ::/0 to any' 'add 200 allow udp from ::/0 to
     'add 600 allow tcp from fd09:1::2 to fd20::/16' 'add 700 deny ip4 from any to any' \
     'add 800 allow udp from fd20:2::2 to not fd09:1::22' 'add 900 deny 41 from fd00::/8 to any' \
     'add 1000 allow ip from any to fd09:1::/64,::/1' >script
-awk -v script=script -f "$tests/verdicts6.awk" "$tests/captures/v6_any_sll.tsv" >printed
+awk -v script=script -f "$tests/fields6.awk" -f "$tests/verdicts6.awk" "$tests/captures/v6_any_sll.tsv" >printed
 check v6_any_sll_ten_rules 0 serial script "in:em0:$tests/captures/v6_any_sll.pcap" <printed
+
+# chosen_records CAPTURE: the capture with those records alone whose numbers stand in the file chosen.
+chosen_records() {
+    python3 -c '
+import struct, sys
+chosen = {int(line) for line in open("chosen")}
+data = open(sys.argv[1], "rb").read()
+order = "<" if data[0] in (0xD4, 0x4D) else ">"
+sys.stdout.buffer.write(data[:24])
+at, number = 24, 0
+while at < len(data):
+    end = at + 16 + struct.unpack(order + "I", data[at + 8:at + 12])[0]
+    number += 1
+    if number in chosen:
+        sys.stdout.buffer.write(data[at:end])
+    at = end
+' "$1"
+}
+
+# Each packet by all that tshark reads of it, each rule with its packets and their total lengths.
+for fragments in no first; do
+    rm -f script chosen
+    awk -v script=script -v chosen=chosen -v fragments=$fragments -f "$tests/fields6.awk" -f "$tests/packets6.awk" \
+        "$tests/captures/v6_any_sll.tsv" >"$work/wanted"
+    chosen_records "$tests/captures/v6_any_sll.pcap" >chosen.pcap
+    timeout 100 "$program" serial script in:em0:chosen.pcap >report
+    {
+        sed '/^editions /,$d' report
+        awk '/^clock / { exit }
+             inside && $1 != "65535" && $4 " " $5 != "allow ip4" { print $1, $2, $3 }
+             /^rules / { inside = 1 }' report
+    } >"$work/got"
+    same "v6_any_sll_each_field_fragments_$fragments"
+done

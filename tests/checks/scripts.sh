@@ -22,6 +22,19 @@ script_line octets_and_lengths_with_zeros 0 'add 100 allow tcp from 010.000.0.00
 script_line first_number_is_100 0 'add allow tcp from any to any\n' <<<"$allowed"
 script_line number_0_is_no_number 0 'add 0 pass 6 from any to any\n' <<<"$allowed"
 
+echo 'add 5 set 3 pass log logamount 10 6 from not 10.1.2.3/8,me 80,1000-2000 to any not domain in recv em* tcpflags syn,!ack' \
+    >script
+check_whole canonical_text_of_a_rule 0 serial script in:em0:syn.pcap <<'END'
+1.1 deny 65535 at 1
+end 1 records 1
+editions 1
+rules 2
+00005 0 0 set 3 allow log logamount 10 tcp from not 10.0.0.0/8,me 80,1000-2000 to any not 53 in recv em* tcpflags syn,!ack
+65535 1 40 set 31 deny ip from any to any
+clock 0
+states 0
+END
+
 script_line misspelt_action_in_script 2 'add 100 alow ip from any to any' <<<'script line 1 column 9 UnknownWord'
 script_line last_rule_is_reserved 2 'delete 65535\n' <<<'script line 1 ReservedRule'
 script_line delete_of_no_rule 2 'delete 7\n' <<<'script line 1 NoSuchRule'

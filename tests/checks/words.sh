@@ -83,8 +83,11 @@ check journal_behind_the_divider_is_a_name 1 serial -- --journal empty in:em0:sy
 head -c 24 syn.pcap >no_record
 none=()
 for _ in {1..16}; do none+=(out:em1:no_record); done
-for capture in {1..16}; do echo "end $capture records 0"; done >printed
-check sixteen_captures 0 serial empty "${none[@]}" <printed
+{
+    for capture in {1..16}; do echo "end $capture records 0"; done
+    printf '%s\n' 'editions 1' 'rules 1' '65535 0 0 set 31 deny ip from any to any' 'clock 0' 'states 0'
+} >printed
+check_whole sixteen_captures 0 serial empty "${none[@]}" <printed
 
 check_whole load_of_one_record 0 load 0000001 <<'END'
 records 1
