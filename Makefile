@@ -8,6 +8,7 @@ PROGRAM = bin/ipfw_replay
 LOCK_BENCH = bin/lock_bench
 STATES_BENCH = bin/states_bench
 REPORT_BENCH = bin/report_bench
+EDIT_BENCH = bin/edit_bench
 
 # Fails with one line where the toolchain's command is missing.
 need_rt = @command -v $(RT) >/dev/null || { \
@@ -24,7 +25,7 @@ $(PROGRAM): bin/sources
 	@cp crates/ipfw_cli/out/ipfw_cli $@.new && mv $@.new $@
 	@echo "built $@"
 
-$(LOCK_BENCH) $(STATES_BENCH) $(REPORT_BENCH): bin/%: bin/sources
+$(LOCK_BENCH) $(STATES_BENCH) $(REPORT_BENCH) $(EDIT_BENCH): bin/%: bin/sources
 	$(need_rt)
 	cd crates/$* && $(RT) run >/dev/null
 	@cp crates/$*/out/$* $@.new && mv $@.new $@
@@ -48,8 +49,8 @@ test: bin/sources
 	@cp crates/ipfw_cli/out/ipfw_cli $(PROGRAM).new && mv $(PROGRAM).new $(PROGRAM)
 	tests/run $(PROGRAM)
 
-bench: $(PROGRAM) $(LOCK_BENCH) $(STATES_BENCH) $(REPORT_BENCH)
-	bench/run $(PROGRAM)
+bench: $(PROGRAM) $(LOCK_BENCH) $(STATES_BENCH) $(REPORT_BENCH) $(EDIT_BENCH)
+	bench/run $(PROGRAM) $(EDIT_BENCH)
 	$(STATES_BENCH) 1000000
 	$(REPORT_BENCH) 1000000
 	$(LOCK_BENCH) 10000000
@@ -67,7 +68,7 @@ help:
 	@echo "make            proves the crates and builds bin/ipfw_replay, where something changed"
 	@echo "make example    builds, and replays examples/first: a real capture beside a script of rules"
 	@echo "make test       proves and tests every crate (rt ci), then runs the program's own checks (tests/run)"
-	@echo "make bench      builds, and times the program on large captures, beside tcpdump where it is installed (needs python3), the states' asks, the report's lines, and the lock's sections"
+	@echo "make bench      builds, and times the program on large captures, beside tcpdump where it is installed (needs python3), the states' asks, the report's lines, edits of a configuration, and the lock's sections"
 	@echo "make install    builds, and copies the program and its manual page below DESTDIR/PREFIX ($(PREFIX))"
 	@echo "make clean      removes all that was built and what the proofs keep"
 	@echo
