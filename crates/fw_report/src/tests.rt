@@ -1,8 +1,9 @@
-ghost use Rattle.std.specs.Prelude.{◌≡◌, ℕ, List, IfOk, IsSomeAnd, IsTrue, Some, None, [], ◌∷◌};
+ghost use Rattle.std.specs.Prelude.{◌≡◌, ◌<◌, ℕ, List, IfOk, IsTrue, false, [], ◌∷◌, length};
 ghost use Rattle.dyn_states.specs.RuleLists.{has_id};
 ghost use Rattle.fw_rule.specs.FlowName.{IsFlowName};
-ghost use Rattle.fw_rule.specs.WellFormed.{IsBody, IsKey, IsWellFormed};
+ghost use Rattle.fw_rule.specs.WellFormed.{IsAddrSpec, IsBody, IsKey, IsWellFormed};
 ghost use Rattle.fw_rule.specs.declared.addr_item.AddrItem.TheVariants as items;
+ghost use Rattle.fw_rule.specs.declared.test.Test.TheVariants as tests;
 ghost use Rattle.state_journal.specs.Journal.{NamesRuleOf};
 
 use crate::{Answer, CaptureEnd, Ends, LineAnswer, write_report, write_summary};
@@ -19,7 +20,7 @@ use packet_headers::Flow;
 use pcap_read::CaptureFault;
 use rule_chain::{ApplyFault, Config, is_changing};
 use state_journal::Book;
-use std::alloc::Global;
+use std::alloc::{AllocError, Global};
 use std::process::Abort;
 use std::sync::Arc;
 use std::test::Fail;
@@ -32,8 +33,8 @@ struct Row<'a> {
     captures: &'a [Captured<'a>],
     /// Whether the connection's asks stand in the journal.
     is_asked: bool,
-    /// Whether lines of the script are answered.
-    is_answered: bool,
+    /// The lines of the script that are answered, and how.
+    answers: &'a [(u32, Told)],
     hits: &'a [u64],
     text: &'a str,
 }
@@ -41,9 +42,28 @@ struct Row<'a> {
 /// What was entered for a capture's records, what was counted for them, and the capture's end.
 #[derive(Clone, Copy)]
 struct Captured<'a> {
-    entries: &'a [DocketEntry],
+    entries: &'a [Entered],
     counted: &'a [(u32, u32)],
     end: CaptureEnd,
+}
+
+/// What is entered for a record.
+#[derive(Clone, Copy)]
+enum Entered {
+    Other,
+    Malformed(u8),
+    /// The verdict, the number of the rule, the number of the edition, and the cause.
+    Judged(Verdict, u16, u64, Cause),
+}
+
+/// How a line of the script is answered.
+#[derive(Clone, Copy)]
+enum Told {
+    Refused(ApplyFault),
+    /// The rules of the edition of this number are listed.
+    Rules(u64),
+    /// The entries of its table `nets` are listed.
+    Nets(u64),
 }
 
 /// What makes a configuration of the one before.
@@ -55,14 +75,20 @@ enum Change {
     Disable,
 }
 
+fn one<T: Drop>(alloc: Global, item: T) -> Result<Items<T>, AllocError>
+    ensures { IfOk result (λ items. items ≡ item ∷ []) }
+{
+    let mut items = Vec::new(alloc);
+    items.push(item)?;
+    Ok(Items::from_vec(items))
+}
+
 fn any(alloc: Global) -> Result<AddrSpec, Fail>
     ensures { IfOk result (λ spec. spec.items ≡ items.Any ∷ []) }
 {
-    let mut every = Vec::new(alloc);
-    every.push(AddrItem::Any)?;
     Ok(AddrSpec {
         negated: false,
-        items: Items::from_vec(every),
+        items: one(alloc, AddrItem::Any)?,
     })
 }
 
@@ -72,35 +98,54 @@ fn default_name(alloc: Global) -> Result<Name, Fail>
     Ok(Name::new(alloc, b"default")?)
 }
 
-/// `tcp from any to any setup keep-state`
-fn setup_body(alloc: Global) -> Result<Option<Body>, Fail>
-    ensures { IfOk result (λ body. IsSomeAnd body IsBody) }
+/// `setup`
+fn setup(alloc: Global) -> Result<Items<Opt>, Fail>
+    ensures { IfOk result (λ options.
+        options ≡ record { negated = false; test = tests.Setup } ∷ []) }
 {
-    let mut options = Vec::new(alloc);
-    options.push(Opt {
+    let option = Opt {
         negated: false,
         test: Test::Setup,
-    })?;
-    Ok(Some(Body {
+    };
+    Ok(one(alloc, option)?)
+}
+
+/// `tcp from SOURCE to any setup keep-state :NAME`
+fn setup_from(alloc: Global, source: AddrSpec, name: Name) -> Result<Body, Fail>
+    requires source { IsAddrSpec source }
+    requires name { IsFlowName name }
+    ensures { IfOk result (λ body. IsBody body) }
+{
+    Ok(Body {
         family: Family::AnyIp,
         protocol: 6,
-        source: any(alloc)?,
+        source,
         source_ports: None,
         destination: any(alloc)?,
         destination_ports: None,
-        options: Items::from_vec(options),
-        state: Some(StateOpt::Keep(default_name(alloc)?)),
+        options: setup(alloc)?,
+        state: Some(StateOpt::Keep(name)),
         state_at: 1,
-    }))
+    })
+}
+
+/// `tcp from any to any setup keep-state`
+fn setup_body(alloc: Global) -> Result<Body, Fail>
+    ensures { IfOk result (λ body. IsBody body) }
+{
+    let name = default_name(alloc)?;
+    let source = any(alloc)?;
+    setup_from(alloc, source, name)
 }
 
 fn check_state(alloc: Global) -> Result<Command, Fail>
     ensures { IfOk result (λ command. IsWellFormed command) }
 {
+    let name = default_name(alloc)?;
     Ok(Command::Add(RuleDraft {
         number: Some(100),
         set: 0,
-        action: Action::CheckState(Some(default_name(alloc)?)),
+        action: Action::CheckState(Some(name)),
         log: None,
         body: None,
     }))
@@ -109,12 +154,13 @@ fn check_state(alloc: Global) -> Result<Command, Fail>
 fn allow_setup(alloc: Global) -> Result<Command, Fail>
     ensures { IfOk result (λ command. IsWellFormed command) }
 {
+    let body = setup_body(alloc)?;
     Ok(Command::Add(RuleDraft {
         number: Some(200),
         set: 0,
         action: Action::Allow,
         log: None,
-        body: setup_body(alloc)?,
+        body: Some(body),
     }))
 }
 
@@ -177,6 +223,16 @@ fn config_of(rt: &impl Abort, alloc: Global, changes: &[Change]) -> Result<Confi
     Ok(config)
 }
 
+fn edition_of(
+    rt: &impl Abort,
+    alloc: Global,
+    number: u64,
+    changes: &[Change],
+) -> Result<Arc<Edition>, Fail> {
+    let config = config_of(rt, alloc, changes)?;
+    Ok(Edition::build(alloc, number, config)?)
+}
+
 /// The editions of these configurations, numbered from 1.
 fn editions_of(
     rt: &impl Abort,
@@ -186,15 +242,28 @@ fn editions_of(
     let mut editions = Vec::new(alloc);
     for changes in configs {
         let number = editions.len() as u64 + 1;
-        editions.push(Edition::build(alloc, number, config_of(rt, alloc, changes)?)?)?;
+        editions.push(edition_of(rt, alloc, number, changes)?)?;
     }
     Ok(editions)
 }
 
-fn docket_of(alloc: Global, entries: &[DocketEntry]) -> Result<Docket, Fail> {
+fn entry_of(entered: Entered) -> DocketEntry {
+    match entered {
+        Entered::Other => DocketEntry::Other,
+        Entered::Malformed(kind) => DocketEntry::Malformed(kind),
+        Entered::Judged(verdict, number, edition, cause) => DocketEntry::judged(Judgement {
+            edition,
+            verdict,
+            rule: RuleRef { id: 0, number },
+            cause,
+        }),
+    }
+}
+
+fn docket_of(alloc: Global, entries: &[Entered]) -> Result<Docket, Fail> {
     let mut docket = Docket::new(alloc);
-    for entry in entries {
-        docket.push(*entry)?;
+    for entered in entries {
+        docket.push(entry_of(*entered))?;
     }
     Ok(docket)
 }
@@ -207,13 +276,19 @@ fn dockets_of(alloc: Global, captures: &[Captured<'_>]) -> Result<Vec<Docket>, F
     Ok(dockets)
 }
 
+/// Counts a packet of that many bytes under one of the numbers below 3.
+fn count(rt: &impl Abort, tally: &mut Tally, id: u32, bytes: u32) -> Result<(), Fail> {
+    assert!(rt; id < 3);
+    tally.fit(3)?;
+    tally.hit(id, bytes);
+    Ok(())
+}
+
 fn tally_of(rt: &impl Abort, alloc: Global, counted: &[(u32, u32)]) -> Result<Tally, Fail> {
     let mut tally = Tally::new(alloc);
     tally.fit(3)?;
     for (id, bytes) in counted {
-        assert!(rt; *id < 3);
-        tally.fit(3)?;
-        tally.hit(*id, *bytes);
+        count(rt, &mut tally, *id, *bytes)?;
     }
     Ok(tally)
 }
@@ -238,24 +313,37 @@ fn captures_of(alloc: Global, captures: &[Captured<'_>]) -> Result<Items<Capture
     Ok(Items::from_vec(ends))
 }
 
-/// Line 7 is refused, line 9 lists edition 1, and line 10 a table of edition 2.
-fn answers_of(alloc: Global, is_answered: bool) -> Result<Items<LineAnswer>, Fail> {
-    let mut answers = Vec::new(alloc);
-    if is_answered {
-        let refused = Answer::Refused(ApplyFault::ReservedSet);
-        let rules = Answer::Listed {
-            edition: 1,
+fn answer_of(alloc: Global, told: Told) -> Result<Answer, Fail> {
+    match told {
+        Told::Refused(fault) => Ok(Answer::Refused(fault)),
+        Told::Rules(edition) => Ok(Answer::Listed {
+            edition,
             table: None,
-        };
-        let table = Answer::Listed {
-            edition: 2,
+        }),
+        Told::Nets(edition) => Ok(Answer::Listed {
+            edition,
             table: Some(Name::new(alloc, b"nets")?),
-        };
-        for (line, answer) in vec![in alloc; (7, refused), (9, rules), (10, table)]? {
-            answers.push(LineAnswer { line, answer })?;
-        }
+        }),
+    }
+}
+
+fn line_answer(alloc: Global, line: u32, told: Told) -> Result<LineAnswer, Fail> {
+    let answer = answer_of(alloc, told)?;
+    Ok(LineAnswer { line, answer })
+}
+
+fn answers_of(alloc: Global, told: &[(u32, Told)]) -> Result<Items<LineAnswer>, Fail> {
+    let mut answers = Vec::new(alloc);
+    for (line, answer) in told {
+        answers.push(line_answer(alloc, *line, *answer)?)?;
     }
     Ok(Items::from_vec(answers))
+}
+
+fn ends_of(alloc: Global, row: &Row<'_>) -> Result<Ends, Fail> {
+    let captures = captures_of(alloc, row.captures)?;
+    let answers = answers_of(alloc, row.answers)?;
+    Ok(Ends { captures, answers })
 }
 
 const FORTH: Flow = Flow {
@@ -323,152 +411,192 @@ fn ask_all(rt: &impl Abort, book: &mut Book) -> Result<(), Fail> {
     Ok(())
 }
 
-/// The book of these editions for two lanes, with the connection's asks where they are wanted.
+/// The book of these editions for two lanes.
+fn open_book(rt: &impl Abort, alloc: Global, editions: &[Arc<Edition>]) -> Result<Book, Fail> {
+    assert!(rt; !editions.is_empty());
+    let facts = editions[0].facts().share()?;
+    assert!(rt; facts.number == 1);
+    Ok(Book::open(alloc, 2, facts)?)
+}
+
+/// The book, with the connection's asks where they are wanted.
 fn book_of(
     rt: &impl Abort,
     alloc: Global,
     editions: &[Arc<Edition>],
     is_asked: bool,
 ) -> Result<Book, Fail> {
-    assert!(rt; !editions.is_empty());
-    let facts = editions[0].facts().share()?;
-    assert!(rt; facts.number == 1);
-    let mut book = Book::open(alloc, 2, facts)?;
+    let mut book = open_book(rt, alloc, editions)?;
     if is_asked {
         ask_all(rt, &mut book)?;
     }
     Ok(book)
 }
 
-/// The report, and then the summary, compared with the row's text.
-fn assert_reported(rt: &impl Abort, alloc: Global, row: &Row<'_>) -> Result<(), Fail> {
-    let editions = editions_of(rt, alloc, row.editions)?;
-    assert!(rt; !editions.is_empty());
-    let book = book_of(rt, alloc, &editions, row.is_asked)?;
-    let dockets = dockets_of(alloc, row.captures)?;
-    let tallies = tallies_of(rt, alloc, row.captures)?;
-    let ends = Ends {
-        captures: captures_of(alloc, row.captures)?,
-        answers: answers_of(alloc, row.is_answered)?,
-    };
-    let mut out = MemorySink::new(alloc, 4096)?;
+/// What was entered and counted for all the captures' records.
+#[derive(Drop)]
+struct Records {
+    dockets: Vec<Docket>,
+    tallies: Vec<Tally>,
+}
+
+fn records_of(rt: &impl Abort, alloc: Global, captures: &[Captured<'_>]) -> Result<Records, Fail> {
+    let dockets = dockets_of(alloc, captures)?;
+    let tallies = tallies_of(rt, alloc, captures)?;
+    Ok(Records { dockets, tallies })
+}
+
+/// Writes the report and then the summary.
+fn write_both(
+    row: &Row<'_>,
+    editions: &[Arc<Edition>],
+    book: &Book,
+    records: &Records,
+    ends: &Ends,
+    out: &mut MemorySink,
+) -> Result<(), &'static str>
+    requires { 0 < length editions.now }
+{
+    let Records { dockets, tallies } = records;
     write_report(
-        &editions,
-        &book,
-        &dockets,
-        &tallies,
+        editions,
+        book,
+        dockets,
+        tallies,
         &[10],
         row.hits,
-        &ends,
+        ends,
         row.is_asked,
-        &mut out,
+        out,
     )
     .or(Err("not written"))?;
-    write_summary(&editions, &book, &dockets, &tallies, &mut out).or(Err("not written"))?;
+    write_summary(editions, book, dockets, tallies, out).or(Err("not written"))
+}
+
+/// Writes the report and then the summary, with the book that the row wants.
+fn write_row(
+    rt: &impl Abort,
+    alloc: Global,
+    row: &Row<'_>,
+    editions: &[Arc<Edition>],
+    records: &Records,
+    out: &mut MemorySink,
+) -> Result<(), Fail> {
+    assert!(rt; !editions.is_empty());
+    let ends = ends_of(alloc, row)?;
+    let book = book_of(rt, alloc, editions, row.is_asked)?;
+    Ok(write_both(row, editions, &book, records, &ends, out)?)
+}
+
+/// The report, and then the summary, compared with the row's text.
+fn assert_reported(rt: &impl Abort, alloc: Global, row: &Row<'_>) -> Result<(), Fail> {
+    let mut out = MemorySink::new(alloc, 4096)?;
+    let records = records_of(rt, alloc, row.captures)?;
+    let editions = editions_of(rt, alloc, row.editions)?;
+    write_row(rt, alloc, row, &editions, &records, &mut out)?;
     assert_eq!(rt; out.written(), row.text.as_bytes());
     Ok(())
 }
 
-const fn judged(verdict: Verdict, number: u16, edition: u64, cause: Cause) -> DocketEntry {
-    DocketEntry::judged(Judgement {
-        edition,
-        verdict,
-        rule: RuleRef { id: 0, number },
-        cause,
-    })
-}
+const EMPTY_SCRIPT: Row<'static> = Row {
+    editions: &[&[]],
+    captures: &[Captured {
+        entries: &[Entered::Judged(Verdict::Deny, 65535, 1, Cause::Rule)],
+        counted: &[(0, 40)],
+        end: CaptureEnd::Read { records: 1 },
+    }],
+    is_asked: false,
+    answers: &[],
+    hits: &[],
+    text: "1.1 deny 65535 at 1\nend 1 records 1\neditions 1\nrules 1\n\
+        65535 1 40 set 31 deny ip from any to any\nclock 0\nstates 0\n\
+        records 1\nallow 0\ndeny 1\neditions 1\nentries 1\nstates 0\n",
+};
 
 #[test]
 fn empty_script_denies_one_syn(rt: HostRuntime) -> Result<(), Fail> {
-    let capture = Captured {
-        entries: &[judged(Verdict::Deny, 65535, 1, Cause::Rule)],
-        counted: &[(0, 40)],
-        end: CaptureEnd::Read { records: 1 },
-    };
-    let row = Row {
-        editions: &[&[]],
-        captures: &[capture],
-        is_asked: false,
-        is_answered: false,
-        hits: &[],
-        text: "1.1 deny 65535 at 1\nend 1 records 1\neditions 1\nrules 1\n\
-            65535 1 40 set 31 deny ip from any to any\nclock 0\nstates 0\n\
-            records 1\nallow 0\ndeny 1\neditions 1\nentries 1\nstates 0\n",
-    };
-    assert_reported(&rt, rt.alloc(), &row)
+    assert_reported(&rt, rt.alloc(), &EMPTY_SCRIPT)
 }
+
+const ALLOW: Entered = Entered::Judged(Verdict::Allow, 200, 1, Cause::Rule);
+
+const DENY: Entered = Entered::Judged(Verdict::Deny, 65535, 1, Cause::Rule);
+
+const CONNECTION: Row<'static> = Row {
+    editions: &[&[Change::CheckState, Change::AllowSetup]],
+    captures: &[Captured {
+        entries: &[ALLOW, ALLOW, ALLOW, ALLOW, DENY],
+        counted: &[(2, 40), (2, 40), (2, 40), (2, 40), (0, 40)],
+        end: CaptureEnd::Read { records: 5 },
+    }],
+    is_asked: true,
+    answers: &[],
+    hits: &[],
+    text: "1.1 allow 00200 at 1\n1.2 allow 00200 at 1\n1.3 allow 00200 at 1\n\
+        1.4 allow 00200 at 1\n1.5 deny 65535 at 1\nend 1 records 5\neditions 1\nrules 3\n\
+        00100 0 0 check-state\n00200 4 160 allow tcp from any to any setup keep-state\n\
+        65535 1 40 set 31 deny ip from any to any\nclock 104\nstates 0\njournal 2 7\n\
+        publish 1\n\
+        ask 1.1 100 lookup :default tcp 10.0.0.1 1025 192.0.2.1 80 S notfound\n\
+        ask 1.1 100 install 2 keep :default tcp 10.0.0.1 1025 192.0.2.1 80 S created\n\
+        ask 1.2 101 lookup :default tcp 192.0.2.1 80 10.0.0.1 1025 S found 2 reverse\n\
+        ask 1.3 102 lookup :default tcp 10.0.0.1 1025 192.0.2.1 80 F found 2 forward\n\
+        ask 1.4 103 lookup :default tcp 192.0.2.1 80 10.0.0.1 1025 F found 2 reverse\n\
+        ask 1.5 104 lookup :default tcp 10.0.0.1 1025 192.0.2.1 80 - notfound\n\
+        lane 1 refused 0 tracker 10\n\
+        records 5\nallow 4\ndeny 1\neditions 1\nentries 7\nstates 0\n",
+};
 
 #[test]
 fn tcp_state_lives_and_dies(rt: HostRuntime) -> Result<(), Fail> {
-    let allow = judged(Verdict::Allow, 200, 1, Cause::Rule);
-    let deny = judged(Verdict::Deny, 65535, 1, Cause::Rule);
-    let capture = Captured {
-        entries: &[allow, allow, allow, allow, deny],
-        counted: &[(2, 40), (2, 40), (2, 40), (2, 40), (0, 40)],
-        end: CaptureEnd::Read { records: 5 },
-    };
-    let row = Row {
-        editions: &[&[Change::CheckState, Change::AllowSetup]],
-        captures: &[capture],
-        is_asked: true,
-        is_answered: false,
-        hits: &[],
-        text: "1.1 allow 00200 at 1\n1.2 allow 00200 at 1\n1.3 allow 00200 at 1\n\
-            1.4 allow 00200 at 1\n1.5 deny 65535 at 1\nend 1 records 5\neditions 1\nrules 3\n\
-            00100 0 0 check-state\n00200 4 160 allow tcp from any to any setup keep-state\n\
-            65535 1 40 set 31 deny ip from any to any\nclock 104\nstates 0\njournal 2 7\n\
-            publish 1\n\
-            ask 1.1 100 lookup :default tcp 10.0.0.1 1025 192.0.2.1 80 S notfound\n\
-            ask 1.1 100 install 2 keep :default tcp 10.0.0.1 1025 192.0.2.1 80 S created\n\
-            ask 1.2 101 lookup :default tcp 192.0.2.1 80 10.0.0.1 1025 S found 2 reverse\n\
-            ask 1.3 102 lookup :default tcp 10.0.0.1 1025 192.0.2.1 80 F found 2 forward\n\
-            ask 1.4 103 lookup :default tcp 192.0.2.1 80 10.0.0.1 1025 F found 2 reverse\n\
-            ask 1.5 104 lookup :default tcp 10.0.0.1 1025 192.0.2.1 80 - notfound\n\
-            lane 1 refused 0 tracker 10\n\
-            records 5\nallow 4\ndeny 1\neditions 1\nentries 7\nstates 0\n",
-    };
-    assert_reported(&rt, rt.alloc(), &row)
+    assert_reported(&rt, rt.alloc(), &CONNECTION)
 }
+
+const EACH_KIND: Row<'static> = Row {
+    editions: &[&[], &[Change::TableEntry, Change::Disable]],
+    captures: &[
+        Captured {
+            entries: &[
+                Entered::Other,
+                Entered::Malformed(3),
+                Entered::Judged(Verdict::Unreach(3), 100, 2, Cause::Rule),
+                Entered::Judged(Verdict::Deny, 900, 1, Cause::Limit(2)),
+                Entered::Judged(Verdict::Deny, 900, 1, Cause::Full(16384)),
+                Entered::Judged(Verdict::Reset, 65535, u64::MAX, Cause::Rule),
+            ],
+            counted: &[(0, 40)],
+            end: CaptureEnd::Read { records: 6 },
+        },
+        Captured {
+            entries: &[],
+            counted: &[(0, 28), (1, 9)],
+            end: CaptureEnd::Stopped {
+                at: 0,
+                fault: CaptureFault::ReadFault,
+                count: 1,
+            },
+        },
+    ],
+    is_asked: false,
+    answers: &[
+        (7, Told::Refused(ApplyFault::ReservedSet)),
+        (9, Told::Rules(1)),
+        (10, Told::Nets(2)),
+    ],
+    hits: &[5, 0],
+    text: "1.1 other\n1.2 malformed 3\n1.3 unreach port 00100 at 2\n\
+        1.4 deny 00900 at 1 limit 2\n1.5 deny 00900 at 1 full 16384\n\
+        1.6 reset 65535 at 18446744073709551615\nend 1 records 6\n\
+        fault 2 record 0 ReadFault\n\
+        refused line 7 ReservedSet\nlist line 9 edition 1\nrules 1\n\
+        65535 set 31 deny ip from any to any\n\
+        table nets addr 1 line 10 edition 2\n10.0.0.0/8 7\n\
+        editions 2\ndisabled 1 3\nrules 1\n65535 2 68 set 31 deny ip from any to any\n\
+        clock 0\nstates 0\ncache 1 hits 5\ncache 2 hits 0\n\
+        records 6\nallow 0\ndeny 2\neditions 2\nentries 1\nstates 0\n",
+};
 
 #[test]
 fn lines_of_each_kind(rt: HostRuntime) -> Result<(), Fail> {
-    let whole = Captured {
-        entries: &[
-            DocketEntry::Other,
-            DocketEntry::Malformed(3),
-            judged(Verdict::Unreach(3), 100, 2, Cause::Rule),
-            judged(Verdict::Deny, 900, 1, Cause::Limit(2)),
-            judged(Verdict::Deny, 900, 1, Cause::Full(16384)),
-            judged(Verdict::Reset, 65535, u64::MAX, Cause::Rule),
-        ],
-        counted: &[(0, 40)],
-        end: CaptureEnd::Read { records: 6 },
-    };
-    let unread = Captured {
-        entries: &[],
-        counted: &[(0, 28), (1, 9)],
-        end: CaptureEnd::Stopped {
-            at: 0,
-            fault: CaptureFault::ReadFault,
-            count: 1,
-        },
-    };
-    let row = Row {
-        editions: &[&[], &[Change::TableEntry, Change::Disable]],
-        captures: &[whole, unread],
-        is_asked: false,
-        is_answered: true,
-        hits: &[5, 0],
-        text: "1.1 other\n1.2 malformed 3\n1.3 unreach port 00100 at 2\n\
-            1.4 deny 00900 at 1 limit 2\n1.5 deny 00900 at 1 full 16384\n\
-            1.6 reset 65535 at 18446744073709551615\nend 1 records 6\n\
-            fault 2 record 0 ReadFault\n\
-            refused line 7 ReservedSet\nlist line 9 edition 1\nrules 1\n\
-            65535 set 31 deny ip from any to any\n\
-            table nets addr 1 line 10 edition 2\n10.0.0.0/8 7\n\
-            editions 2\ndisabled 1 3\nrules 1\n65535 2 68 set 31 deny ip from any to any\n\
-            clock 0\nstates 0\ncache 1 hits 5\ncache 2 hits 0\n\
-            records 6\nallow 0\ndeny 2\neditions 2\nentries 1\nstates 0\n",
-    };
-    assert_reported(&rt, rt.alloc(), &row)
+    assert_reported(&rt, rt.alloc(), &EACH_KIND)
 }

@@ -1,6 +1,8 @@
-use super::steps::{Step, command_of};
-use super::{after, shown};
+use super::steps::Step;
+use super::{after, applied, shown};
+use crate::Config;
 use std::alloc::Global;
+use std::process::Abort;
 use std::test::Fail;
 
 /// What the rules are after some steps: the number, the set and the counter number of each.
@@ -19,6 +21,16 @@ fn wrong_row(alloc: Global, rows: &[Row<'_>]) -> Result<Option<usize>, Fail> {
         }
     }
     Ok(None)
+}
+
+fn assert_shown(
+    rt: &impl Abort,
+    alloc: Global,
+    config: &Config,
+    want: &[(u16, u8, u32)],
+) -> Result<(), Fail> {
+    assert_eq!(rt; shown(alloc, config)?.as_slice(), want);
+    Ok(())
 }
 
 #[test]
@@ -64,12 +76,11 @@ fn rules_after_commands(rt: HostRuntime) -> Result<(), Fail> {
 fn equal_numbers_and_fresh_counters(rt: HostRuntime) -> Result<(), Fail> {
     let alloc = rt.alloc();
     let config = after(alloc, &[Step::Add(7, 0), Step::Add(5, 31), Step::Add(7, 2)])?;
-    let zero = command_of(alloc, Step::Zero(7, 7))?;
-    let zeroed = config.apply(alloc, &zero)?;
+    let zeroed = applied(alloc, &config, Step::Zero(7, 7))?;
     let before = [(5, 31, 2), (7, 0, 1), (7, 2, 3), (65535, 31, 0)];
     let behind = [(5, 31, 2), (7, 0, 4), (7, 2, 5), (65535, 31, 0)];
-    assert_eq!(rt; shown(alloc, &config)?.as_slice(), before.as_slice());
-    assert_eq!(rt; shown(alloc, &zeroed)?.as_slice(), behind.as_slice());
+    assert_shown(&rt, alloc, &config, before.as_slice())?;
+    assert_shown(&rt, alloc, &zeroed, behind.as_slice())?;
     assert_eq!(rt; (config.counters(), zeroed.counters()), (4, 6));
     Ok(())
 }
@@ -91,7 +102,7 @@ fn sets_are_moved_and_exchanged(rt: HostRuntime) -> Result<(), Fail> {
     ];
     let config = after(alloc, steps.as_slice())?;
     let want = [(1, 2, 1), (2, 1, 2), (3, 6, 3), (4, 5, 4), (65535, 31, 0)];
-    assert_eq!(rt; shown(alloc, &config)?.as_slice(), want.as_slice());
+    assert_shown(&rt, alloc, &config, want.as_slice())?;
     assert_eq!(rt; config.disabled(), 4);
     Ok(())
 }

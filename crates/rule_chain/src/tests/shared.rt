@@ -1,41 +1,55 @@
-use super::after;
 use super::steps::{Step, command_of};
+use super::{after, applied};
 use crate::{Config, is_changing, touches_rules, untouched_rules_stay};
 use fw_base::Name;
 use fw_rule::{Command, TableCommand};
 use std::alloc::Global;
+use std::process::Abort;
 use std::sync::Arc;
 use std::test::Fail;
 use std::thread::join;
 
-/// That many edits of a setting, a mask and one table, one after the other, and all that they made.
+/// The edits of a setting, a mask and one table, in turn.
+fn edit_of(edit: u8) -> Step {
+    match edit % 3 {
+        0 => Step::Most(u32::from(edit) + 1),
+        1 => Step::Mask(2, 4),
+        _ => Step::AddNumber(b'n', u32::from(edit)),
+    }
+}
+
+fn is_of_rules(alloc: Global, step: Step) -> Result<bool, Fail> {
+    let command = command_of(alloc, step)?;
+    Ok(touches_rules(&command))
+}
+
+fn edited_once(alloc: Global, config: &Config, step: Step) -> Result<Config, Fail> {
+    if is_of_rules(alloc, step)? {
+        return Err("an edit of rules")?;
+    }
+    applied(alloc, config, step)
+}
+
+/// What the edit makes of the last configuration.
+fn edited_last(alloc: Global, kept: &[Config], step: Step) -> Result<Config, Fail> {
+    match kept.last() {
+        Some(last) => edited_once(alloc, last, step),
+        None => Err("no configuration")?,
+    }
+}
+
+/// That many edits, one after the other, and all that they made.
 fn edited(alloc: Global, first: Config, count: u8) -> Result<Vec<Config>, Fail> {
     let mut kept = Vec::new(alloc);
-    let mut config = first;
+    kept.push(first)?;
     for edit in 0..count {
-        let step = match edit % 3 {
-            0 => Step::Most(u32::from(edit) + 1),
-            1 => Step::Mask(2, 4),
-            _ => Step::AddNumber(b'n', u32::from(edit)),
-        };
-        let command = command_of(alloc, step)?;
-        if touches_rules(&command) {
-            return Err("an edit of rules")?;
-        }
-        let next = config.apply(alloc, &command)?;
-        kept.push(config)?;
-        config = next;
+        kept.push(edited_last(alloc, &kept, edit_of(edit))?)?;
     }
-    kept.push(config)?;
     Ok(kept)
 }
 
-/// Configurations that have one list of rules have one owner of each rule.
-#[test]
-fn edits_copy_no_rules(rt: HostRuntime) -> Result<(), Fail> {
-    let alloc = rt.alloc();
-    let steps = [Step::Lookup(7, b'a', b'n'), Step::AddNet(b'a', 8)];
-    let kept = edited(alloc, after(alloc, steps.as_slice())?, 201)?;
+/// That the edits were made and left each rule one owner.
+fn assert_unshared(rt: &impl Abort, kept: &[Config]) -> Result<(), Fail> {
     let (Some(first), Some(last)) = (kept.first(), kept.last()) else {
         return Err("two configurations")?;
     };
@@ -52,6 +66,15 @@ fn edits_copy_no_rules(rt: HostRuntime) -> Result<(), Fail> {
         assert_eq!(rt; Arc::strong_count(rule), 1);
     }
     Ok(())
+}
+
+/// Configurations that have one list of rules have one owner of each rule.
+#[test]
+fn edits_copy_no_rules(rt: HostRuntime) -> Result<(), Fail> {
+    let alloc = rt.alloc();
+    let steps = [Step::Lookup(7, b'a', b'n'), Step::AddNet(b'a', 8)];
+    let kept = edited(alloc, after(alloc, steps.as_slice())?, 201)?;
+    assert_unshared(&rt, kept.as_slice())
 }
 
 /// How many rules a `flush` leaves of the configuration, 0 where it is refused.

@@ -1,10 +1,10 @@
-ghost use Rattle.std.specs.Prelude.{◌≡◌, IfOk, IsTrue, [], ◌∷◌};
+ghost use Rattle.std.specs.Prelude.{◌≡◌, IfOk, IfSome, IsTrue, [], ◌∷◌};
 ghost use Rattle.fw_rule.specs.FlowName.{IsFlowName};
-ghost use Rattle.fw_rule.specs.WellFormed.{IsBody, IsItem, IsKey, IsNumber, IsTableCommand, IsTest, IsWellFormed};
+ghost use Rattle.fw_rule.specs.WellFormed.{IsBody, IsItem, IsKey, IsNumber, IsState, IsTableCommand, IsTest, IsWellFormed};
 ghost use Rattle.rule_chain.specs.Changing.{IsChanging, changes_table};
 ghost use Rattle.std.specs.List.{AllByRecursion};
 
-use fw_base::{Addr, Name, Prefix};
+use fw_base::{Addr, Name, OutOfMemory, Prefix};
 use fw_rule::{
     Action, AddrItem, AddrSpec, Body, Command, Family, Field, Items, Key, Opt, RuleDraft, Setting,
     StateOpt, TableCommand, TableType, Test,
@@ -24,6 +24,10 @@ pub enum Step {
     Flush,
     Zero(u16, u16),
     ZeroAll,
+    /// Deletes the rules of the number, which stands there that many times.
+    DeleteTimes(u16, u16),
+    /// Zeroes the rules of the number, which stands there that many times.
+    ZeroTimes(u16, u16),
     Mask(u32, u32),
     MoveSet(u8, u8),
     MoveRule(u16, u8),
@@ -37,6 +41,8 @@ pub enum Step {
     Clear(u8),
     SwapTables(u8, u8),
     Local(u32, u32),
+    /// Adds the addresses 0 to one less than the count, each of them twice.
+    LocalTwice(u32),
     Most(u32),
     KeepStates(bool),
     /// `add check-state :nNAME`, the name's second byte being this one
@@ -66,10 +72,16 @@ fn spec(alloc: Global, item: AddrItem) -> Result<AddrSpec, Fail>
     })
 }
 
-/// `ip from SOURCE to any OPTIONS`
-fn body(alloc: Global, source: AddrItem, options: Items<Opt>) -> Result<Body, Fail>
+/// `ip from SOURCE to any OPTIONS STATE`
+fn body(
+    alloc: Global,
+    source: AddrItem,
+    options: Items<Opt>,
+    state: Option<StateOpt>,
+) -> Result<Body, Fail>
     requires source { IsItem source }
     requires options { AllByRecursion (λ option. IsTest option.test) options }
+    requires state { IfSome state IsState }
     ensures { IfOk result (λ body. IsBody body) }
 {
     Ok(Body {
@@ -80,7 +92,7 @@ fn body(alloc: Global, source: AddrItem, options: Items<Opt>) -> Result<Body, Fa
         destination: spec(alloc, AddrItem::Any)?,
         destination_ports: None,
         options,
-        state: None,
+        state,
         state_at: 0,
     })
 }
@@ -89,7 +101,7 @@ fn add(alloc: Global, number: u16, set: u8) -> Result<Command, Fail>
     ensures formed { IfOk result (λ command. IsWellFormed command) }
     ensures changing { IfOk result (λ command. IsChanging command) }
 {
-    let body = body(alloc, AddrItem::Any, Items::from_vec(Vec::new(alloc)))?;
+    let body = body(alloc, AddrItem::Any, Items::from_vec(Vec::new(alloc)), None)?;
     Ok(Command::Add(RuleDraft {
         number: Some(number),
         set: set.min(31),
@@ -108,7 +120,12 @@ fn lookup(alloc: Global, number: u16, first: u8, second: u8) -> Result<Command, 
         test: Test::Lookup(Field::DstPort, letter(alloc, second)?),
     };
     let options = one(alloc, option)?;
-    let body = body(alloc, AddrItem::InTable(letter(alloc, first)?), options)?;
+    let body = body(
+        alloc,
+        AddrItem::InTable(letter(alloc, first)?),
+        options,
+        None,
+    )?;
     Ok(Command::Add(RuleDraft {
         number: Some(number),
         set: 0,
@@ -142,8 +159,9 @@ fn keep_state(alloc: Global, name: u8) -> Result<Command, Fail>
     ensures formed { IfOk result (λ command. IsWellFormed command) }
     ensures changing { IfOk result (λ command. IsChanging command) }
 {
-    let mut kept = body(alloc, AddrItem::Any, Items::from_vec(Vec::new(alloc)))?;
-    kept.state = Some(StateOpt::Keep(flow(alloc, name)?));
+    let state = StateOpt::Keep(flow(alloc, name)?);
+    let none = Items::from_vec(Vec::new(alloc));
+    let kept = body(alloc, AddrItem::Any, none, Some(state))?;
     Ok(Command::Add(RuleDraft {
         number: None,
         set: 0,
@@ -158,6 +176,28 @@ fn two(alloc: Global, first: u16, second: u16) -> Result<Items<u16>, AllocError>
 {
     let numbers = [first.max(1), second.max(1)];
     Ok(Items::from_vec(Vec::from_slice(alloc, numbers.as_slice())?))
+}
+
+/// The number, that many times.
+#[tactic(auto, using(fw_base::proofs::Lists::all_push))]
+fn repeated(alloc: Global, number: u16, count: u16) -> Result<Items<u16>, AllocError>
+    ensures { IfOk result (λ numbers. AllByRecursion IsNumber numbers) }
+{
+    let mut numbers = Vec::new(alloc);
+    for _ in 0..count {
+        numbers.push(number.max(1))?;
+    }
+    Ok(Items::from_vec(numbers))
+}
+
+/// The addresses 0 to one less than the count, each of them twice.
+fn pairs(alloc: Global, count: u32) -> Result<Items<Addr>, OutOfMemory> {
+    let mut addresses = Vec::new(alloc);
+    for address in 0..count {
+        addresses.push(Addr(address))?;
+        addresses.push(Addr(address))?;
+    }
+    Ok(Items::from_vec(addresses))
 }
 
 fn on_table(alloc: Global, name: u8, command: TableCommand) -> Result<Command, Fail>
@@ -191,6 +231,8 @@ fn rule_command(alloc: Global, step: Step) -> Result<Command, Fail>
         Step::DeleteSet(set) => Ok(Command::DeleteSet(set.min(31))),
         Step::Zero(first, second) => Ok(Command::Zero(two(alloc, first, second)?)),
         Step::ZeroAll => Ok(Command::Zero(Items::from_vec(Vec::new(alloc)))),
+        Step::DeleteTimes(number, count) => Ok(Command::Delete(repeated(alloc, number, count)?)),
+        Step::ZeroTimes(number, count) => Ok(Command::Zero(repeated(alloc, number, count)?)),
         Step::Mask(disable, enable) => Ok(Command::SetMask { disable, enable }),
         Step::MoveSet(from, to) => Ok(Command::MoveSet {
             from: from.min(31),
@@ -236,6 +278,7 @@ pub fn command_of(alloc: Global, step: Step) -> Result<Command, Fail>
             let addresses = Vec::from_slice(alloc, addresses.as_slice())?;
             Ok(Command::Local(Items::from_vec(addresses)))
         }
+        Step::LocalTwice(count) => Ok(Command::Local(pairs(alloc, count)?)),
         Step::Most(value) => Ok(Command::Sysctl {
             setting: Setting::Max,
             value: value.max(1).min(16384),

@@ -2,7 +2,7 @@ use super::after;
 use super::steps::{Step, letter};
 use crate::Config;
 use fw_base::Addr;
-use fw_rule::TableType;
+use fw_rule::{Settings, TableType};
 use lookup_tables::Table;
 use std::alloc::Global;
 use std::test::Fail;
@@ -42,15 +42,20 @@ fn tables_are_made_changed_and_exchanged(rt: HostRuntime) -> Result<(), Fail> {
     Ok(())
 }
 
+fn settings_after(alloc: Global, steps: &[Step]) -> Result<Settings, Fail> {
+    let config = after(alloc, steps)?;
+    Ok(config.settings())
+}
+
 #[test]
 fn settings_and_addresses(rt: HostRuntime) -> Result<(), Fail> {
     let alloc = rt.alloc();
     let steps = [Step::Local(2, 1), Step::Local(1, 2), Step::Most(1)];
+    let settings = settings_after(alloc, steps.as_slice())?;
+    assert_eq!(rt; (settings.max, settings.syn, settings.keep), (1, 20, false));
+    let kept = settings_after(alloc, &[Step::KeepStates(true)])?;
+    assert_eq!(rt; (kept.max, kept.keep), (16384, true));
     let config = after(alloc, steps.as_slice())?;
     assert_eq!(rt; config.locals(), [Addr(2), Addr(1)].as_slice());
-    let settings = config.settings();
-    assert_eq!(rt; (settings.max, settings.syn, settings.keep), (1, 20, false));
-    let kept = after(alloc, &[Step::KeepStates(true)])?;
-    assert_eq!(rt; (kept.settings().max, kept.settings().keep), (16384, true));
     Ok(())
 }
