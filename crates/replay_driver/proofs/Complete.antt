@@ -20,6 +20,8 @@ use Rattle.fw_report.specs.declared.ends.Ends.{Ends}
 use Rattle.fw_report.specs.declared.ends.LineAnswer.{LineAnswer}
 use Rattle.fw_world.specs.RecordValue.{RecordValue}
 use Rattle.load_maker.specs.Load as load
+use Rattle.load_maker.specs.declared.load.TheConstants.{MOST_RECORDS}
+use Rattle.load_laws.proofs.MadeCaptures.{captures_whole}
 use Rattle.pcap_read.specs.Reading.{Captured, Place, Open, Closed, AtBoundary, HasFront, Stops, at_end}
 use Rattle.pcap_read.specs.declared.capture_fault.CaptureFault.{CaptureFault}
 use Rattle.pcap_read.specs.declared.capture_fault.CaptureFault.TheVariants.{ReadFault}
@@ -33,7 +35,7 @@ use Rattle.serial_replay.specs.declared.replay.OpenedCapture.{OpenedCapture}
 use Rattle.replay_driver.specs.FirstEdition.{◌>>=◌, first_edition, configured, listings_of, listed_first, table_shown, shown, with_answer, read_script}
 use Rattle.replay_driver.specs.Found.{FailsEarly, ReadsScript, Finds, FindsReplay, FindsLoad, IsReplayOf, known_left, no_failures, made_capture}
 use Rattle.replay_driver.specs.Openings.{OpensAll, sources_of}
-use Rattle.replay_driver.specs.Promises.{AllWhole, IsAccepted, IsComplete, IsCompleteLoad, IsCompleteJob}
+use Rattle.replay_driver.specs.Promises.{AllWhole, IsAccepted, IsComplete, IsCompleteJob}
 use Rattle.replay_driver.specs.Run.{IsRun, IsAnswered}
 use Rattle.replay_driver.specs.RunResult.{result_status, result_ends, report_status, is_unread, is_stopped, is_refused}
 use Rattle.replay_driver.specs.Served.{ReplayNames, Job, Replays, Loads}
@@ -43,8 +45,9 @@ use Rattle.replay_driver.specs.declared.outcome.Outcome.{Outcome}
 use Rattle.replay_driver.specs.declared.run_result.RunResult.{RunResult}
 use Rattle.replay_driver.specs.declared.run_result.RunResult.TheVariants.{Usage, Unread, Unready, Reported, Summed}
 use Rattle.replay_driver.specs.declared.script_error.ScriptError.{ScriptError}
+use Rattle.replay_driver.proofs.AcceptedLoad.{load_accepted}
+use Rattle.replay_driver.proofs.LoadWords.{CanBeMade}
 use Rattle.replay_driver.proofs.Openings.{opens_length}
-use Rattle.replay_driver.proofs.Promised.{IfSome-map}
 use Rattle.replay_driver.proofs.Statuses.{all_well}
 use Rattle.replay_driver.proofs.Told.{names_steady}
 
@@ -258,30 +261,32 @@ module _ {K S L : Type 0} (written : K → Option (List ℕ)) (sink_faults : K �
       (subst (λ (n : ℕ). AllByRecursion (IsWhole left failures (limit_for n)) found.opened) (sym many) whole) found.replay quiet.1
   replay_status names complete (Summed kept ends) finds = absurd finds
 
-  load_status : (n : ℕ) → IsCompleteLoad written sink_faults pairs faults refused left failures n sink sinkAfter → (result : RunResult) → FindsLoad n result → result_status result ≡ 0
-  load_status n complete Usage finds = absurd finds
-  load_status n complete (Unread name) finds = absurd finds
-  load_status n complete (Unready error) found =
-      let ok = complete.accepted.first in
+  load_status : (n : ℕ) → n ≤ MOST_RECORDS → (result : RunResult) → FindsLoad n result → result_status result ≡ 0
+  load_status n few Usage finds = absurd finds
+  load_status n few (Unread name) finds = absurd finds
+  load_status n few (Unready error) found =
+      let ok = (load_accepted n few).first in
       absurd (cc)
-  load_status n complete (Reported kept ends journal) finds = absurd finds
-  load_status n complete (Summed kept ends) found =
-      replayed_well known_left no_failures (load.script_of n) (made_capture (load.capture_of n) ∷ []) kept ends found.sources complete.accepted
-      ((load.capture_of n, refl, refl, complete.capture_whole), tt) found.replay (none_failed found.sources)
+  load_status n few (Reported kept ends journal) finds = absurd finds
+  load_status n few (Summed kept ends) found =
+      let (records, many, front) = captures_whole n (limit_for 1) (omega (arith, few)) in
+      replayed_well known_left no_failures (load.script_of n) (made_capture (load.capture_of n) ∷ []) kept ends found.sources (load_accepted n few)
+      ((load.capture_of n, refl, refl, (records, front)), tt) found.replay (none_failed found.sources)
 
-  pub ends_0 : (job : Job) → IsRun written sink_faults pairs faults refused left failures job library libraryAfter sink sinkAfter outcome
+  pub ends_0 : (job : Job) → CanBeMade job → IsRun written sink_faults pairs faults refused left failures job library libraryAfter sink sinkAfter outcome
       → IsCompleteJob written sink_faults pairs faults refused left failures job library libraryAfter sink sinkAfter outcome → (outcome.status ≡ 0) ⊎ (outcome.status ≡ 6)
-  ends_0 job (inl memory) complete = inr memory.status
-  ends_0 (Replays names) (inr a) complete = elim a.written_result.writes.answered [
+  ends_0 job few (inl memory) complete = inr memory.status
+  ends_0 (Replays names) few (inr a) complete = elim a.written_result.writes.answered [
     | inl h ↦ inl (h.0 ∙ replay_status names complete a.result a.finds)
     | inr h ↦ absurd (complete.sink_quiet h.2)
   ]
-  ends_0 (Loads n) (inr a) complete = elim a.written_result.writes.answered [
-    | inl h ↦ inl (h.0 ∙ load_status n complete a.result a.finds.2)
+  ends_0 (Loads n) few (inr a) complete = elim a.written_result.writes.answered [
+    | inl h ↦ inl (h.0 ∙ load_status n few a.result a.finds.2)
     | inr h ↦ absurd (complete.sink_quiet h.2)
   ]
 
   -- where all is as it should be a command's run answers 0, or 6 for want of memory
-  pub all_complete : (command : Option Job) → IfSome command (λ job. IsRun written sink_faults pairs faults refused left failures job library libraryAfter sink sinkAfter outcome)
+  pub all_complete : (command : Option Job) → IfSome command CanBeMade → IfSome command (λ job. IsRun written sink_faults pairs faults refused left failures job library libraryAfter sink sinkAfter outcome)
       → IfSome command (λ job. IsCompleteJob written sink_faults pairs faults refused left failures job library libraryAfter sink sinkAfter outcome → (outcome.status ≡ 0) ⊎ (outcome.status ≡ 6))
-  all_complete command found = IfSome-map command _ _ (λ job run complete. ends_0 job run complete) found
+  all_complete None few found = tt
+  all_complete (Some job) few found = ends_0 job few found

@@ -1,4 +1,6 @@
+pub mod AcceptedLoad
 pub mod Complete
+pub mod LoadWords
 pub mod Openings
 pub mod Pieces
 pub mod Promised

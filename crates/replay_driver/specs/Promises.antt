@@ -9,7 +9,7 @@ use Rattle.fw_report.specs.Report.{report_text}
 use Rattle.fw_report.specs.declared.capture_end.CaptureEnd.{CaptureEnd}
 use Rattle.fw_report.specs.declared.capture_end.CaptureEnd.TheVariants.{Stopped}
 use Rattle.fw_world.specs.RecordValue.{RecordValue}
-use Rattle.load_maker.specs.Load.{script_of, capture_of}
+use Rattle.load_maker.specs.Load.{script_of}
 use Rattle.pcap_read.specs.Reading.{Captured, HasFront, Open, AtBoundary}
 use Rattle.pcap_read.specs.declared.capture_fault.CaptureFault.TheVariants.{ReadFault}
 use Rattle.serial_replay.specs.Replay.{limit_for, lines_outcome}
@@ -144,12 +144,10 @@ module _ {K S L : Type 0} (written : K → Option (List ℕ)) (sink_faults : K �
     pub sources_quiet : AllByRecursion (λ source. failures source ≡ 0) outcome.sources.items
     pub sink_quiet : Rose (sink_faults sink) (sink_faults sinkAfter) → ⊥
 
-  -- the made script is accepted, the made capture whole, and no write failed
-  pub record IsCompleteLoad (n : ℕ) (sink sinkAfter : K) : Type 0 where
-    pub accepted : IsAccepted (script_of n)
-    pub capture_whole : (records : List Captured) × HasFront (limit_for 1) (capture_of n) records (Open AtBoundary)
+  -- no write failed; its script is always accepted, and its capture whole
+  pub record IsCompleteLoad (sink sinkAfter : K) : Type 0 where
     pub sink_quiet : Rose (sink_faults sink) (sink_faults sinkAfter) → ⊥
 
   abbrev pub IsCompleteJob : Job → L → L → K → K → Outcome S → Type 0
   IsCompleteJob (Replays names) library libraryAfter sink sinkAfter outcome = IsComplete names library libraryAfter sink sinkAfter outcome
-  IsCompleteJob (Loads n) library libraryAfter sink sinkAfter outcome = IsCompleteLoad n sink sinkAfter
+  IsCompleteJob (Loads n) library libraryAfter sink sinkAfter outcome = IsCompleteLoad sink sinkAfter

@@ -71,7 +71,8 @@ unfolding first_bad
 none_bad text all =
     ap (λ t. if t then Some (position_or_len (λ (b : ℕ). not (is_readable b)) text) else None) (le-ltb (position_or_len (λ b. not (is_readable b)) text) (length text) (omega (arith, bad_place text all)))
 
-read_part : (line : List ℕ) → AllByRecursion (λ b. is_readable b ≡ true) line → first_bad (before_comment line) ≡ None
+-- a line of bytes that may stand in a script has none that may not
+pub read_part : (line : List ℕ) → AllByRecursion (λ b. is_readable b ≡ true) line → first_bad (before_comment line) ≡ None
 unfolding before_comment
 read_part line all = none_bad (take (unwrap_or (position (λ byte. byte == 35) line) (length line)) line) (all_take (λ b. is_readable b ≡ true) (unwrap_or (position (λ byte. byte == 35) line) (length line)) line all)
 

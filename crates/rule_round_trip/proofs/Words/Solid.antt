@@ -153,7 +153,8 @@ solid_digits text told = all_by is_ascii_digit text told digit_readable refl ref
 solid_decimal : (n : ℕ) → n < 2 ^ 32 → IsSolidText (decimal n)
 solid_decimal n small = solid_digits (decimal n) (all_digits n small)
 
-decimal_word : (n : ℕ) → n < 2 ^ 32 → IsGoodWord (decimal n)
+-- a decimal number is a good word
+pub decimal_word : (n : ℕ) → n < 2 ^ 32 → IsGoodWord (decimal n)
 decimal_word n small = record { some = decimal_nonempty n (omega arith); bytes = solid_decimal n small }
 
 solid_name : (most : ℕ) (name : List ℕ) → is_name most name ≡ true → IsSolidText name

@@ -2,6 +2,7 @@ use Rattle.std.proofs.Common.{map}
 use Rattle.std.specs.Prelude.{string_bytes}
 use Rattle.replay_driver.specs.Served.{job_of}
 use Rattle.replay_driver.proofs.Complete.{all_complete}
+use Rattle.replay_driver.proofs.LoadWords.{job_within}
 use Rattle.replay_driver.proofs.Promised.{all_kept, all_quiet, all_1, all_unready, all_refused, all_faulty, all_unread, all_failed, all_risen, all_silent, all_openings, all_steady}
 use Rattle.replay_driver.proofs.run_command.run.Goals as goal
 
@@ -55,4 +56,4 @@ returns-clause-no_second_try g c = all_steady g.K.Sink.written g.K.Sink.faults g
 
 pub returns-clause-complete : goal.returns-clause-complete
 returns-clause-complete g c = all_complete g.K.Sink.written g.K.Sink.faults g.L.Library.pairs g.L.Library.faults g.L.Library.refused g.L.Reader.Source.left g.L.Reader.Source.faults
-    c.args.library.now c.run_words.new.library c.args.out.now c.run_words.new.out c.run_words.result (job_of (map string_bytes c.args.words.now)) c.run_words.ensures.found
+    c.args.library.now c.run_words.new.library c.args.out.now c.run_words.new.out c.run_words.result (job_of (map string_bytes c.args.words.now)) (job_within (map string_bytes c.args.words.now)) c.run_words.ensures.found

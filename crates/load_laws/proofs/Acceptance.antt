@@ -1,0 +1,11 @@
+-- Each command of a load's script is accepted.
+use Rattle.std.proofs.Common.{refl}
+use Rattle.rule_chain.specs.Apply.{add_rule, delete_rules}
+use Rattle.rule_chain.specs.Names.{with_name_of}
+use Rattle.rule_chain.specs.Rules.{insert_rule}
+use Rattle.load_laws.specs.Laws.{MadeScriptsAreAccepted}
+
+-- each of them is accepted by the configuration that those before it left
+pub scripts_accepted : MadeScriptsAreAccepted
+unfolding add_rule delete_rules with_name_of insert_rule
+scripts_accepted n = (_, refl, (_, refl, (_, refl, (_, refl, (_, refl, (_, refl, tt))))))

@@ -1,0 +1,4 @@
+//! Laws of the script and the capture that a load makes: functions with no body, whose contracts are the laws.
+#![tactic(auto)]
+
+pub mod laws;

@@ -1,0 +1,87 @@
+-- A load has at most as many records as one is made of.
+use Rattle.std.proofs.Common.{◌≡◌, ℕ, ◌≤◌, Bool, true, false, List, [], ◌∷◌, Option, None, Some, ◌&&◌, not, length, refl}
+use Rattle.std.specs.Prelude.{IfSome, if◌then◌else◌, nat_le, codes, option_and_then, ⊤}
+use Rattle.std.specs.Char.{is_ascii_digit}
+use Rattle.std.specs.List.{list_all}
+use Rattle.std.specs.Option.{option_map}
+use Rattle.std.specs.Str.Parse.{digits_value}
+use Rattle.std.proofs.lemmas.Bool.{and_parts, leb-true}
+use Rattle.command_words.specs.Bytes.{is_same, is_empty}
+use Rattle.command_words.specs.Chain.{◌>>=◌}
+use Rattle.command_words.specs.Words.{CommandWords, CaptureNames, Replay, Load, Arguments, arguments_of, captures_of, load_number, load_of, replay_of, command_by, command_of}
+use Rattle.command_words.specs.declared.invocation.Mode.{Mode}
+use Rattle.command_words.specs.declared.invocation.Mode.TheVariants.{Serial, Live}
+use Rattle.load_maker.specs.declared.load.TheConstants.{MOST_RECORDS}
+use Rattle.replay_driver.specs.Served.{Job, Replays, Loads, served, job_of}
+
+-- the number of records of a load can be made
+abbrev pub CanBeMade : Job → Type 0
+CanBeMade (Replays names) = ⊤
+CanBeMade (Loads n) = n ≤ MOST_RECORDS
+
+-- the same of words
+abbrev IsWithin : CommandWords → Type 0
+IsWithin (Replay mode journal script captures) = ⊤
+IsWithin (Load n) = n ≤ MOST_RECORDS
+
+either_within : (test : Bool) (found other : Option CommandWords) → IfSome found IsWithin → IfSome other IsWithin → IfSome (if test then found else other) IsWithin
+either_within true found other p q = p
+either_within false found other p q = q
+
+number_within : (word : List ℕ) → IfSome (load_number word) (λ n. n ≤ MOST_RECORDS)
+unfolding load_number
+number_within word =
+    let n : ℕ = digits_value 10 word in
+    by_tests ((nat_le 1 (length word) && nat_le (length word) 7) && list_all is_ascii_digit word) (nat_le 1 n && nat_le n 1000000) n
+    (λ told. leb-true n 1000000 (and_parts (nat_le 1 n) (nat_le n 1000000) told).1)
+  where
+    by_tests : (digits within : Bool) (n : ℕ) → (within ≡ true → n ≤ MOST_RECORDS) → IfSome (if digits then (if within then Some n else None) else None) (λ m. m ≤ MOST_RECORDS)
+    by_tests true true n few = few refl
+    by_tests true false n few = tt
+    by_tests false within n few = tt
+
+load_within : (positional : List (List ℕ)) → IfSome (load_of positional) IsWithin
+unfolding load_of
+load_within [] = tt
+load_within (number ∷ []) = by_number (load_number number) (number_within number)
+  where
+    by_number : (found : Option ℕ) → IfSome found (λ n. n ≤ MOST_RECORDS) → IfSome (option_map Load found) IsWithin
+    by_number None few = tt
+    by_number (Some n) few = few
+load_within (number ∷ other ∷ more) = tt
+
+replay_within : (mode : Mode) (journal : Bool) (positional : List (List ℕ)) → IfSome (replay_of mode journal positional) IsWithin
+unfolding replay_of
+replay_within mode journal [] = tt
+replay_within mode journal (script ∷ captures) =
+    either_within (not (is_empty script) && (nat_le 1 (length captures) && nat_le (length captures) 16)) (option_map (Replay mode journal script) (captures_of captures)) None (by_captures (captures_of captures)) tt
+  where
+    by_captures : (found : Option (List CaptureNames)) → IfSome (option_map (Replay mode journal script) found) IsWithin
+    by_captures None = tt
+    by_captures (Some names) = tt
+
+by_within : (mode : List ℕ) (journal : Bool) (positional : List (List ℕ)) → IfSome (command_by mode journal positional) IsWithin
+unfolding command_by
+by_within mode journal positional =
+    either_within (is_same mode (codes "serial")) _ _ (replay_within Serial journal positional)
+    (either_within (is_same mode (codes "live")) _ _ (replay_within Live journal positional)
+    (either_within (is_same mode (codes "load") && not journal) _ _ (load_within positional) tt))
+
+words_within : (words : List (List ℕ)) → IfSome (command_of words) IsWithin
+unfolding command_of
+words_within [] = tt
+words_within (mode ∷ words) = by_arguments (arguments_of words)
+  where
+    by_arguments : (found : Option Arguments) → IfSome (found >>= λ arguments. command_by mode arguments.journal arguments.positional) IsWithin
+    by_arguments None = tt
+    by_arguments (Some arguments) = by_within mode arguments.journal arguments.positional
+
+-- the load that words ask for can be made
+pub job_within : (words : List (List ℕ)) → IfSome (job_of words) CanBeMade
+job_within words = by_command (command_of words) (words_within words)
+  where
+    by_command : (found : Option CommandWords) → IfSome found IsWithin → IfSome (option_and_then served found) CanBeMade
+    by_command None few = tt
+    by_command (Some (Replay Serial journal script captures)) few = tt
+    by_command (Some (Replay Live journal script captures)) few = tt
+    by_command (Some (Load n)) few = few
