@@ -1,12 +1,17 @@
-pub mod FirstChanged
+-- lists, pairs and answers that may be none
 pub mod Mapped
+pub mod FirstChanged
 pub mod Pairs
-pub mod LineLaws
-pub mod CountLaws
-pub mod SlotLaws
-pub mod LeadsLaws
-pub mod TableLaws
 pub mod Options
-pub mod ApartLaws
+-- slots, their places and their texts
+pub mod SlotLaws
 pub mod PlaceLaws
 pub mod SlotTexts
+-- lines of flows, and where they lead
+pub mod LineLaws
+pub mod LeadsLaws
+pub mod ApartLaws
+-- the counts of limits
+pub mod CountLaws
+-- the table, part by part
+pub mod TableLaws

@@ -18,7 +18,9 @@ const GROUPS: u8 = 8;
 fn is_hex(byte: u8) -> bool
     ensures { result ≡ spec.is_hex byte }
 {
-    (48 <= byte && byte <= 57) || (65 <= byte && byte <= 70) || (97 <= byte && byte <= 102)
+    (b'0' <= byte && byte <= b'9')
+        || (b'A' <= byte && byte <= b'F')
+        || (b'a' <= byte && byte <= b'f')
 }
 
 /// What the hexadecimal digit counts, 0 to 15.
@@ -27,12 +29,12 @@ fn hex_value(byte: u8) -> u8
     ensures value { result ≡ spec.hex_value byte }
     ensures small { result < 16 }
 {
-    if byte <= 57 {
-        byte - 48
-    } else if byte <= 70 {
-        byte - 55
+    if byte <= b'9' {
+        byte - b'0'
+    } else if byte <= b'F' {
+        byte - b'A' + 10
     } else {
-        byte - 87
+        byte - b'a' + 10
     }
 }
 

@@ -29,7 +29,7 @@ fn find_part_end(text: &[u8]) -> Option<usize>
     ensures found { result ≡ position (λ b. b == 44 || b == 41) text.now }
     ensures within { IfSome result (λ k. k < length text.now) }
 {
-    text.iter().position(|byte| *byte == 44 || *byte == 41)
+    text.iter().position(|byte| *byte == b',' || *byte == b')')
 }
 
 /// How long the part before the first comma or closing parenthesis is.

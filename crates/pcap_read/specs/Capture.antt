@@ -52,9 +52,11 @@ answer_with (Ok u) found = Ok found
 answer_with (Err fault) found = Err fault
 
 module _ {S : Type 0} where
+  -- the source that it is read from
   abbrev pub source_of : Capture S → S
   source_of c = c.source
 
+  -- what its header says: byte order, unit of its times, link type (pcap 2.4)
   abbrev pub format_of : Capture S → Format
   format_of c = c.format
 

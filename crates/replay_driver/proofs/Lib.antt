@@ -1,11 +1,17 @@
-pub mod AcceptedLoad
-pub mod Complete
-pub mod LoadWords
-pub mod Openings
+-- text in pieces before a sink
 pub mod Pieces
-pub mod Promised
-pub mod ScriptLines
+-- openings, and what they leave of the told list
+pub mod Openings
+pub mod Told
+-- a script from its bytes to edition 1
 pub mod ScriptReading
+pub mod ScriptLines
+-- a load's number, and its script's edition 1
+pub mod LoadWords
+pub mod AcceptedLoad
+-- what a replay answers
 pub mod SomeEditions
 pub mod Statuses
-pub mod Told
+-- what a run promises
+pub mod Promised
+pub mod Complete

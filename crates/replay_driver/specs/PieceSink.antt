@@ -20,6 +20,7 @@ text_behind first None pending = None
 text_behind first (Some bytes) pending = if nat_le first (length bytes) then Some (first ∷ (bytes ++ pending)) else None
 
 module _ {K : Type 0} (written : K → Option (List ℕ)) where
+  -- what counts as written in this sink
   abbrev pub written_of : PieceText K → Option (List ℕ)
   written_of p = text_behind (known_count (written p.begun)) (written p.sink) p.pending
 

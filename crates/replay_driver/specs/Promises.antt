@@ -99,6 +99,7 @@ module _ {K S L : Type 0} (written : K → Option (List ℕ)) (sink_faults : K �
     pub nothing_opened : outcome.sources.items ≡ []
     pub writes : Writes written sink_faults sink sinkAfter (report_status outcome.ends.captures outcome.ends.answers) outcome.status (summary_of kept)
 
+  -- the record and what the sink took, by the job: a replay writes its report, a load its summary
   abbrev pub IsKept : Job → L → L → K → K → Outcome S → RecordValue → Type 0
   IsKept (Replays names) library libraryAfter sink sinkAfter outcome kept = IsReported names library libraryAfter sink sinkAfter outcome kept
   IsKept (Loads n) library libraryAfter sink sinkAfter outcome kept = IsSummed n library libraryAfter sink sinkAfter outcome kept
@@ -123,6 +124,7 @@ module _ {K S L : Type 0} (written : K → Option (List ℕ)) (sink_faults : K �
     pub cause : HasNoEdition pairs faults refused left failures names library libraryAfter error outcome.sources.items
     pub text : Appends (written sink) (written sinkAfter) (error_text error)
 
+  -- why the script gives no edition, by the job: a load's is made, and this error is what its first edition comes to
   abbrev pub IsUnreadyJob : Job → L → L → K → K → Outcome S → Type 0
   IsUnreadyJob (Replays names) library libraryAfter sink sinkAfter outcome = IsUnready names library libraryAfter sink sinkAfter outcome
   IsUnreadyJob (Loads n) library libraryAfter sink sinkAfter outcome = (error : ScriptError) × (first_edition (script_of n) ≡ Err error)
@@ -148,6 +150,7 @@ module _ {K S L : Type 0} (written : K → Option (List ℕ)) (sink_faults : K �
   pub record IsCompleteLoad (sink sinkAfter : K) : Type 0 where
     pub sink_quiet : Rose (sink_faults sink) (sink_faults sinkAfter) → ⊥
 
+  -- all is as it should be, by the job
   abbrev pub IsCompleteJob : Job → L → L → K → K → Outcome S → Type 0
   IsCompleteJob (Replays names) library libraryAfter sink sinkAfter outcome = IsComplete names library libraryAfter sink sinkAfter outcome
   IsCompleteJob (Loads n) library libraryAfter sink sinkAfter outcome = IsCompleteLoad sink sinkAfter

@@ -153,6 +153,7 @@ module _ {E B T L I : Type 0} where
       pub lists : (k : ℕ) → m.of book k ≡ m.of taken k
       pub ready : m.book_ready taken ≡ true → m.book_ready book ≡ true
 
+    -- the book is as the seat took it, where it took one
     abbrev pub IsAsFound : View E B T L I → B → Type 0
     IsAsFound v book = (taken : B) → v.book ≡ Some taken → IsUntouched taken book
 

@@ -30,18 +30,22 @@ module _ {E B T L I : Type 0} (m : Meanings E B T L I) where
       × ((d : WholeState E B T L I) × Shows m d (stepped t i (f (slice_index t.words i)) id me.1 w a) × going (core_of whole.0) (slice_index t.words i) (core_of d))
       × then (slice_index t.words i) (w, carried_after me.1 a)
 
+  -- raise is the core's event Raise: a processor that is out stores an odd number in its tracker
   abbrev pub RaiseLaw : Type 0
   RaiseLaw = (slots id : ℕ) (me : Seated m) (i x : ℕ) → i ≡ tracker_index me.0.place → me.0.role ≡ Processor → me.0.phase ≡ Out → x ≡ tracker_word (me.0.part.sections + 1) Raised
       → Makes slots id me i (λ _. x) (λ s found after_it. MayCome s (Raise me.0.place) × (after_it ≡ after s (Raise me.0.place))) (λ _. TellsRaise m (step slots i x 0 at.none) me x)
 
+  -- check is the core's event Check: a processor that is raised loads its token
   abbrev pub CheckLaw : Type 0
   CheckLaw = (slots id : ℕ) (me : Seated m) (i : ℕ) → i ≡ token_index me.0.count me.0.place → me.0.role ≡ Processor → me.0.phase ≡ Raised
       → Makes slots id me i (λ n. n) (λ s found after_it. MayCome s (Check me.0.place) × (after_it ≡ after s (Check me.0.place))) (TellsCheck m (step slots i 0 0 at.none) me)
 
+  -- lower is the core's event Lower: a processor that is raised or in, and hasn't the book, stores an even number in its tracker
   abbrev pub LowerLaw : Type 0
   LowerLaw = (slots id : ℕ) (me : Seated m) (i x : ℕ) → i ≡ tracker_index me.0.place → me.0.role ≡ Processor → (me.0.phase ≡ Raised) ⊎ (me.0.phase ≡ In) → me.0.book ≡ None → (me.0.phase ≡ In → HasEdition m me.0 me.1) → x ≡ tracker_word me.0.part.sections Out
       → Makes slots id me i (λ _. x) (λ s found after_it. MayCome s (Lower me.0.place) × (after_it ≡ after s (Lower me.0.place))) (λ _. TellsLower m (step slots i x 0 at.none) me x)
 
+  -- regain is the core's event Regain: a processor that is out, holds the lock behind and has read the number stores 0 in its token
   abbrev pub RegainLaw : Type 0
   RegainLaw = (slots id : ℕ) (me : Seated m) (i number : ℕ) → i ≡ token_index me.0.count me.0.place → me.0.role ≡ Processor → me.0.phase ≡ Out → me.0.behind ≡ true → me.0.part.read ≡ Some number
       → Makes slots id me i (λ _. 0) (λ s found after_it. MayCome s (Regain me.0.place) × (after_it ≡ after s (Regain me.0.place))) (λ _. TellsRegain m (step slots i 0 0 at.none) me 0)
@@ -51,22 +55,27 @@ module _ {E B T L I : Type 0} (m : Meanings E B T L I) where
   TakeBackLaw = (slots id : ℕ) (me : Seated m) (i x : ℕ) → i ≡ behind_index → IsWorking me.0 → x ≡ me.0.place
       → Makes slots id me i (λ n. either (n == 0) x n) (λ s found after_it. MatchBool (found == 0) (MayCome s (TakeBack me.0.place) × (after_it ≡ after s (TakeBack me.0.place))) (after_it ≡ s)) (TellsTakeBehind m (step slots i 0 x at.none) me)
 
+  -- give back is the core's event GiveBack: who holds the lock behind stores 0 in its word, the operator only where no token is revoked
   abbrev pub GiveBackLaw : Type 0
   GiveBackLaw = (slots id : ℕ) (me : Seated m) (i : ℕ) → i ≡ behind_index → IsWorking me.0 → me.0.behind ≡ true → (me.0.role ≡ Operator → NoneRevoked me.0)
       → Makes slots id me i (λ _. 0) (λ s found after_it. MayCome s (GiveBack me.0.place) × (after_it ≡ after s (GiveBack me.0.place))) (λ _. TellsGiveBehind m (step slots i 0 0 at.none) me 0)
 
+  -- read number is the core's event ReadNumber: what is loaded is the published number
   abbrev pub ReadNumberLaw : Type 0
   ReadNumberLaw = (slots id : ℕ) (me : Seated m) (i : ℕ) → i ≡ number_index → IsWorking me.0
       → Makes slots id me i (λ n. n) (λ s found after_it. (found ≡ s.number) × (after_it ≡ after s ReadNumber)) (TellsNumber m (step slots i 0 0 at.none) me)
 
+  -- revoke is the core's event Revoke: the operator, who holds the lock behind, stores the next number in a processor's token
   abbrev pub RevokeLaw : Type 0
   RevokeLaw = (slots id : ℕ) (me : Seated m) (i k x : ℕ) → i ≡ token_index me.0.count k → IsOperator me.0 → 0 < k → k ≤ me.0.count → me.0.behind ≡ true → is_revoked me.0 k ≡ false → me.0.number < 2 ^ 64 - 1 → x ≡ me.0.number + 1
       → Makes slots id me i (λ _. x) (λ s found after_it. MayCome s (Revoke k) × (after_it ≡ after s (Revoke k))) (λ _. TellsRevoke m (step slots i x 0 at.none) me x)
 
+  -- drain is the core's event Drain: the operator loads the tracker of a processor whose token it revoked
   abbrev pub DrainLaw : Type 0
   DrainLaw = (slots id : ℕ) (me : Seated m) (i k : ℕ) → i ≡ tracker_index k → IsOperator me.0 → 0 < k → k ≤ me.0.count → is_revoked me.0 k ≡ true → is_drained me.0 k ≡ false
       → Makes slots id me i (λ n. n) (λ s found after_it. MayCome s (Drain k) × (after_it ≡ after s (Drain k))) (TellsDrain m (step slots i 0 0 at.none) me)
 
+  -- publish is the core's event Publish: once all processors are drained the operator stores the next number
   abbrev pub PublishLaw : Type 0
   PublishLaw = (slots id : ℕ) (me : Seated m) (i x : ℕ) (book : B) → i ≡ number_index → IsOperator me.0 → HasNext m me.0 me.1 → AllDrained me.0 → me.0.behind ≡ true → me.0.book ≡ Some book → 0 < me.0.count → x ≡ me.0.number + 1
       → Makes slots id me i (λ _. x) (λ s found after_it. MayCome s Publish × (after_it ≡ after s Publish)) (λ _. TellsPublish m (step slots i x 0 at.none) me x)
@@ -76,6 +85,7 @@ module _ {E B T L I : Type 0} (m : Meanings E B T L I) where
   TakeBookLaw = (slots id : ℕ) (me : Seated m) (i x : ℕ) → i ≡ book_index → IsWorking me.0 → (me.0.role ≡ Processor → me.0.phase ≡ In) → x ≡ me.0.place
       → Makes slots id me i (λ n. either (n == 0) x n) (λ s found after_it. after_it ≡ s) (TellsTakeBook m (step slots i 0 x at.none) me)
 
+  -- a book step too: who has the book stores 0 in its word
   abbrev pub GiveBookLaw : Type 0
   GiveBookLaw = (slots id : ℕ) (me : Seated m) (i : ℕ) → i ≡ book_index → IsWorking me.0 → HasBook m me.0 me.1
       → Makes slots id me i (λ _. 0) (λ s found after_it. after_it ≡ s) (λ _. TellsGiveBook m (step slots i 0 0 at.none) me 0)
@@ -87,6 +97,7 @@ module _ {E B T L I : Type 0} (m : Meanings E B T L I) where
       → (t : State (Slot E B) (View E B T L I)) (whole : Whole m t) → get_elem? t.views id ≡ at.some v
       → (d : WholeState E B T L I) × Shows m d (record { words = t.words; homes = t.homes; views = slice_set t.views id (split_off v k) ++ right_of v k (kept_at v k) ∷ [] }) × (core_of d ≡ core_of whole.0)
 
+  -- a processor's seat, which is out and doesn't hold the lock behind, is joined into the operator's
   abbrev pub JoinLaw : Type 0
   JoinLaw = (id other : ℕ) (v w : View E B T L I) → v.role ≡ Operator → w.role ≡ Processor → w.phase ≡ Out → w.behind ≡ false
       → (t : State (Slot E B) (View E B T L I)) (whole : Whole m t) → get_elem? t.views id ≡ at.some v → ¬ (other ≡ id) → get_elem? (slice_set t.views id (joined_view v w)) other ≡ at.some w
@@ -98,6 +109,7 @@ module _ {E B T L I : Type 0} (m : Meanings E B T L I) where
       → (t : State (Slot E B) (View E B T L I)) (whole : Whole m t) → get_elem? t.views id ≡ at.some v
       → (d : WholeState E B T L I) × Shows m d (record { words = t.words; homes = t.homes; views = slice_set t.views id v ++ receipt_view v ∷ [] }) × (core_of d ≡ core_of whole.0)
 
+  -- a receipt's seat is joined into a processor's
   abbrev pub HearLaw : Type 0
   HearLaw = (id other : ℕ) (v w : View E B T L I) → v.role ≡ Processor → w.role ≡ Receipt
       → (t : State (Slot E B) (View E B T L I)) (whole : Whole m t) → get_elem? t.views id ≡ at.some v → ¬ (other ≡ id) → get_elem? (slice_set t.views id (informed_view v w)) other ≡ at.some w

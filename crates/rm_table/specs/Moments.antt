@@ -60,9 +60,11 @@ module _ {E B T L I : Type 0} (m : Meanings E B T L I) where
   abbrev pub SeatLaw : Type 0
   SeatLaw = (t : State (Slot E B) (View E B T L I)) → Whole m t → (k : ℕ) → 0 < k → k < length t.homes → (id : ℕ) × (v : View E B T L I) × HasSeat t id v × IsSeatOf v k
 
+  -- the operator's seat exists, and its place is the one behind all processors'
   abbrev pub OperatorLaw : Type 0
   OperatorLaw = (t : State (Slot E B) (View E B T L I)) → Whole m t → (id : ℕ) × (o : View E B T L I) × HasSeat t id o × (o.role ≡ Operator) × (o.place ≡ length t.homes)
 
+  -- two seats, each a processor's or the operator's, that have one place are one seat
   abbrev pub PlaceLaw : Type 0
   PlaceLaw = (t : State (Slot E B) (View E B T L I)) → Whole m t → (i j : ℕ) (v w : View E B T L I) → HasSeat t i v → HasSeat t j w → (v.role ≡ Processor) ⊎ (v.role ≡ Operator) → (w.role ≡ Processor) ⊎ (w.role ≡ Operator)
       → v.place ≡ w.place → i ≡ j

@@ -21,6 +21,7 @@ greater_refusal None number = number
 greater_refusal (Some standing) number = max standing number
 
 module _ {E L I : Type 0} where
+  -- raise: one more section has begun
   abbrev pub begun_part : Part E L I → Part E L I
   begun_part part = record part { sections = part.sections + 1 }
 
@@ -61,6 +62,7 @@ module _ {E L I : Type 0} where
   abbrev pub book_part : Part E L I → Part E L I
   book_part part = record part { book_taken = part.book_taken + 1 }
 
+  -- the part of a seat that is no processor's
   abbrev pub blank_part : Part E L I
   blank_part = record { sections = 0; held = 0; refusal = None; read = None; reading = None; own = []; first = []; pairs = []; behind_taken = 0; book_taken = 0 }
 
@@ -76,6 +78,7 @@ module _ {E B : Type 0} where
   gives_first zero = keeps
   gives_first (suc k) = chain gives (gives_first k)
 
+  -- the hand without its first k slots
   abbrev pub rest_from : ℕ → Hand E B → Hand E B
   rest_from zero hand = hand
   rest_from (suc k) hand = rest_from k (rest hand)
@@ -94,18 +97,23 @@ module _ {E B T L I : Type 0} where
   abbrev pub raised_view : View E B T L I → View E B T L I
   raised_view v = record v { phase = Raised; part = begun_part v.part }
 
+  -- check, where the token is revoked for the publication of that number
   abbrev pub refused_view : View E B T L I → ℕ → View E B T L I
   refused_view v number = record v { part = refused_part v.part number }
 
+  -- lower: the processor is out
   abbrev pub lowered_view : View E B T L I → View E B T L I
   lowered_view v = record v { phase = Out; part = left_part v.part }
 
+  -- take back: the seat holds the lock behind
   abbrev pub behind_taken : View E B T L I → View E B T L I
   behind_taken v = record v { behind = true; part = behind_part v.part }
 
+  -- give back: the seat holds the lock behind no more
   abbrev pub behind_given : View E B T L I → View E B T L I
   behind_given v = record v { behind = false; part = unread_part v.part }
 
+  -- regain: the processor holds its token, and knows that number
   abbrev pub regained_view : View E B T L I → ℕ → View E B T L I
   regained_view v number = record v { part = regained_part v.part number }
 
@@ -117,9 +125,11 @@ module _ {E B T L I : Type 0} where
   abbrev pub drained_view : View E B T L I → ℕ → View E B T L I
   drained_view v place = record v { drained = slice_set v.drained place true }
 
+  -- read number
   abbrev pub number_read : View E B T L I → ℕ → View E B T L I
   number_read v number = record v { part = read_part v.behind v.part number }
 
+  -- take book: the seat has the book, and keeps how it was when it was taken
   abbrev pub book_taken : View E B T L I → B → View E B T L I
   book_taken v book = record v { book = Some book; part = book_part v.part }
 
@@ -127,6 +137,7 @@ module _ {E B T L I : Type 0} where
   abbrev pub split_off : View E B T L I → ℕ → View E B T L I
   split_off v place = record v { kept = slice_set v.kept place None }
 
+  -- split seat, at a processor's place: the new seat has the part that was kept, is out, and holds neither lock
   abbrev pub processor_view : View E B T L I → ℕ → Part E L I → View E B T L I
   processor_view v place part = record {
     role = Processor;
@@ -195,9 +206,11 @@ module _ {E B T L I : Type 0} where
     steps = [];
   }
 
+  -- what the operator's view keeps at that place: outside None there is no such place, inside None its seat is split off
   abbrev pub kept_at : View E B T L I → ℕ → Option (Option (Part E L I))
   kept_at v place = slice_get v.kept place
 
+  -- split seat: the view of the new seat, by what was kept at its place
   abbrev pub right_of : View E B T L I → ℕ → Option (Option (Part E L I)) → View E B T L I
   right_of v place (Some (Some part)) = processor_view v place part
   right_of v place (Some None) = spent_view
@@ -243,21 +256,27 @@ module _ {E B T L I : Type 0} where
   abbrev pub IsLast : View E B T L I → L → T → Type 0
   IsLast v name tag = slice_get v.history (v.number - v.opened) ≡ Some (name, tag)
 
+  -- the operator has revoked this processor's token for the publication to come
   abbrev pub is_revoked : View E B T L I → ℕ → Bool
   is_revoked v place = slice_index_or v.revoked place false
 
+  -- the operator has seen this processor out since it revoked its token
   abbrev pub is_drained : View E B T L I → ℕ → Bool
   is_drained v place = slice_index_or v.drained place false
 
+  -- no processor's token is revoked
   abbrev pub NoneRevoked : View E B T L I → Type 0
   NoneRevoked v = (k : ℕ) → 0 < k → k ≤ v.count → is_revoked v k ≡ false
 
+  -- each processor's token is revoked
   abbrev pub AllRevoked : View E B T L I → Type 0
   AllRevoked v = (k : ℕ) → 0 < k → k ≤ v.count → is_revoked v k ≡ true
 
+  -- each processor is drained
   abbrev pub AllDrained : View E B T L I → Type 0
   AllDrained v = (k : ℕ) → 0 < k → k ≤ v.count → is_drained v k ≡ true
 
+  -- no processor is drained
   abbrev pub NoneDrained : View E B T L I → Type 0
   NoneDrained v = (k : ℕ) → 0 < k → k ≤ v.count → is_drained v k ≡ false
 
@@ -266,6 +285,7 @@ module _ {E B T L I : Type 0} where
     abbrev pub entered_part : Part E L I → E → Part E L I
     entered_part part e = record part { reading = Some e; pairs = part.pairs ++ (m.number e, m.name e) ∷ [] }
 
+    -- check, where the token is held, of the whole view
     abbrev pub entered_view : View E B T L I → E → View E B T L I
     entered_view v e = record v { phase = In; part = entered_part v.part e }
 
@@ -291,6 +311,7 @@ module _ {E B T L I : Type 0} where
       drained = replicate (v.count + 1) false;
     }
 
+    -- publish, by the first edition in hand; a hand without one changes nothing
     abbrev pub published_view : View E B T L I → Hand E B → View E B T L I
     published_view v ((k, Edition (Some e)) ∷ hand) = published_as v (m.name e) (m.tag e)
     published_view v _ = v
@@ -309,6 +330,7 @@ module _ {E B T L I : Type 0} where
     abbrev pub given_part : Part E L I → ℕ → B → Part E L I
     given_part part place book = record part { own = m.of book place }
 
+    -- give book: the seat has no book and knows whether it is ready, and none of its publications waits to be taken in
     abbrev pub book_given : View E B T L I → B → View E B T L I
     book_given v book = record v { book = None; ready = m.book_ready book; stale = false; part = given_part v.part v.place book }
 

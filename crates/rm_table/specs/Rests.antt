@@ -83,5 +83,6 @@ module _ {E B T L I : Type 0} where
   abbrev pub OpensFrom : ℕ → View E B T L I → Hand E B → Type 0
   OpensFrom next v hand = (parts : ℕ → Part E L I) × IsOpening next parts v hand
 
+  -- the operator's seat, as these places were joined again, with some parts
   abbrev pub IsRejoinedFrom : ℕ → View E B T L I → Hand E B → Type 0
   IsRejoinedFrom next v hand = (parts : ℕ → Part E L I) × IsRejoined next parts v hand

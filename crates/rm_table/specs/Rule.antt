@@ -207,5 +207,6 @@ module _ {E B T L I : Type 0} (m : Meanings E B T L I) where
     pub seats : EverySeat c.count c.seat t.views
     pub each : (id : ℕ) (v : View E B T L I) → get_elem? t.views id ≡ at.some v → Agrees c id v
 
+  -- some whole state is shown by the table's words, slots and views
   abbrev pub Whole : State (Slot E B) (View E B T L I) → Type 0
   Whole t = (c : WholeState E B T L I) × Shows c t

@@ -43,6 +43,7 @@ module _ {E B T L I : Type 0} where
         let up = told_at_most before.view (m.number entered.1.0) entered.1.3 in
         omega arith
 
+    -- what a receipt told stays told: the law holds
     pub told_holds : ToldLaw m
     told_holds before receipt after hears calls through d entered e reads =
         let some = never_fall after calls through in
@@ -59,5 +60,6 @@ module _ {E B T L I : Type 0} where
   nests_through d (next ∷ calls) through zero x is = let same : next ≡ x = cc in subst (λ (s : DeepState E B T L I). s.reading ≡ d.reading) same (nests_alike d next through.0)
   nests_through d (next ∷ calls) through (suc j) x is = nests_through next calls through.1 j x is ∙ nests_alike d next through.0
 
+  -- sections within a section read its edition: the law holds
   pub depth_holds : (m : Meanings E B T L I) → DepthLaw m
   depth_holds m before d entered calls through j x is = nests_through d calls through j x is

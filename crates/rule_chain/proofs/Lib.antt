@@ -1,15 +1,21 @@
-pub mod Behind
-pub mod Chains
-pub mod Chosen
-pub mod FlowNames
-pub mod Greatest
-pub mod InPlaces
-pub mod Kept
-pub mod Keys
-pub mod Listed
+-- lists, places in them and trees over them
 pub mod Lists
-pub mod Own
+pub mod InPlaces
 pub mod Places
+pub mod Listed
+-- rules in number order
+pub mod Chains
+pub mod Behind
+pub mod Greatest
+pub mod Chosen
+-- identities and counter numbers
+pub mod Own
 pub mod Renumbered
-pub mod Untouched
+-- flow names
+pub mod FlowNames
+-- tables and their uses
+pub mod Keys
 pub mod UsesInTurn
+-- what a command keeps
+pub mod Kept
+pub mod Untouched

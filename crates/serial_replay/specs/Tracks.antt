@@ -22,6 +22,7 @@ module _ {S : Type 0} where
   abbrev pub held_in : OpenTrack S → Option Captured
   held_in track = current_of track.capture
 
+  -- the same, of any track: one that is refused holds none
   abbrev pub held_of : Track S → Option Captured
   held_of (Open track) = held_in track
   held_of (Refused source end) = None
@@ -30,6 +31,7 @@ module _ {S : Type 0} where
   abbrev pub steps_left : OpenTrack S → ℕ
   steps_left track = while_open track.end (suc (limit_of track.capture - given_of track.capture))
 
+  -- the same, of any track: one that is refused goes on no more
   abbrev pub room_of : Track S → ℕ
   room_of (Open track) = steps_left track
   room_of (Refused source end) = 0
@@ -40,6 +42,7 @@ module _ {S : Type 0} where
   open_of (Some (Open track)) = Some track
   open_of (Some (Refused source end)) = None
 
+  -- how many steps all tracks together can go on at most
   abbrev pub rooms_of : List (Track S) → ℕ
   rooms_of [] = 0
   rooms_of (track ∷ tracks) = room_of track + rooms_of tracks
@@ -70,6 +73,7 @@ module _ {S : Type 0} where
       pub read : IsRead left faults limit opened.source source (record { port = opened.port; bytes = bytes; records = done }) end
       pub origin_is : origin ≡ origin_of (record { port = opened.port; bytes = bytes; records = done })
 
+    -- these records of that capture were replayed: the track goes on behind them, or it has ended and holds none
     abbrev pub IsOpenTrack : ℕ → OpenedCapture S → OpenTrack S → List Captured → Origin → Type 0
     IsOpenTrack limit opened track done origin = (track.port ≡ opened.port)
         × MatchOption track.end (GoesOn limit opened track done origin) (λ end. HasEnded limit opened (source_of track.capture) end done origin × (held_in track ≡ None))
