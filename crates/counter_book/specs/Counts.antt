@@ -11,8 +11,8 @@ abbrev pub counted_under : List Count → ℕ → Count
 counted_under counts id = unwrap_or (slice_get counts id) no_count
 
 -- the count after one packet more
-abbrev pub raised : Count → ℕ → Count
-raised count bytes = record { packets = (count.packets + 1) % 2 ^ 64; bytes = (count.bytes + bytes) % 2 ^ 64 }
+abbrev pub count_after_packet : Count → ℕ → Count
+count_after_packet count bytes = record { packets = (count.packets + 1) % 2 ^ 64; bytes = (count.bytes + bytes) % 2 ^ 64 }
 
 -- the sum over all tallies
 abbrev pub total_under : List (List Count) → ℕ → Count

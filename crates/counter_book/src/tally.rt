@@ -1,5 +1,5 @@
 ghost use Rattle.std.specs.Prelude.{◌≡◌, ℕ, ◌≤◌, ◌<◌, OnOk, OnErr, [], length, slice_set};
-ghost use Rattle.counter_book.specs.Counts.{counted_under, raised, total_under};
+ghost use Rattle.counter_book.specs.Counts.{counted_under, count_after_packet, total_under};
 ghost use Rattle.counter_book.specs.Counts as counts;
 
 use fw_base::OutOfMemory;
@@ -49,7 +49,7 @@ impl Tally {
     /// Counts a packet of that many bytes.
     pub fn hit(&mut self, id: u32, bytes: u32)
         requires { id < length self.old }
-        ensures { self.new ≡ slice_set self.old id (raised (counted_under self.old id) bytes) }
+        ensures { self.new ≡ slice_set self.old id (count_after_packet (counted_under self.old id) bytes) }
     {
         let count = &mut self.counts[id as usize];
         count.packets = count.packets.wrapping_add(1);

@@ -8,8 +8,8 @@ use Rattle.packet_headers.specs.declared.flows.Flow.{Flow}
 use Rattle.dyn_states.specs.declared.op.FlowName.TheVariants.{Named}
 use Rattle.dyn_states.specs.declared.lines.Line.{Line}
 use Rattle.dyn_states.specs.declared.state.State.{State}
-use Rattle.dyn_states.specs.Flows.{same_flow, reversed, matches_flow}
-use Rattle.dyn_states.specs.Lines.{is_upward, upward, flow_eq, same_line, line_of, line_at}
+use Rattle.dyn_states.specs.Flows.{same_flow, reverse_flow, matches_flow}
+use Rattle.dyn_states.specs.Lines.{is_upward, upward_flow, flow_eq, same_line, line_of, line_at}
 use Rattle.dyn_states.specs.StateObject.{considers}
 
 -- the same parts make the same flow
@@ -43,16 +43,16 @@ same_flow_self : (a : Flow) → same_flow a a ≡ true
 same_flow_self a = grind (arith, nat_tests)
 
 -- and_parts directions of a flow go upward in one way
-both_upward : (b : Flow) → is_upward b ≡ true → is_upward (reversed b) ≡ true → reversed b ≡ b
-both_upward b up down = flow_is (reversed b) b (grind (arith, nat_tests)) (grind (arith, nat_tests)) (grind (arith, nat_tests)) (grind (arith, nat_tests)) refl
+both_upward : (b : Flow) → is_upward b ≡ true → is_upward (reverse_flow b) ≡ true → reverse_flow b ≡ b
+both_upward b up down = flow_is (reverse_flow b) b (grind (arith, nat_tests)) (grind (arith, nat_tests)) (grind (arith, nat_tests)) (grind (arith, nat_tests)) refl
 
-one_upward : (b : Flow) → is_upward b ≡ false → is_upward (reversed b) ≡ true
+one_upward : (b : Flow) → is_upward b ≡ false → is_upward (reverse_flow b) ≡ true
 one_upward b up = grind (arith, nat_tests)
 
-pub upward-reversed : (b : Flow) → upward (reversed b) ≡ upward b
-upward-reversed b = decided (is_upward b) (is_upward (reversed b)) (both_upward b) (one_upward b)
+pub upward-reversed : (b : Flow) → upward_flow (reverse_flow b) ≡ upward_flow b
+upward-reversed b = decided (is_upward b) (is_upward (reverse_flow b)) (both_upward b) (one_upward b)
   where
-    decided : (up down : Bool) → (up ≡ true → down ≡ true → reversed b ≡ b) → (up ≡ false → down ≡ true) → cond down (reversed b) b ≡ cond up b (reversed b)
+    decided : (up down : Bool) → (up ≡ true → down ≡ true → reverse_flow b ≡ b) → (up ≡ false → down ≡ true) → cond down (reverse_flow b) b ≡ cond up b (reverse_flow b)
     decided true true two one = two refl refl
     decided true false two one = refl
     decided false true two one = refl
@@ -62,23 +62,23 @@ upward-reversed b = decided (is_upward b) (is_upward (reversed b)) (both_upward 
         absent e = cc
 
 -- flows that match go upward in one way
-upward_matching : (own asked : Flow) → matches_flow own asked ≡ true → upward own ≡ upward asked
-upward_matching own asked matching = decided (same_flow own asked) (same_flow own (reversed asked)) (same_flow_is own asked) (same_flow_is own (reversed asked)) matching
+upward_matching : (own asked : Flow) → matches_flow own asked ≡ true → upward_flow own ≡ upward_flow asked
+upward_matching own asked matching = decided (same_flow own asked) (same_flow own (reverse_flow asked)) (same_flow_is own asked) (same_flow_is own (reverse_flow asked)) matching
   where
-    decided : (x y : Bool) → (x ≡ true → own ≡ asked) → (y ≡ true → own ≡ reversed asked) → (x || y) ≡ true → upward own ≡ upward asked
-    decided true y one other h = ap upward (one refl)
-    decided false true one other h = ap upward (other refl) ∙ upward-reversed asked
+    decided : (x y : Bool) → (x ≡ true → own ≡ asked) → (y ≡ true → own ≡ reverse_flow asked) → (x || y) ≡ true → upward_flow own ≡ upward_flow asked
+    decided true y one other h = ap upward_flow (one refl)
+    decided false true one other h = ap upward_flow (other refl) ∙ upward-reversed asked
     decided false false one other h = cc
 
 -- and the other way round
-matching_upward : (own asked : Flow) → upward own ≡ upward asked → matches_flow own asked ≡ true
+matching_upward : (own asked : Flow) → upward_flow own ≡ upward_flow asked → matches_flow own asked ≡ true
 matching_upward own asked same = decided (is_upward own) (is_upward asked) same
   where
-    decided : (x y : Bool) → cond x own (reversed own) ≡ cond y asked (reversed asked) → matches_flow own asked ≡ true
+    decided : (x y : Bool) → cond x own (reverse_flow own) ≡ cond y asked (reverse_flow asked) → matches_flow own asked ≡ true
     decided true true e = rw e (rw (same_flow_self asked) refl)
-    decided true false e = rw e (rw (same_flow_self (reversed asked)) (or_right _ true refl))
-    decided false true e = let e' = ap reversed e in rw e' (rw (same_flow_self (reversed asked)) (or_right _ true refl))
-    decided false false e = let e' = ap reversed e in rw e' (rw (same_flow_self asked) refl)
+    decided true false e = rw e (rw (same_flow_self (reverse_flow asked)) (or_right _ true refl))
+    decided false true e = let e' = ap reverse_flow e in rw e' (rw (same_flow_self (reverse_flow asked)) (or_right _ true refl))
+    decided false false e = let e' = ap reverse_flow e in rw e' (rw (same_flow_self asked) refl)
 
 -- a state that a lookup of one name considers has the lookup's line
 pub line_considered : (flow : Flow) (name : ℕ) (s : State) → considers flow (Named name) s ≡ true → line_at s ≡ line_of flow name

@@ -10,7 +10,7 @@ use Rattle.dyn_states.specs.declared.lines.Lines.{Lines}
 use Rattle.dyn_states.specs.declared.state.State.{State}
 use Rattle.dyn_states.specs.Flows.{matches_flow}
 use Rattle.dyn_states.specs.Lines.{Leads, place_of, line_of}
-use Rattle.dyn_states.specs.Slots.{is_held, slot, holds_one, IsFirstPlace, earlier}
+use Rattle.dyn_states.specs.Slots.{is_held, slot, holds_one, IsFirstPlace, earlier_place}
 use Rattle.dyn_states.specs.StateObject.{considers}
 use Rattle.dyn_states.proofs.LineLaws.{line_considered}
 
@@ -60,7 +60,7 @@ joined_left : (x y : Bool) → x ≡ true → (x || y) ≡ true
 joined_left x y a = rw a refl
 
 -- the earlier of the first places of two tests is the first of either
-pub IsFirstPlace-either : (p q r : State → Bool) (slots : List State) (a b : Option ℕ) → ((s : State) → r s ≡ (p s || q s)) → IsFirstPlace p slots a → IsFirstPlace q slots b → IsFirstPlace r slots (earlier a b)
+pub IsFirstPlace-either : (p q r : State → Bool) (slots : List State) (a b : Option ℕ) → ((s : State) → r s ≡ (p s || q s)) → IsFirstPlace p slots a → IsFirstPlace q slots b → IsFirstPlace r slots (earlier_place a b)
 IsFirstPlace-either p q r slots a b is first other = cases a b first other
   where
     parted : (s : State) → holds_one r s ≡ (holds_one p s || holds_one q s)
@@ -75,7 +75,7 @@ IsFirstPlace-either p q r slots a b is first other = cases a b first other
     right : (s : State) → holds_one q s ≡ true → holds_one r s ≡ true
     right s y = parted s ∙ or_right (holds_one p s) (holds_one q s) y
 
-    cases : (a b : Option ℕ) → IsFirstPlace p slots a → IsFirstPlace q slots b → IsFirstPlace r slots (earlier a b)
+    cases : (a b : Option ℕ) → IsFirstPlace p slots a → IsFirstPlace q slots b → IsFirstPlace r slots (earlier_place a b)
     cases None None x y = λ k inside. neither (slot slots k) (x k inside) (y k inside)
     cases None (Some j) x y = (y.0, right (slot slots j) y.1, λ k below. neither (slot slots k) (x k (let h = y.0 in omega arith)) (y.2 k below))
     cases (Some i) None x y = (x.0, left (slot slots i) x.1, λ k below. neither (slot slots k) (x.2 k below) (y k (let h = x.0 in omega arith)))

@@ -12,8 +12,8 @@ same_flow a b =
     && (a.destination.0 == b.destination.0 && a.destination_port == b.destination_port)))
 
 -- the flow of a packet that goes the other way
-abbrev pub reversed : Flow → Flow
-reversed f = record {
+abbrev pub reverse_flow : Flow → Flow
+reverse_flow f = record {
   protocol = f.protocol;
   source = f.destination;
   source_port = f.destination_port;
@@ -23,7 +23,7 @@ reversed f = record {
 
 -- a state of the first flow matches a packet of the second, in either direction
 abbrev pub matches_flow : Flow → Flow → Bool
-matches_flow own asked = same_flow own asked || same_flow own (reversed asked)
+matches_flow own asked = same_flow own asked || same_flow own (reverse_flow asked)
 
 -- in which direction the packet goes: forward where both fit
 abbrev pub way_of : Flow → Flow → Way

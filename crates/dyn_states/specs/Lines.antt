@@ -6,7 +6,7 @@ use Rattle.packet_headers.specs.declared.flows.Flow.{Flow}
 use Rattle.dyn_states.specs.declared.state.State.{State}
 use Rattle.dyn_states.specs.declared.lines.Line.{Line}
 use Rattle.dyn_states.specs.declared.lines.Lines.{Lines}
-use Rattle.dyn_states.specs.Flows.{reversed}
+use Rattle.dyn_states.specs.Flows.{reverse_flow}
 use Rattle.dyn_states.specs.Slots.{is_held, slot}
 
 -- the flow goes from the lower of its ends to the higher
@@ -14,12 +14,12 @@ abbrev pub is_upward : Flow → Bool
 is_upward f = nat_lt f.source.0 f.destination.0 || (f.source.0 == f.destination.0 && nat_le f.source_port f.destination_port)
 
 -- the direction of the flow in which it goes upward
-abbrev pub upward : Flow → Flow
-upward f = if is_upward f then f else reversed f
+abbrev pub upward_flow : Flow → Flow
+upward_flow f = if is_upward f then f else reverse_flow f
 
 -- the line of a flow and a name
 abbrev pub line_of : Flow → ℕ → Line
-line_of flow name = record { flow = upward flow; name = name }
+line_of flow name = record { flow = upward_flow flow; name = name }
 
 -- the line of a state
 abbrev pub line_at : State → Line

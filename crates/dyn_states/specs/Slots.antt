@@ -44,7 +44,7 @@ IsFirstPlace test slots (Some place) =
     × ((k : ℕ) → k < place → holds_one test (slot slots k) ≡ false)
 
 -- the earlier of two places
-abbrev pub earlier : Option ℕ → Option ℕ → Option ℕ
-earlier None other = other
-earlier (Some place) None = Some place
-earlier (Some place) (Some other) = Some (if nat_lt other place then other else place)
+abbrev pub earlier_place : Option ℕ → Option ℕ → Option ℕ
+earlier_place None other = other
+earlier_place (Some place) None = Some place
+earlier_place (Some place) (Some other) = Some (if nat_lt other place then other else place)

@@ -31,8 +31,8 @@ abbrev pub is_live : ℕ → State → Bool
 is_live clock s = nat_lt clock s.expiry
 
 -- Every ask first raises the clock, which never goes back; dead states are gone and never come back.
-unfoldable pub raised : StateObject → ℕ → StateObject
-raised o second = record {
+unfoldable pub object_at_second : StateObject → ℕ → StateObject
+object_at_second o second = record {
   states = filter (is_live (max o.clock second)) o.states;
   clock = max o.clock second;
   settings = o.settings;
@@ -53,12 +53,12 @@ with_flags Forward flags s = record s { forward = bit_or s.forward (kept_flags f
 with_flags Reverse flags s = record s { reverse = bit_or s.reverse (kept_flags flags) }
 
 -- the state lives from now on for its lifetime
-abbrev pub renewed : Values → ℕ → State → State
-renewed settings clock s = record s { expiry = clock + lifetime settings s.flow.protocol s.forward s.reverse }
+abbrev pub renewed_state : Values → ℕ → State → State
+renewed_state settings clock s = record s { expiry = clock + lifetime settings s.flow.protocol s.forward s.reverse }
 
 -- what a lookup does with the state that it finds
-abbrev pub touched : StateObject → Flow → ℕ → State → State
-touched o flow flags s = renewed o.settings o.clock (with_flags (way_of s.flow flow) flags s)
+abbrev pub state_after_lookup : StateObject → Flow → ℕ → State → State
+state_after_lookup o flow flags s = renewed_state o.settings o.clock (with_flags (way_of s.flow flow) flags s)
 
 -- the list with its first state that passes the test changed
 unfoldable pub with_first : (State → Bool) → (State → State) → List State → List State
@@ -76,7 +76,7 @@ lookup_reply o flow name = found_reply flow (find (considers flow name) o.states
 
 -- the state that was found has seen the packet; no other changes
 unfoldable pub after_lookup : StateObject → Flow → ℕ → FlowName → StateObject
-after_lookup o flow flags name = record o { states = with_first (considers flow name) (touched o flow flags) o.states }
+after_lookup o flow flags name = record o { states = with_first (considers flow name) (state_after_lookup o flow flags) o.states }
 
 -- the parameter that a limit counts by, of a flow
 abbrev pub parameter : LimitMask → Flow → ℕ
@@ -116,7 +116,7 @@ install_reply o flow rule limit name =
 -- the state of the packet that made it, whose flags were seen forward
 abbrev pub new_state : StateObject → Flow → ℕ → RuleRef → Option (LimitMask × ℕ) → ℕ → State
 new_state o flow flags rule limit name =
-    renewed o.settings o.clock (record {
+    renewed_state o.settings o.clock (record {
       flow = flow;
       rule = rule;
       limit = limit;
@@ -144,13 +144,13 @@ after_install o flow flags rule limit name =
 
 -- what an ask answers
 abbrev pub reply_of : StateObject → Op → Reply
-reply_of o (Lookup flags flow second name) = lookup_reply (raised o second) flow name
-reply_of o (Install flags flow second rule limit name) = install_reply (raised o second) flow rule limit name
+reply_of o (Lookup flags flow second name) = lookup_reply (object_at_second o second) flow name
+reply_of o (Install flags flow second rule limit name) = install_reply (object_at_second o second) flow rule limit name
 
 -- what an ask leaves
 abbrev pub after_ask : StateObject → Op → StateObject
-after_ask o (Lookup flags flow second name) = after_lookup (raised o second) flow flags name
-after_ask o (Install flags flow second rule limit name) = after_install (raised o second) flow flags rule limit name
+after_ask o (Lookup flags flow second name) = after_lookup (object_at_second o second) flow flags name
+after_ask o (Install flags flow second rule limit name) = after_install (object_at_second o second) flow flags rule limit name
 
 -- the rule 65535, which gets the states whose own rule is gone where they are kept
 abbrev pub last_rule_ref : RuleRef

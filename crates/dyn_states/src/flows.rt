@@ -13,7 +13,7 @@ pub(crate) fn is_same(a: &Flow, b: &Flow) -> bool
 
 /// The flow of a packet that goes the other way.
 pub(crate) fn reversed(flow: &Flow) -> Flow
-    ensures { result ≡ flows.reversed flow.now }
+    ensures { result ≡ flows.reverse_flow flow.now }
 {
     Flow {
         protocol: flow.protocol,

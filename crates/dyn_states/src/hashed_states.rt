@@ -1,7 +1,7 @@
 ghost use Rattle.std.specs.Prelude.{◌≡◌, ◌≤◌, IfOk, length};
 ghost use Rattle.fw_rule.specs.Values.{values_of};
 ghost use Rattle.dyn_states.specs.StateObject as object;
-ghost use Rattle.dyn_states.specs.StateObject.{StateObject, raised, reply_of, after_ask, after_publication, first_object};
+ghost use Rattle.dyn_states.specs.StateObject.{StateObject, object_at_second, reply_of, after_ask, after_publication, first_object};
 ghost use Rattle.dyn_states.specs.Slots.{held_states};
 
 use crate::state_table::StateTable;
@@ -142,9 +142,9 @@ impl HashedStates {
         self.settings = facts.settings;
     }
 
-    #[tactic(auto, unfolding(crate::specs::StateObject::raised))]
+    #[tactic(auto, unfolding(crate::specs::StateObject::object_at_second))]
     fn raise(&mut self, second: u32)
-        ensures after { self.new.object ≡ raised self.old.object second }
+        ensures after { self.new.object ≡ object_at_second self.old.object second }
         ensures room { self.new.room ≡ self.old.room }
     {
         let clock = self.clock.max(second);

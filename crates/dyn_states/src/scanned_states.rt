@@ -5,7 +5,7 @@ ghost use Rattle.dyn_states.specs.StateObject as object;
 ghost use Rattle.dyn_states.specs.declared.reply.Reply.TheVariants.{Created};
 ghost use Rattle.dyn_states.specs.declared.op.FlowName.TheVariants.{Named};
 ghost use Rattle.dyn_states.specs.declared.state.State.{State};
-ghost use Rattle.dyn_states.specs.StateObject.{StateObject, after_lookup, lookup_reply, raised, install_reply, after_install, reply_of, after_ask, after_publication, first_object};
+ghost use Rattle.dyn_states.specs.StateObject.{StateObject, after_lookup, lookup_reply, object_at_second, install_reply, after_install, reply_of, after_ask, after_publication, first_object};
 
 use crate::flows::{is_matching, way_of};
 use crate::lifetimes::{kept_flags, lifetime};
@@ -78,7 +78,7 @@ fn is_counted(state: &State, rule: RuleRef, mask: LimitMask, flow: &Flow) -> boo
 
 /// The state as it lives from now on.
 pub(crate) fn renewed(settings: &Settings, clock: u32, state: State) -> State
-    ensures { result ≡ object.renewed (values_of settings.now) clock state }
+    ensures { result ≡ object.renewed_state (values_of settings.now) clock state }
 {
     let seconds = lifetime(settings, state.flow.protocol, state.forward, state.reverse);
     State {
@@ -179,9 +179,9 @@ impl ScannedStates {
         self.settings = facts.settings;
     }
 
-    #[tactic(auto, unfolding(crate::specs::StateObject::raised))]
+    #[tactic(auto, unfolding(crate::specs::StateObject::object_at_second))]
     fn raise(&mut self, second: u32)
-        ensures after { self.new.object ≡ raised self.old.object second }
+        ensures after { self.new.object ≡ object_at_second self.old.object second }
         ensures room { self.new.room ≡ self.old.room }
     {
         let clock = self.clock.max(second);
@@ -210,7 +210,7 @@ impl ScannedStates {
             → self.new.object
             ≡ record self.old.object {
               states = slice_set self.old.object.states place
-                  (object.touched self.old.object flow.now flags
+                  (object.state_after_lookup self.old.object flow.now flags
                   (slice_index_or self.old.object.states place d));
             } }
         ensures room { self.new.room ≡ self.old.room }

@@ -4,7 +4,7 @@ ghost use Rattle.dyn_states.specs.StateObject as object;
 ghost use Rattle.dyn_states.specs.declared.op.FlowName.TheVariants.{Any, Named};
 ghost use Rattle.dyn_states.specs.Lines.{line_at};
 ghost use Rattle.dyn_states.specs.ExpiryQueue.{entry_count, entry_room, due_count};
-ghost use Rattle.dyn_states.specs.Slots.{is_held, given_up, held_states, slot, no_state, holds_one, IsFirstPlace, earlier};
+ghost use Rattle.dyn_states.specs.Slots.{is_held, given_up, held_states, slot, no_state, holds_one, IsFirstPlace, earlier_place};
 ghost use Rattle.dyn_states.specs.Tallies.{IsTallied};
 ghost use Rattle.dyn_states.specs.StateTable.{slots_of, states_of, HasRoom, HasRoomForOne, HasParts, IsStateTable, IsTableBut, IsTouched, AreApart};
 
@@ -370,7 +370,7 @@ fn is_holding(state: &State, flow: &Flow, number: u8) -> bool
 
 /// The earlier of two places.
 fn earlier(place: Option<usize>, other: Option<usize>) -> Option<usize>
-    ensures { result ≡ earlier place other }
+    ensures { result ≡ earlier_place place other }
 {
     match (place, other) {
         (None, other) => other,

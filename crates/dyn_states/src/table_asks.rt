@@ -22,7 +22,7 @@ use packet_headers::Flow;
 /// The state as a packet of the flow leaves it.
 fn touched(settings: &Settings, clock: u32, flow: &Flow, flags: u8, state: State) -> State
     ensures value { result
-        ≡ object.renewed (values_of settings.now) clock
+        ≡ object.renewed_state (values_of settings.now) clock
         (object.with_flags (flows.way_of state.flow flow.now) flags state) }
     ensures held { is_held result ≡ true }
     ensures flow { result.flow ≡ state.flow }

@@ -15,7 +15,7 @@ use Rattle.generation_store.specs.Jumps.{jumps_of, jumps_from, jump_of, first_fr
 use Rattle.generation_store.specs.declared.jumps.Jump.{Jump}
 use Rattle.generation_store.specs.Published.{is_identity, numbered_name}
 use Rattle.rule_chain.specs.Chain.{IsConfiguration, IsRule}
-use Rattle.rule_chain.specs.Names.{IsNamed, name_of, number_of, state_name}
+use Rattle.rule_chain.specs.Names.{IsNamed, name_of, number_of_name, state_name}
 use Rattle.eval_engine.specs.Encounter.{is_check_state, body_state}
 use Rattle.eval_engine.specs.Place.{IsNumbered, IsRuleAt}
 use Rattle.eval_engine.specs.Question.{Question}
@@ -26,7 +26,7 @@ all_at P [] i d h lt = absurd (omega arith)
 all_at P (x ∷ xs) zero d h lt = h.0
 all_at P (x ∷ xs) (suc i) d h lt = all_at P xs i d h.1 (omega arith)
 
-named_below : (names : List (List ℕ)) (name : Option (List ℕ)) → length names ≤ 64 → IfSome name (λ n. number_of names n < length names) → IsNumbered (numbered_name names name)
+named_below : (names : List (List ℕ)) (name : Option (List ℕ)) → length names ≤ 64 → IfSome name (λ n. number_of_name names n < length names) → IsNumbered (numbered_name names name)
 named_below names None few h = tt
 named_below names (Some name) few h = omega arith
 
@@ -97,7 +97,7 @@ none_above q h = above_all q.edition.config.rules _ _ h.rules
 
 -- the name that a state gets is the one that its rule looks up
 pub state_named : (names : List (List ℕ)) (action : Action) (body : Option Body) (state : StateOpt)
-    → is_check_state action ≡ false → body_state body ≡ Some state → numbered_name names (name_of action body) ≡ Named (number_of names (state_name state))
+    → is_check_state action ≡ false → body_state body ≡ Some state → numbered_name names (name_of action body) ≡ Named (number_of_name names (state_name state))
 state_named names action None state plain made = absurd (grind arith)
 state_named names Allow (Some body) state plain made = rw made refl
 state_named names Deny (Some body) state plain made = rw made refl

@@ -14,13 +14,13 @@ use Rattle.dyn_states.specs.declared.reply.Reply.{Reply}
 use Rattle.dyn_states.specs.declared.reply.Reply.TheVariants.{Found, NotFound, Created, Exists, LimitReached, TableFull}
 use Rattle.generation_store.specs.Published.{is_identity}
 use Rattle.rule_chain.specs.Chain.{IsConfiguration, IsRule}
-use Rattle.eval_engine.specs.Encounter.{is_check_state, is_disabled, is_held, state_of, any_flow_of}
+use Rattle.eval_engine.specs.Encounter.{is_check_state, is_disabled, is_rule_met, state_of, any_flow_of}
 use Rattle.eval_engine.specs.Evaluated.{Whole}
 use Rattle.eval_engine.specs.Laws.{is_counter_of, HitsAreOfRules}
-use Rattle.eval_engine.specs.Evaluation.{Progress, progress_by, progress_from, progress_of, replied, is_reply_to, evaluate, outcome_of}
+use Rattle.eval_engine.specs.Evaluation.{Progress, progress_by, progress_from, progress_of, progress_after_reply, is_reply_to, evaluate, outcome_of}
 use Rattle.eval_engine.specs.Question.{Question}
-use Rattle.eval_engine.specs.Trace.{Seen, Pause, Stop, EndsWith, WaitsFor, Mismatch, Trace, PassesOver, Counts, Stops, hits_of, stop_of}
-use Rattle.eval_engine.specs.Walk.{Walk, walk, follows, call_from, return_to, installs, tests, looks, lookup_flow, meets, pause_at, deeper_walk, way_back, calls_left, walk_from, acts_before, acts_from, tests_from, refuses_from, suffix_of, leads_to, seen_after, resumed, begun}
+use Rattle.eval_engine.specs.Trace.{Seen, Pause, Stop, EndsWith, WaitsFor, Mismatch, Trace, PassesOver, Counts, Stops, hits_of, stop_of_trace}
+use Rattle.eval_engine.specs.Walk.{Walk, walk, follows, call_from, return_to, installs, tests, looks, lookup_flow, meets, pause_at, deeper_walk, way_back, calls_left, walk_from, acts_before, acts_from, tests_from, refuses_from, suffix_of, leads_to, seen_after, trace_after_reply, first_trace}
 use Rattle.eval_engine.specs.declared.judgement.Judgement.{Judgement}
 
 module _ (q : Question) (P : ℕ → Type 0) where
@@ -75,9 +75,9 @@ module _ (q : Question) (P : ℕ → Type 0) where
   installs_on pause rule passed acted (Some state) (Some flow) s p a = s
 
   tests_on : (pause : Pause) (rule : Rule) (passed acted : Trace) → AllByRecursion IsCounted pause.suffix → IsTraceOf passed → IsTraceOf acted → IsTraceOf (tests q pause rule passed acted)
-  tests_on pause rule passed acted s p a = go (is_check_state rule.action) (is_held q rule) refl refl
+  tests_on pause rule passed acted s p a = go (is_check_state rule.action) (is_rule_met q rule) refl refl
     where
-      go : (check held : Bool) → is_check_state rule.action ≡ check → is_held q rule ≡ held → IsTraceOf (tests q pause rule passed acted)
+      go : (check held : Bool) → is_check_state rule.action ≡ check → is_rule_met q rule ≡ held → IsTraceOf (tests q pause rule passed acted)
       go true held c h = rw c p
       go false true c h = rw (c, h) (installs_on pause rule passed acted (state_of rule) (any_flow_of q.packet) s p a)
       go false false c h = rw (c, h) p
@@ -168,8 +168,8 @@ module _ (q : Question) (P : ℕ → Type 0) where
     trace_hits (Counts counter trace) t = (t.0, trace_hits trace t.1)
     trace_hits (Stops stop) t = tt
 
-    trace_stop : (trace : Trace) → IsTraceOf trace → IsStopOf (stop_of trace)
-    unfolding stop_of
+    trace_stop : (trace : Trace) → IsTraceOf trace → IsStopOf (stop_of_trace trace)
+    unfolding stop_of_trace
     trace_stop (PassesOver trace) t = trace_stop trace t
     trace_stop (Counts counter trace) t = trace_stop trace t.1
     trace_stop (Stops stop) t = t
@@ -182,22 +182,22 @@ module _ (q : Question) (P : ℕ → Type 0) where
     goes_by : (asks : List Op) (hits : List ℕ) (trace : Trace) → AllByRecursion P hits → IsTraceOf trace → IsProgressOf (progress_by asks hits trace)
     goes_by asks hits trace h t = record { hit = both hits (hits_of trace) h (trace_hits trace t); stopped = trace_stop trace t }
 
-    replied_on : (asks : List Op) (hits : List ℕ) (reply : Reply) (stop : Stop) → AllByRecursion P hits → IsStopOf stop → IsProgressOf (replied q asks hits reply stop)
+    replied_on : (asks : List Op) (hits : List ℕ) (reply : Reply) (stop : Stop) → AllByRecursion P hits → IsStopOf stop → IsProgressOf (progress_after_reply q asks hits reply stop)
     replied_on asks hits reply (EndsWith judgement) h s = record { hit = h; stopped = tt }
     replied_on asks hits reply Mismatch h s = record { hit = h; stopped = tt }
     replied_on asks hits reply (WaitsFor op pause) h s = go (is_reply_to q.edition.config.rules op reply) refl
       where
-        go : (fits : Bool) → is_reply_to q.edition.config.rules op reply ≡ fits → IsProgressOf (replied q asks hits reply (WaitsFor op pause))
-        go true is = rw is (goes_by asks hits (resumed q pause reply) h (leads_on (seen_after q pause.seen pause.suffix reply) pause.callers pause.suffix reply s))
+        go : (fits : Bool) → is_reply_to q.edition.config.rules op reply ≡ fits → IsProgressOf (progress_after_reply q asks hits reply (WaitsFor op pause))
+        go true is = rw is (goes_by asks hits (trace_after_reply q pause reply) h (leads_on (seen_after q pause.seen pause.suffix reply) pause.callers pause.suffix reply s))
         go false is = rw is (record { hit = h; stopped = tt })
 
     goes_from : (progress : Progress) (replies : List Reply) → IsProgressOf progress → IsProgressOf (progress_from q progress replies)
     unfolding progress_from
     goes_from progress [] p = p
-    goes_from progress (reply ∷ replies) p = goes_from (replied q progress.asks progress.hits reply progress.stop) replies (replied_on progress.asks progress.hits reply progress.stop p.hit p.stopped)
+    goes_from progress (reply ∷ replies) p = goes_from (progress_after_reply q progress.asks progress.hits reply progress.stop) replies (replied_on progress.asks progress.hits reply progress.stop p.hit p.stopped)
 
     goes_on : (replies : List Reply) → IsProgressOf (progress_of q replies)
-    goes_on replies = goes_from (progress_by [] [] (begun q)) replies (goes_by [] [] (begun q) tt (walk_on _ [] q.edition.config.rules 0 counted))
+    goes_on replies = goes_from (progress_by [] [] (first_trace q)) replies (goes_by [] [] (first_trace q) tt (walk_on _ [] q.edition.config.rules 0 counted))
 
 all_of : (P : ℕ → Type 0) (xs : List ℕ) → AllByRecursion P xs → All P xs
 all_of P [] h = All-nil P

@@ -1,7 +1,7 @@
 -- How steps move an evaluation on.
 use Rattle.std.proofs.Common.{◌≡◌, ℕ, suc, ◌<◌, Option, Some, None, IsSome, IsSomeAnd, List, [], ◌∷◌, drop, length, refl, ap, sym, ◌∙◌, subst, arith, slice_set}
 use Rattle.std.proofs.lemmas.List.{length-set}
-use Rattle.counter_book.specs.Counts.{counted_under, raised}
+use Rattle.counter_book.specs.Counts.{counted_under, count_after_packet}
 use Rattle.counter_book.specs.declared.tally.Count.{Count}
 use Rattle.ip6_headers.specs.Either.{total_of}
 use Rattle.dyn_states.specs.declared.op.Op.{Op}
@@ -10,8 +10,8 @@ use Rattle.eval_engine.specs.Encounter.{rule_ref}
 use Rattle.eval_engine.specs.Question.{Question}
 use Rattle.eval_engine.specs.Standing.{counts_after, seen_by}
 use Rattle.eval_engine.specs.Steps.{walk_at, judged_at, judgement_from, waiting_at, IsStopped, IsStep, Comes, Remains, Nears, LeadsOn, PassesTo}
-use Rattle.eval_engine.specs.Trace.{Trace, PassesOver, Counts, hits_of, stop_of, length_of}
-use Rattle.eval_engine.specs.Walk.{judged, denied_at_end, refuses_from}
+use Rattle.eval_engine.specs.Trace.{Trace, PassesOver, Counts, hits_of, stop_of_trace, length_of}
+use Rattle.eval_engine.specs.Walk.{trace_of_judgement, denied_at_end, refuses_from}
 use Rattle.eval_engine.specs.declared.judgement.Cause.{Cause}
 use Rattle.eval_engine.specs.declared.position.Position.{Position}
 use Rattle.eval_engine.specs.declared.searched.Searched.{Searched}
@@ -27,11 +27,11 @@ longer trace next more one is = omega arith
 
 -- a rule that is passed over
 pub nears_by : (q : Question) (trace next : Trace) (before : List Count) → trace ≡ PassesOver next → Nears q trace next before before
-unfolding hits_of stop_of length_of
+unfolding hits_of stop_of_trace length_of
 nears_by q trace next before is = record {
   remains = record {
     tallied = ap (λ (t : Trace). counts_after (total_of q.packet) (hits_of t) before) is;
-    stop = ap (λ (t : Trace). stop_of t) is;
+    stop = ap (λ (t : Trace). stop_of_trace t) is;
     fitted = refl;
   };
   sooner = longer trace next _ refl (ap (λ (t : Trace). length_of t) is);
@@ -39,16 +39,16 @@ nears_by q trace next before is = record {
 
 -- a rule that stops the evaluation
 pub comes_at_once : (q : Question) (trace : Trace) (stage : Stage) (before : List Count) → IsStopped q trace stage → Comes q trace stage before before
-unfolding hits_of stop_of counts_after
+unfolding hits_of stop_of_trace counts_after
 comes_at_once q trace stage before is = record {
   tallied = ap (λ (t : Trace). counts_after (total_of q.packet) (hits_of t) before) (sym is.stop);
-  stop = ap (λ (t : Trace). stop_of t) is.stop;
+  stop = ap (λ (t : Trace). stop_of_trace t) is.stop;
   asked = is.asked;
 }
 
 -- the rule at a position decides the packet
 pub decided_there : (q : Question) (at : Position) (rule : Rule) (rest : List Rule) (verdict : Verdict) (cause : Cause) → drop at.place q.edition.config.rules ≡ rule ∷ rest
-    → IsStopped q (judged q verdict (rule_ref rule) cause) (judged_at q verdict cause at)
+    → IsStopped q (trace_of_judgement q verdict (rule_ref rule) cause) (judged_at q verdict cause at)
 decided_there q at rule rest verdict cause there = rw there (record { stop = refl; asked = tt })
 
 -- behind the last rule the packet is denied
@@ -65,20 +65,20 @@ refused_there q at cause = go (drop at.place q.edition.config.rules)
 
 -- a rule that is counted
 pub leads_counted : (q : Question) (searched : Searched) (trace : Trace) (step : Step) (at : Position) (counter : ℕ) (before now : List Count)
-    → now ≡ slice_set before counter (raised (counted_under before counter) (total_of q.packet)) → IsStep q searched trace step at → LeadsOn q searched (Counts counter trace) step at before now
-unfolding hits_of stop_of length_of counts_after
+    → now ≡ slice_set before counter (count_after_packet (counted_under before counter) (total_of q.packet)) → IsStep q searched trace step at → LeadsOn q searched (Counts counter trace) step at before now
+unfolding hits_of stop_of_trace length_of counts_after
 leads_counted q searched trace On at counter before now counted is = record {
   remains = record {
-    tallied = ap (λ (t : Trace). counts_after (total_of q.packet) (hits_of t) (slice_set before counter (raised (counted_under before counter) (total_of q.packet)))) is
+    tallied = ap (λ (t : Trace). counts_after (total_of q.packet) (hits_of t) (slice_set before counter (count_after_packet (counted_under before counter) (total_of q.packet)))) is
         ∙ ap (λ (counts : List Count). counts_after (total_of q.packet) (hits_of (walk_at q (seen_by searched) at)) counts) (sym counted);
-    stop = ap (λ (t : Trace). stop_of t) is;
-    fitted = ap (λ (counts : List Count). length counts) counted ∙ length-set before counter (raised (counted_under before counter) (total_of q.packet));
+    stop = ap (λ (t : Trace). stop_of_trace t) is;
+    fitted = ap (λ (counts : List Count). length counts) counted ∙ length-set before counter (count_after_packet (counted_under before counter) (total_of q.packet));
   };
   sooner = longer (Counts counter trace) (walk_at q (seen_by searched) at) _ refl (ap (λ (t : Trace). suc (length_of t)) is);
 }
 leads_counted q searched trace (Decides verdict cause) at counter before now counted is = record {
-  tallied = counted ∙ ap (λ (t : Trace). counts_after (total_of q.packet) (hits_of t) (slice_set before counter (raised (counted_under before counter) (total_of q.packet)))) (sym is.stop);
-  stop = ap (λ (t : Trace). stop_of t) is.stop;
+  tallied = counted ∙ ap (λ (t : Trace). counts_after (total_of q.packet) (hits_of t) (slice_set before counter (count_after_packet (counted_under before counter) (total_of q.packet)))) (sym is.stop);
+  stop = ap (λ (t : Trace). stop_of_trace t) is.stop;
   asked = is.asked;
 }
 leads_counted q searched trace Waits at counter before now counted is = absurd is

@@ -10,7 +10,7 @@ use Rattle.rule_gates.specs.Keys.{HasAddresses, IsKeyOf}
 use Rattle.rule_gates.specs.Told.{is_told_body}
 use Rattle.rule_gates.specs.declared.gate.Gate.{Gate}
 use Rattle.rule_gates.specs.declared.key.Key.{Key}
-use Rattle.eval_engine.specs.Encounter.{is_held, looks_up}
+use Rattle.eval_engine.specs.Encounter.{is_rule_met, looks_up}
 use Rattle.eval_engine.specs.Place.{IsRuleAt, IsTold}
 use Rattle.eval_engine.specs.Question.{Question}
 
@@ -37,8 +37,8 @@ gate_there (suc place) [] gates rule rest gate are there is = absurd (cc)
 gate_there (suc place) (r ∷ rules) [] rule rest gate are there is = absurd are
 gate_there (suc place) (r ∷ rules) (g ∷ gates) rule rest gate are there is = gate_there place rules gates rule rest gate are.1 there is
 
-held_is : (q : Question) (rule : Rule) (body : Option Body) → rule.body ≡ body → is_body_held body q.edition.config.tables q.edition.config.locals q.packet q.port ≡ true → is_held q rule ≡ true
-unfolding is_held
+held_is : (q : Question) (rule : Rule) (body : Option Body) → rule.body ≡ body → is_body_held body q.edition.config.tables q.edition.config.locals q.packet q.port ≡ true → is_rule_met q rule ≡ true
+unfolding is_rule_met
 held_is q rule None is held = cc
 held_is q rule (Some body) is held = rw is held
 

@@ -9,10 +9,10 @@ use Rattle.rule_gates.specs.Keys.{IsKeyOf}
 use Rattle.rule_gates.specs.declared.gate.Gate.{Gate}
 use Rattle.rule_gates.specs.declared.key.Key.{Key}
 use Rattle.eval_engine.proofs.Walks.{walk_meets}
-use Rattle.eval_engine.specs.Encounter.{is_disabled, is_held, is_check_state, looks_up}
+use Rattle.eval_engine.specs.Encounter.{is_disabled, is_rule_met, is_check_state, looks_up}
 use Rattle.eval_engine.specs.Question.{Question}
 use Rattle.eval_engine.specs.Steps.{PassesTo}
-use Rattle.eval_engine.specs.Trace.{Seen, Trace, PassesOver, hits_of, stop_of, length_of}
+use Rattle.eval_engine.specs.Trace.{Seen, Trace, PassesOver, hits_of, stop_of_trace, length_of}
 use Rattle.eval_engine.specs.Walk.{walk_from, meets, pause_at, acts_before}
 
 either_false : (a b : Bool) → (a || b) ≡ false → (a ≡ false) × (b ≡ false)
@@ -29,7 +29,7 @@ gates_from (suc place) (rule ∷ rules) (gate ∷ gates) are = gates_from place 
 
 module _ (q : Question) (seen : Seen) (callers : List ℕ) where
   -- a rule that looks nothing up, and whose body doesn't hold
-  unconcerned_passed : (rule : Rule) (rest : List Rule) → looks_up rule ≡ false → is_held q rule ≡ false
+  unconcerned_passed : (rule : Rule) (rest : List Rule) → looks_up rule ≡ false → is_rule_met q rule ≡ false
       → walk_from q seen callers (rule ∷ rest) 0 ≡ PassesOver (walk_from q seen callers rest 0)
   unconcerned_passed rule rest unlooked unheld =
       let plain : is_check_state rule.action ≡ false = (either_false (is_check_state rule.action) _ unlooked).0 in
@@ -40,8 +40,8 @@ module _ (q : Question) (seen : Seen) (callers : List ℕ) where
       cases plain true is = rw is refl
       cases plain false is = rw (is, unlooked, plain, unheld) refl
 
-  held_is : (rule : Rule) (body : Option Body) → rule.body ≡ body → is_body_held body q.edition.config.tables q.edition.config.locals q.packet q.port ≡ false → is_held q rule ≡ false
-  unfolding is_held
+  held_is : (rule : Rule) (body : Option Body) → rule.body ≡ body → is_body_held body q.edition.config.tables q.edition.config.locals q.packet q.port ≡ false → is_rule_met q rule ≡ false
+  unfolding is_rule_met
   held_is rule None is none = rw is refl
   held_is rule (Some body) is none = rw is none
 
@@ -60,10 +60,10 @@ module _ (q : Question) (seen : Seen) (callers : List ℕ) where
   passes_at_once trace = record { hits = refl; stop = refl; sooner = omega arith }
 
   passes_one : (trace next later : Trace) → trace ≡ PassesOver next → PassesTo next later → PassesTo trace later
-  unfolding hits_of stop_of length_of
+  unfolding hits_of stop_of_trace length_of
   passes_one trace next later is passes = record {
     hits = ap (λ (t : Trace). hits_of t) is ∙ passes.hits;
-    stop = ap (λ (t : Trace). stop_of t) is ∙ passes.stop;
+    stop = ap (λ (t : Trace). stop_of_trace t) is ∙ passes.stop;
     sooner = longer (passes.sooner) (ap (λ (t : Trace). length_of t) is);
   }
     where

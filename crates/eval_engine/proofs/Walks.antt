@@ -9,7 +9,7 @@ use Rattle.generation_store.specs.Jumps.{first_from, target}
 use Rattle.rule_chain.specs.Chain.{AscendsFrom}
 use Rattle.eval_engine.proofs.Places.{first_behind_place, behind}
 use Rattle.std.proofs.lemmas.List.{drop-drop}
-use Rattle.eval_engine.specs.Encounter.{IsCall, IsOnward, is_disabled, is_held, is_check_state, state_of, any_flow_of, lookup_by, install_by}
+use Rattle.eval_engine.specs.Encounter.{IsCall, IsOnward, is_disabled, is_rule_met, is_check_state, state_of, any_flow_of, lookup_by, install_by}
 use Rattle.eval_engine.specs.Place.{IsTold}
 use Rattle.eval_engine.specs.Question.{Question}
 use Rattle.eval_engine.specs.Trace.{Seen, WaitsFor, Trace, PassesOver, Stops}
@@ -195,11 +195,11 @@ module _ (q : Question) (seen : Seen) (callers : List ℕ) (rule : Rule) (rest s
   check_passed is = rw is refl
 
   -- a rule whose body doesn't hold is passed over
-  pub unheld_passed : is_check_state rule.action ≡ false → is_held q rule ≡ false → tests_before q seen callers rule rest ≡ PassesOver (walk_from q seen callers rest 0)
+  pub unheld_passed : is_check_state rule.action ≡ false → is_rule_met q rule ≡ false → tests_before q seen callers rule rest ≡ PassesOver (walk_from q seen callers rest 0)
   unheld_passed plain is = rw (plain, is) refl
 
   -- a rule whose body holds makes its state first, if it makes one
-  pub held_installs : is_check_state rule.action ≡ false → is_held q rule ≡ true → tests_before q seen callers rule rest ≡ installs_before q seen callers rule rest
+  pub held_installs : is_check_state rule.action ≡ false → is_rule_met q rule ≡ true → tests_before q seen callers rule rest ≡ installs_before q seen callers rule rest
   held_installs plain is = rw (plain, is) refl
 
   installed : (state : Option StateOpt) (flow : Option Flow) → state_of rule ≡ state → any_flow_of q.packet ≡ flow

@@ -18,7 +18,7 @@ use Rattle.ip6_headers.specs.declared.any_ip.AnyIp.TheVariants.{Four, Six}
 use Rattle.ip6_headers.specs.Either.{any_tcp_flags_of}
 use Rattle.packet_headers.specs.declared.flows.Flow.{Flow}
 use Rattle.packet_headers.specs.Flows.{flow_of}
-use Rattle.rule_chain.specs.Names.{number_of, state_name}
+use Rattle.rule_chain.specs.Names.{number_of_name, state_name}
 use Rattle.rule_match.specs.Holds.{holds}
 pub use Rattle.rule_gates.specs.Stateful.{is_check_state, body_state, state_of, looks_up}
 use Rattle.eval_engine.specs.Question.{Question}
@@ -33,8 +33,8 @@ is_body_met q None = false
 is_body_met q (Some body) = holds body q.edition.config.tables q.edition.config.locals q.packet q.port
 
 -- the rule's body holds of the packet; a `check-state` has none
-unfoldable pub is_held : Question → Rule → Bool
-is_held q rule = is_body_met q rule.body
+unfoldable pub is_rule_met : Question → Rule → Bool
+is_rule_met q rule = is_body_met q rule.body
 
 -- the action is a call
 abbrev pub IsCall : Action → Type 0
@@ -82,11 +82,11 @@ abbrev pub lookup_by : Question → Rule → Flow → Op
 lookup_by q rule flow = Lookup (flags_of q.packet) flow q.second (name_at q rule)
 
 -- `limit` by its mask and its number
-abbrev pub limit_of : StateOpt → Option (LimitMask × ℕ)
-limit_of (Keep name) = None
-limit_of (Limit mask most name) = Some (mask, most)
+abbrev pub state_limit_of : StateOpt → Option (LimitMask × ℕ)
+state_limit_of (Keep name) = None
+state_limit_of (Limit mask most name) = Some (mask, most)
 
 -- make a state for this rule
 abbrev pub install_by : Question → Rule → StateOpt → Flow → Op
 install_by q rule state flow =
-    Install (flags_of q.packet) flow q.second (rule_ref rule) (limit_of state) (number_of q.edition.config.names (state_name state))
+    Install (flags_of q.packet) flow q.second (rule_ref rule) (state_limit_of state) (number_of_name q.edition.config.names (state_name state))

@@ -8,8 +8,8 @@ use Rattle.dyn_states.specs.declared.reply.Reply.TheVariants.{Found, NotFound, C
 use Rattle.generation_store.specs.Published.{has_identity}
 use Rattle.eval_engine.specs.Evaluated.{Evaluated, Outcome, Whole, OpenAt, Neither}
 use Rattle.eval_engine.specs.Question.{Question}
-use Rattle.eval_engine.specs.Trace.{Stop, EndsWith, WaitsFor, Mismatch, Trace, hits_of, stop_of}
-use Rattle.eval_engine.specs.Walk.{begun, resumed}
+use Rattle.eval_engine.specs.Trace.{Stop, EndsWith, WaitsFor, Mismatch, Trace, hits_of, stop_of_trace}
+use Rattle.eval_engine.specs.Walk.{first_trace, trace_after_reply}
 
 -- A reply that is one to the ask: a state of a rule of the list that was found, or none, to a lookup; one
 -- of the other four to an install.
@@ -41,24 +41,24 @@ asks_at_stop Mismatch = []
 
 -- behind those asks and hits it goes through this
 abbrev pub progress_by : List Op → List ℕ → Trace → Progress
-progress_by asks hits trace = record { asks = asks ++ asks_at_stop (stop_of trace); hits = hits ++ hits_of trace; stop = stop_of trace }
+progress_by asks hits trace = record { asks = asks ++ asks_at_stop (stop_of_trace trace); hits = hits ++ hits_of trace; stop = stop_of_trace trace }
 
 -- a reply where none is due, and one that isn't one to the ask, leaves it neither open nor whole
-abbrev pub replied : Question → List Op → List ℕ → Reply → Stop → Progress
-replied q asks hits reply (EndsWith judgement) = record { asks = asks; hits = hits; stop = Mismatch }
-replied q asks hits reply (WaitsFor op pause) =
-    if is_reply_to q.edition.config.rules op reply then progress_by asks hits (resumed q pause reply)
+abbrev pub progress_after_reply : Question → List Op → List ℕ → Reply → Stop → Progress
+progress_after_reply q asks hits reply (EndsWith judgement) = record { asks = asks; hits = hits; stop = Mismatch }
+progress_after_reply q asks hits reply (WaitsFor op pause) =
+    if is_reply_to q.edition.config.rules op reply then progress_by asks hits (trace_after_reply q pause reply)
     else record { asks = asks; hits = hits; stop = Mismatch }
-replied q asks hits reply Mismatch = record { asks = asks; hits = hits; stop = Mismatch }
+progress_after_reply q asks hits reply Mismatch = record { asks = asks; hits = hits; stop = Mismatch }
 
 -- each reply moves it on
 unfoldable pub progress_from : Question → Progress → List Reply → Progress
 progress_from q progress [] = progress
-progress_from q progress (reply ∷ replies) = progress_from q (replied q progress.asks progress.hits reply progress.stop) replies
+progress_from q progress (reply ∷ replies) = progress_from q (progress_after_reply q progress.asks progress.hits reply progress.stop) replies
 
 -- how far it is after these replies
 abbrev pub progress_of : Question → List Reply → Progress
-progress_of q replies = progress_from q (progress_by [] [] (begun q)) replies
+progress_of q replies = progress_from q (progress_by [] [] (first_trace q)) replies
 
 -- how it ended
 abbrev pub outcome_of : Stop → Outcome

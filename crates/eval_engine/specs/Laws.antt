@@ -10,7 +10,7 @@ use Rattle.eval_engine.specs.declared.judgement.Cause.TheVariants as cause
 use Rattle.eval_engine.specs.declared.judgement.Judgement.{Judgement}
 use Rattle.eval_engine.specs.declared.judgement.Verdict.{Verdict}
 use Rattle.eval_engine.specs.declared.judgement.Verdict.TheVariants as verdict
-use Rattle.eval_engine.specs.Encounter.{is_disabled, is_held, state_of, rule_ref}
+use Rattle.eval_engine.specs.Encounter.{is_disabled, is_rule_met, state_of, rule_ref}
 use Rattle.eval_engine.specs.Evaluated.{Whole, Neither}
 use Rattle.eval_engine.specs.Evaluation.{evaluate}
 use Rattle.eval_engine.specs.Question.{Question}
@@ -29,7 +29,7 @@ verdict_of (CheckState name) = None
 
 -- the rule decides the packet: its set isn't disabled, its body holds, its action ends the search
 abbrev pub decides : Question → Rule → Bool
-decides q rule = not (is_disabled q rule) && (is_held q rule && is_some (verdict_of rule.action))
+decides q rule = not (is_disabled q rule) && (is_rule_met q rule && is_some (verdict_of rule.action))
 
 -- by that rule; rule 65535 denies what no rule decides
 abbrev pub judgement_by : Question → Option Rule → Judgement

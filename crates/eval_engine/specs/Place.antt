@@ -5,7 +5,7 @@ use Rattle.dyn_states.specs.declared.op.FlowName.TheVariants.{Any, Named}
 use Rattle.fw_rule.specs.declared.rule.Rule.{Rule}
 use Rattle.rule_chain.specs.Chain.{AscendsFrom}
 use Rattle.generation_store.specs.Published.{has_identity}
-use Rattle.eval_engine.specs.Encounter.{is_held, looks_up, name_at}
+use Rattle.eval_engine.specs.Encounter.{is_rule_met, looks_up, name_at}
 use Rattle.eval_engine.specs.Question.{Question}
 
 -- there are 64 flow names
@@ -27,4 +27,4 @@ pub record IsRuleAt (q : Question) (place : ℕ) (rule : Rule) : Type 0 where
 -- a rule of which the gate told all: it looks nothing up, and its body holds
 pub record IsTold (q : Question) (rule : Rule) : Type 0 where
   pub plain : looks_up rule ≡ false
-  pub held : is_held q rule ≡ true
+  pub held : is_rule_met q rule ≡ true

@@ -1,6 +1,6 @@
 -- How far an evaluation is after a call.
 use Rattle.std.specs.Prelude.{◌≡◌, ℕ, Bool, true, if◌then◌else◌, IsTrue, ⊤, List, [], ◌∷◌, ◌++◌, drop, slice_set}
-use Rattle.counter_book.specs.Counts.{counted_under, raised}
+use Rattle.counter_book.specs.Counts.{counted_under, count_after_packet}
 use Rattle.counter_book.specs.declared.tally.Count.{Count}
 use Rattle.dyn_states.specs.declared.op.FlowName.{FlowName}
 use Rattle.dyn_states.specs.declared.op.FlowName.TheVariants.{Any, Named}
@@ -34,7 +34,7 @@ InstallsRuleOf rules (Install flags flow second rule limit name) = IsTrue (has_i
 -- the counts of a tally after one packet of so many bytes under each of these counter numbers
 unfoldable pub counts_after : ℕ → List ℕ → List Count → List Count
 counts_after bytes [] counts = counts
-counts_after bytes (counter ∷ hits) counts = counts_after bytes hits (slice_set counts counter (raised (counted_under counts counter) bytes))
+counts_after bytes (counter ∷ hits) counts = counts_after bytes hits (slice_set counts counter (count_after_packet (counted_under counts counter) bytes))
 
 -- a stage is the end, or an ask that has no reply yet
 abbrev pub outcome_at : Stage → Outcome

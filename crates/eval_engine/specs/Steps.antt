@@ -7,7 +7,7 @@ use Rattle.ip6_headers.specs.Either.{total_of}
 use Rattle.eval_engine.specs.Encounter.{rule_ref}
 use Rattle.eval_engine.specs.Question.{Question}
 use Rattle.eval_engine.specs.Standing.{callers_of, counts_after, kind_of, seen_by, stop_of_stage, IsAskOf}
-use Rattle.eval_engine.specs.Trace.{Seen, Trace, Stops, hits_of, stop_of, length_of}
+use Rattle.eval_engine.specs.Trace.{Seen, Trace, Stops, hits_of, stop_of_trace, length_of}
 use Rattle.eval_engine.specs.Walk.{walk_from}
 use Rattle.eval_engine.specs.declared.judgement.Cause.{Cause}
 use Rattle.eval_engine.specs.declared.judgement.Cause.TheVariants as causes
@@ -33,7 +33,7 @@ walk_at q seen at = walk_from q seen (callers_of at.callers) (drop at.place q.ed
 -- the rules between are passed over: nothing is counted, it stops alike, and no more rules are on the way
 pub record PassesTo (trace next : Trace) : Type 0 where
   pub hits : hits_of trace ≡ hits_of next
-  pub stop : stop_of trace ≡ stop_of next
+  pub stop : stop_of_trace trace ≡ stop_of_trace next
   pub sooner : length_of next ≤ length_of trace
 
 -- the evaluation stops in this stage
@@ -63,13 +63,13 @@ IsStep q searched trace Waits at = ⊥
 -- the evaluation comes to this stage, and the tally rises by its hits
 pub record Comes (q : Question) (trace : Trace) (stage : Stage) (before now : List Count) : Type 0 where
   pub tallied : now ≡ counts_after (total_of q.packet) (hits_of trace) before
-  pub stop : stop_of trace ≡ stop_of_stage q stage
+  pub stop : stop_of_trace trace ≡ stop_of_stage q stage
   pub asked : IsAskOf q stage
 
 -- what remains of the evaluation is the next, and what it counted on the way is tallied
 pub record Remains (q : Question) (trace next : Trace) (before now : List Count) : Type 0 where
   pub tallied : counts_after (total_of q.packet) (hits_of trace) before ≡ counts_after (total_of q.packet) (hits_of next) now
-  pub stop : stop_of trace ≡ stop_of next
+  pub stop : stop_of_trace trace ≡ stop_of_trace next
   pub fitted : length now ≡ length before
 
 -- and fewer rules are on its way

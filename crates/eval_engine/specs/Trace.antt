@@ -58,10 +58,10 @@ hits_of (Counts counter trace) = counter ∷ hits_of trace
 hits_of (Stops stop) = []
 
 -- how the trace stops
-unfoldable pub stop_of : Trace → Stop
-stop_of (PassesOver trace) = stop_of trace
-stop_of (Counts counter trace) = stop_of trace
-stop_of (Stops stop) = stop
+unfoldable pub stop_of_trace : Trace → Stop
+stop_of_trace (PassesOver trace) = stop_of_trace trace
+stop_of_trace (Counts counter trace) = stop_of_trace trace
+stop_of_trace (Stops stop) = stop
 
 -- how many rules are on the way before it stops
 unfoldable pub length_of : Trace → ℕ

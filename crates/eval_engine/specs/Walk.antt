@@ -14,17 +14,17 @@ use Rattle.eval_engine.specs.declared.judgement.Cause.{Cause}
 use Rattle.eval_engine.specs.declared.judgement.Cause.TheVariants as cause
 use Rattle.eval_engine.specs.declared.judgement.Verdict.{Verdict}
 use Rattle.eval_engine.specs.declared.judgement.Verdict.TheVariants as verdict
-use Rattle.eval_engine.specs.Encounter.{is_disabled, is_held, is_check_state, state_of, looks_up, any_flow_of, name_at, rule_ref, lookup_by, install_by}
+use Rattle.eval_engine.specs.Encounter.{is_disabled, is_rule_met, is_check_state, state_of, looks_up, any_flow_of, name_at, rule_ref, lookup_by, install_by}
 use Rattle.eval_engine.specs.Question.{Question}
 use Rattle.eval_engine.specs.Trace.{Seen, Done, is_name_due, with_seen, no_names, Pause, EndsWith, WaitsFor, Trace, PassesOver, Counts, Stops}
 
 -- a judgement ends the evaluation
-abbrev pub judged : Question → Verdict → RuleRef → Cause → Trace
-judged q verdict rule cause = Stops (EndsWith (record { edition = q.edition.number; verdict = verdict; rule = rule; cause = cause }))
+abbrev pub trace_of_judgement : Question → Verdict → RuleRef → Cause → Trace
+trace_of_judgement q verdict rule cause = Stops (EndsWith (record { edition = q.edition.number; verdict = verdict; rule = rule; cause = cause }))
 
 -- behind all rules: rule 65535, with which each list ends, denies what comes to it
 abbrev pub denied_at_end : Question → Trace
-denied_at_end q = judged q verdict.Deny (record { id = 0; number = 65535 }) cause.Rule
+denied_at_end q = trace_of_judgement q verdict.Deny (record { id = 0; number = 65535 }) cause.Rule
 
 -- An evaluation of the rules of this suffix but for its leading ones that are numbered below this, within calls
 -- made by rules of these numbers, and what follows a `return`, if it is within a call.
@@ -44,10 +44,10 @@ return_to (Some back) next = back
 
 -- what follows the action of a rule; `next` goes on behind it, at the first rule numbered so or higher
 abbrev pub follows : Question → Option Walk → Rule → (ℕ → Trace) → List ℕ → Option Trace → Action → Trace
-follows q deeper rule next callers back Allow = judged q verdict.Allow (rule_ref rule) cause.Rule
-follows q deeper rule next callers back Deny = judged q verdict.Deny (rule_ref rule) cause.Rule
-follows q deeper rule next callers back Reset = judged q verdict.Reset (rule_ref rule) cause.Rule
-follows q deeper rule next callers back (Unreach code) = judged q (verdict.Unreach code) (rule_ref rule) cause.Rule
+follows q deeper rule next callers back Allow = trace_of_judgement q verdict.Allow (rule_ref rule) cause.Rule
+follows q deeper rule next callers back Deny = trace_of_judgement q verdict.Deny (rule_ref rule) cause.Rule
+follows q deeper rule next callers back Reset = trace_of_judgement q verdict.Reset (rule_ref rule) cause.Rule
+follows q deeper rule next callers back (Unreach code) = trace_of_judgement q (verdict.Unreach code) (rule_ref rule) cause.Rule
 follows q deeper rule next callers back Count = next 0
 follows q deeper rule next callers back (SkipTo number) = next number
 follows q deeper rule next callers back (Call number) = call_from q deeper number rule next callers
@@ -64,7 +64,7 @@ installs q pause rule passed acted (Some state) (Some flow) = Stops (WaitsFor (i
 abbrev pub tests : Question → Pause → Rule → Trace → Trace → Trace
 tests q pause rule passed acted =
     if is_check_state rule.action then passed
-    else if is_held q rule then installs q pause rule passed acted (state_of rule) (any_flow_of q.packet)
+    else if is_rule_met q rule then installs q pause rule passed acted (state_of rule) (any_flow_of q.packet)
     else passed
 
 -- the flow that a rule looks up: that of the packet, where the rule's name is due
@@ -151,7 +151,7 @@ tests_from q seen callers (rule ∷ rest) = tests_before q seen callers rule res
 -- the first rule of the suffix denies without a hit
 abbrev pub refuses_from : Question → Cause → List Rule → Trace
 refuses_from q cause [] = denied_at_end q
-refuses_from q cause (rule ∷ rest) = judged q verdict.Deny (rule_ref rule) cause
+refuses_from q cause (rule ∷ rest) = trace_of_judgement q verdict.Deny (rule_ref rule) cause
 
 -- the rules from that of this identity on
 abbrev pub suffix_of : ℕ → List Rule → List Rule
@@ -181,9 +181,9 @@ seen_after q seen suffix (LimitReached count) = seen
 seen_after q seen suffix (TableFull count) = seen
 
 -- how it goes on with the reply
-abbrev pub resumed : Question → Pause → Reply → Trace
-resumed q pause reply = leads_to q (seen_after q pause.seen pause.suffix reply) pause.callers pause.suffix reply
+abbrev pub trace_after_reply : Question → Pause → Reply → Trace
+trace_after_reply q pause reply = leads_to q (seen_after q pause.seen pause.suffix reply) pause.callers pause.suffix reply
 
 -- how it begins
-abbrev pub begun : Question → Trace
-begun q = walk_from q no_names [] q.edition.config.rules 0
+abbrev pub first_trace : Question → Trace
+first_trace q = walk_from q no_names [] q.edition.config.rules 0

@@ -63,9 +63,9 @@ pub(crate) fn is_disabled(search: &Search<'_, '_>, rule: &Rule) -> bool
 
 /// Whether the rule's body holds of the packet.
 #[inline(never)]
-#[tactic(auto, unfolding(crate::specs::Encounter::is_held))]
+#[tactic(auto, unfolding(crate::specs::Encounter::is_rule_met))]
 pub(crate) fn is_held(search: &Search<'_, '_>, rule: &Rule) -> bool
-    ensures { result ≡ spec.is_held (question_of search.now) rule.now }
+    ensures { result ≡ spec.is_rule_met (question_of search.now) rule.now }
 {
     match &rule.body {
         Some(body) => {
@@ -138,7 +138,7 @@ pub(crate) fn lookup_by(search: &Search<'_, '_>, place: usize, rule: &Rule, flow
 }
 
 fn limit_of(state: &StateOpt) -> Option<(LimitMask, u16)>
-    ensures { result ≡ spec.limit_of state.now }
+    ensures { result ≡ spec.state_limit_of state.now }
 {
     match state {
         StateOpt::Keep(_) => None,

@@ -106,7 +106,7 @@ fn decided(search: &Search<'_, '_>, at: &Position, rule: &Rule, verdict: Verdict
     requires { IsRuleAt (question_of search.now) at.now.place rule.now }
     ensures { (searched : Searched)
         → IsStep (question_of search.now) searched
-        (definition.judged (question_of search.now) verdict (spec.rule_ref rule.now) cause.Rule)
+        (definition.trace_of_judgement (question_of search.now) verdict (spec.rule_ref rule.now) cause.Rule)
         result at.now }
 {
     Step::Decides(verdict, Cause::Rule)

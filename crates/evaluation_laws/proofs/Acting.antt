@@ -22,7 +22,7 @@ use Rattle.eval_engine.specs.Walk.{suffix_of}
 use Rattle.eval_engine.specs.declared.judgement.Judgement.{Judgement}
 use Rattle.eval_engine.proofs.Configured.{rule_read}
 use Rattle.evaluation_laws.specs.Laws.{is_ref, is_found, may_act, is_installed, is_hit, is_judge, InstallsAreOfRules, HitsAreOfActing, JudgesAreActing}
-use Rattle.evaluation_laws.specs.Story.{Ending, Ends, OpensAt, Mistakes, Returns, Story, hit, told_by, outcome_by}
+use Rattle.evaluation_laws.specs.Story.{Ending, Ends, OpensAt, Mistakes, Returns, Story, story_with_hit, told_by, outcome_by}
 use Rattle.evaluation_laws.specs.Runs.{Moment, Meets, Tests, Acts, Runs, BehindAll, IsDisabled, IsUnasked, IsUnanswered, IsFound, IsNotFound, IsMistaken, IsCheckState, IsUnheld, IsFlowless, IsStateless, IsWaiting, IsMade, IsThere, IsLimited, IsFull, IsMisread, IsDecided, IsCounted, IsChecked, IsSkipped, IsDeepest, IsEnded, IsReturned, IsOutside, IsWithin}
 use Rattle.evaluation_laws.proofs.Sound.{IsSuffix, rest_suffix, from_suffix, rules_at, within, runs_are_evaluations}
 use Rattle.evaluation_laws.proofs.Total.{each_reaches}
@@ -119,7 +119,7 @@ module _ (q : Question) (every : List Reply) where
   both P (x ∷ xs) ys h k = (h.0, both P xs ys h.1 k)
 
   -- the rule acts, and then the rest
-  acts : (rule : Rule) (rest : List Rule) (story : Story) → IsSuffix all (rule ∷ rest) → may_act q every rule ≡ true → Tells story → Tells (hit rule.counter story)
+  acts : (rule : Rule) (rest : List Rule) (story : Story) → IsSuffix all (rule ∷ rest) → may_act q every rule ≡ true → Tells story → Tells (story_with_hit rule.counter story)
   acts rule rest story suffix may later = record { asks = later.asks; hits = (hit_of rule rest suffix may, later.hits); ending = later.ending }
 
   pub tells : {depth : ℕ} {seen : Seen} {moment : Moment} {replies : List Reply} {story : Story} → Runs q depth seen moment replies story

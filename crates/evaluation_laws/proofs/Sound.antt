@@ -13,19 +13,19 @@ use Rattle.generation_store.specs.Published.{is_identity}
 use Rattle.packet_headers.specs.declared.flows.Flow.{Flow}
 use Rattle.std.specs.List.{position_or_len}
 use Rattle.rule_chain.specs.Chain.{AscendsFrom}
-use Rattle.eval_engine.specs.Encounter.{is_disabled, is_check_state, is_held, state_of, any_flow_of, rule_ref, name_at, lookup_by, install_by}
+use Rattle.eval_engine.specs.Encounter.{is_disabled, is_check_state, is_rule_met, state_of, any_flow_of, rule_ref, name_at, lookup_by, install_by}
 use Rattle.eval_engine.specs.Evaluation.{is_reply_to, evaluate}
 use Rattle.eval_engine.specs.Laws.{verdict_of}
 use Rattle.eval_engine.specs.Question.{Question}
 use Rattle.eval_engine.specs.Trace.{Seen, Done, with_seen, no_names, Pause, Trace, Stops, WaitsFor}
-use Rattle.eval_engine.specs.Walk.{Walk, walk_from, follows, lookup_flow, resumed, call_from, return_to, acts_before, tests_before, acts_from, pause_at, judged, deeper_walk, way_back, calls_left}
+use Rattle.eval_engine.specs.Walk.{Walk, walk_from, follows, lookup_flow, trace_after_reply, call_from, return_to, acts_before, tests_before, acts_from, pause_at, trace_of_judgement, deeper_walk, way_back, calls_left}
 use Rattle.eval_engine.specs.declared.judgement.Cause.TheVariants as cause
 use Rattle.eval_engine.specs.declared.judgement.Verdict.{Verdict}
 use Rattle.eval_engine.specs.declared.judgement.Verdict.TheVariants as verdicts
 use Rattle.eval_engine.proofs.Configured.{rule_read}
 use Rattle.eval_engine.proofs.Walks.{walk_skips, walk_ends, walk_calls, walk_stays, returns_none, returns_some, disabled_passed, looked_asks, unlooked_tests, check_passed, unheld_passed, held_installs, stateless_acts, flowless_passed, install_asks}
-use Rattle.evaluation_laws.specs.Story.{Ending, Ends, OpensAt, Mistakes, Returns, Story, plainly, asked, hit, behind, told_by}
-use Rattle.evaluation_laws.specs.Runs.{Moment, Meets, Tests, Acts, from, judgement_under, last_judgement, HasEnded, Runs, BehindAll, IsDisabled, IsUnasked, IsUnanswered, IsFound, IsNotFound, IsMistaken, IsCheckState, IsUnheld, IsFlowless, IsStateless, IsWaiting, IsMade, IsThere, IsLimited, IsFull, IsMisread, IsDecided, IsCounted, IsChecked, IsSkipped, IsDeepest, IsEnded, IsReturned, IsOutside, IsWithin}
+use Rattle.evaluation_laws.specs.Story.{Ending, Ends, OpensAt, Mistakes, Returns, Story, plain_story, story_with_ask, story_with_hit, stories_in_turn, told_by}
+use Rattle.evaluation_laws.specs.Runs.{Moment, Meets, Tests, Acts, rules_from, judgement_under, last_judgement, HasEnded, Runs, BehindAll, IsDisabled, IsUnasked, IsUnanswered, IsFound, IsNotFound, IsMistaken, IsCheckState, IsUnheld, IsFlowless, IsStateless, IsWaiting, IsMade, IsThere, IsLimited, IsFull, IsMisread, IsDecided, IsCounted, IsChecked, IsSkipped, IsDeepest, IsEnded, IsReturned, IsOutside, IsWithin}
 use Rattle.evaluation_laws.proofs.Results.{result_outside, result_of, trace_at, result_by, result_in, result_asked, result_hit, result_later, over, counted, ended, opened, answered, mistaken}
 
 -- the rules from a place on
@@ -52,7 +52,7 @@ pub rest_suffix : (all : List Rule) (rule : Rule) (rest : List Rule) → IsSuffi
 rest_suffix all rule rest suffix = record { place = suc suffix.place; is = rest_there all suffix.place rule rest suffix.is }
 
 -- the rules of a suffix from a number on are a suffix of the same list
-pub from_suffix : (all suffix : List Rule) (number : ℕ) → IsSuffix all suffix → IsSuffix all (from number suffix)
+pub from_suffix : (all suffix : List Rule) (number : ℕ) → IsSuffix all suffix → IsSuffix all (rules_from number suffix)
 from_suffix all suffix number s = record {
   place = s.place + first_from number suffix;
   is = sym (drop-drop (first_from number suffix) s.place all) ∙ ap (λ (rules : List Rule). drop (first_from number suffix) rules) s.is;
@@ -92,18 +92,18 @@ module _ (q : Question) (ascends : AscendsFrom 1 q.edition.config.rules) where
     abbrev next : Action → Trace
     next action = follows q deeper rule (walk_from q seen callers rest) callers back action
 
-    decides : (action : Action) (verdict : Verdict) → verdict_of action ≡ Some verdict → next action ≡ judged q verdict (rule_ref rule) cause.Rule
-    decides Allow verdict is = ap (λ (v : Option Verdict). judged q (unwrap_or v verdicts.Deny) (rule_ref rule) cause.Rule) is
-    decides Deny verdict is = ap (λ (v : Option Verdict). judged q (unwrap_or v verdicts.Deny) (rule_ref rule) cause.Rule) is
-    decides Reset verdict is = ap (λ (v : Option Verdict). judged q (unwrap_or v verdicts.Deny) (rule_ref rule) cause.Rule) is
-    decides (Unreach code) verdict is = ap (λ (v : Option Verdict). judged q (unwrap_or v verdicts.Deny) (rule_ref rule) cause.Rule) is
+    decides : (action : Action) (verdict : Verdict) → verdict_of action ≡ Some verdict → next action ≡ trace_of_judgement q verdict (rule_ref rule) cause.Rule
+    decides Allow verdict is = ap (λ (v : Option Verdict). trace_of_judgement q (unwrap_or v verdicts.Deny) (rule_ref rule) cause.Rule) is
+    decides Deny verdict is = ap (λ (v : Option Verdict). trace_of_judgement q (unwrap_or v verdicts.Deny) (rule_ref rule) cause.Rule) is
+    decides Reset verdict is = ap (λ (v : Option Verdict). trace_of_judgement q (unwrap_or v verdicts.Deny) (rule_ref rule) cause.Rule) is
+    decides (Unreach code) verdict is = ap (λ (v : Option Verdict). trace_of_judgement q (unwrap_or v verdicts.Deny) (rule_ref rule) cause.Rule) is
     decides Count verdict is = absurd (grind arith)
     decides (SkipTo number) verdict is = absurd (grind arith)
     decides (Call number) verdict is = absurd (grind arith)
     decides Return verdict is = absurd (grind arith)
     decides (CheckState name) verdict is = absurd (grind arith)
 
-    calls : (number : ℕ) (suffix : IsSuffix all (rule ∷ rest)) → length callers < 16 → next (Call number) ≡ walk_from q seen (rule.number ∷ callers) (from number all) 0
+    calls : (number : ℕ) (suffix : IsSuffix all (rule ∷ rest)) → length callers < 16 → next (Call number) ≡ walk_from q seen (rule.number ∷ callers) (rules_from number all) 0
     calls number suffix lt =
         let one : suffix.place + 1 ≡ suc suffix.place = omega arith in
         let there : rest ≡ drop (suffix.place + 1) all = sym (rest_there all suffix.place rule rest suffix.is) ∙ ap (λ n. drop n all) (sym one) in
@@ -113,7 +113,7 @@ module _ (q : Question) (ascends : AscendsFrom 1 q.edition.config.rules) where
     -- the rule acts: it is counted, and what follows its action has this story
     acts : (asks : List Op) (hits : List ℕ) (replies : List Reply) (story : Story) (action : Action) (trace : Trace) → rule.action ≡ action → next action ≡ trace
         → result_of q asks (hits ++ rule.counter ∷ []) trace replies ≡ result_in q callers asks (hits ++ rule.counter ∷ []) story
-        → result_of q asks hits (acts_before q seen callers rule rest) replies ≡ result_in q callers asks hits (hit rule.counter story)
+        → result_of q asks hits (acts_before q seen callers rule rest) replies ≡ result_in q callers asks hits (story_with_hit rule.counter story)
     acts asks hits replies story action trace is follow on =
         counted q asks hits rule.counter (next rule.action) replies
         ∙ same asks (hits ++ rule.counter ∷ []) replies (next rule.action) trace (ap next is ∙ follow)
@@ -122,24 +122,24 @@ module _ (q : Question) (ascends : AscendsFrom 1 q.edition.config.rules) where
 
   -- within a call `return` goes on behind it
   return_within : (seen : Seen) (callers : List ℕ) (rest : List Rule) (asks : List Op) (hits : List ℕ) (replies : List Reply) (depth : ℕ) → length callers ≡ suc depth → suc depth ≤ 16
-      → result_of q asks hits (return_to (way_back (calls_left callers) q seen callers) (walk_from q seen callers rest)) replies ≡ result_in q callers asks hits (plainly (Returns seen replies))
+      → result_of q asks hits (return_to (way_back (calls_left callers) q seen callers) (walk_from q seen callers rest)) replies ≡ result_in q callers asks hits (plain_story (Returns seen replies))
   return_within seen [] rest asks hits replies depth size few = absurd (omega (arith, size))
   return_within seen (number ∷ callers) rest asks hits replies depth size few =
       let lt : length callers < 16 = omega (arith, size) in
-      let later : Trace = walk_from q seen callers (from (number + 1) all) 0 in
+      let later : Trace = walk_from q seen callers (rules_from (number + 1) all) 0 in
       same asks hits replies _ later (returns_some q seen (number ∷ callers) callers number (walk_from q seen (number ∷ callers) rest) refl lt)
       ∙ ap (λ (ops : List Op). result_of q ops hits later replies) (sym (append-nil asks))
       ∙ ap (λ (counters : List ℕ). result_of q (asks ++ []) counters later replies) (sym (append-nil hits))
 
   -- a reply that is one to the ask
   goes_on : (callers : List ℕ) (asks : List Op) (hits : List ℕ) (op : Op) (pause : Pause) (reply : Reply) (replies : List Reply) (story : Story) (trace now : Trace)
-      → trace ≡ Stops (WaitsFor op pause) → is_reply_to all op reply ≡ true → resumed q pause reply ≡ now
+      → trace ≡ Stops (WaitsFor op pause) → is_reply_to all op reply ≡ true → trace_after_reply q pause reply ≡ now
       → result_of q (asks ++ op ∷ []) hits now replies ≡ result_in q callers (asks ++ op ∷ []) hits story
-      → result_of q asks hits trace (reply ∷ replies) ≡ result_in q callers asks hits (asked op story)
+      → result_of q asks hits trace (reply ∷ replies) ≡ result_in q callers asks hits (story_with_ask op story)
   goes_on callers asks hits op pause reply replies story trace now waits fits is on =
       same asks hits (reply ∷ replies) trace (Stops (WaitsFor op pause)) waits
       ∙ answered q asks hits op pause reply replies fits
-      ∙ same (asks ++ op ∷ []) hits replies (resumed q pause reply) now is
+      ∙ same (asks ++ op ∷ []) hits replies (trace_after_reply q pause reply) now is
       ∙ on
       ∙ result_asked q callers asks hits op story
 
@@ -148,7 +148,7 @@ module _ (q : Question) (ascends : AscendsFrom 1 q.edition.config.rules) where
       → walk_from q seen callers (rule ∷ rest) 0 ≡ Stops (WaitsFor (lookup_by q rule flow) (pause_at seen callers (rule ∷ rest)))
   looks seen callers rule rest flow enabled due = looked_asks q seen callers rule rest (rule ∷ rest) refl enabled flow due
 
-  installs : (seen : Seen) (callers : List ℕ) (rule : Rule) (rest : List Rule) (state : StateOpt) (flow : Flow) → is_check_state rule.action ≡ false → is_held q rule ≡ true → state_of rule ≡ Some state → any_flow_of q.packet ≡ Some flow
+  installs : (seen : Seen) (callers : List ℕ) (rule : Rule) (rest : List Rule) (state : StateOpt) (flow : Flow) → is_check_state rule.action ≡ false → is_rule_met q rule ≡ true → state_of rule ≡ Some state → any_flow_of q.packet ≡ Some flow
       → tests_before q seen callers rule rest ≡ Stops (WaitsFor (install_by q rule state flow) (pause_at seen callers (rule ∷ rest)))
   installs seen callers rule rest state flow plain held made is = held_installs q seen callers rule rest [] plain held ∙ install_asks q seen callers rule rest (rule ∷ rest) refl state flow made is
 
@@ -196,18 +196,18 @@ module _ (q : Question) (ascends : AscendsFrom 1 q.edition.config.rules) where
       goes_on callers asks hits (install_by q rule state flow) (pause_at seen callers (rule ∷ rest)) Exists replies story _ (acts_before q seen callers rule rest)
       (installs seen callers rule rest state flow plain held made is) refl refl (comes on callers (asks ++ install_by q rule state flow ∷ []) hits size few suffix)
   comes (IsLimited depth seen rule rest state flow count replies plain held made is) = λ callers asks hits size few suffix.
-      goes_on callers asks hits (install_by q rule state flow) (pause_at seen callers (rule ∷ rest)) (LimitReached count) replies (plainly (Ends (judgement_under q verdicts.Deny (rule_ref rule) (cause.Limit count)) replies)) _ (judged q verdicts.Deny (rule_ref rule) (cause.Limit count))
+      goes_on callers asks hits (install_by q rule state flow) (pause_at seen callers (rule ∷ rest)) (LimitReached count) replies (plain_story (Ends (judgement_under q verdicts.Deny (rule_ref rule) (cause.Limit count)) replies)) _ (trace_of_judgement q verdicts.Deny (rule_ref rule) (cause.Limit count))
       (installs seen callers rule rest state flow plain held made is) refl refl
       (ended q callers (asks ++ install_by q rule state flow ∷ []) hits (judgement_under q verdicts.Deny (rule_ref rule) (cause.Limit count)) replies)
   comes (IsFull depth seen rule rest state flow count replies plain held made is) = λ callers asks hits size few suffix.
-      goes_on callers asks hits (install_by q rule state flow) (pause_at seen callers (rule ∷ rest)) (TableFull count) replies (plainly (Ends (judgement_under q verdicts.Deny (rule_ref rule) (cause.Full count)) replies)) _ (judged q verdicts.Deny (rule_ref rule) (cause.Full count))
+      goes_on callers asks hits (install_by q rule state flow) (pause_at seen callers (rule ∷ rest)) (TableFull count) replies (plain_story (Ends (judgement_under q verdicts.Deny (rule_ref rule) (cause.Full count)) replies)) _ (trace_of_judgement q verdicts.Deny (rule_ref rule) (cause.Full count))
       (installs seen callers rule rest state flow plain held made is) refl refl
       (ended q callers (asks ++ install_by q rule state flow ∷ []) hits (judgement_under q verdicts.Deny (rule_ref rule) (cause.Full count)) replies)
   comes (IsMisread depth seen rule rest state flow reply replies plain held made is unfit) = λ callers asks hits size few suffix.
       same asks hits (reply ∷ replies) _ _ (installs seen callers rule rest state flow plain held made is)
       ∙ mistaken q callers asks hits (install_by q rule state flow) (pause_at seen callers (rule ∷ rest)) reply replies unfit
   comes (IsDecided depth seen rule rest verdict replies decided) = λ callers asks hits size few suffix.
-      acts seen callers rule rest asks hits replies (plainly (Ends (judgement_under q verdict (rule_ref rule) cause.Rule) replies)) rule.action _ refl (decides seen callers rule rest rule.action verdict decided)
+      acts seen callers rule rest asks hits replies (plain_story (Ends (judgement_under q verdict (rule_ref rule) cause.Rule) replies)) rule.action _ refl (decides seen callers rule rest rule.action verdict decided)
       (ended q callers asks (hits ++ rule.counter ∷ []) (judgement_under q verdict (rule_ref rule) cause.Rule) replies)
   comes (IsCounted depth seen rule rest replies story is on) = λ callers asks hits size few suffix.
       acts seen callers rule rest asks hits replies story Count _ is refl (comes on callers asks (hits ++ rule.counter ∷ []) size few (rest_suffix all rule rest suffix))
@@ -230,7 +230,7 @@ module _ (q : Question) (ascends : AscendsFrom 1 q.edition.config.rules) where
       let more : length (rule.number ∷ callers) ≡ suc depth = omega (arith, size) in
       let lower : length callers < 16 = omega (arith, size) in
       let hits_now : List ℕ = hits ++ rule.counter ∷ [] in
-      acts seen callers rule rest asks hits replies (behind inner story) (Call number) _ is (calls seen callers rule rest number suffix lower)
+      acts seen callers rule rest asks hits replies (stories_in_turn inner story) (Call number) _ is (calls seen callers rule rest number suffix lower)
       (comes on (rule.number ∷ callers) asks hits_now more lt (record { place = first_from number all; is = refl })
       ∙ ap (λ (ending : Ending). result_by q (rule.number ∷ callers) (asks ++ inner.asks) (hits_now ++ inner.hits) ending) returned
       ∙ comes then_on callers (asks ++ inner.asks) (hits_now ++ inner.hits) size few (record { place = first_from (rule.number + 1) all; is = refl })
@@ -239,7 +239,7 @@ module _ (q : Question) (ascends : AscendsFrom 1 q.edition.config.rules) where
       acts seen callers rule rest asks hits replies story Return _ is (returns_none q seen callers (walk_from q seen callers rest) (none_open callers size))
       (comes on callers asks (hits ++ rule.counter ∷ []) size few (rest_suffix all rule rest suffix))
   comes (IsWithin depth seen rule rest replies is) = λ callers asks hits size few suffix.
-      acts seen callers rule rest asks hits replies (plainly (Returns seen replies)) Return _ is refl
+      acts seen callers rule rest asks hits replies (plain_story (Returns seen replies)) Return _ is refl
       (return_within seen callers rest asks (hits ++ rule.counter ∷ []) replies depth size few)
 
 -- a run from the first rule on, outside of calls

@@ -10,10 +10,10 @@ use Rattle.eval_engine.proofs.Places.{behind, first_behind_place}
 use Rattle.eval_engine.specs.Place.{IsRuleAt}
 use Rattle.eval_engine.specs.Question.{Question}
 use Rattle.eval_engine.proofs.FirstPlaces.{some_place}
-use Rattle.evaluation_laws.specs.Runs.{from}
+use Rattle.evaluation_laws.specs.Runs.{rules_from}
 
 -- behind a place the first rule numbered so or higher
-pub skipped : (all : List Rule) (place number : ℕ) (rule : Rule) → AscendsFrom 1 all → place ≤ length all → drop (max place (first_from number all)) all ≡ from number (drop place all)
+pub skipped : (all : List Rule) (place number : ℕ) (rule : Rule) → AscendsFrom 1 all → place ≤ length all → drop (max place (first_from number all)) all ≡ rules_from number (drop place all)
 skipped all place number rule ascends le =
     sym (drop-drop (first_from number (drop place all)) place all ∙ ap (λ k. drop k all) (first_behind_place 1 number all place rule ascends le))
 

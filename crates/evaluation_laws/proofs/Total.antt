@@ -13,7 +13,7 @@ use Rattle.generation_store.specs.Jumps.{first_from, is_from}
 use Rattle.generation_store.specs.Published.{is_identity, has_identity}
 use Rattle.packet_headers.specs.declared.flows.Flow.{Flow}
 use Rattle.rule_chain.specs.Chain.{AscendsFrom}
-use Rattle.eval_engine.specs.Encounter.{is_disabled, is_check_state, is_held, state_of, any_flow_of, rule_ref, name_at, lookup_by, install_by}
+use Rattle.eval_engine.specs.Encounter.{is_disabled, is_check_state, is_rule_met, state_of, any_flow_of, rule_ref, name_at, lookup_by, install_by}
 use Rattle.eval_engine.specs.Evaluation.{is_reply_to}
 use Rattle.eval_engine.specs.Laws.{verdict_of}
 use Rattle.eval_engine.specs.Question.{Question}
@@ -24,9 +24,9 @@ use Rattle.eval_engine.specs.declared.judgement.Verdict.{Verdict}
 use Rattle.eval_engine.specs.declared.judgement.Verdict.TheVariants as verdict
 use Rattle.eval_engine.proofs.Configured.{rule_read}
 use Rattle.eval_engine.proofs.Places.{behind, first_behind_place}
-use Rattle.evaluation_laws.specs.Story.{Ending, Ends, OpensAt, Mistakes, Returns, Story, plainly, asked, hit}
+use Rattle.evaluation_laws.specs.Story.{Ending, Ends, OpensAt, Mistakes, Returns, Story, plain_story, story_with_ask, story_with_hit}
 use Rattle.evaluation_laws.specs.Story as story
-use Rattle.evaluation_laws.specs.Runs.{Moment, Meets, Tests, Acts, from, judgement_under, last_judgement, HasEnded, Runs, BehindAll, IsDisabled, IsUnasked, IsUnanswered, IsFound, IsNotFound, IsMistaken, IsCheckState, IsUnheld, IsFlowless, IsStateless, IsWaiting, IsMade, IsThere, IsLimited, IsFull, IsMisread, IsDecided, IsCounted, IsChecked, IsSkipped, IsDeepest, IsEnded, IsReturned, IsOutside, IsWithin}
+use Rattle.evaluation_laws.specs.Runs.{Moment, Meets, Tests, Acts, rules_from, judgement_under, last_judgement, HasEnded, Runs, BehindAll, IsDisabled, IsUnasked, IsUnanswered, IsFound, IsNotFound, IsMistaken, IsCheckState, IsUnheld, IsFlowless, IsStateless, IsWaiting, IsMade, IsThere, IsLimited, IsFull, IsMisread, IsDecided, IsCounted, IsChecked, IsSkipped, IsDeepest, IsEnded, IsReturned, IsOutside, IsWithin}
 use Rattle.evaluation_laws.proofs.Sound.{IsSuffix, rest_suffix, rest_there, within}
 
 -- a `return` leaves no more replies than there were
@@ -48,19 +48,19 @@ pub record Reached (q : Question) (depth : ℕ) (seen : Seen) (moment : Moment) 
   pub runs : Runs q depth seen moment replies story
   pub fewer : IsFewer story.ending (length replies)
 
-from_zero : (rules : List Rule) → from 0 rules ≡ rules
+from_zero : (rules : List Rule) → rules_from 0 rules ≡ rules
 from_zero [] = refl
 from_zero (rule ∷ rules) = let is : is_from 0 rule ≡ true = grind arith in rw is refl
 
 -- a leading rule that is numbered below, and one that isn't
-from_below : (number : ℕ) (rule : Rule) (rules : List Rule) → is_from number rule ≡ false → from number (rule ∷ rules) ≡ from number rules
+from_below : (number : ℕ) (rule : Rule) (rules : List Rule) → is_from number rule ≡ false → rules_from number (rule ∷ rules) ≡ rules_from number rules
 from_below number rule rules is = let one : 1 + first_from number rules ≡ suc (first_from number rules) = omega arith in rw (is, one) refl
 
-from_here : (number : ℕ) (rule : Rule) (rules : List Rule) → is_from number rule ≡ true → from number (rule ∷ rules) ≡ rule ∷ rules
+from_here : (number : ℕ) (rule : Rule) (rules : List Rule) → is_from number rule ≡ true → rules_from number (rule ∷ rules) ≡ rule ∷ rules
 from_here number rule rules is = rw is refl
 
 -- behind a rule's own place, and behind all of its number, stands the same
-from_behind : (all : List Rule) (rule : Rule) (rest : List Rule) → AscendsFrom 1 all → (suffix : IsSuffix all (rule ∷ rest)) → from (rule.number + 1) rest ≡ from (rule.number + 1) all
+from_behind : (all : List Rule) (rule : Rule) (rest : List Rule) → AscendsFrom 1 all → (suffix : IsSuffix all (rule ∷ rest)) → rules_from (rule.number + 1) rest ≡ rules_from (rule.number + 1) all
 from_behind all rule rest h suffix =
     let place : ℕ = suffix.place in
     let number : ℕ = rule.number + 1 in
@@ -69,7 +69,7 @@ from_behind all rule rest h suffix =
     let later : place < first_from ((get_or all place rule).number + 1) all = behind 1 all place rule h inside in
     let same : first_from ((get_or all place rule).number + 1) all ≡ first_from number all = ap (λ (r : Rule). first_from (r.number + 1) all) read in
     let most : max (suc place) (first_from number all) ≡ first_from number all = omega arith in
-    ap (λ (rules : List Rule). from number rules) (sym (rest_there all place rule rest suffix.is))
+    ap (λ (rules : List Rule). rules_from number rules) (sym (rest_there all place rule rest suffix.is))
     ∙ drop-drop (first_from number (drop (suc place) all)) (suc place) all
     ∙ ap (λ k. drop k all) (first_behind_place 1 number all (suc place) rule h (omega arith) ∙ most)
 
@@ -101,7 +101,7 @@ module _ (q : Question) (ascends : AscendsFrom 1 q.edition.config.rules) where
 
   -- from the first of these rules numbered so on, with so many replies at most
   abbrev Goes : ℕ → ℕ → List Rule → Type 0
-  Goes fuel depth rest = (seen : Seen) (number : ℕ) (replies : List Reply) → length replies ≤ fuel → Reached q depth seen (Meets (from number rest)) replies
+  Goes fuel depth rest = (seen : Seen) (number : ℕ) (replies : List Reply) → length replies ≤ fuel → Reached q depth seen (Meets (rules_from number rest)) replies
 
   module _ (fuel depth : ℕ) (deeper : depth < 16 → Goes fuel (suc depth) all) (rule : Rule) (rest : List Rule) (suffix : IsSuffix all (rule ∷ rest)) (on : Goes fuel depth rest) where
     next : (seen : Seen) (replies : List Reply) → length replies ≤ fuel → Reached q depth seen (Meets rest) replies
@@ -111,18 +111,18 @@ module _ (q : Question) (ascends : AscendsFrom 1 q.edition.config.rules) where
     calls : (seen : Seen) (number : ℕ) (replies : List Reply) → length replies ≤ fuel → rule.action ≡ Call number → Reached q depth seen (Acts rule rest) replies
     calls seen number replies le is = go (nat_lt depth 16) refl
       where
-        returned : (lt : depth < 16) (inner : Reached q (suc depth) seen (Meets (from number all)) replies) (ending : Ending) → inner.story.ending ≡ ending → IsFewer ending (length replies) → Reached q depth seen (Acts rule rest) replies
+        returned : (lt : depth < 16) (inner : Reached q (suc depth) seen (Meets (rules_from number all)) replies) (ending : Ending) → inner.story.ending ≡ ending → IsFewer ending (length replies) → Reached q depth seen (Acts rule rest) replies
         returned lt inner (Ends judgement left) ends few =
-            record { story = hit rule.counter inner.story; runs = IsEnded depth seen rule rest number replies inner.story is lt inner.runs (subst HasEnded (sym ends) tt); fewer = inner.fewer }
+            record { story = story_with_hit rule.counter inner.story; runs = IsEnded depth seen rule rest number replies inner.story is lt inner.runs (subst HasEnded (sym ends) tt); fewer = inner.fewer }
         returned lt inner (OpensAt op) ends few =
-            record { story = hit rule.counter inner.story; runs = IsEnded depth seen rule rest number replies inner.story is lt inner.runs (subst HasEnded (sym ends) tt); fewer = inner.fewer }
+            record { story = story_with_hit rule.counter inner.story; runs = IsEnded depth seen rule rest number replies inner.story is lt inner.runs (subst HasEnded (sym ends) tt); fewer = inner.fewer }
         returned lt inner Mistakes ends few =
-            record { story = hit rule.counter inner.story; runs = IsEnded depth seen rule rest number replies inner.story is lt inner.runs (subst HasEnded (sym ends) tt); fewer = inner.fewer }
+            record { story = story_with_hit rule.counter inner.story; runs = IsEnded depth seen rule rest number replies inner.story is lt inner.runs (subst HasEnded (sym ends) tt); fewer = inner.fewer }
         returned lt inner (Returns later left) ends few =
-            let then_on : Reached q depth later (Meets (from (rule.number + 1) all)) left =
+            let then_on : Reached q depth later (Meets (rules_from (rule.number + 1) all)) left =
             subst (λ (rules : List Rule). Reached q depth later (Meets rules) left) (from_behind all rule rest ascends suffix) (on later (rule.number + 1) left (omega arith)) in
             record {
-              story = hit rule.counter (story.behind inner.story then_on.story);
+              story = story_with_hit rule.counter (story.stories_in_turn inner.story then_on.story);
               runs = IsReturned depth seen rule rest number replies inner.story later left then_on.story is lt inner.runs ends then_on.runs;
               fewer = no_more then_on.story.ending (length left) (length replies) few then_on.fewer;
             }
@@ -135,11 +135,11 @@ module _ (q : Question) (ascends : AscendsFrom 1 q.edition.config.rules) where
         go false deep =
             let last : 16 ≤ depth = grind arith in
             let later = next seen replies le in
-            record { story = hit rule.counter later.story; runs = IsDeepest depth seen rule rest number replies later.story is last later.runs; fewer = later.fewer }
+            record { story = story_with_hit rule.counter later.story; runs = IsDeepest depth seen rule rest number replies later.story is last later.runs; fewer = later.fewer }
 
     decided : (seen : Seen) (replies : List Reply) (verdict : Verdict) → verdict_of rule.action ≡ Some verdict → Reached q depth seen (Acts rule rest) replies
     decided seen replies verdict is = record {
-      story = hit rule.counter (plainly (Ends (judgement_under q verdict (rule_ref rule) cause.Rule) replies));
+      story = story_with_hit rule.counter (plain_story (Ends (judgement_under q verdict (rule_ref rule) cause.Rule) replies));
       runs = IsDecided depth seen rule rest verdict replies is;
       fewer = tt;
     }
@@ -151,20 +151,20 @@ module _ (q : Question) (ascends : AscendsFrom 1 q.edition.config.rules) where
     acts returns seen replies le Reset is = decided seen replies verdict.Reset (ap verdict_of is)
     acts returns seen replies le (Unreach code) is = decided seen replies (verdict.Unreach code) (ap verdict_of is)
     acts returns seen replies le Count is =
-        let later = next seen replies le in record { story = hit rule.counter later.story; runs = IsCounted depth seen rule rest replies later.story is later.runs; fewer = later.fewer }
+        let later = next seen replies le in record { story = story_with_hit rule.counter later.story; runs = IsCounted depth seen rule rest replies later.story is later.runs; fewer = later.fewer }
     acts returns seen replies le (SkipTo number) is =
-        let later = on seen number replies le in record { story = hit rule.counter later.story; runs = IsSkipped depth seen rule rest number replies later.story is later.runs; fewer = later.fewer }
+        let later = on seen number replies le in record { story = story_with_hit rule.counter later.story; runs = IsSkipped depth seen rule rest number replies later.story is later.runs; fewer = later.fewer }
     acts returns seen replies le (Call number) is = calls seen number replies le is
     acts returns seen replies le Return is = returns seen replies le is
     acts returns seen replies le (CheckState name) is =
-        let later = next seen replies le in record { story = hit rule.counter later.story; runs = IsChecked depth seen rule rest name replies later.story is later.runs; fewer = later.fewer }
+        let later = next seen replies le in record { story = story_with_hit rule.counter later.story; runs = IsChecked depth seen rule rest name replies later.story is later.runs; fewer = later.fewer }
 
   -- `return`, outside of calls and within
   returns : (fuel depth : ℕ) (rule : Rule) (rest : List Rule) → Goes fuel depth rest → (seen : Seen) (replies : List Reply) → length replies ≤ fuel → rule.action ≡ Return → Reached q depth seen (Acts rule rest) replies
   returns fuel zero rule rest on seen replies le is =
       let later = subst (λ (rules : List Rule). Reached q 0 seen (Meets rules) replies) (from_zero rest) (on seen 0 replies le) in
-      record { story = hit rule.counter later.story; runs = IsOutside seen rule rest replies later.story is later.runs; fewer = later.fewer }
-  returns fuel (suc depth) rule rest on seen replies le is = record { story = hit rule.counter (plainly (Returns seen replies)); runs = IsWithin depth seen rule rest replies is; fewer = omega arith }
+      record { story = story_with_hit rule.counter later.story; runs = IsOutside seen rule rest replies later.story is later.runs; fewer = later.fewer }
+  returns fuel (suc depth) rule rest on seen replies le is = record { story = story_with_hit rule.counter (plain_story (Returns seen replies)); runs = IsWithin depth seen rule rest replies is; fewer = omega arith }
 
   module _ (fuel depth : ℕ) (deeper : depth < 16 → Goes fuel (suc depth) all) (rule : Rule) (rest : List Rule) (suffix : IsSuffix all (rule ∷ rest)) (on : Goes fuel depth rest) where
     -- the rule acts
@@ -175,30 +175,30 @@ module _ (q : Question) (ascends : AscendsFrom 1 q.edition.config.rules) where
     past seen replies le = next fuel depth deeper rule rest suffix on seen replies le
 
     -- the rule asks for a state of its own
-    installed : (seen : Seen) (state : StateOpt) (flow : Flow) (replies : List Reply) → length replies ≤ fuel → is_check_state rule.action ≡ false → is_held q rule ≡ true → state_of rule ≡ Some state → any_flow_of q.packet ≡ Some flow
+    installed : (seen : Seen) (state : StateOpt) (flow : Flow) (replies : List Reply) → length replies ≤ fuel → is_check_state rule.action ≡ false → is_rule_met q rule ≡ true → state_of rule ≡ Some state → any_flow_of q.packet ≡ Some flow
         → Reached q depth seen (Tests rule rest) replies
     installed seen state flow [] le plain held made is =
-        record { story = asked (install_by q rule state flow) (plainly (OpensAt (install_by q rule state flow))); runs = IsWaiting depth seen rule rest state flow plain held made is; fewer = tt }
+        record { story = story_with_ask (install_by q rule state flow) (plain_story (OpensAt (install_by q rule state flow))); runs = IsWaiting depth seen rule rest state flow plain held made is; fewer = tt }
     installed seen state flow (Found way maker ∷ replies) le plain held made is =
-        record { story = asked (install_by q rule state flow) (plainly Mistakes); runs = IsMisread depth seen rule rest state flow (Found way maker) replies plain held made is refl; fewer = tt }
+        record { story = story_with_ask (install_by q rule state flow) (plain_story Mistakes); runs = IsMisread depth seen rule rest state flow (Found way maker) replies plain held made is refl; fewer = tt }
     installed seen state flow (NotFound ∷ replies) le plain held made is =
-        record { story = asked (install_by q rule state flow) (plainly Mistakes); runs = IsMisread depth seen rule rest state flow NotFound replies plain held made is refl; fewer = tt }
+        record { story = story_with_ask (install_by q rule state flow) (plain_story Mistakes); runs = IsMisread depth seen rule rest state flow NotFound replies plain held made is refl; fewer = tt }
     installed seen state flow (Created ∷ replies) le plain held made is =
         let later = acted seen replies (omega arith) in
-        record { story = asked (install_by q rule state flow) later.story; runs = IsMade depth seen rule rest state flow replies later.story plain held made is later.runs; fewer = no_more later.story.ending (length replies) (suc (length replies)) (omega arith) later.fewer }
+        record { story = story_with_ask (install_by q rule state flow) later.story; runs = IsMade depth seen rule rest state flow replies later.story plain held made is later.runs; fewer = no_more later.story.ending (length replies) (suc (length replies)) (omega arith) later.fewer }
     installed seen state flow (Exists ∷ replies) le plain held made is =
         let later = acted seen replies (omega arith) in
-        record { story = asked (install_by q rule state flow) later.story; runs = IsThere depth seen rule rest state flow replies later.story plain held made is later.runs; fewer = no_more later.story.ending (length replies) (suc (length replies)) (omega arith) later.fewer }
+        record { story = story_with_ask (install_by q rule state flow) later.story; runs = IsThere depth seen rule rest state flow replies later.story plain held made is later.runs; fewer = no_more later.story.ending (length replies) (suc (length replies)) (omega arith) later.fewer }
     installed seen state flow (LimitReached count ∷ replies) le plain held made is =
-        record { story = asked (install_by q rule state flow) (plainly (Ends (judgement_under q verdict.Deny (rule_ref rule) (cause.Limit count)) replies)); runs = IsLimited depth seen rule rest state flow count replies plain held made is; fewer = tt }
+        record { story = story_with_ask (install_by q rule state flow) (plain_story (Ends (judgement_under q verdict.Deny (rule_ref rule) (cause.Limit count)) replies)); runs = IsLimited depth seen rule rest state flow count replies plain held made is; fewer = tt }
     installed seen state flow (TableFull count ∷ replies) le plain held made is =
-        record { story = asked (install_by q rule state flow) (plainly (Ends (judgement_under q verdict.Deny (rule_ref rule) (cause.Full count)) replies)); runs = IsFull depth seen rule rest state flow count replies plain held made is; fewer = tt }
+        record { story = story_with_ask (install_by q rule state flow) (plain_story (Ends (judgement_under q verdict.Deny (rule_ref rule) (cause.Full count)) replies)); runs = IsFull depth seen rule rest state flow count replies plain held made is; fewer = tt }
 
     -- the rule is tested
     tested : (seen : Seen) (replies : List Reply) → length replies ≤ fuel → Reached q depth seen (Tests rule rest) replies
-    tested seen replies le = go (is_check_state rule.action) (is_held q rule) (state_of rule) (any_flow_of q.packet) refl refl refl refl
+    tested seen replies le = go (is_check_state rule.action) (is_rule_met q rule) (state_of rule) (any_flow_of q.packet) refl refl refl refl
       where
-        go : (check held : Bool) (state : Option StateOpt) (flow : Option Flow) → is_check_state rule.action ≡ check → is_held q rule ≡ held → state_of rule ≡ state → any_flow_of q.packet ≡ flow → Reached q depth seen (Tests rule rest) replies
+        go : (check held : Bool) (state : Option StateOpt) (flow : Option Flow) → is_check_state rule.action ≡ check → is_rule_met q rule ≡ held → state_of rule ≡ state → any_flow_of q.packet ≡ flow → Reached q depth seen (Tests rule rest) replies
         go true held state flow c h s f =
             let later = past seen replies le in record { story = later.story; runs = IsCheckState depth seen rule rest replies later.story c later.runs; fewer = later.fewer }
         go false false state flow c h s f =
@@ -215,23 +215,23 @@ module _ (q : Question) (ascends : AscendsFrom 1 q.edition.config.rules) where
 
     mistaken : (seen : Seen) (flow : Flow) (reply : Reply) (replies : List Reply) → is_disabled q rule ≡ false → lookup_flow q seen rule ≡ Some flow → is_reply_to all (lookup_by q rule flow) reply ≡ false → Reached q depth seen (Meets (rule ∷ rest)) (reply ∷ replies)
     mistaken seen flow reply replies enabled due unfit =
-        record { story = asked (lookup_by q rule flow) (plainly Mistakes); runs = IsMistaken depth seen rule rest flow reply replies enabled due unfit; fewer = tt }
+        record { story = story_with_ask (lookup_by q rule flow) (plain_story Mistakes); runs = IsMistaken depth seen rule rest flow reply replies enabled due unfit; fewer = tt }
 
     -- the rule is looked up
     looked : Jumps → (seen : Seen) (flow : Flow) (replies : List Reply) → length replies ≤ fuel → is_disabled q rule ≡ false → lookup_flow q seen rule ≡ Some flow → Reached q depth seen (Meets (rule ∷ rest)) replies
     looked jump seen flow [] le enabled due =
-        record { story = asked (lookup_by q rule flow) (plainly (OpensAt (lookup_by q rule flow))); runs = IsUnanswered depth seen rule rest flow enabled due; fewer = tt }
+        record { story = story_with_ask (lookup_by q rule flow) (plain_story (OpensAt (lookup_by q rule flow))); runs = IsUnanswered depth seen rule rest flow enabled due; fewer = tt }
     looked jump seen flow (Found way maker ∷ replies) le enabled due = go (has_identity all maker.id) refl
       where
         go : (b : Bool) → has_identity all maker.id ≡ b → Reached q depth seen (Meets (rule ∷ rest)) (Found way maker ∷ replies)
         go true fits =
             let there = leads (is_identity maker.id) all fits in
             let later = jump there.first there.after (record { place = position_or_len (is_identity maker.id) all; is = there.is }) replies (omega arith) in
-            record { story = asked (lookup_by q rule flow) later.story; runs = IsFound depth seen rule rest flow maker way there.first there.after replies later.story enabled due fits there.is later.runs; fewer = no_more later.story.ending (length replies) (suc (length replies)) (omega arith) later.fewer }
+            record { story = story_with_ask (lookup_by q rule flow) later.story; runs = IsFound depth seen rule rest flow maker way there.first there.after replies later.story enabled due fits there.is later.runs; fewer = no_more later.story.ending (length replies) (suc (length replies)) (omega arith) later.fewer }
         go false unfit = mistaken seen flow (Found way maker) replies enabled due unfit
     looked jump seen flow (NotFound ∷ replies) le enabled due =
         let later = tested (with_seen seen (name_at q rule)) replies (omega arith) in
-        record { story = asked (lookup_by q rule flow) later.story; runs = IsNotFound depth seen rule rest flow replies later.story enabled due later.runs; fewer = no_more later.story.ending (length replies) (suc (length replies)) (omega arith) later.fewer }
+        record { story = story_with_ask (lookup_by q rule flow) later.story; runs = IsNotFound depth seen rule rest flow replies later.story enabled due later.runs; fewer = no_more later.story.ending (length replies) (suc (length replies)) (omega arith) later.fewer }
     looked jump seen flow (Created ∷ replies) le enabled due = mistaken seen flow Created replies enabled due refl
     looked jump seen flow (Exists ∷ replies) le enabled due = mistaken seen flow Exists replies enabled due refl
     looked jump seen flow (LimitReached count ∷ replies) le enabled due = mistaken seen flow (LimitReached count) replies enabled due refl
@@ -253,10 +253,10 @@ module _ (q : Question) (ascends : AscendsFrom 1 q.edition.config.rules) where
 
   -- fewer rules are left
   by_rules : (fuel depth : ℕ) → (depth < 16 → Goes fuel (suc depth) all) → AllJumps fuel depth → (rest : List Rule) → IsSuffix all rest → Goes fuel depth rest
-  by_rules fuel depth deeper jump [] suffix = λ seen number replies le. record { story = plainly (Ends (last_judgement q) replies); runs = BehindAll depth seen replies; fewer = tt }
+  by_rules fuel depth deeper jump [] suffix = λ seen number replies le. record { story = plain_story (Ends (last_judgement q) replies); runs = BehindAll depth seen replies; fewer = tt }
   by_rules fuel depth deeper jump (rule ∷ rest) suffix = λ seen number replies le. go (by_rules fuel depth deeper jump rest (rest_suffix all rule rest suffix)) seen number replies le (is_from number rule) refl
     where
-      go : Goes fuel depth rest → (seen : Seen) (number : ℕ) (replies : List Reply) → length replies ≤ fuel → (b : Bool) → is_from number rule ≡ b → Reached q depth seen (Meets (from number (rule ∷ rest))) replies
+      go : Goes fuel depth rest → (seen : Seen) (number : ℕ) (replies : List Reply) → length replies ≤ fuel → (b : Bool) → is_from number rule ≡ b → Reached q depth seen (Meets (rules_from number (rule ∷ rest))) replies
       go on seen number replies le false is = subst (λ (rules : List Rule). Reached q depth seen (Meets rules) replies) (sym (from_below number rule rest is)) (on seen number replies le)
       go on seen number replies le true is = subst (λ (rules : List Rule). Reached q depth seen (Meets rules) replies) (sym (from_here number rule rest is)) (met fuel depth deeper rule rest suffix on jump seen replies le)
 

@@ -21,20 +21,20 @@ pub record Story : Type 0 where
   pub ending : Ending
 
 -- with nothing asked and no hit
-abbrev pub plainly : Ending → Story
-plainly ending = record { asks = []; hits = []; ending = ending }
+abbrev pub plain_story : Ending → Story
+plain_story ending = record { asks = []; hits = []; ending = ending }
 
 -- behind this ask
-abbrev pub asked : Op → Story → Story
-asked op story = record { asks = op ∷ story.asks; hits = story.hits; ending = story.ending }
+abbrev pub story_with_ask : Op → Story → Story
+story_with_ask op story = record { asks = op ∷ story.asks; hits = story.hits; ending = story.ending }
 
 -- behind this hit
-abbrev pub hit : ℕ → Story → Story
-hit counter story = record { asks = story.asks; hits = counter ∷ story.hits; ending = story.ending }
+abbrev pub story_with_hit : ℕ → Story → Story
+story_with_hit counter story = record { asks = story.asks; hits = counter ∷ story.hits; ending = story.ending }
 
 -- one run behind the other
-abbrev pub behind : Story → Story → Story
-behind first story = record { asks = first.asks ++ story.asks; hits = first.hits ++ story.hits; ending = story.ending }
+abbrev pub stories_in_turn : Story → Story → Story
+stories_in_turn first story = record { asks = first.asks ++ story.asks; hits = first.hits ++ story.hits; ending = story.ending }
 
 -- whole where the run ended and used every reply; a run outside of calls never returns
 abbrev pub outcome_by : Ending → Outcome

@@ -37,9 +37,9 @@ pub(crate) fn is_disabled(question: &Question<'_, '_>, rule: &Rule) -> bool
 }
 
 /// Whether the rule's body holds of the packet.
-#[tactic(auto, unfolding(eval_engine::specs::Encounter::is_held))]
+#[tactic(auto, unfolding(eval_engine::specs::Encounter::is_rule_met))]
 pub(crate) fn is_held(question: &Question<'_, '_>, rule: &Rule) -> bool
-    ensures { result ≡ spec.is_held (viewed_question question.now) rule.now }
+    ensures { result ≡ spec.is_rule_met (viewed_question question.now) rule.now }
 {
     match &rule.body {
         Some(body) => {
@@ -123,7 +123,7 @@ pub(crate) fn lookup_by(question: &Question<'_, '_>, place: usize, rule: &Rule, 
 }
 
 fn limit_of(state: &StateOpt) -> Option<(LimitMask, u16)>
-    ensures { result ≡ spec.limit_of state.now }
+    ensures { result ≡ spec.state_limit_of state.now }
 {
     match state {
         StateOpt::Keep(_) => None,

@@ -44,14 +44,14 @@ pub(crate) fn last_judgement(question: &Question<'_, '_>) -> Judgement
 /// An ask with no reply left.
 pub(crate) fn open_at<'r>(question: &Question<'_, '_>, op: Op) -> Result<Story<'r>, OutOfMemory>
     ensures { IfOk result (λ story. story_of story
-        ≡ told.asked op (told.plainly (told.OpensAt op))) }
+        ≡ told.story_with_ask op (told.plain_story (told.OpensAt op))) }
 {
     asked(op, plainly(question.alloc, Ending::OpensAt(op)))
 }
 
 /// A reply that isn't one to its ask.
 pub(crate) fn mistaken<'r>(question: &Question<'_, '_>, op: Op) -> Result<Story<'r>, OutOfMemory>
-    ensures { IfOk result (λ story. story_of story ≡ told.asked op (told.plainly told.Mistakes)) }
+    ensures { IfOk result (λ story. story_of story ≡ told.story_with_ask op (told.plain_story told.Mistakes)) }
 {
     asked(op, plainly(question.alloc, Ending::Mistakes))
 }
@@ -64,8 +64,8 @@ pub(crate) fn decided<'r>(
     replies: &'r [Reply],
 ) -> Result<Story<'r>, OutOfMemory>
     ensures { IfOk result (λ story. story_of story
-        ≡ told.hit rule.now.counter
-        (told.plainly
+        ≡ told.story_with_hit rule.now.counter
+        (told.plain_story
         (told.Ends
         (runs.judgement_under (viewed_question question.now) verdict (spec.rule_ref rule.now) causes.Rule)
         replies.now))) }
@@ -86,8 +86,8 @@ pub(crate) fn refused<'r>(
     replies: &'r [Reply],
 ) -> Result<Story<'r>, OutOfMemory>
     ensures { IfOk result (λ story. story_of story
-        ≡ told.asked op
-        (told.plainly
+        ≡ told.story_with_ask op
+        (told.plain_story
         (told.Ends
         (runs.judgement_under (viewed_question question.now) verdicts.Deny (spec.rule_ref rule.now) cause)
         replies.now))) }

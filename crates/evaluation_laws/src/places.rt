@@ -2,7 +2,7 @@ ghost use Rattle.std.specs.Prelude.{◌≡◌, ◌+◌, ◌<◌, ◌≤◌, fals
 ghost use Rattle.generation_store.specs.Published.{has_identity};
 ghost use Rattle.rule_chain.specs.Chain.{AscendsFrom};
 ghost use Rattle.eval_engine.specs.Place.{IsRuleAt};
-ghost use Rattle.evaluation_laws.specs.Runs.{from};
+ghost use Rattle.evaluation_laws.specs.Runs.{rules_from};
 ghost use Rattle.evaluation_laws.specs.Running.{IsMaker};
 ghost use Rattle.evaluation_laws.specs.Views.{viewed_question};
 
@@ -14,7 +14,7 @@ use fw_rule::Rule;
 pub(crate) fn first_from(question: &Question<'_, '_>, number: u16) -> usize
     ensures within { result ≤ length question.now.edition.now.config.rules }
     ensures there { drop result question.now.edition.now.config.rules
-        ≡ from number question.now.edition.now.config.rules }
+        ≡ rules_from number question.now.edition.now.config.rules }
 {
     question.edition.first_from(number)
 }
@@ -27,7 +27,7 @@ pub(crate) fn place_skipped(question: &Question<'_, '_>, place: usize, number: u
     ensures within { result ≤ length question.now.edition.now.config.rules }
     ensures later { place < result }
     ensures there { drop result question.now.edition.now.config.rules
-        ≡ from number (drop (place + 1) question.now.edition.now.config.rules) }
+        ≡ rules_from number (drop (place + 1) question.now.edition.now.config.rules) }
 {
     let next = place + 1;
     next.max(question.edition.first_from(number))
@@ -39,7 +39,7 @@ pub(crate) fn first_behind(question: &Question<'_, '_>, place: usize, rule: &Rul
     ensures within { result ≤ length question.now.edition.now.config.rules }
     ensures later { place < result }
     ensures there { drop result question.now.edition.now.config.rules
-        ≡ from (rule.now.number + 1) question.now.edition.now.config.rules }
+        ≡ rules_from (rule.now.number + 1) question.now.edition.now.config.rules }
 {
     match rule.number.checked_add(1) {
         Some(next) => question.edition.first_from(next),

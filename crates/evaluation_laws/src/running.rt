@@ -139,7 +139,7 @@ fn install<'r>(
     requires shallow { depth ≤ 16 }
     requires there { IsRuleAt (viewed_question question.now) place rule.now }
     requires plain { spec.is_check_state rule.now.action ≡ false }
-    requires held { spec.is_held (viewed_question question.now) rule.now ≡ true }
+    requires held { spec.is_rule_met (viewed_question question.now) rule.now ≡ true }
     requires made { spec.state_of rule.now ≡ Some state.now }
     requires flowing { spec.any_flow_of question.now.packet.now ≡ Some flow }
     ensures { IfOk result (λ story.

@@ -34,7 +34,7 @@ pub(crate) struct Story<'r> {
 
 /// With nothing asked and no hit.
 pub(crate) fn plainly<'r>(alloc: Global, ending: Ending<'r>) -> Story<'r>
-    ensures { story_of result ≡ spec.plainly (ending_of ending.entry) }
+    ensures { story_of result ≡ spec.plain_story (ending_of ending.entry) }
 {
     Story {
         asks: LinkedList::new(alloc),
@@ -45,7 +45,7 @@ pub(crate) fn plainly<'r>(alloc: Global, ending: Ending<'r>) -> Story<'r>
 
 /// Behind this ask.
 pub(crate) fn asked<'r>(op: Op, story: Story<'r>) -> Result<Story<'r>, OutOfMemory>
-    ensures { IfOk result (λ more. story_of more ≡ spec.asked op (story_of story.entry)) }
+    ensures { IfOk result (λ more. story_of more ≡ spec.story_with_ask op (story_of story.entry)) }
 {
     let mut story = story;
     story.asks.push_front(op)?;
@@ -54,7 +54,7 @@ pub(crate) fn asked<'r>(op: Op, story: Story<'r>) -> Result<Story<'r>, OutOfMemo
 
 /// Behind this hit.
 pub(crate) fn hit<'r>(counter: u32, story: Story<'r>) -> Result<Story<'r>, OutOfMemory>
-    ensures { IfOk result (λ more. story_of more ≡ spec.hit counter (story_of story.entry)) }
+    ensures { IfOk result (λ more. story_of more ≡ spec.story_with_hit counter (story_of story.entry)) }
 {
     let mut story = story;
     story.hits.push_front(counter)?;
@@ -64,7 +64,7 @@ pub(crate) fn hit<'r>(counter: u32, story: Story<'r>) -> Result<Story<'r>, OutOf
 /// One run behind the other.
 pub(crate) fn behind<'r>(first: Story<'r>, story: Story<'r>) -> Result<Story<'r>, OutOfMemory>
     ensures { IfOk result (λ both. story_of both
-        ≡ spec.behind (story_of first.entry) (story_of story.entry)) }
+        ≡ spec.stories_in_turn (story_of first.entry) (story_of story.entry)) }
 {
     let mut first = first;
     let mut story = story;

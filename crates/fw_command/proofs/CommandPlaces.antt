@@ -4,7 +4,7 @@ use Rattle.std.specs.Prelude.{IfErr, bit_or}
 use Rattle.fw_lex.specs.Words.{before_comment, first_bad, tokens_of}
 use Rattle.fw_rule.specs.declared.setting.Setting.{Setting}
 use Rattle.fw_rule.specs.declared.command.Command.TheVariants.{MoveRule, MoveSet}
-use Rattle.ipfw_parser.specs.Reading.{Word, Fault, ◌>>=◌, same, expected, word_at}
+use Rattle.ipfw_parser.specs.Reading.{Word, Fault, ◌>>=◌, same, words_behind_word, word_at}
 use Rattle.ipfw_parser.specs.Numbers.{number, set_number}
 use Rattle.ipfw_parser.specs.Names.{table_name}
 use Rattle.ipfw_parser.specs.Addresses.{prefix, address as address_number, part_before, part_behind}
@@ -12,7 +12,7 @@ use Rattle.ipfw_parser.specs.Rules.{set_behind, rule_in, end_column}
 use Rattle.ipfw_parser.specs.Places.{IsColumn}
 use Rattle.ipfw_parser.proofs.Places.Words.{At, Told, Within, Any, Rest, bind_at, if_at, bind_told, if_told, bind_word, told_more, rest_more, all_words, one_less, after_first, number_at, set_at, name_at, address_at, prefix_at}
 use Rattle.ipfw_parser.proofs.Places.Rules.{expected_in, set_behind_in, rule_stands}
-use Rattle.fw_command.specs.Ends.{finished, first_number, each_word}
+use Rattle.fw_command.specs.Ends.{result_at_end, first_number, each_word}
 use Rattle.fw_command.specs.SetCommands.{set_bit, ends_sets, more_sets, sets, enable, disable_end, disable, move_rule_command, move_set_command, move_words, swap_sets_command, set_command}
 use Rattle.fw_command.specs.TableCommands.{has_dot, key, table_type, type_behind, create, value, add_entry_command, remove_entry, swap_with, table_command, table}
 use Rattle.fw_command.specs.SettingCommands.{setting, least, most, without_prefix, set_to, assignment, sysctl}
@@ -22,8 +22,8 @@ use Rattle.fw_command.specs.declared.statement.Statement.{Statement}
 use Rattle.fw_command.specs.declared.statement.Statement.TheVariants.{Live}
 use Rattle.fw_command.specs.Laws.{IsFaultColumn, FaultsHaveTheirColumns}
 
-finished_in : {X : Type 0} (x : X) (end : ℕ) (words : List Word) → Told end words Any (finished x words)
-unfolding finished
+finished_in : {X : Type 0} (x : X) (end : ℕ) (words : List Word) → Told end words Any (result_at_end x words)
+unfolding result_at_end
 finished_in x end [] = tt
 finished_in x end (word ∷ words) = inl refl
 
@@ -107,11 +107,11 @@ disable_in end words =
     told_more end disabled.1 words (disable_end disabled.0 end disabled.1) more (disable_end_in disabled.0 end disabled.1))
 
 -- `to` and a set behind what was read
-to_set_in : {X : Type 0} (end : ℕ) (words : List Word) (made : ℕ → X) → Told end words Any (expected (codes "to") end words >>= λ rest. set_behind end rest >>= λ target. finished (made target.0) target.1)
+to_set_in : {X : Type 0} (end : ℕ) (words : List Word) (made : ℕ → X) → Told end words Any (words_behind_word (codes "to") end words >>= λ rest. set_behind end rest >>= λ target. result_at_end (made target.0) target.1)
 to_set_in end words made =
-    bind_told end words (expected (codes "to") end words) _ (λ rest. Within end rest words) Any (expected_in (codes "to") end words) (λ rest in_rest.
+    bind_told end words (words_behind_word (codes "to") end words) _ (λ rest. Within end rest words) Any (expected_in (codes "to") end words) (λ rest in_rest.
     told_more end rest words _ in_rest (bind_told end rest (set_behind end rest) _ (Rest end rest) Any (set_behind_in end rest) (λ target more.
-    told_more end target.1 rest (finished (made target.0) target.1) more (finished_in (made target.0) end target.1))))
+    told_more end target.1 rest (result_at_end (made target.0) target.1) more (finished_in (made target.0) end target.1))))
 
 move_rule_command_in : (end : ℕ) (words : List Word) → Told end words Any (move_rule_command end words)
 unfolding move_rule_command
@@ -248,7 +248,7 @@ command_in end word words =
 live_in : (live : Bool) (end : ℕ) (word : Word) (words : List Word) → Told end (word ∷ words) Any (live_statement live word words)
 unfolding live_statement
 live_in true end word words = inl refl
-live_in false end word words = told_more end words (word ∷ words) (finished Live words) (one_less end word words) (finished_in Live end words)
+live_in false end word words = told_more end words (word ∷ words) (result_at_end Live words) (one_less end word words) (finished_in Live end words)
 
 after_in : (live : Bool) (end : ℕ) (word : Word) (words : List Word) → Told end (word ∷ words) Any (after_statement live end word words)
 unfolding after_statement after_count

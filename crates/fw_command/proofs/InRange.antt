@@ -10,7 +10,7 @@ use Rattle.fw_rule.specs.declared.setting.Setting.TheVariants.{Ack, Syn, Fin, Rs
 use Rattle.fw_rule.specs.declared.table_command.TableCommand.{TableCommand}
 use Rattle.fw_rule.specs.Settings.{IsInRange}
 use Rattle.fw_rule.specs.WellFormed.{IsFromTo, IsNumber, IsSet, IsValue, IsKey, IsTableCommand, IsWellFormed}
-use Rattle.ipfw_parser.specs.Reading.{Word, Fault, ◌>>=◌, first, expected, same}
+use Rattle.ipfw_parser.specs.Reading.{Word, Fault, ◌>>=◌, first, words_behind_word, same}
 use Rattle.ipfw_parser.specs.Numbers.{number, set_number}
 use Rattle.ipfw_parser.specs.Names.{table_name}
 use Rattle.ipfw_parser.specs.Addresses.{prefix, part_before, part_behind}
@@ -41,8 +41,8 @@ unfolding set_behind
 set_behind_on end words =
     after_first end words _ (λ r. IsSet r.0) (λ next. on_bind (set_number next.0) _ IsSet (λ r. IsSet r.0) (set_on next.0) (λ n p. p))
 
-after_word : {Y : Type 0} (name : List ℕ) (end : ℕ) (words : List Word) (f : List Word → Result Y Fault) (Q : Y → Type 0) → ((rest : List Word) → IfOk (f rest) Q) → IfOk (expected name end words >>= f) Q
-after_word name end words f Q each = on_bind (expected name end words) f (λ _. Unit {0}) Q (any (expected name end words)) (λ rest u. each rest)
+after_word : {Y : Type 0} (name : List ℕ) (end : ℕ) (words : List Word) (f : List Word → Result Y Fault) (Q : Y → Type 0) → ((rest : List Word) → IfOk (f rest) Q) → IfOk (words_behind_word name end words >>= f) Q
+after_word name end words f Q each = on_bind (words_behind_word name end words) f (λ _. Unit {0}) Q (any (words_behind_word name end words)) (λ rest u. each rest)
 
 -- a mask of sets
 abbrev IsMask : ℕ → Type 0

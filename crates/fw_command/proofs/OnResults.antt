@@ -4,7 +4,7 @@ use Rattle.std.specs.Prelude.{IfOk}
 use Rattle.std.specs.List.{AllByRecursion}
 use Rattle.ipfw_parser.specs.Reading.{Word, Fault}
 use Rattle.ipfw_parser.proofs.Forms.Following.{on_bind}
-use Rattle.fw_command.specs.Ends.{each_word, finished}
+use Rattle.fw_command.specs.Ends.{each_word, result_at_end}
 
 -- a claim that says nothing holds of whatever is read
 pub any : {X E : Type 0} (r : Result X E) → IfOk r (λ _. Unit {0})
@@ -17,8 +17,8 @@ on_if true r s P p q = p
 on_if false r s P p q = q
 
 -- what holds of the value holds of a command that ends behind it
-pub finished_on : {X : Type 0} (x : X) (words : List Word) (P : X → Type 0) → P x → IfOk (finished x words) P
-unfolding finished
+pub finished_on : {X : Type 0} (x : X) (words : List Word) (P : X → Type 0) → P x → IfOk (result_at_end x words) P
+unfolding result_at_end
 finished_on x [] P p = p
 finished_on x (word ∷ words) P p = tt
 

@@ -8,7 +8,7 @@ use Rattle.ipfw_parser.specs.Reading.{Word, Fault, fault_at, ◌>>=◌, same, fi
 use Rattle.ipfw_parser.specs.Numbers.{number}
 use Rattle.ipfw_parser.specs.Addresses.{address as address_number}
 use Rattle.ipfw_parser.specs.Rules.{set_behind}
-use Rattle.fw_command.specs.Ends.{finished, each_word}
+use Rattle.fw_command.specs.Ends.{result_at_end, each_word}
 use Rattle.fw_command.specs.SetCommands.{set_command}
 use Rattle.fw_command.specs.TableCommands.{table}
 use Rattle.fw_command.specs.SettingCommands.{sysctl}
@@ -21,7 +21,7 @@ numbers words = each_word (number 1 65535) words
 unfoldable pub delete_set_command : ℕ → List Word → Result Command Fault
 delete_set_command end words = do
   which ← set_behind end words
-  finished (DeleteSet which.0) which.1
+  result_at_end (DeleteSet which.0) which.1
 
 -- behind `delete`: `set` and a set, or numbers of rules, at least one
 unfoldable pub delete : ℕ → List Word → Result Command Fault
@@ -52,9 +52,9 @@ local end words = do
 unfoldable pub command : ℕ → Word → List Word → Result Command Fault
 command end word words =
     if same word.text (codes "delete") then delete end words
-    else if same word.text (codes "flush") then finished Flush words
+    else if same word.text (codes "flush") then result_at_end Flush words
     else if same word.text (codes "zero") then zero_command words
-    else if same word.text (codes "list") then finished ListRules words
+    else if same word.text (codes "list") then result_at_end ListRules words
     else if same word.text (codes "set") then set_command end words
     else if same word.text (codes "table") then table end words
     else if same word.text (codes "sysctl") then sysctl end words

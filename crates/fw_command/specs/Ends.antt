@@ -5,9 +5,9 @@ use Rattle.ipfw_parser.specs.Reading.{Word, Fault, WordReading, fault_at, ◌>>=
 use Rattle.ipfw_parser.specs.Numbers.{number}
 
 -- nothing stands behind what was read
-unfoldable pub finished : {X : Type 0} → X → List Word → Result X Fault
-finished x [] = Ok x
-finished x (word ∷ words) = fault_at word.column ExtraWord
+unfoldable pub result_at_end : {X : Type 0} → X → List Word → Result X Fault
+result_at_end x [] = Ok x
+result_at_end x (word ∷ words) = fault_at word.column ExtraWord
 
 -- the next word is a number from least to most
 unfoldable pub first_number : ℕ → ℕ → ℕ → List Word → WordReading ℕ

@@ -3,10 +3,10 @@ use Rattle.std.specs.Prelude.{ℕ, ◌^◌, Bool, true, false, ◌&&◌, if◌th
 use Rattle.fw_rule.specs.declared.command.Command.{Command}
 use Rattle.fw_rule.specs.declared.command.Command.TheVariants.{SetMask, MoveSet, MoveRule, SwapSets}
 use Rattle.ipfw_parser.specs.declared.kind.Kind.TheVariants.{UnknownWord}
-use Rattle.ipfw_parser.specs.Reading.{Word, Fault, WordReading, fault_at, ◌>>=◌, same, first, expected}
+use Rattle.ipfw_parser.specs.Reading.{Word, Fault, WordReading, fault_at, ◌>>=◌, same, first, words_behind_word}
 use Rattle.ipfw_parser.specs.Numbers.{set_number}
 use Rattle.ipfw_parser.specs.Rules.{set_behind}
-use Rattle.fw_command.specs.Ends.{finished, first_number}
+use Rattle.fw_command.specs.Ends.{result_at_end, first_number}
 
 -- a set as the bit of a mask
 unfoldable pub set_bit : Word → Result ℕ Fault
@@ -53,17 +53,17 @@ disable end words = do
 unfoldable pub move_rule_command : ℕ → List Word → Result Command Fault
 move_rule_command end words = do
   which ← first_number 1 65535 end words
-  to_end ← expected (codes "to") end which.1
+  to_end ← words_behind_word (codes "to") end which.1
   target ← set_behind end to_end
-  finished (MoveRule which.0 target.0) target.1
+  result_at_end (MoveRule which.0 target.0) target.1
 
 -- behind `move`: a set, `to` and a set
 unfoldable pub move_set_command : ℕ → List Word → Result Command Fault
 move_set_command end words = do
   which ← set_behind end words
-  to_end ← expected (codes "to") end which.1
+  to_end ← words_behind_word (codes "to") end which.1
   target ← set_behind end to_end
-  finished (MoveSet which.0 target.0) target.1
+  result_at_end (MoveSet which.0 target.0) target.1
 
 -- behind `move`
 unfoldable pub move_words : ℕ → List Word → Result Command Fault
@@ -76,7 +76,7 @@ unfoldable pub swap_sets_command : ℕ → List Word → Result Command Fault
 swap_sets_command end words = do
   one ← set_behind end words
   other ← set_behind end one.1
-  finished (SwapSets one.0 other.0) other.1
+  result_at_end (SwapSets one.0 other.0) other.1
 
 -- behind `set`
 unfoldable pub set_command : ℕ → List Word → Result Command Fault

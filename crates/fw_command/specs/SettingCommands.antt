@@ -9,7 +9,7 @@ use Rattle.ipfw_parser.specs.declared.kind.Kind.TheVariants.{UnknownWord}
 use Rattle.ipfw_parser.specs.Reading.{Word, Fault, fault_at, ◌>>=◌, same, first}
 use Rattle.ipfw_parser.specs.Numbers.{number}
 use Rattle.ipfw_parser.specs.Addresses.{part_before, part_behind}
-use Rattle.fw_command.specs.Ends.{finished}
+use Rattle.fw_command.specs.Ends.{result_at_end}
 
 -- a setting by its name
 unfoldable pub setting : List ℕ → Option Setting
@@ -64,4 +64,4 @@ unfoldable pub sysctl : ℕ → List Word → Result Command Fault
 sysctl end words = do
   next ← first end words
   found ← assignment next.0
-  finished (Sysctl found.0 found.1) next.1
+  result_at_end (Sysctl found.0 found.1) next.1

@@ -5,20 +5,20 @@ use Rattle.fw_rule.specs.declared.command.Command.TheVariants.{Add}
 use Rattle.ipfw_parser.specs.declared.kind.Kind.TheVariants.{Misplaced, BadByte}
 use Rattle.ipfw_parser.specs.Reading.{Word, Fault, fault_at, ◌>>=◌, same, word_at}
 use Rattle.ipfw_parser.specs.Rules.{rule_in, end_column}
-use Rattle.fw_command.specs.Ends.{finished, first_number}
+use Rattle.fw_command.specs.Ends.{result_at_end, first_number}
 use Rattle.fw_command.specs.Commands.{command}
 use Rattle.fw_command.specs.declared.statement.Statement.{Statement}
 use Rattle.fw_command.specs.declared.statement.Statement.TheVariants.{Nothing, Order, Live, After}
 
 -- the line `live`, which stands once
 unfoldable pub live_statement : Bool → Word → List Word → Result Statement Fault
-live_statement live word words = if live then fault_at word.column Misplaced else finished Live words
+live_statement live word words = if live then fault_at word.column Misplaced else result_at_end Live words
 
 -- behind `after`: how many packets
 unfoldable pub after_count : ℕ → ℕ → List Word → Result Statement Fault
 after_count column end words = do
   count ← first_number 0 33554432 end words
-  finished (After column count.0) count.1
+  result_at_end (After column count.0) count.1
 
 -- a line `after`, which stands behind `live`
 unfoldable pub after_statement : Bool → ℕ → Word → List Word → Result Statement Fault

@@ -14,7 +14,7 @@ use Rattle.ipfw_parser.specs.Reading.{Word, Fault, WordReading, fault_at, ◌>>=
 use Rattle.ipfw_parser.specs.Numbers.{number}
 use Rattle.ipfw_parser.specs.Names.{table_name}
 use Rattle.ipfw_parser.specs.Addresses.{prefix}
-use Rattle.fw_command.specs.Ends.{finished}
+use Rattle.fw_command.specs.Ends.{result_at_end}
 
 -- a dot stands in the text
 unfoldable pub has_dot : List ℕ → Bool
@@ -91,4 +91,4 @@ table end words = do
   named ← first end words
   name ← table_name named.0
   made ← table_command end named.1
-  finished (Table name made.0) made.1
+  result_at_end (Table name made.0) made.1

@@ -11,9 +11,9 @@ use ipfw_parser::{Kind, ParseFault, Word, Words, address, number};
 use std::alloc::Global;
 
 /// The value, where no word stands behind it.
-#[tactic(auto, unfolding(crate::specs::Ends::finished))]
+#[tactic(auto, unfolding(crate::specs::Ends::result_at_end))]
 pub(crate) fn finished<T: Drop>(value: T, words: Words<'_>) -> Result<T, ParseFault>
-    ensures { ReadsAs (λ v. v) result (spec.finished value (list_of words.entry)) }
+    ensures { ReadsAs (λ v. v) result (spec.result_at_end value (list_of words.entry)) }
 {
     match words.next() {
         Some((word, _rest)) => Err(word.fault(Kind::ExtraWord)),

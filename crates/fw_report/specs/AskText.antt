@@ -6,7 +6,7 @@ use Rattle.dyn_states.specs.declared.op.Op.{Op}
 use Rattle.dyn_states.specs.declared.op.Op.TheVariants.{Lookup, Install}
 use Rattle.dyn_states.specs.declared.reply.Reply.{Reply}
 use Rattle.dyn_states.specs.StateTexts.{flow_text}
-use Rattle.fw_report.specs.JournalText.{name_numbered, name_word, ask_start, ask_end, flow_of, asked_flags, asked_second}
+use Rattle.fw_report.specs.JournalText.{name_numbered, name_word, ask_start, ask_end, flow_of_ask, asked_flags, asked_second}
 
 -- the name of the flow that is asked for
 abbrev pub asked_name : List (List ℕ) → Op → List ℕ
@@ -30,4 +30,4 @@ ask_front lane at op = ask_start lane at (asked_second op) ++ question_start op
 
 -- the line behind the name
 unfoldable pub ask_rest : Op → Reply → List ℕ
-ask_rest op reply = flow_text (flow_of op) ++ ask_end (asked_flags op) reply
+ask_rest op reply = flow_text (flow_of_ask op) ++ ask_end (asked_flags op) reply

@@ -84,9 +84,9 @@ unfoldable pub ask_end : ℕ → Reply → List ℕ
 ask_end flags reply = codes " " ++ (flags_word flags ++ (codes " " ++ reply_end reply))
 
 -- the flow that is asked for
-abbrev pub flow_of : Op → Flow
-flow_of (Lookup flags flow second name) = flow
-flow_of (Install flags flow second rule limit name) = flow
+abbrev pub flow_of_ask : Op → Flow
+flow_of_ask (Lookup flags flow second name) = flow
+flow_of_ask (Install flags flow second rule limit name) = flow
 
 -- the flags that are asked with
 abbrev pub asked_flags : Op → ℕ
@@ -105,7 +105,7 @@ op_text names (Install flags flow second rule limit name) = install_text names r
 
 -- the line of an ask
 unfoldable pub ask_line : List (List ℕ) → ℕ → ℕ → Op → Reply → List ℕ
-ask_line names lane at op reply = ask_start lane at (asked_second op) ++ (op_text names op ++ (flow_text (flow_of op) ++ ask_end (asked_flags op) reply))
+ask_line names lane at op reply = ask_start lane at (asked_second op) ++ (op_text names op ++ (flow_text (flow_of_ask op) ++ ask_end (asked_flags op) reply))
 
 -- the line of a publication
 unfoldable pub publish_line : ℕ → List ℕ

@@ -270,7 +270,7 @@ fn flags_of(op: &Op) -> u8
 }
 
 fn flow_of(op: &Op) -> &Flow
-    ensures { result.now ≡ text.flow_of op.now }
+    ensures { result.now ≡ text.flow_of_ask op.now }
 {
     match op {
         Op::Lookup { flow, .. } | Op::Install { flow, .. } => flow,

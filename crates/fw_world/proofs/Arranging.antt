@@ -6,16 +6,16 @@ use Rattle.std.specs.List.Sorted.{IsNonDecreasingBy}
 use Rattle.std.proofs.lemmas.List.Elements.{recursion_from_All, All-from_recursion}
 use Rattle.std.proofs.lemmas.List.Sorted.{IsPermutation-refl, IsPermutation-cons, IsPermutation-trans, IsPermutation-middle, IsPermutation-sym, All-permutation, length_permutation, sum_by-IsPermutation}
 use Rattle.std.proofs.lemmas.List.Sums.{sum_by-cons}
-use Rattle.fw_world.specs.Closing.{AreLanesFrom, among, by_place}
+use Rattle.fw_world.specs.Closing.{AreLanesFrom, lanes_with, by_place}
 use Rattle.fw_world.specs.Lane.{LaneValue}
 use Rattle.fw_world.specs.World.{WorldValue}
 
 -- putting the lanes in order only moves them
-among-permutation : (lane : LaneValue) (others : List LaneValue) → IsPermutation (lane ∷ others) (among lane others)
+among-permutation : (lane : LaneValue) (others : List LaneValue) → IsPermutation (lane ∷ others) (lanes_with lane others)
 among-permutation lane [] = IsPermutation-refl (lane ∷ [])
 among-permutation lane (first ∷ others) = decided (nat_le lane.place first.place) (among-permutation lane others)
   where
-    decided : (b : Bool) → IsPermutation (lane ∷ others) (among lane others) → IsPermutation (lane ∷ first ∷ others) (cond b (lane ∷ first ∷ others) (first ∷ among lane others))
+    decided : (b : Bool) → IsPermutation (lane ∷ others) (lanes_with lane others) → IsPermutation (lane ∷ first ∷ others) (cond b (lane ∷ first ∷ others) (first ∷ lanes_with lane others))
     decided true rest = IsPermutation-refl (lane ∷ first ∷ others)
     decided false rest = IsPermutation-trans _ _ _ (IsPermutation-middle (lane ∷ []) first others) (IsPermutation-cons first _ _ rest)
 
@@ -56,17 +56,17 @@ rises-from_sort (lane ∷ lanes) sorted = (
   rises-from_sort lanes (λ i j d order within. sorted (suc i) (suc j) d (omega arith) (omega arith)),
 )
 
-rises-among : (lane : LaneValue) (others : List LaneValue) → Rises others → Rises (among lane others)
+rises-among : (lane : LaneValue) (others : List LaneValue) → Rises others → Rises (lanes_with lane others)
 rises-among lane [] up = (tt, tt)
 rises-among lane (first ∷ others) up = decided (nat_le lane.place first.place) refl (rises-among lane others up.1)
   where
-    decided : (b : Bool) → nat_le lane.place first.place ≡ b → Rises (among lane others) → Rises (cond b (lane ∷ first ∷ others) (first ∷ among lane others))
+    decided : (b : Bool) → nat_le lane.place first.place ≡ b → Rises (lanes_with lane others) → Rises (cond b (lane ∷ first ∷ others) (first ∷ lanes_with lane others))
     decided true is rest =
         let below : lane.place ≤ first.place = leb-true _ _ is in
         ((below, all_weaker (λ other. first.place ≤ other.place) (λ other. lane.place ≤ other.place) (λ other h. omega (arith, below, h)) others up.0), up)
     decided false is rest =
         let above : first.place < lane.place = leb-false _ _ is in
-        (all_moved (λ other. first.place ≤ other.place) (lane ∷ others) (among lane others) (among-permutation lane others) (omega (arith, above), up.0), rest)
+        (all_moved (λ other. first.place ≤ other.place) (lane ∷ others) (lanes_with lane others) (among-permutation lane others) (omega (arith, above), up.0), rest)
 
 rises-by_place : (lanes : List LaneValue) → Rises (by_place lanes)
 rises-by_place [] = tt

@@ -7,7 +7,7 @@ use Rattle.fw_base.specs.declared.port.Port.{Port}
 use Rattle.fw_base.proofs.Lists.{all_weaker}
 use Rattle.ip6_headers.specs.Either.{total_of}
 use Rattle.ip6_headers.specs.declared.any_ip.AnyIp.{AnyIp}
-use Rattle.counter_book.specs.Counts.{raised}
+use Rattle.counter_book.specs.Counts.{count_after_packet}
 use Rattle.counter_book.specs.declared.tally.Count.{Count}
 use Rattle.dyn_states.specs.declared.op.Op.{Op}
 use Rattle.dyn_states.specs.declared.reply.Reply.{Reply}
@@ -21,7 +21,7 @@ use Rattle.eval_engine.specs.declared.judgement.Judgement.{Judgement}
 use Rattle.fw_world.specs.AskRuns.{RisesBy, raised_by}
 use Rattle.fw_world.specs.Asks.{LaneAsk, asks_of_record, replies_of, ops_of, AreAsksOf, IsJudgedUnder}
 use Rattle.fw_world.specs.Editions.{edition_numbered, judging_edition}
-use Rattle.fw_world.specs.Entries.{EachRecord, IsEntryFor, IsEvaluated, IsEvaluatedTo, IsEvaluation, evaluated}
+use Rattle.fw_world.specs.Entries.{EachRecord, IsEntryFor, IsEvaluated, IsEvaluatedTo, IsEvaluation, evaluation_under}
 use Rattle.fw_world.specs.Inputs.{Input, Other, Malformed, Packet}
 use Rattle.fw_world.specs.Legal.{StandFor}
 use Rattle.fw_world.specs.Steps.{question_under}
@@ -67,7 +67,7 @@ same_count : (a b c d : ℕ) → a ≡ b → c ≡ d → ◌≡◌ {A = Count} (
 same_count a b c d first second = ap (λ (n : ℕ). let one : Count = record { packets = n; bytes = c } in one) first ∙ ap (λ (n : ℕ). let one : Count = record { packets = b; bytes = n } in one) second
 
 -- the counts of one hit more
-count_in-hit : (hits : List Hit) (hit : Hit) (id : ℕ) → count_in (hits ++ hit ∷ []) id ≡ cond (hit.counter == id) (raised (count_in hits id) hit.bytes) (count_in hits id)
+count_in-hit : (hits : List Hit) (hit : Hit) (id : ℕ) → count_in (hits ++ hit ∷ []) id ≡ cond (hit.counter == id) (count_after_packet (count_in hits id) hit.bytes) (count_in hits id)
 count_in-hit hits hit id = decided (hit.counter == id) refl
   where
     packets : (b : Bool) → b ≡ (hit.counter == id) → count_by (λ h. h.counter == id) (hits ++ hit ∷ []) ≡ count_by (λ h. h.counter == id) hits + cond b 1 0
@@ -76,7 +76,7 @@ count_in-hit hits hit id = decided (hit.counter == id) refl
     bytes : (b : Bool) → b ≡ (hit.counter == id) → sum_by (λ h. cond (h.counter == id) h.bytes 0) (hits ++ hit ∷ []) ≡ sum_by (λ h. cond (h.counter == id) h.bytes 0) hits + cond b hit.bytes 0
     bytes b is = sum_by_push (λ (h : Hit). cond (h.counter == id) h.bytes 0) hits hit ∙ ap (λ (c : Bool). sum_by (λ h. cond (h.counter == id) h.bytes 0) hits + cond c hit.bytes 0) (sym is)
 
-    decided : (b : Bool) → b ≡ (hit.counter == id) → count_in (hits ++ hit ∷ []) id ≡ cond b (raised (count_in hits id) hit.bytes) (count_in hits id)
+    decided : (b : Bool) → b ≡ (hit.counter == id) → count_in (hits ++ hit ∷ []) id ≡ cond b (count_after_packet (count_in hits id) hit.bytes) (count_in hits id)
     decided true is = same_count _ _ _ _ (ap (λ (n : ℕ). n % 2 ^ 64) (packets true is) ∙ sum_mod _ 1) (ap (λ (n : ℕ). n % 2 ^ 64) (bytes true is) ∙ sum_mod _ hit.bytes)
     decided false is = same_count _ _ _ _ (let e : count_by (λ h. h.counter == id) hits + 0 ≡ count_by (λ h. h.counter == id) hits = omega arith in ap (λ (n : ℕ). n % 2 ^ 64) (packets false is ∙ e))
         (let e : sum_by (λ h. cond (h.counter == id) h.bytes 0) hits + 0 ≡ sum_by (λ h. cond (h.counter == id) h.bytes 0) hits = omega arith in ap (λ (n : ℕ). n % 2 ^ 64) (bytes false is ∙ e))

@@ -9,7 +9,7 @@ use Rattle.eval_engine.proofs.Dockets.{judgements-append, judgements-judged}
 use Rattle.eval_engine.specs.Dockets.{judged_entry, judgements}
 use Rattle.eval_engine.specs.declared.docket_entry.DocketEntry.{DocketEntry}
 use Rattle.eval_engine.specs.declared.judgement.Judgement.{Judgement}
-use Rattle.fw_world.specs.Lane.{LaneValue, InsideValue, one_looser, entered, refused, left, regained, admitted, with_entry}
+use Rattle.fw_world.specs.Lane.{LaneValue, InsideValue, one_looser, inside_after_entry, lane_after_refusal, lane_after_leave, lane_after_regain, lane_after_admission, with_docket_entry}
 use Rattle.fw_world.specs.LaneKept.{IsLane, IsInside, pending_of}
 use Rattle.fw_world.specs.Sections.{judged_editions, tracker_after}
 use Rattle.fw_world.proofs.Records.{IsNonDecreasing-push}
@@ -38,7 +38,7 @@ not_loose true loose none = absurd (omega (arith, none))
 one_section : (sections : ℕ) → (tracker_after sections + 2) % 2 ^ 64 ≡ tracker_after (sections + 1)
 one_section sections = omega arith
 
-pub IsLane-entered : (lane : LaneValue) → IsLane 0 lane → IsLane 1 (entered lane).lane
+pub IsLane-entered : (lane : LaneValue) → IsLane 0 lane → IsLane 1 (inside_after_entry lane).lane
 IsLane-entered lane is = record {
   numbered = is.numbered;
   above = is.above;
@@ -55,7 +55,7 @@ none_is : (refusal : Option ℕ) → is_some refusal ≡ false → refusal ≡ N
 none_is None is = refl
 none_is (Some number) is = cc
 
-pub IsLane-refused : (published : ℕ) (lane : LaneValue) → IsLane 0 lane → lane.number < published → published < 2 ^ 64 → IsLane 0 (refused published lane)
+pub IsLane-refused : (published : ℕ) (lane : LaneValue) → IsLane 0 lane → lane.number < published → published < 2 ^ 64 → IsLane 0 (lane_after_refusal published lane)
 IsLane-refused published lane is below fits = record {
   numbered = is.numbered;
   above = below;
@@ -73,7 +73,7 @@ IsLane-refused published lane is below fits = record {
       ap (λ (t : ℕ). (t + 2) % 2 ^ 64) before ∙ one_section (n + lane.docket.refused + 0) ∙ ap tracker_after same;
 }
 
-pub IsLane-regained : (published : ℕ) (lane : LaneValue) → IsLane 0 lane → 1 ≤ published → lane.number ≤ published → IfSome lane.refusal (λ number. number ≤ published) → IsLane 0 (regained published lane)
+pub IsLane-regained : (published : ℕ) (lane : LaneValue) → IsLane 0 lane → 1 ≤ published → lane.number ≤ published → IfSome lane.refusal (λ number. number ≤ published) → IsLane 0 (lane_after_regain published lane)
 IsLane-regained published lane is first held heard = record {
   numbered = first;
   above = tt;
@@ -87,7 +87,7 @@ IsLane-regained published lane is first held heard = record {
     few (Some number) most heard = omega arith
 
 -- a lane that left its section is as a lane has to be, with no section pending
-pub IsLane-left : (inside : InsideValue) → IsInside inside → IsLane 0 (left inside)
+pub IsLane-left : (inside : InsideValue) → IsInside inside → IsLane 0 (lane_after_leave inside)
 IsLane-left inside is = record {
   numbered = is.numbered;
   above = is.above;
@@ -104,7 +104,7 @@ IsLane-left inside is = record {
 
 -- where nothing pends after a judgement, its section is told
 pub IsLane-judged : (lane : LaneValue) (judgement : Judgement) (tally : List Count) → IsLane 1 lane → All (λ number. number ≤ judgement.edition) (judged_editions lane.docket.entries)
-    → IsLane 0 (record (with_entry (judged_entry judgement) lane) { tally = tally })
+    → IsLane 0 (record (with_docket_entry (judged_entry judgement) lane) { tally = tally })
 IsLane-judged lane judgement tally is below =
     let grown = judged_editions-judged lane.docket.entries judgement in
     record {
@@ -123,7 +123,7 @@ pub IsLane-failed : (pending : ℕ) (lane : LaneValue) (tally : List Count) → 
 IsLane-failed pending lane tally is = record { numbered = is.numbered; above = is.above; rising = is.rising; few = is.few; tracked = is.tracked }
 
 -- entries that aren't judged
-pub IsLane-skipped : (lane : LaneValue) (entered : DocketEntry) → judged_editions (entered ∷ []) ≡ [] → IsLane 0 lane → IsLane 0 (with_entry entered lane)
+pub IsLane-skipped : (lane : LaneValue) (entered : DocketEntry) → judged_editions (entered ∷ []) ≡ [] → IsLane 0 lane → IsLane 0 (with_docket_entry entered lane)
 IsLane-skipped lane entered skipped is =
     let same = judged_editions-append lane.docket.entries (entered ∷ []) ∙ ap (λ (rest : List ℕ). judged_editions lane.docket.entries ++ rest) skipped ∙ append-nil _ in
     record {
@@ -135,7 +135,7 @@ IsLane-skipped lane entered skipped is =
     }
 
 -- a lane that is in after it was refused or not
-pub IsLane-admitted : (published : ℕ) (lane : LaneValue) → IsLane 0 lane → lane.refusal ≡ None → 1 ≤ published → lane.number ≤ published → published < 2 ^ 64 → IsLane 1 (admitted published lane)
+pub IsLane-admitted : (published : ℕ) (lane : LaneValue) → IsLane 0 lane → lane.refusal ≡ None → 1 ≤ published → lane.number ≤ published → published < 2 ^ 64 → IsLane 1 (lane_after_admission published lane)
 IsLane-admitted published lane is free first held fits = decided (lane.number == published) refl
   where
     below_published : false ≡ (lane.number == published) → lane.number < published

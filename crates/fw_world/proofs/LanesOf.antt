@@ -6,7 +6,7 @@ use Rattle.counter_book.specs.declared.tally.Count.{Count}
 use Rattle.fw_base.specs.declared.failure.OutOfMemory.{OutOfMemory}
 use Rattle.eval_engine.specs.Dockets.{judged_entry}
 use Rattle.eval_engine.specs.declared.judgement.Judgement.{Judgement}
-use Rattle.fw_world.specs.Lane.{LaneValue, with_entry, admitted}
+use Rattle.fw_world.specs.Lane.{LaneValue, with_docket_entry, lane_after_admission}
 use Rattle.fw_world.specs.LaneKept.{IsLane, pending_of}
 use Rattle.fw_world.specs.Sections.{judged_editions}
 use Rattle.fw_world.specs.World.{WorldValue, published_count, IsLaneOf}
@@ -25,7 +25,7 @@ IsLaneOf-same old new lane lanes editions is =
     }
 
 -- so is a lane that judged under the last edition
-IsLaneOf-judged : (world : WorldValue) (lane : LaneValue) (judgement : Judgement) (tally : List Count) → judgement.edition ≡ published_count world → IsLaneOf world lane → IsLaneOf world (record (with_entry (judged_entry judgement) lane) { tally = tally })
+IsLaneOf-judged : (world : WorldValue) (lane : LaneValue) (judgement : Judgement) (tally : List Count) → judgement.edition ≡ published_count world → IsLaneOf world lane → IsLaneOf world (record (with_docket_entry (judged_entry judgement) lane) { tally = tally })
 IsLaneOf-judged world lane judgement tally numbered is = record {
   first = is.first;
   last = is.last;
@@ -39,12 +39,12 @@ IsLaneOf-failed : (world : WorldValue) (lane : LaneValue) (tally : List Count) �
 IsLaneOf-failed world lane tally is = record { first = is.first; last = is.last; held = is.held; heard = is.heard; judged = is.judged }
 
 -- and one that is in under the last edition
-pub IsLaneOf-admitted : (world : WorldValue) (lane : LaneValue) → IsLaneOf world lane → IsLaneOf world (admitted (published_count world) lane)
+pub IsLaneOf-admitted : (world : WorldValue) (lane : LaneValue) → IsLaneOf world lane → IsLaneOf world (lane_after_admission (published_count world) lane)
 IsLaneOf-admitted world lane is = record { first = is.first; last = is.last; held = omega arith; heard = tt; judged = is.judged }
 
 -- a lane that judged, or that memory failed, is one of the world after
 pub IsLaneOf-after : (result : Result Judgement OutOfMemory) (old new : WorldValue) (before after : LaneValue) → new.journal.lanes ≡ old.journal.lanes → new.editions ≡ old.editions
-    → IfOk result (λ judgement. judgement.edition ≡ published_count old) → IfOk result (λ judgement. after ≡ record (with_entry (judged_entry judgement) before) { tally = after.tally })
+    → IfOk result (λ judgement. judgement.edition ≡ published_count old) → IfOk result (λ judgement. after ≡ record (with_docket_entry (judged_entry judgement) before) { tally = after.tally })
     → OnErr result (after ≡ record before { tally = after.tally; failed = true }) → IsLaneOf old before → IsLaneOf new after
 IsLaneOf-after (Ok judgement) old new before after lanes editions numbered lane failed is =
     IsLaneOf-same old new after lanes editions (subst (λ (l : LaneValue). IsLaneOf old l) (sym lane) (IsLaneOf-judged old before judgement after.tally numbered is))
@@ -53,7 +53,7 @@ IsLaneOf-after (Err fault) old new before after lanes editions numbered lane fai
 
 -- what holds of every lane holds of it
 pub IsLane-after : (result : Result Judgement OutOfMemory) (old : WorldValue) (before after : LaneValue)
-    → IfOk result (λ judgement. judgement.edition ≡ published_count old) → IfOk result (λ judgement. after ≡ record (with_entry (judged_entry judgement) before) { tally = after.tally })
+    → IfOk result (λ judgement. judgement.edition ≡ published_count old) → IfOk result (λ judgement. after ≡ record (with_docket_entry (judged_entry judgement) before) { tally = after.tally })
     → OnErr result (after ≡ record before { tally = after.tally; failed = true }) → IsLaneOf old before → IsLane 1 before → IsLane (pending_of (is_ok result)) after
 IsLane-after (Ok judgement) old before after numbered lane failed of_world is =
     let below = subst (λ (n : ℕ). All (λ number. number ≤ n) (judged_editions before.docket.entries)) (sym numbered) of_world.judged in

@@ -9,7 +9,7 @@ use Rattle.fw_rule.specs.declared.command.Command.{Command}
 use Rattle.rule_chain.specs.Configuration.{Configuration}
 use Rattle.state_journal.specs.Journal.{IsJournal}
 use Rattle.fw_world.specs.Asks.{AreOfLanes}
-use Rattle.fw_world.specs.Closing.{AreLanesFrom, EachStandsFor, record_of, LaneRises, IsLegalButSections}
+use Rattle.fw_world.specs.Closing.{AreLanesFrom, EachStandsFor, record_of_world, LaneRises, IsLegalButSections}
 use Rattle.fw_world.specs.Editions.{AreEditions}
 use Rattle.fw_world.specs.Inputs.{Input}
 use Rattle.fw_world.specs.Lane.{LaneValue}
@@ -66,26 +66,26 @@ module _ (world : WorldValue) (lanes : List LaneValue) (first : Configuration) (
     replied = subst (λ (facts : List Facts). journal.IsLawfulFrom journal.no_states facts world.journal.entries) (sym is.factual) book.lawful;
   }
 
-  lane_stands : EachLane (LaneStands (record_of world lanes)) 1 inputs (record_of world lanes).dockets (record_of world lanes).tallies (record_of world lanes).trackers
-  lane_stands = each_lane (LaneStands (record_of world lanes)) (IsLane 0) world 1 lanes inputs are stands (λ lane met of_world one stand. stand) kept
+  lane_stands : EachLane (LaneStands (record_of_world world lanes)) 1 inputs (record_of_world world lanes).dockets (record_of_world world lanes).tallies (record_of_world world lanes).trackers
+  lane_stands = each_lane (LaneStands (record_of_world world lanes)) (IsLane 0) world 1 lanes inputs are stands (λ lane met of_world one stand. stand) kept
 
   of_lanes : AreOfLanes (length inputs) world.journal.entries
   of_lanes = subst (λ (n : ℕ). AreOfLanes n world.journal.entries) (sym (as_many world lanes inputs stands ∙ all)) is.asked
 
   -- the record is legal where no lane is loose
-  pub IsLegal-record : AllByRecursion (λ (lane : LaneValue). lane.loose ≡ 0) lanes → IsLegal first commands inputs (record_of world lanes)
+  pub IsLegal-record : AllByRecursion (λ (lane : LaneValue). lane.loose ≡ 0) lanes → IsLegal first commands inputs (record_of_world world lanes)
   IsLegal-record none = record {
     editions = editions;
     published = is.published_once;
     lawful = lawful;
     lanes = lane_stands;
     asked = of_lanes;
-    sections = each_lane (LaneCounts (record_of world lanes)) (λ lane. IsLane 0 lane × (lane.loose ≡ 0)) world 1 lanes inputs are stands (λ lane met of_world one stand. AreSections-lane world lane of_world one.0 one.1)
+    sections = each_lane (LaneCounts (record_of_world world lanes)) (λ lane. IsLane 0 lane × (lane.loose ≡ 0)) world 1 lanes inputs are stands (λ lane met of_world one stand. AreSections-lane world lane of_world one.0 one.1)
         (both (IsLane 0) (λ lane. lane.loose ≡ 0) lanes kept none);
   }
 
   -- and but for the count of sections in any case
-  pub IsLegalButSections-record : IsLegalButSections first commands inputs (record_of world lanes)
+  pub IsLegalButSections-record : IsLegalButSections first commands inputs (record_of_world world lanes)
   IsLegalButSections-record = record {
     editions = editions;
     published = is.published_once;

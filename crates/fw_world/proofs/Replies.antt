@@ -11,7 +11,7 @@ use Rattle.dyn_states.specs.declared.op.Op.TheVariants.{Lookup, Install}
 use Rattle.dyn_states.specs.declared.reply.Reply.{Reply}
 use Rattle.dyn_states.specs.declared.reply.Reply.TheVariants.{Found, NotFound, Created, Exists, LimitReached, TableFull}
 use Rattle.dyn_states.specs.declared.state.State.{State}
-use Rattle.dyn_states.specs.StateObject.{StateObject, found_reply, lookup_reply, install_reply, or_full, full_reply, limit_reply, limit_count, considers, reply_of, raised}
+use Rattle.dyn_states.specs.StateObject.{StateObject, found_reply, lookup_reply, install_reply, or_full, full_reply, limit_reply, limit_count, considers, reply_of, object_at_second}
 use Rattle.eval_engine.specs.Standing.{is_reply_to, InstallsRuleOf}
 use Rattle.fw_rule.specs.declared.rule.Rule.{Rule}
 use Rattle.generation_store.specs.Published.{has_identity}
@@ -40,11 +40,11 @@ unfolding lookup_reply install_reply
 reply_answers o (Lookup flags flow second name) = found_answers flow flow flags second name _
 reply_answers o (Install flags flow second rule None name) =
     let op = Install flags flow second rule None name in
-    let now = raised o second in
+    let now = object_at_second o second in
     exists_answers op (list_any (considers flow (Named name)) now.states) (full_reply now) tt (full_answers op now (nat_le now.settings.max (length now.states)) (length now.states) tt tt)
 reply_answers o (Install flags flow second rule (Some limit) name) =
     let op = Install flags flow second rule (Some limit) name in
-    let now = raised o second in
+    let now = object_at_second o second in
     let count = limit_count now rule limit.0 flow in
     exists_answers op (list_any (considers flow (Named name)) now.states) (or_full now (limit_reply now rule (Some limit) flow)) tt
     (limit_answers op now (nat_le limit.1 count) count tt (full_answers op now (nat_le now.settings.max (length now.states)) (length now.states) tt tt))

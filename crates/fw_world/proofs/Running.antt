@@ -6,7 +6,7 @@ use Rattle.std.proofs.lemmas.Option.{unwrap_or-slice_get}
 use Rattle.std.proofs.Math.Dec.{T}
 use Rattle.std.proofs.Math.Facts.{eqb_yes}
 use Rattle.std.specs.Prelude.{◌==◌, All, slice_set}
-use Rattle.counter_book.specs.Counts.{counted_under, raised, no_count}
+use Rattle.counter_book.specs.Counts.{counted_under, count_after_packet, no_count}
 use Rattle.counter_book.specs.declared.tally.Count.{Count}
 use Rattle.dyn_states.specs.declared.op.Op.{Op}
 use Rattle.dyn_states.specs.declared.reply.Reply.{Reply}
@@ -46,17 +46,17 @@ pub record IsReached {B : Type 0} (enters : B → Op → Reply → B → Type 0)
 
 -- the count under a number after one hit
 count_of-hit : (counts : List Count) (counter id : ℕ) (bytes : ℕ) → counter < length counts
-    → counted_under (slice_set counts counter (raised (counted_under counts counter) bytes)) id ≡ cond (counter == id) (raised (counted_under counts id) bytes) (counted_under counts id)
+    → counted_under (slice_set counts counter (count_after_packet (counted_under counts counter) bytes)) id ≡ cond (counter == id) (count_after_packet (counted_under counts id) bytes) (counted_under counts id)
 count_of-hit counts counter id bytes within = decided (counter == id) refl
   where
-    decided : (b : Bool) → b ≡ (counter == id) → counted_under (slice_set counts counter (raised (counted_under counts counter) bytes)) id ≡ cond b (raised (counted_under counts id) bytes) (counted_under counts id)
+    decided : (b : Bool) → b ≡ (counter == id) → counted_under (slice_set counts counter (count_after_packet (counted_under counts counter) bytes)) id ≡ cond b (count_after_packet (counted_under counts id) bytes) (counted_under counts id)
     decided true is =
         let same : counter ≡ id = eqb_yes (subst T is tt) in
-        subst (λ (k : ℕ). counted_under (slice_set counts counter (raised (counted_under counts counter) bytes)) k ≡ raised (counted_under counts k) bytes) same
-        (unwrap_or-slice_get _ counter no_count ∙ get_or-set_same counts counter (raised (counted_under counts counter) bytes) no_count within)
+        subst (λ (k : ℕ). counted_under (slice_set counts counter (count_after_packet (counted_under counts counter) bytes)) k ≡ count_after_packet (counted_under counts k) bytes) same
+        (unwrap_or-slice_get _ counter no_count ∙ get_or-set_same counts counter (count_after_packet (counted_under counts counter) bytes) no_count within)
     decided false is =
         let other : id ≢ counter = (λ (same : id ≡ counter). cc (eq-eqb counter id (sym same), is)) in
-        unwrap_or-slice_get _ id no_count ∙ get_or-set_other counts counter id (raised (counted_under counts counter) bytes) no_count other ∙ sym (unwrap_or-slice_get counts id no_count)
+        unwrap_or-slice_get _ id no_count ∙ get_or-set_other counts counter id (count_after_packet (counted_under counts counter) bytes) no_count other ∙ sym (unwrap_or-slice_get counts id no_count)
 
 -- counts after hits rise by them, where the tally is fitted for them
 pub RisesBy-after : (bytes : ℕ) (hits : List ℕ) (counts : List Count) → All (λ counter. counter < length counts) hits → RisesBy bytes hits counts (counts_after bytes hits counts)
@@ -64,7 +64,7 @@ unfolding counts_after
 RisesBy-after bytes [] counts within = λ id. refl
 RisesBy-after bytes (counter ∷ hits) counts within = λ id.
     let first : counter < length counts = within 0 counter (omega arith) in
-    let raise : Count = raised (counted_under counts counter) bytes in
+    let raise : Count = count_after_packet (counted_under counts counter) bytes in
     let rest : All (λ (k : ℕ). k < length (slice_set counts counter raise)) hits = (λ k d below. rw (length-set counts counter raise) (within (suc k) d (omega arith))) in
     RisesBy-after bytes hits (slice_set counts counter raise) rest id ∙ ap (raised_by bytes hits id) (count_of-hit counts counter id bytes first)
 

@@ -1,6 +1,6 @@
 -- The asks of one record, one after the other, of whoever asks the states for a lane.
 use Rattle.std.specs.Prelude.{◌≡◌, ℕ, ⊤, ◌==◌, if◌then◌else◌, List, [], ◌∷◌}
-use Rattle.counter_book.specs.Counts.{counted_under, raised}
+use Rattle.counter_book.specs.Counts.{counted_under, count_after_packet}
 use Rattle.counter_book.specs.declared.tally.Count.{Count}
 use Rattle.dyn_states.specs.declared.op.Op.{Op}
 use Rattle.dyn_states.specs.declared.op.Op.TheVariants.{Lookup, Install}
@@ -37,7 +37,7 @@ EntersEach {B} enters old (op ∷ ops) (reply ∷ replies) new = (next : B) × e
 -- a count after one packet of so many bytes for each of these counter numbers that is this one
 abbrev pub raised_by : ℕ → List ℕ → ℕ → Count → Count
 raised_by bytes [] id count = count
-raised_by bytes (counter ∷ hits) id count = raised_by bytes hits id (if counter == id then raised count bytes else count)
+raised_by bytes (counter ∷ hits) id count = raised_by bytes hits id (if counter == id then count_after_packet count bytes else count)
 
 -- the counts have risen by exactly these hits
 abbrev pub RisesBy : ℕ → List ℕ → List Count → List Count → Type 0

@@ -16,14 +16,14 @@ use Rattle.fw_world.specs.Sections.{judged_editions}
 use Rattle.fw_world.specs.World.{WorldValue, IsLaneOf, LaneStandsFor}
 
 -- a lane among these: before the first whose place isn't below its own
-abbrev pub among : LaneValue → List LaneValue → List LaneValue
-among lane [] = lane ∷ []
-among lane (first ∷ others) = if nat_le lane.place first.place then lane ∷ first ∷ others else first ∷ among lane others
+abbrev pub lanes_with : LaneValue → List LaneValue → List LaneValue
+lanes_with lane [] = lane ∷ []
+lanes_with lane (first ∷ others) = if nat_le lane.place first.place then lane ∷ first ∷ others else first ∷ lanes_with lane others
 
 -- these lanes in the order of their places
 abbrev pub by_place : List LaneValue → List LaneValue
 by_place [] = []
-by_place (lane ∷ lanes) = among lane (by_place lanes)
+by_place (lane ∷ lanes) = lanes_with lane (by_place lanes)
 
 -- the lanes are those of this world from this place on, each once, in the order of their places
 abbrev pub AreLanesFrom : WorldValue → ℕ → List LaneValue → Type 0
@@ -38,8 +38,8 @@ EachStandsFor world (lane ∷ lanes) [] = ⊥
 EachStandsFor world (lane ∷ lanes) (inputs ∷ others) = LaneStandsFor world lane inputs × EachStandsFor world lanes others
 
 -- the record of a world and its lanes
-abbrev pub record_of : WorldValue → List LaneValue → RecordValue
-record_of world lanes = record {
+abbrev pub record_of_world : WorldValue → List LaneValue → RecordValue
+record_of_world world lanes = record {
   editions = world.editions;
   journal = world.journal;
   dockets = map (λ lane. lane.docket) lanes;

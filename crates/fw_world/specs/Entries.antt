@@ -29,15 +29,15 @@ IsEntryFor at (Malformed kind) entered = entered ≡ entry.Malformed kind
 IsEntryFor at (Packet packet port second) entered = IsSome (judgement_in entered)
 
 -- the evaluation of a packet under an edition, with the replies to these asks
-abbrev pub evaluated : Published → AnyIp → Port → ℕ → List LaneAsk → Evaluated
-evaluated edition packet port second asks =
+abbrev pub evaluation_under : Published → AnyIp → Port → ℕ → List LaneAsk → Evaluated
+evaluation_under edition packet port second asks =
     evaluate (record { edition = edition; packet = packet; port = port; second = second }) (replies_of asks)
 
 -- With the replies to the record's asks the evaluation is whole, made exactly these asks, and came to this
 -- judgement.
 pub record IsEvaluation (edition : Published) (packet : AnyIp) (port : Port) (second : ℕ) (asks : List LaneAsk) (judgement : Judgement) : Type 0 where
-  pub outcome : (evaluated edition packet port second asks).outcome ≡ Whole judgement
-  pub asked : (evaluated edition packet port second asks).asks ≡ ops_of asks
+  pub outcome : (evaluation_under edition packet port second asks).outcome ≡ Whole judgement
+  pub asked : (evaluation_under edition packet port second asks).asks ≡ ops_of asks
 
 -- the packet was evaluated to this judgement, under the edition that it names
 abbrev pub IsEvaluatedTo : List Published → AnyIp → Port → ℕ → List LaneAsk → Judgement → Type 0

@@ -46,15 +46,15 @@ one_looser false loose = loose
 one_looser true loose = min (loose + 1) (2 ^ 64 - 1)
 
 -- the lane began a section: it is in, under the edition that it holds
-abbrev pub entered : LaneValue → InsideValue
-entered lane = record {
+abbrev pub inside_after_entry : LaneValue → InsideValue
+inside_after_entry lane = record {
   lane = record lane { tracker = (lane.tracker + 2) % 2 ^ 64; loose = one_looser (is_some lane.refusal) lane.loose };
   judged = false;
 }
 
 -- the lane began a section and was refused with the number that was published
-abbrev pub refused : ℕ → LaneValue → LaneValue
-refused published lane = record lane {
+abbrev pub lane_after_refusal : ℕ → LaneValue → LaneValue
+lane_after_refusal published lane = record lane {
   tracker = (lane.tracker + 2) % 2 ^ 64;
   docket = record lane.docket { refused = (lane.docket.refused + 1) % 2 ^ 64 };
   refusal = Some published;
@@ -62,24 +62,24 @@ refused published lane = record lane {
 }
 
 -- the lane left its section
-abbrev pub left : InsideValue → LaneValue
-left inside = record inside.lane { loose = one_looser (not inside.judged) inside.lane.loose }
+abbrev pub lane_after_leave : InsideValue → LaneValue
+lane_after_leave inside = record inside.lane { loose = one_looser (not inside.judged) inside.lane.loose }
 
 -- the lane regained what was published
-abbrev pub regained : ℕ → LaneValue → LaneValue
-regained published lane = record lane { number = published; refusal = None }
+abbrev pub lane_after_regain : ℕ → LaneValue → LaneValue
+lane_after_regain published lane = record lane { number = published; refusal = None }
 
 -- the lane tried to begin a section
-abbrev pub tried : ℕ → LaneValue → LaneValue
-tried published lane = if lane.number == published then (entered lane).lane else refused published lane
+abbrev pub lane_after_try : ℕ → LaneValue → LaneValue
+lane_after_try published lane = if lane.number == published then (inside_after_entry lane).lane else lane_after_refusal published lane
 
 -- how often a lane that no refusal stands against is refused until it is in
 abbrev pub refusals : ℕ → LaneValue → ℕ
 refusals published lane = if lane.number == published then 0 else 1
 
 -- the lane is in, under what is published; where it was refused it regained first
-abbrev pub admitted : ℕ → LaneValue → LaneValue
-admitted published lane = record lane {
+abbrev pub lane_after_admission : ℕ → LaneValue → LaneValue
+lane_after_admission published lane = record lane {
   number = published;
   refusal = None;
   tracker = (lane.tracker + 2 * (refusals published lane + 1)) % 2 ^ 64;
@@ -87,5 +87,5 @@ admitted published lane = record lane {
 }
 
 -- the lane's docket with one entry more
-abbrev pub with_entry : DocketEntry → LaneValue → LaneValue
-with_entry entry lane = record lane { docket = record lane.docket { entries = lane.docket.entries ++ entry ∷ [] } }
+abbrev pub with_docket_entry : DocketEntry → LaneValue → LaneValue
+with_docket_entry entry lane = record lane { docket = record lane.docket { entries = lane.docket.entries ++ entry ∷ [] } }

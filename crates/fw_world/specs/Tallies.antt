@@ -9,7 +9,7 @@ use Rattle.generation_store.specs.Published.{Published}
 use Rattle.eval_engine.specs.declared.docket_entry.DocketEntry.{DocketEntry}
 use Rattle.fw_world.specs.Asks.{LaneAsk, asks_of_record}
 use Rattle.fw_world.specs.Editions.{judging_edition}
-use Rattle.fw_world.specs.Entries.{evaluated}
+use Rattle.fw_world.specs.Entries.{evaluation_under}
 use Rattle.fw_world.specs.Inputs.{Input, Other, Malformed, Packet}
 
 -- a counter number, and the packet's bytes
@@ -24,7 +24,7 @@ hits_under bytes counters = map (λ counter. record { counter = counter; bytes =
 -- the hits of a packet's evaluation under an edition
 abbrev pub packet_hits : Option Published → AnyIp → Port → ℕ → List LaneAsk → List Hit
 packet_hits None packet port second asks = []
-packet_hits (Some edition) packet port second asks = hits_under (total_of packet) (evaluated edition packet port second asks).hits
+packet_hits (Some edition) packet port second asks = hits_under (total_of packet) (evaluation_under edition packet port second asks).hits
 
 -- those of a record, under the edition that its entry names
 abbrev pub record_hits : List Published → List LaneAsk → ℕ → Input → DocketEntry → List Hit

@@ -23,7 +23,7 @@ pub record IsWorld (world : WorldValue) : Type 0 where
   pub still : world.journal.ready ≡ false
 
 -- a world of so many lanes that shows this configuration as edition 1
-pub record IsOpened (config : Configuration) (lanes : ℕ) (world : WorldValue) : Type 0 where
+pub record IsNewWorld (config : Configuration) (lanes : ℕ) (world : WorldValue) : Type 0 where
   pub edition : Published
   pub built : IsBuilt 1 config edition
   pub editions : world.editions ≡ edition ∷ []

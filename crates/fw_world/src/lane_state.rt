@@ -4,7 +4,7 @@ ghost use Rattle.eval_engine.specs.Dockets.{judged_entry};
 ghost use Rattle.generation_store.specs.Published.{has_identity};
 ghost use Rattle.fw_world.specs.AskRuns.{Evaluates, AsksSome};
 ghost use Rattle.fw_world.specs.Lane as lanes;
-ghost use Rattle.fw_world.specs.Lane.{first_lane, tried, admitted, regained, with_entry};
+ghost use Rattle.fw_world.specs.Lane.{first_lane, lane_after_try, lane_after_admission, lane_after_regain, with_docket_entry};
 
 use crate::asks_book::AsksBook;
 use crate::lane_work::LaneWork;
@@ -72,7 +72,7 @@ impl LaneState {
     /// Begins a section: the lane is in where its number is the published one, and else is refused.
     pub(crate) fn enter(&mut self, published: u64) -> bool
         ensures in_it { result ≡ (self.old.number == published) }
-        ensures lane { self.new ≡ tried published self.old }
+        ensures lane { self.new ≡ lane_after_try published self.old }
     {
         self.tracker = self.tracker.wrapping_add(2);
         self.work.loosen(self.refusal.is_some());
@@ -87,7 +87,7 @@ impl LaneState {
 
     /// Takes up what is published.
     pub(crate) fn regain(&mut self, published: u64)
-        ensures { self.new ≡ regained published self.old }
+        ensures { self.new ≡ lane_after_regain published self.old }
     {
         self.number = published;
         self.refusal = None;
@@ -96,7 +96,7 @@ impl LaneState {
     /// Begins a section; where it is refused it regains and begins another.
     pub(crate) fn admit(&mut self, published: u64)
         requires { self.old.refusal ≡ None }
-        ensures { self.new ≡ admitted published self.old }
+        ensures { self.new ≡ lane_after_admission published self.old }
     {
         if !self.enter(published) {
             self.regain(published);
@@ -106,14 +106,14 @@ impl LaneState {
 
     /// Leaves the section, in which a packet was judged or not.
     pub(crate) fn leave(&mut self, judged: bool)
-        ensures { self.new ≡ lanes.left (record { lane = self.old; judged = judged }) }
+        ensures { self.new ≡ lanes.lane_after_leave (record { lane = self.old; judged = judged }) }
     {
         self.work.loosen(!judged);
     }
 
     /// Enters a record that isn't judged. Where memory is wanted the lane has failed.
     pub(crate) fn skip(&mut self, entry: DocketEntry) -> Result<(), OutOfMemory>
-        ensures entered { OnOk result (self.new ≡ with_entry entry self.old) }
+        ensures entered { OnOk result (self.new ≡ with_docket_entry entry self.old) }
         ensures working { OnOk result (self.old.failed ≡ false) }
         ensures failed { OnErr result (self.new ≡ record self.old { failed = true }) }
     {
@@ -138,7 +138,7 @@ impl LaneState {
             book.new
             (record { edition = edition.now; packet = packet.now; port = port.now; second = second }) self.old.tally self.new.tally) }
         ensures lane { IfOk result (λ judgement. self.new
-            ≡ record (with_entry (judged_entry judgement) self.old) { tally = self.new.tally }) }
+            ≡ record (with_docket_entry (judged_entry judgement) self.old) { tally = self.new.tally }) }
         ensures working { OnOk result (self.old.failed ≡ false) }
         ensures asked { AsksSome (λ old op reply new.
             B.enters old self.old.place (length self.old.docket.entries + 1) op reply new) book.old

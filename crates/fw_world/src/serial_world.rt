@@ -2,7 +2,7 @@ ghost use Rattle.std.specs.Prelude.{◌≡◌, ℕ, ◌+◌, ◌≤◌, ◌++◌
 ghost use Rattle.std.specs.List.{list_any, AllByRecursion};
 ghost use Rattle.fw_rule.specs.declared.command.Command.{Command};
 ghost use Rattle.rule_chain.specs.Configuration.{Configuration};
-ghost use Rattle.fw_world.specs.Closing.{AreLanesFrom, by_place, EachStandsFor, record_of, IsLegalButSections};
+ghost use Rattle.fw_world.specs.Closing.{AreLanesFrom, by_place, EachStandsFor, record_of_world, IsLegalButSections};
 ghost use Rattle.fw_world.specs.Columns.{no_columns};
 ghost use Rattle.fw_world.specs.Legal.{IsLegal};
 ghost use Rattle.eval_engine.specs.Dockets.{judged_entry};
@@ -10,7 +10,7 @@ ghost use Rattle.fw_rule.specs.WellFormed.{IsWellFormed};
 ghost use Rattle.rule_chain.specs.Changing.{IsChanging};
 ghost use Rattle.fw_world.specs.Inputs.{Input, Packet};
 ghost use Rattle.fw_world.specs.Lane as lanes;
-ghost use Rattle.fw_world.specs.Lane.{LaneValue, first_lanes, regained, admitted, with_entry};
+ghost use Rattle.fw_world.specs.Lane.{LaneValue, first_lanes, lane_after_regain, lane_after_admission, with_docket_entry};
 ghost use Rattle.fw_world.specs.Skips.{entry_for, skipped_input};
 ghost use Rattle.fw_world.specs.Steps.{Judges, ChangesAsksOf, Publishes};
 ghost use Rattle.fw_world.specs.CommitFaults.{IsCauseOf};
@@ -18,7 +18,7 @@ ghost use Rattle.fw_world.specs.LaneKept.{IsLane, pending_of};
 ghost use Rattle.fw_world.specs.SerialEntries.{entry_of};
 ghost use Rattle.fw_world.specs.Committing.{IsCommitFault};
 ghost use Rattle.fw_world.specs.World.{WorldValue, published_count, IsLaneOf, LaneStandsFor, DeskStandsFor};
-ghost use Rattle.fw_world.specs.WorldKept.{IsOpened};
+ghost use Rattle.fw_world.specs.WorldKept.{IsNewWorld};
 
 use crate::columns::Columns;
 use crate::editions::{last_edition, next_edition, share, store_of};
@@ -91,7 +91,7 @@ impl SerialWorld {
     pub fn open(alloc: Global, config: Config, lanes: u32) -> Result<OpenSerial, OutOfMemory>
         requires least { 1 ≤ lanes }
         requires most { lanes ≤ MOST_LANES }
-        ensures world { IfOk result (λ opened. IsOpened config lanes opened.world) }
+        ensures world { IfOk result (λ opened. IsNewWorld config lanes opened.world) }
         ensures lanes { IfOk result (λ opened. opened.lanes.items ≡ first_lanes 1 lanes) }
         ensures desk { IfOk result (λ opened. opened.desk ≡ opened.world.editions) }
     {
@@ -129,7 +129,7 @@ impl SerialWorld {
             Judges self.old self.new lane.old.place (length lane.old.docket.entries + 1) packet.now
             port.now second lane.old.tally lane.new.tally judgement) }
         ensures lane { IfOk result (λ judgement. lane.new
-            ≡ record (with_entry (judged_entry judgement) lane.old) { tally = lane.new.tally }) }
+            ≡ record (with_docket_entry (judged_entry judgement) lane.old) { tally = lane.new.tally }) }
         ensures working { OnOk result (lane.old.failed ≡ false) }
         ensures asks { ChangesAsksOf lane.old.place self.old self.new }
         ensures stands { OnOk result ((inputs : List Input) → LaneStandsFor self.old lane.old inputs
@@ -168,7 +168,7 @@ impl SerialWorld {
 
     /// Ends the section.
     pub fn leave(&mut self, inside: SerialInside) -> SerialLane
-        ensures lane { result ≡ lanes.left inside }
+        ensures lane { result ≡ lanes.lane_after_leave inside }
         ensures world { self.new ≡ self.old }
     {
         let SerialInside { mut state, judged } = inside;
@@ -180,7 +180,7 @@ impl SerialWorld {
     pub fn regain(&mut self, lane: SerialLane) -> SerialLane
         requires of_world { IsLaneOf self.old lane }
         requires refused { IsSome lane.refusal }
-        ensures lane { result ≡ regained (published_count self.old) lane }
+        ensures lane { result ≡ lane_after_regain (published_count self.old) lane }
         ensures world { self.new ≡ self.old }
     {
         let published = self.published();
@@ -205,7 +205,7 @@ impl SerialWorld {
             Judges self.old self.new inside.lane.place (length inside.lane.docket.entries + 1)
             packet.now port.now second inside.lane.tally result.0.lane.tally judgement) }
         ensures lane { IfOk result.1 (λ judgement. result.0
-            ≡ record { lane = record (with_entry (judged_entry judgement) inside.lane) { tally = result.0.lane.tally }; judged = true }) }
+            ≡ record { lane = record (with_docket_entry (judged_entry judgement) inside.lane) { tally = result.0.lane.tally }; judged = true }) }
         ensures working { OnOk result.1 (inside.lane.failed ≡ false) }
         ensures stands { OnOk result.1 ((inputs : List Input)
             → LaneStandsFor self.old inside.lane inputs
@@ -244,7 +244,7 @@ impl SerialWorld {
             Judges self.old self.new lane.old.place (length lane.old.docket.entries + 1) packet.now
             port.now second lane.old.tally lane.new.tally judgement) }
         ensures lane { IfOk result (λ judgement. lane.new
-            ≡ record (with_entry (judged_entry judgement) (admitted (published_count self.old)
+            ≡ record (with_docket_entry (judged_entry judgement) (lane_after_admission (published_count self.old)
             lane.old)) { tally = lane.new.tally }) }
         ensures working { OnOk result (lane.old.failed ≡ false) }
         ensures stands { OnOk result ((inputs : List Input) → LaneStandsFor self.old lane.old inputs
@@ -253,7 +253,7 @@ impl SerialWorld {
         ensures of_world { IsLaneOf self.new lane.new }
         ensures heeded { lane.new.refusal ≡ None }
         ensures failed { OnErr result (lane.new
-            ≡ record (admitted (published_count self.old) lane.old) {
+            ≡ record (lane_after_admission (published_count self.old) lane.old) {
               tally = lane.new.tally;
               failed = true;
               loose = lanes.one_looser true lane.old.loose;
@@ -350,7 +350,7 @@ impl SerialWorld {
         lane: SerialLane,
         entry: Skipped,
     ) -> (SerialLane, Result<(), OutOfMemory>)
-        ensures lane { OnOk result.1 (result.0 ≡ with_entry (entry_for entry) lane) }
+        ensures lane { OnOk result.1 (result.0 ≡ with_docket_entry (entry_for entry) lane) }
         ensures working { OnOk result.1 (lane.failed ≡ false) }
         ensures stands { OnOk result.1 ((inputs : List Input) → LaneStandsFor self.old lane inputs
             → LaneStandsFor self.old result.0 (inputs ++ skipped_input entry ∷ [])) }
@@ -365,7 +365,7 @@ impl SerialWorld {
 
     /// The same, where the lane stays in its place.
     pub fn pass_over(&mut self, lane: &mut SerialLane, entry: Skipped) -> Result<(), OutOfMemory>
-        ensures lane { OnOk result (lane.new ≡ with_entry (entry_for entry) lane.old) }
+        ensures lane { OnOk result (lane.new ≡ with_docket_entry (entry_for entry) lane.old) }
         ensures working { OnOk result (lane.old.failed ≡ false) }
         ensures stands { OnOk result ((inputs : List Input) → LaneStandsFor self.old lane.old inputs
             → LaneStandsFor self.old lane.new (inputs ++ skipped_input entry ∷ [])) }
@@ -383,16 +383,16 @@ impl SerialWorld {
         requires all { length lanes.items ≡ self.journal.lanes }
         requires desk { desk ≡ self.editions }
         ensures failed { is_err result ≡ list_any (λ lane. lane.failed) lanes.items }
-        ensures exact { IfOk result (λ r. r ≡ record_of self (by_place lanes.items)) }
+        ensures exact { IfOk result (λ r. r ≡ record_of_world self (by_place lanes.items)) }
         ensures legal { OnOk result
             ((first : Configuration) (commands : List Command) (inputs : List (List Input))
             → DeskStandsFor desk first commands → EachStandsFor self (by_place lanes.items) inputs
             → AllByRecursion (λ lane. lane.loose ≡ 0) lanes.items
-            → IsLegal first commands inputs (record_of self (by_place lanes.items))) }
+            → IsLegal first commands inputs (record_of_world self (by_place lanes.items))) }
         ensures nearly { OnOk result
             ((first : Configuration) (commands : List Command) (inputs : List (List Input))
             → DeskStandsFor desk first commands → EachStandsFor self (by_place lanes.items) inputs
-            → IsLegalButSections first commands inputs (record_of self (by_place lanes.items))) }
+            → IsLegalButSections first commands inputs (record_of_world self (by_place lanes.items))) }
     {
         if any_failed(&lanes) {
             return Err(OutOfMemory);

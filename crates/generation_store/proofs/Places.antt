@@ -10,7 +10,7 @@ use Rattle.std.specs.List.Sorted.{IsPermutation, IsNonDecreasing, IsNonDecreasin
 use Rattle.fw_rule.specs.declared.rule.Rule.{Rule}
 use Rattle.rule_chain.specs.Chain.{AscendsFrom, HaveOwnIds}
 use Rattle.dyn_states.specs.RuleLists.{has_id}
-use Rattle.generation_store.specs.Published.{is_identity, has_identity, place_of}
+use Rattle.generation_store.specs.Published.{is_identity, has_identity, place_of_rule}
 use Rattle.generation_store.specs.Indexed.{some_place}
 use Rattle.generation_store.specs.Placing.{identity_of, place_alone, placed_from, ArePlaced}
 use Rattle.generation_store.specs.declared.placed.Placed.{Placed}
@@ -50,13 +50,13 @@ each_stands place (r ∷ rules) own =
     let first : position_or_len (is_identity r.id) (r ∷ rules) ≡ 0 = rw itself refl in
     (record { at = omega arith; within = omega arith }, all_later r rules place (placed_from (place + 1) rules) (others (place + 1) r.id rules own.0) (each_stands (place + 1) rules own.1))
 
-found_at : (rules : List Rule) (p : Placed) → Stands rules 0 p → place_of p.identity rules ≡ Some p.place
+found_at : (rules : List Rule) (p : Placed) → Stands rules 0 p → place_of_rule p.identity rules ≡ Some p.place
 found_at rules p stands =
     let at : position_or_len (is_identity p.identity) rules ≡ p.place = let a = stands.at in omega arith in
     let within : nat_lt (position_or_len (is_identity p.identity) rules) (length rules) ≡ true = let w = stands.within in grind (arith, nat_tests) in
     rw within (ap Some at)
 
-all_found : (rules : List Rule) (ps : List Placed) → AllByRecursion (Stands rules 0) ps → AllByRecursion (λ p. place_of p.identity rules ≡ Some p.place) ps
+all_found : (rules : List Rule) (ps : List Placed) → AllByRecursion (Stands rules 0) ps → AllByRecursion (λ p. place_of_rule p.identity rules ≡ Some p.place) ps
 all_found rules [] stand = tt
 all_found rules (p ∷ ps) stand = (found_at rules p stand.0, all_found rules ps stand.1)
 
@@ -111,25 +111,25 @@ placed_in_order rules sorted up own moved rising =
     record {
       ascending = rule_list (map identity_of sorted) strict (same 0 ∙ has_last 1 rules up);
       whole = same;
-      found = All-permutation (λ p. place_of p.identity rules ≡ Some p.place) (placed_from 0 rules) sorted moved (All-from_recursion (λ p. place_of p.identity rules ≡ Some p.place) (placed_from 0 rules) (all_found rules (placed_from 0 rules) (each_stands 0 rules own)));
+      found = All-permutation (λ p. place_of_rule p.identity rules ≡ Some p.place) (placed_from 0 rules) sorted moved (All-from_recursion (λ p. place_of_rule p.identity rules ≡ Some p.place) (placed_from 0 rules) (all_found rules (placed_from 0 rules) (each_stands 0 rules own)));
     }
 
 -- the places alone are those of the identities alone
-pub places_of_ids : (rules : List Rule) (ps : List Placed) → All (λ p. place_of p.identity rules ≡ Some p.place) ps → map some_place (map place_alone ps) ≡ map (λ id. place_of id rules) (map identity_of ps)
+pub places_of_ids : (rules : List Rule) (ps : List Placed) → All (λ p. place_of_rule p.identity rules ≡ Some p.place) ps → map some_place (map place_alone ps) ≡ map (λ id. place_of_rule id rules) (map identity_of ps)
 places_of_ids rules [] found = refl
 places_of_ids rules (p ∷ ps) found =
-    let first : place_of p.identity rules ≡ Some p.place = found 0 p (omega arith) in
+    let first : place_of_rule p.identity rules ≡ Some p.place = found 0 p (omega arith) in
     let rest = places_of_ids rules ps (λ k d within. found (suc k) d (omega arith)) in
     rw (first, rest) refl
 
 -- the place at an index
-pub place_at : (rules : List Rule) (places ids : List ℕ) (i d : ℕ) → map some_place places ≡ map (λ id. place_of id rules) ids → i < length ids → place_of (get_or ids i 0) rules ≡ Some (get_or places i d)
+pub place_at : (rules : List Rule) (places ids : List ℕ) (i d : ℕ) → map some_place places ≡ map (λ id. place_of_rule id rules) ids → i < length ids → place_of_rule (get_or ids i 0) rules ≡ Some (get_or places i d)
 place_at rules [] [] i d same within = absurd (omega arith)
 place_at rules [] (id ∷ ids) i d same within = cc
 place_at rules (place ∷ places) [] i d same within = absurd (omega arith)
 place_at rules (place ∷ places) (id ∷ ids) zero d same within = cc
 place_at rules (place ∷ places) (id ∷ ids) (suc i) d same within =
-    let rest : map some_place places ≡ map (λ id. place_of id rules) ids = cc in
+    let rest : map some_place places ≡ map (λ id. place_of_rule id rules) ids = cc in
     place_at rules places ids i d rest (omega arith)
 
 -- an identity that no rule has is found nowhere
@@ -145,7 +145,7 @@ nowhere (r ∷ rules) id none =
     or_false false b is = (refl, is)
 
 -- no place of an identity that no rule has
-pub no_place_of : (rules : List Rule) (id : ℕ) → has_identity rules id ≡ false → place_of id rules ≡ None
+pub no_place_of : (rules : List Rule) (id : ℕ) → has_identity rules id ≡ false → place_of_rule id rules ≡ None
 no_place_of rules id none =
     let at = nowhere rules id none in
     let out : nat_lt (position_or_len (is_identity id) rules) (length rules) ≡ false = grind (arith, nat_tests) in

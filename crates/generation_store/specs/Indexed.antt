@@ -5,7 +5,7 @@ use Rattle.fw_rule.specs.declared.rule.Rule.{Rule}
 use Rattle.rule_gates.specs.Gates.{AreGates}
 use Rattle.generation_store.specs.declared.index.Index.{Index}
 use Rattle.generation_store.specs.Jumps.{jumps_of}
-use Rattle.generation_store.specs.Published.{Published, AreFacts, place_of, flow_name}
+use Rattle.generation_store.specs.Published.{Published, AreFacts, place_of_rule, flow_name}
 
 -- the place of the rule of an identity, where there is one
 abbrev pub some_place : ℕ → Option ℕ
@@ -15,7 +15,7 @@ some_place place = Some place
 -- identity, the flow name that each rule looks up, and a gate for each rule.
 pub record IsIndexOf (rules : List Rule) (names : List (List ℕ)) (identities : List ℕ) (index : Index) : Type 0 where
   pub jumping : index.jumps.items ≡ jumps_of rules
-  pub placing : map some_place index.places.items ≡ map (λ id. place_of id rules) identities
+  pub placing : map some_place index.places.items ≡ map (λ id. place_of_rule id rules) identities
   pub naming : index.names.items ≡ map (flow_name names) rules
   pub gating : AreGates rules (arc_value index.gates).items
 

@@ -3,7 +3,7 @@ use Rattle.std.specs.Prelude.{◌≡◌, ℕ, ◌+◌, true, Some, List, [], ◌
 use Rattle.fw_rule.specs.declared.rule.Rule.{Rule}
 use Rattle.dyn_states.specs.Facts.{is_rule_list}
 use Rattle.dyn_states.specs.RuleLists.{has_id}
-use Rattle.generation_store.specs.Published.{has_identity, place_of}
+use Rattle.generation_store.specs.Published.{has_identity, place_of_rule}
 use Rattle.generation_store.specs.declared.placed.Placed.{Placed}
 
 -- the identity of a rule with its place
@@ -23,4 +23,4 @@ placed_from place (rule ∷ rules) = record { identity = rule.id; place = place 
 pub record ArePlaced (rules : List Rule) (placed : List Placed) : Type 0 where
   pub ascending : is_rule_list (map identity_of placed) ≡ true
   pub whole : (id : ℕ) → has_id (map identity_of placed) id ≡ has_identity rules id
-  pub found : All (λ p. place_of p.identity rules ≡ Some p.place) placed
+  pub found : All (λ p. place_of_rule p.identity rules ≡ Some p.place) placed

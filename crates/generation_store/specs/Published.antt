@@ -4,7 +4,7 @@ use Rattle.std.specs.List.{list_any}
 use Rattle.fw_rule.specs.Values.{values_of}
 use Rattle.fw_rule.specs.declared.rule.Rule.{Rule}
 use Rattle.rule_chain.specs.Configuration.{Configuration}
-use Rattle.rule_chain.specs.Names.{name_of, number_of}
+use Rattle.rule_chain.specs.Names.{name_of, number_of_name}
 use Rattle.dyn_states.specs.RuleLists.{has_id}
 use Rattle.dyn_states.specs.declared.facts.Facts.{Facts}
 use Rattle.dyn_states.specs.declared.op.FlowName.{FlowName}
@@ -36,13 +36,13 @@ abbrev pub IsEdition : Published → Type 0
 IsEdition edition = AreFacts edition.number edition.config edition.facts
 
 -- the place of the rule of this identity
-abbrev pub place_of : ℕ → List Rule → Option ℕ
-place_of id rules = position (is_identity id) rules
+abbrev pub place_of_rule : ℕ → List Rule → Option ℕ
+place_of_rule id rules = position (is_identity id) rules
 
 -- a name by its number among the flow names; `:any`, which has none, is every name
 abbrev pub numbered_name : List (List ℕ) → Option (List ℕ) → FlowName
 numbered_name names None = Any
-numbered_name names (Some name) = Named (number_of names name)
+numbered_name names (Some name) = Named (number_of_name names name)
 
 -- the flow name that a rule looks up (ipfw(8), "STATEFUL FIREWALL")
 abbrev pub flow_name : List (List ℕ) → Rule → FlowName

@@ -142,7 +142,7 @@ impl Edition {
 
     /// The place of the rule of this identity; `None` exactly where there is none.
     pub fn place_of(&self, id: u32) -> Option<usize>
-        ensures { result ≡ spec.place_of id self.now.config.rules }
+        ensures { result ≡ spec.place_of_rule id self.now.config.rules }
     {
         match self.facts.rules.as_slice().binary_search(&id) {
             Ok(index) => Some(self.index.places[index] as usize),

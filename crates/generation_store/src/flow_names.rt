@@ -61,7 +61,7 @@ fn place_in(names: &[Name], name: &Name) -> Option<usize>
 
 /// The number of the name: its place among the flow names.
 fn number_of(names: &[Name], name: &Name) -> usize
-    ensures { result ≡ rule_names.number_of names.now name.now }
+    ensures { result ≡ rule_names.number_of_name names.now name.now }
 {
     place_in(names, name).unwrap_or(names.len())
 }

@@ -5,7 +5,7 @@ use Rattle.fw_base.specs.declared.link.Link.{Link}
 use Rattle.fw_base.specs.declared.link.Link.TheVariants.{Null, Ethernet, Raw, Cooked}
 use Rattle.packet_headers.specs.Octets.{two_octets, four_octets}
 use Rattle.packet_headers.specs.Reading as ipv4
-use Rattle.packet_headers.specs.Reading.{version, vlan_type, read}
+use Rattle.packet_headers.specs.Reading.{version, vlan_type, reading_of_frame}
 use Rattle.ip6_headers.specs.declared.any_ip.AnyIp.TheVariants.{Four, Six}
 use Rattle.ip6_headers.specs.declared.any_packet.AnyPacket.{AnyPacket}
 use Rattle.ip6_headers.specs.declared.any_packet.AnyPacket.TheVariants.{Ip, Other, Malformed}
@@ -98,7 +98,7 @@ of_ipv4 (ipv4.Malformed kind) = Malformed kind
 -- IPv6 by its link header, else whatever it is without IPv6
 abbrev pub read_either : Option (List ℕ) → Link → List ℕ → AnyPacket
 read_either (Some packet) link bytes = read_ipv6 packet
-read_either None link bytes = of_ipv4 (read link bytes)
+read_either None link bytes = of_ipv4 (reading_of_frame link bytes)
 
 -- a captured frame: IPv6, IPv4, malformed or other
 unfoldable pub read_any : Link → List ℕ → AnyPacket

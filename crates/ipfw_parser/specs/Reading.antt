@@ -70,8 +70,8 @@ first end [] = fault_at end MissingWord
 first end (word ∷ words) = Ok (word, words)
 
 -- the next word is this one
-unfoldable pub expected : List ℕ → ℕ → List Word → Result (List Word) Fault
-expected name end words = do
+unfoldable pub words_behind_word : List ℕ → ℕ → List Word → Result (List Word) Fault
+words_behind_word name end words = do
   next ← first end words
   if same next.0.text name then Ok next.1 else fault_at next.0.column UnknownWord
 

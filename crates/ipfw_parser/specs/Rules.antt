@@ -10,7 +10,7 @@ use Rattle.fw_rule.specs.declared.rule_draft.RuleDraft.{RuleDraft}
 use Rattle.fw_lex.specs.declared.token.Token.{Token}
 use Rattle.fw_lex.specs.Words.{before_comment}
 use Rattle.ipfw_parser.specs.declared.kind.Kind.TheVariants.{UnknownWord, ExtraWord}
-use Rattle.ipfw_parser.specs.Reading.{Word, Fault, WordReading, fault_at, ◌>>=◌, same, first, expected, word_at}
+use Rattle.ipfw_parser.specs.Reading.{Word, Fault, WordReading, fault_at, ◌>>=◌, same, first, words_behind_word, word_at}
 use Rattle.ipfw_parser.specs.Numbers.{number, starts_with_digit, set_number}
 use Rattle.ipfw_parser.specs.Names.{code, starts_with_colon, is_any_flow, named_flow}
 use Rattle.ipfw_parser.specs.Addresses.{addr_spec}
@@ -116,10 +116,10 @@ unfoldable pub body : ℕ → List Word → Result Body Fault
 body end words = do
   next ← first end words
   protocol_number ← protocol next.0
-  from_end ← expected (codes "from") end next.1
+  from_end ← words_behind_word (codes "from") end next.1
   source ← addr_spec end from_end
   ports ← source_ports end source.1
-  to_end ← expected (codes "to") end ports.1
+  to_end ← words_behind_word (codes "to") end ports.1
   target ← addr_spec end to_end
   target_ports ← destination_ports end target.1
   placed ← options (length target_ports.1) end false target_ports.1

@@ -15,10 +15,10 @@ use fw_rule::{Action, Body, Family, RuleDraft};
 use std::alloc::Global;
 
 /// The words behind the next one, which is this word.
-#[tactic(auto, unfolding(crate::specs::Reading::expected))]
+#[tactic(auto, unfolding(crate::specs::Reading::words_behind_word))]
 pub fn expected<'a>(name: &'a [u8], end: u32, words: Words<'a>) -> Result<Words<'a>, ParseFault>
     ensures value { ReadsAs (λ w. list_of w) result
-        (reading.expected name.entry.now end (list_of words.entry)) }
+        (reading.words_behind_word name.entry.now end (list_of words.entry)) }
     ensures memory { NeedsNoMemory result }
 {
     let (next, words) = words.first(end)?;

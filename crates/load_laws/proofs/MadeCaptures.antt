@@ -22,26 +22,26 @@ header_read = refl
 
 -- ---- one record
 
-record_length : (second : ℕ) (packet : List ℕ) → length (packets.record_of second packet) ≡ 16 + length packet
-unfolding packets.record_of
+record_length : (second : ℕ) (packet : List ℕ) → length (packets.load_record second packet) ≡ 16 + length packet
+unfolding packets.load_record
 record_length second packet = omega arith
 
 -- its captured length is read again
-length_read : (second : ℕ) (packet rest : List ℕ) → length packet < 2 ^ 32 → captured_length raw (packets.record_of second packet ++ rest) ≡ length packet
-unfolding packets.record_of number_at
+length_read : (second : ℕ) (packet rest : List ℕ) → length packet < 2 ^ 32 → captured_length raw (packets.load_record second packet ++ rest) ≡ length packet
+unfolding packets.load_record number_at
 length_read second packet rest small = from_le_bytes-to_le_bytes_4 (length packet) small
 
 -- the bytes of a record are read as it, and those behind it are left
 record_read : (limit given second : ℕ) (packet rest : List ℕ) → given < limit → length packet ≤ 262144
-    → next_of limit raw given (packets.record_of second packet ++ rest) ≡ Took (record_of raw (packets.record_of second packet)) rest
+    → next_of limit raw given (packets.load_record second packet ++ rest) ≡ Took (record_of raw (packets.load_record second packet)) rest
 unfolding next_of
 record_read limit given second packet rest fits short =
-    let bytes : List ℕ = packets.record_of second packet ++ rest in
-    let long : length bytes ≡ 16 + length packet + length rest = omega (arith, length-append (packets.record_of second packet) rest, record_length second packet) in
+    let bytes : List ℕ = packets.load_record second packet ++ rest in
+    let long : length bytes ≡ 16 + length packet + length rest = omega (arith, length-append (packets.load_record second packet) rest, record_length second packet) in
     rw (ne_eqb (length bytes) 0 (λ e. omega (arith, e, long)), lt-leb limit given fits, le-ltb (length bytes) 16 (omega (arith, long)))
     (rw (length_read second packet rest (omega (arith, short)))
     (rw (le-ltb 262144 (length packet) short, le-ltb (length bytes) (16 + length packet) (omega (arith, long)))
-    (rw (take_at (packets.record_of second packet) rest (16 + length packet) (record_length second packet), drop_at (packets.record_of second packet) rest (16 + length packet) (record_length second packet)) refl)))
+    (rw (take_at (packets.load_record second packet) rest (16 + length packet) (record_length second packet), drop_at (packets.load_record second packet) rest (16 + length packet) (record_length second packet)) refl)))
 
 -- ---- one packet
 
@@ -88,9 +88,9 @@ records_read limit (suc more) number x given fits =
     let two : ℕ = load.next_draw one in
     let three : ℕ = load.next_draw two in
     let rest : List ℕ = load.records_from more (number + 1) three in
-    let packet : List ℕ = packets.packet_of (load.drawn one % 4) (load.drawn two % 200) (load.drawn three % 1000 + 1024) in (
+    let packet : List ℕ = packets.packet_of (load.generator_output one % 4) (load.generator_output two % 200) (load.generator_output three % 1000 + 1024) in (
       rest,
-      record_read limit given (load.second_of number) packet rest (omega arith) (omega (arith, packet_short (load.drawn one % 4) (load.drawn two % 200) (load.drawn three % 1000 + 1024))),
+      record_read limit given (load.second_of number) packet rest (omega arith) (omega (arith, packet_short (load.generator_output one % 4) (load.generator_output two % 200) (load.generator_output three % 1000 + 1024))),
       records_read limit more (number + 1) three (given + 1) (omega arith),
     )
 
@@ -100,9 +100,9 @@ at_its_end limit given = refl
 
 -- a load's capture is read to its end
 pub captures_whole : MadeCapturesAreWhole
-unfolding load.capture_of
+unfolding load.load_capture
 captures_whole n limit fits =
     let records : List Captured = made_records n 1 n in
-    let bytes : List ℕ = load.capture_of n in
+    let bytes : List ℕ = load.load_capture n in
     let long : 24 ≤ length bytes = omega arith in
     (records, made_length n 1 n, rw (le-ltb (length bytes) 24 long) (rw header_read ([], records_read limit n 1 n 0 (omega arith), at_its_end limit (length records))))

@@ -22,8 +22,8 @@ use Rattle.load_laws.specs.Laws.{MadeScriptsAreRead}
 use Rattle.load_laws.proofs.MadeLines.{rule_lines, lines_behind, line_before, last_line, rules_read}
 use Rattle.load_laws.proofs.WaitLine.{wait_line, wait_free, wait_read}
 
-made_lines_are : (n : ℕ) → n ≤ MOST_RECORDS → lines_of (load.script_of n) ≡ rule_lines (wait_line (n / 2) ∷ codes "delete 300" ∷ [])
-unfolding load.script_of
+made_lines_are : (n : ℕ) → n ≤ MOST_RECORDS → lines_of (load.load_script n) ≡ rule_lines (wait_line (n / 2) ∷ codes "delete 300" ∷ [])
+unfolding load.load_script
 made_lines_are n few =
     let free = wait_free (n / 2) (omega (arith, few)) in
     lines_behind (decimal (n / 2) ++ codes "\ndelete 300\n") ∙ ap rule_lines (line_before (wait_line (n / 2)) (codes "delete 300\n") free ∙ ap (λ others. wait_line (n / 2) ∷ others) last_line)
@@ -32,8 +32,8 @@ start_length : length load.script_start ≡ 230
 unfolding load.script_start
 start_length = refl
 
-short : (n : ℕ) → n ≤ MOST_RECORDS → length (load.script_of n) ≤ 1048576
-unfolding load.script_of
+short : (n : ℕ) → n ≤ MOST_RECORDS → length (load.load_script n) ≤ 1048576
+unfolding load.load_script
 short n few =
     omega (
       arith,
@@ -53,6 +53,6 @@ delete_read = refl
 pub scripts_read : MadeScriptsAreRead
 unfolding script_of rule_lines
 scripts_read n few =
-    rw (le-ltb 1048576 (length (load.script_of n)) (short n few))
+    rw (le-ltb 1048576 (length (load.load_script n)) (short n few))
     (rw (made_lines_are n few)
     (rw (rules_read (wait_line (n / 2) ∷ codes "delete 300" ∷ []), wait_read (n / 2) (codes "delete 300" ∷ []) (omega (arith, few)), delete_read) refl))

@@ -4,7 +4,7 @@ use Rattle.std.specs.List.{AllByRecursion}
 use Rattle.std.specs.Fmt.{decimal}
 use Rattle.fw_lex.specs.Words.{before_comment, first_bad, is_blank, is_readable, tokens_of}
 use Rattle.ipfw_parser.specs.Reading.{same, first, word_at}
-use Rattle.fw_command.specs.Ends.{finished, first_number}
+use Rattle.fw_command.specs.Ends.{result_at_end, first_number}
 use Rattle.fw_command.specs.Statements.{says, words_say, statement, after_statement, after_count}
 use Rattle.fw_command.specs.Scripts.{script_from, statement_at, ◌>>=◌}
 use Rattle.fw_command.specs.declared.script.Pace.TheVariants.{Serial}
@@ -51,7 +51,7 @@ with_wait count behind = behind >>= λ script. let made : Script = record { befo
 pub wait_read : (count : ℕ) (others : List (List ℕ)) → count ≤ 33554432
     → script_from Serial (record { line = 7; live = Some 6; ran = 0 }) (wait_line count ∷ others)
     ≡ with_wait count (script_from Serial (record { line = 8; live = Some 6; ran = 0 }) others)
-unfolding script_from statement_at says words_say statement after_statement after_count first_number finished first same wait_words
+unfolding script_from statement_at says words_say statement after_statement after_count first_number result_at_end first same wait_words
 wait_read count others few =
     let small : count < 2 ^ 32 = omega (arith, few) in
     let words : List (List ℕ) = wait_words count in

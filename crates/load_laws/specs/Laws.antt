@@ -12,7 +12,7 @@ use Rattle.load_laws.specs.MadeScript.{made_script}
 
 -- the bytes of a load's script are read as its rules, `live` and the two steps behind it
 abbrev pub MadeScriptsAreRead : Type 0
-MadeScriptsAreRead = (n : ℕ) → n ≤ MOST_RECORDS → script_of Serial (load.script_of n) ≡ Ok (made_script n)
+MadeScriptsAreRead = (n : ℕ) → n ≤ MOST_RECORDS → script_of Serial (load.load_script n) ≡ Ok (made_script n)
 
 -- each command of a load's script is accepted, before `live` and behind it
 abbrev pub MadeScriptsAreAccepted : Type 0
@@ -20,4 +20,4 @@ MadeScriptsAreAccepted = (n : ℕ) → AreAccepted first_configuration ((made_sc
 
 -- a load's capture of n records is read as n records, to its end
 abbrev pub MadeCapturesAreWhole : Type 0
-MadeCapturesAreWhole = (n limit : ℕ) → n ≤ limit → (records : List Captured) × (length records ≡ n) × HasFront limit (load.capture_of n) records (Open AtBoundary)
+MadeCapturesAreWhole = (n limit : ℕ) → n ≤ limit → (records : List Captured) × (length records ≡ n) × HasFront limit (load.load_capture n) records (Open AtBoundary)

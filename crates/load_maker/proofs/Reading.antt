@@ -3,15 +3,15 @@ use Rattle.std.proofs.Common.{◌≡◌, ◌≢◌, ◌∙◌, ℕ, ◌+◌, ◌
 use Rattle.std.proofs.Math.Seq.{drop-length}
 use Rattle.fw_base.proofs.Parts.{front_then_rest}
 use Rattle.load_maker.specs.Load.{records_from, record_drawn, next_draw}
-use Rattle.load_maker.specs.Packets.{record_of}
+use Rattle.load_maker.specs.Packets.{load_record}
 
 -- behind the end of the piece nothing is left of it
 pub behind_the_end : (piece : List ℕ) (taken : ℕ) → taken ≡ length piece → drop taken piece ≡ []
 behind_the_end piece taken end = rw end (drop-length piece)
 
 -- no record is empty
-pub has_bytes : (second : ℕ) (packet : List ℕ) → 0 < length (record_of second packet)
-unfolding record_of
+pub has_bytes : (second : ℕ) (packet : List ℕ) → 0 < length (load_record second packet)
+unfolding load_record
 has_bytes second packet = omega arith
 
 -- the record that comes next, and those behind it

@@ -1,15 +1,15 @@
 -- The load: a script, and a capture of as many records as the number says.
 use Rattle.std.specs.Prelude.{ℕ, zero, suc, ◌+◌, ◌-◌, ◌*◌, ◌/◌, ◌%◌, ◌^◌, List, [], ◌∷◌, ◌++◌, codes}
 use Rattle.std.specs.Fmt.{decimal}
-use Rattle.load_maker.specs.Packets.{packet_of, record_of}
+use Rattle.load_maker.specs.Packets.{packet_of, load_record}
 
 -- The generator's next number; what it gives are the upper 31 bits.
 abbrev pub next_draw : ℕ → ℕ
 next_draw x = (x * 6364136223846793005 + 1442695040888963407) % 2 ^ 64
 
 -- what the generator gives in this state
-abbrev pub drawn : ℕ → ℕ
-drawn x = x / 2 ^ 33
+abbrev pub generator_output : ℕ → ℕ
+generator_output x = x / 2 ^ 33
 
 -- the second of a record, ten of them in each
 abbrev pub second_of : ℕ → ℕ
@@ -17,7 +17,7 @@ second_of number = 1000 + (number - 1) / 10
 
 -- the record of that number, for which the generator has drawn first, second and third
 abbrev pub record_drawn : ℕ → ℕ → ℕ → ℕ → List ℕ
-record_drawn number first second third = record_of (second_of number) (packet_of (drawn first % 4) (drawn second % 200) (drawn third % 1000 + 1024))
+record_drawn number first second third = load_record (second_of number) (packet_of (generator_output first % 4) (generator_output second % 200) (generator_output third % 1000 + 1024))
 
 -- so many records from that number on, the generator standing at x
 unfoldable pub records_from : ℕ → ℕ → ℕ → List ℕ
@@ -32,13 +32,13 @@ capture_header =
     0xd4 ∷ 0xc3 ∷ 0xb2 ∷ 0xa1 ∷ 2 ∷ 0 ∷ 4 ∷ 0 ∷ 0 ∷ 0 ∷ 0 ∷ 0 ∷ 0 ∷ 0 ∷ 0 ∷ 0 ∷ 0 ∷ 0 ∷ 4 ∷ 0 ∷ 0x65 ∷ 0 ∷ 0 ∷ 0 ∷ []
 
 -- the generator starts with the number of records
-unfoldable pub capture_of : ℕ → List ℕ
-capture_of n = capture_header ++ records_from n 1 n
+unfoldable pub load_capture : ℕ → List ℕ
+load_capture n = capture_header ++ records_from n 1 n
 
 -- the rules of the load's script, before its live command
 unfoldable pub script_start : List ℕ
 script_start = codes "add 100 check-state\nadd 200 allow tcp from 10.0.0.0/24 to any 80 setup keep-state\nadd 300 allow udp from 10.0.0.0/24 to any 53 keep-state\nadd 400 allow icmp from any to any icmptypes 0,8\nadd 500 deny ip from any to any\nlive\nafter "
 
 -- half of the records go before a live edit
-unfoldable pub script_of : ℕ → List ℕ
-script_of n = script_start ++ (decimal (n / 2) ++ codes "\ndelete 300\n")
+unfoldable pub load_script : ℕ → List ℕ
+load_script n = script_start ++ (decimal (n / 2) ++ codes "\ndelete 300\n")

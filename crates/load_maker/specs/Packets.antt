@@ -47,6 +47,6 @@ packet_of kind host port =
     else echo_packet (clients + host) server
 
 -- a record of a capture (pcap 2.4): second, fraction 0, and twice the packet's length, the lowest byte first
-unfoldable pub record_of : ℕ → List ℕ → List ℕ
-record_of second packet =
+unfoldable pub load_record : ℕ → List ℕ → List ℕ
+load_record second packet =
     to_le_bytes w32 second ++ (to_le_bytes w32 0 ++ (to_le_bytes w32 (length packet) ++ (to_le_bytes w32 (length packet) ++ packet)))

@@ -11,7 +11,7 @@ impl Generator {
     /// The next number, below 2^31.
     pub(crate) fn draw(&mut self) -> u32
         ensures state { self.new.state ≡ load.next_draw self.old.state }
-        ensures value { result ≡ load.drawn self.new.state }
+        ensures value { result ≡ load.generator_output self.new.state }
     {
         self.state = self
             .state

@@ -23,9 +23,9 @@ pub struct Load {
 }
 
 /// The script of a load of so many records.
-#[tactic(auto, unfolding(crate::specs::Load::script_of, crate::specs::Load::script_start))]
+#[tactic(auto, unfolding(crate::specs::Load::load_script, crate::specs::Load::script_start))]
 fn script(alloc: Global, n: u32) -> Result<Vec<u8>, OutOfMemory>
-    ensures { IfOk result (λ bytes. bytes.items ≡ load.script_of n) }
+    ensures { IfOk result (λ bytes. bytes.items ≡ load.load_script n) }
 {
     let mut digits = Buffer::new();
     let half = digits.format(n / 2).as_bytes();
@@ -39,8 +39,8 @@ fn script(alloc: Global, n: u32) -> Result<Vec<u8>, OutOfMemory>
 /// The load of so many records, 1 to 1,000,000. Only its script takes memory.
 pub fn make(alloc: Global, n: u32) -> Result<Load, OutOfMemory>
     requires { (1 ≤ n) × (n ≤ MOST_RECORDS) }
-    ensures script { IfOk result (λ made. made.script.items ≡ load.script_of n) }
-    ensures capture { IfOk result (λ made. made.capture ≡ load.capture_of n) }
+    ensures script { IfOk result (λ made. made.script.items ≡ load.load_script n) }
+    ensures capture { IfOk result (λ made. made.capture ≡ load.load_capture n) }
 {
     Ok(Load {
         script: script(alloc, n)?,

@@ -1,6 +1,6 @@
 ghost use Rattle.std.specs.Prelude.{◌≡◌, ◌-◌, ◌≤◌, ◌++◌, Some, length, take, drop, min};
 ghost use Rattle.load_maker.specs.Load as load;
-ghost use Rattle.load_maker.specs.Packets.{record_of, packet_of};
+ghost use Rattle.load_maker.specs.Packets.{load_record, packet_of};
 
 use crate::generator::Generator;
 use crate::load::MOST_RECORDS;
@@ -42,10 +42,10 @@ impl Model for MadeCapture {
 
 impl MadeCapture {
     /// The capture of so many records.
-    #[tactic(auto, unfolding(crate::specs::Load::capture_of))]
+    #[tactic(auto, unfolding(crate::specs::Load::load_capture))]
     pub(crate) fn new(records: u32) -> MadeCapture
         requires { records ≤ MOST_RECORDS }
-        ensures { result ≡ load.capture_of records }
+        ensures { result ≡ load.load_capture records }
     {
         let mut piece = ArrayVec::new();
         put(&mut piece, &[&CAPTURE_HEADER]);
@@ -117,9 +117,9 @@ fn made_record(number: u32, generator: &mut Generator) -> ArrayVec<u8, RECORD_BY
 }
 
 /// The record of that second with its packet.
-#[tactic(auto, unfolding(crate::specs::Packets::record_of))]
+#[tactic(auto, unfolding(crate::specs::Packets::load_record))]
 fn record(second: u32, kind: u8, host: u8, port: u16) -> ArrayVec<u8, RECORD_BYTES>
-    ensures { result.items ≡ record_of second (packet_of kind host port) }
+    ensures { result.items ≡ load_record second (packet_of kind host port) }
 {
     let mut out = ArrayVec::new();
     let second = second.to_le_bytes();

@@ -4,7 +4,7 @@ use Rattle.std.proofs.lemmas.Bool.{cases_order}
 use Rattle.std.proofs.lemmas.List.{get_or_default}
 use Rattle.std.proofs.lemmas.Bool.Decides.{nat_tests}
 use Rattle.fw_base.specs.Prefix.{Network}
-use Rattle.lookup_tables.specs.Change.{changed, AreChanged}
+use Rattle.lookup_tables.specs.Change.{decider_after_change, AreChanged}
 use Rattle.lookup_tables.specs.Piece.{decider}
 use Rattle.lookup_tables.specs.Pieces.{piece_at, no_piece, first_of, IsIn, IsDivision, Tells, HaveEnds}
 use Rattle.lookup_tables.specs.declared.change.Change.{Change}
@@ -258,7 +258,7 @@ change_ends change old new start end c e t = record { each = λ k within. let ma
 -- within the range the change, elsewhere what was
 pub change_tells : (change : Change) (old new : List Piece) (start end low high : ℕ) → AreChanged change old new start end → IsDivision old → IsRange old start end low high
     → (f g : ℕ → Option (Network × ℕ)) → Tells f old
-    → ((a : ℕ) → a < 2 ^ 32 → low ≤ a → a < high → g a ≡ changed change (f a))
+    → ((a : ℕ) → a < 2 ^ 32 → low ≤ a → a < high → g a ≡ decider_after_change change (f a))
     → ((a : ℕ) → a < 2 ^ 32 → (low ≤ a → a < high → ⊥) → g a ≡ f a)
     → Tells g new
 change_tells change old new start end low high c h r f g t inside outside = record { each = told }
@@ -303,7 +303,7 @@ change_tells change old new start end low high c h r f g t inside outside = reco
                         omega arith
                     | inr (inr beyond) ↦ let reaches = r.reaches in absurd (omega arith)
                   ] in
-                  c.inside k from_start early ∙ ap (changed change) before ∙ sym (inside a below (omega arith) to)
+                  c.inside k from_start early ∙ ap (decider_after_change change) before ∙ sym (inside a below (omega arith) to)
               | inl at_end ↦ behind a k below was before (omega arith)
               | inr (inr late) ↦ behind a k below was before (omega arith)
             ]

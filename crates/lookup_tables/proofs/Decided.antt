@@ -5,7 +5,7 @@ use Rattle.std.proofs.lemmas.Bool.{cases_order}
 use Rattle.std.proofs.lemmas.Bool.Decides.{nat_tests}
 use Rattle.fw_base.specs.Prefix.{Network, IsNetwork, network}
 use Rattle.lookup_tables.specs.AddrTable.{AddrEntries, network_cmp}
-use Rattle.lookup_tables.specs.Change.{changed, is_prefix}
+use Rattle.lookup_tables.specs.Change.{decider_after_change, is_prefix}
 use Rattle.lookup_tables.specs.Entries.{value_of, with_entry, without_key}
 use Rattle.lookup_tables.specs.Pieces.{decided_within}
 use Rattle.lookup_tables.specs.declared.change.Change.TheVariants.{Put, Take}
@@ -87,13 +87,13 @@ module _ (entries : AddrEntries) (n : Network) (v : ℕ) where
       at_bits : (k : ℕ) → network a k ≡ n → network a n.bits ≡ n
       at_bits k is = ap (λ (m : Network). network a m.bits) (sym is) ∙ is
 
-  put_over : (o : Option (Network × ℕ)) → MatchOption o (Unit {0}) (λ b. b.0.bits < n.bits) → changed (Put n v) o ≡ Some (n, v)
+  put_over : (o : Option (Network × ℕ)) → MatchOption o (Unit {0}) (λ b. b.0.bits < n.bits) → decider_after_change (Put n v) o ≡ Some (n, v)
   put_over None h = refl
   put_over (Some b) h = let less : nat_lt b.0.bits n.bits ≡ true = grind (arith, nat_tests) in rw less refl
 
   -- one that covers it decides where no longer one does
   pub put_within : value_of network_cmp entries n ≡ None → (a bits : ℕ) → n.bits ≤ bits → network a n.bits ≡ n
-      → decided_within (with_entry network_cmp entries n v) a bits ≡ changed (Put n v) (decided_within entries a bits)
+      → decided_within (with_entry network_cmp entries n v) a bits ≡ decider_after_change (Put n v) (decided_within entries a bits)
   unfolding decided_within
   put_within fresh a zero le covers =
       let zero_bits : n.bits ≡ 0 = omega arith in
@@ -110,7 +110,7 @@ module _ (entries : AddrEntries) (n : Network) (v : ℕ) where
             let rest = put_within fresh a bits (omega arith) covers in
             rw (value_of-other network_cmp network_same entries n (network a (suc bits)) v other)
             (elim (value_of network_cmp entries (network a (suc bits))) as (λ o. option_or (option_map (λ value. (network a (suc bits), value)) o) (decided_within (with_entry network_cmp entries n v) a bits)
-            ≡ changed (Put n v) (option_or (option_map (λ value. (network a (suc bits), value)) o) (decided_within entries a bits))) [
+            ≡ decider_after_change (Put n v) (option_or (option_map (λ value. (network a (suc bits), value)) o) (decided_within entries a bits))) [
               | None ↦ rest
               | Some w ↦ let longer : nat_lt (suc bits) n.bits ≡ false = grind (arith, nat_tests) in rw longer refl
             ])
@@ -141,7 +141,7 @@ module _ (entries : AddrEntries) (n : Network) where
 
   -- where the one that is taken out decided, the next shorter one does
   pub take_within : (w : ℕ) → value_of network_cmp entries n ≡ Some w → (a bits : ℕ) → n.bits ≤ bits → network a n.bits ≡ n
-      → decided_within (without_key network_cmp entries n) a bits ≡ changed (Take n (decided_within (without_key network_cmp entries n) a n.bits)) (decided_within entries a bits)
+      → decided_within (without_key network_cmp entries n) a bits ≡ decider_after_change (Take n (decided_within (without_key network_cmp entries n) a n.bits)) (decided_within entries a bits)
   unfolding decided_within
   take_within w there a zero le covers =
       let zero_bits : n.bits ≡ 0 = omega arith in
@@ -159,7 +159,7 @@ module _ (entries : AddrEntries) (n : Network) where
             let rest = take_within w there a bits (omega arith) covers in
             rw (value_of-left network_cmp network_same entries n (network a (suc bits)) other)
             (elim (value_of network_cmp entries (network a (suc bits))) as (λ o. option_or (option_map (λ value. (network a (suc bits), value)) o) (decided_within (without_key network_cmp entries n) a bits)
-            ≡ changed (Take n (decided_within (without_key network_cmp entries n) a n.bits)) (option_or (option_map (λ value. (network a (suc bits), value)) o) (decided_within entries a bits))) [
+            ≡ decider_after_change (Take n (decided_within (without_key network_cmp entries n) a n.bits)) (option_or (option_map (λ value. (network a (suc bits), value)) o) (decided_within entries a bits))) [
               | None ↦ rest
               | Some x ↦ rw (is_other n (network a (suc bits)) (λ is. absurd (omega arith))) refl
             ])

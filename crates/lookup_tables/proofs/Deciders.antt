@@ -9,7 +9,7 @@ use Rattle.std.specs.BTreeMap.{is_at}
 use Rattle.fw_base.specs.Prefix.{Network, Covers, IsNetwork, network, size_of}
 use Rattle.lookup_tables.specs.AddrTable.{AddrEntries, has_prefix, answer_within, network_cmp}
 use Rattle.lookup_tables.specs.Entries.{value_of}
-use Rattle.lookup_tables.specs.Pieces.{decided_within, decided, is_end}
+use Rattle.lookup_tables.specs.Pieces.{decided_within, deciding_entry, is_end}
 use Rattle.lookup_tables.proofs.Decided.{AreNetworks, alike_within}
 use Rattle.lookup_tables.proofs.Networks.{network_same}
 use Rattle.lookup_tables.proofs.Ranges.{network-covers, covers-network, fewer, step_back}
@@ -104,10 +104,10 @@ module _ (entries : AddrEntries) (networks : AreNetworks entries) where
       rw (same_lookup entries networks a (suc bits)) (elim (value_of network_cmp entries (network a (suc bits))) as (λ o. option_map (λ (b : Network × ℕ). b.1) (option_or (option_map (λ value. (network a (suc bits), value)) o) (decided_within entries a bits)) ≡ option_or o (answer_within entries a bits)) [ None ↦ rest | Some v ↦ refl ])
 
   -- addresses of which a prefix of the table has but one are decided by different ones
-  pub decided_apart : (k : ℕ) (d : Network × ℕ) (a b : ℕ) → k < length entries → Covers (get_or entries k d).0 a → (Covers (get_or entries k d).0 b → ⊥) → decided entries a ≡ decided entries b → ⊥
+  pub decided_apart : (k : ℕ) (d : Network × ℕ) (a b : ℕ) → k < length entries → Covers (get_or entries k d).0 a → (Covers (get_or entries k d).0 b → ⊥) → deciding_entry entries a ≡ deciding_entry entries b → ⊥
   decided_apart k d a b inside covers not same =
       let is = networks k d inside in
-      elim (decided entries a) as (λ o. MatchOption o (NoneDecides entries a 32) (IsDecider entries a 32) → o ≡ decided entries b → ⊥) [
+      elim (deciding_entry entries a) as (λ o. MatchOption o (NoneDecides entries a 32) (IsDecider entries a 32) → o ≡ deciding_entry entries b → ⊥) [
         | None ↦ λ none other. none k d inside is.within covers
         | Some e ↦ λ best other.
             let there : IsDecider entries b 32 e = subst (λ (o : Option (Network × ℕ)). MatchOption o (NoneDecides entries b 32) (IsDecider entries b 32)) (sym other) (decider_is b 32) in
@@ -117,7 +117,7 @@ module _ (entries : AddrEntries) (networks : AreNetworks entries) where
       ] (decider_is a 32) same
 
   -- where no prefix begins and none ended, an address is decided as the one before it
-  pub decided_on : (a : ℕ) → 0 < a → is_end entries a ≡ false → decided entries (a - 1) ≡ decided entries a
+  pub decided_on : (a : ℕ) → 0 < a → is_end entries a ≡ false → deciding_entry entries (a - 1) ≡ deciding_entry entries a
   decided_on a above not =
       sym (alike_within entries a (a - 1) 32 (λ bits le. elim (step_back a bits above) [
         | inl same ↦ inl same

@@ -8,7 +8,7 @@ use Rattle.std.proofs.lemmas.Bool.Decides.{nat_tests}
 use Rattle.fw_base.specs.Prefix.{Network, Covers, size_of}
 use Rattle.lookup_tables.specs.AddrTable.{AddrEntries, address_answer, answer_within, IsLongest}
 use Rattle.lookup_tables.specs.Piece.{decider}
-use Rattle.lookup_tables.specs.Pieces.{piece_at, first_of, IsIn, IsDivision, Tells, HaveEnds, ArePiecesOf, AreEntries, IsTable, is_end, decided, decided_within}
+use Rattle.lookup_tables.specs.Pieces.{piece_at, first_of, IsIn, IsDivision, Tells, HaveEnds, ArePiecesOf, AreEntries, IsTable, is_end, deciding_entry, decided_within}
 use Rattle.lookup_tables.specs.declared.piece.Piece.{Piece}
 use Rattle.lookup_tables.proofs.Deciders.{answer_is, decider_is, IsDecider, NoneDecides}
 
@@ -101,7 +101,7 @@ value_of_decider : (p : Piece) → option_map (λ (b : Network × ℕ). b.1) (de
 value_of_decider p = elim p.value as (λ o. option_map (λ (b : Network × ℕ). b.1) (option_map (λ value. (p.prefix, value)) o) ≡ o) [ None ↦ refl | Some v ↦ refl ]
 
 -- the answer of the piece that the address is in
-pub answer_in : (es : AddrEntries) (pieces : List Piece) → AreEntries es → Tells (decided es) pieces → (a place : ℕ) → a < 2 ^ 32 → IsIn pieces a place → (piece_at pieces place).value ≡ address_answer es a
+pub answer_in : (es : AddrEntries) (pieces : List Piece) → AreEntries es → Tells (deciding_entry es) pieces → (a place : ℕ) → a < 2 ^ 32 → IsIn pieces a place → (piece_at pieces place).value ≡ address_answer es a
 answer_in es pieces is t a place low here =
     sym (value_of_decider (piece_at pieces place)) ∙ ap (option_map (λ (b : Network × ℕ). b.1)) (t.each a place low here) ∙ answer_is es is.networks a 32
 

@@ -14,7 +14,7 @@ use Rattle.lookup_tables.specs.AddrTable.{AddrEntries, network_cmp}
 use Rattle.lookup_tables.specs.Change.{AreChanged}
 use Rattle.lookup_tables.specs.Entries.{value_of, with_entry, without_key, IsInOrder}
 use Rattle.lookup_tables.specs.Piece.{decider}
-use Rattle.lookup_tables.specs.Pieces.{piece_at, first_of, IsDivision, Tells, HaveEnds, AreKept, AreEntries, is_end, decided, decided_within}
+use Rattle.lookup_tables.specs.Pieces.{piece_at, first_of, IsDivision, Tells, HaveEnds, AreKept, AreEntries, is_end, deciding_entry, decided_within}
 use Rattle.lookup_tables.specs.declared.change.Change.TheVariants.{Put}
 use Rattle.lookup_tables.specs.declared.piece.Piece.{Piece}
 use Rattle.lookup_tables.proofs.Cuts.{IsRange, change_division, change_ends, change_tells}
@@ -137,14 +137,14 @@ length_put (e ∷ es) n v =
 
 -- the pieces that were cut at both ends of the prefix, and then changed
 pub put_kept : (es : AddrEntries) (n : Network) (v : ℕ) (cut new : List Piece) (start end : ℕ) → AreEntries es → IsNetwork n → value_of network_cmp es n ≡ None
-    → IsDivision cut → Tells (decided es) cut → HaveEnds (is_end (with_entry network_cmp es n v)) cut
+    → IsDivision cut → Tells (deciding_entry es) cut → HaveEnds (is_end (with_entry network_cmp es n v)) cut
     → IsRange cut start end n.address (n.address + size_of n.bits) → AreChanged (Put n v) cut new start end
     → AreKept (with_entry network_cmp es n v) new
 put_kept es n v cut new start end h is fresh division tells ends range changed =
     record {
       none = λ nothing. let some = length_put es n v in absurd (omega arith);
       division = λ some. change_division (Put n v) cut new start end changed division;
-      tells = λ some. change_tells (Put n v) cut new start end n.address (n.address + size_of n.bits) changed division range (decided es) (decided (with_entry network_cmp es n v)) tells
+      tells = λ some. change_tells (Put n v) cut new start end n.address (n.address + size_of n.bits) changed division range (deciding_entry es) (deciding_entry (with_entry network_cmp es n v)) tells
           (λ a low from to. put_within es n v fresh a 32 is.within (network-covers n a is (range-covers n a is from to)))
           (λ a low outside. put_elsewhere es n v a 32 (λ within same. let (from, to) = covers-range n a is (covers-network n a same) in outside from to));
       ends = change_ends (Put n v) cut new start end changed (is_end (with_entry network_cmp es n v)) ends;
@@ -157,7 +157,7 @@ none_decides a (suc bits) = none_decides a bits
 
 -- the pieces before the prefix is put in, of which there is one at least
 pub begun : (es : AddrEntries) (old new : List Piece) → AreKept es old → (0 < length old → new ≡ old) → (old ≡ [] → (length new ≡ 1) × (decider (piece_at new 0) ≡ None)) → IsDivision new
-    → Tells (decided es) new × HaveEnds (is_end es) new
+    → Tells (deciding_entry es) new × HaveEnds (is_end es) new
 begun [] old new kept same fresh division =
     let (one, none) = fresh (kept.none refl) in (
       record { each = λ a place low here. let inside = here.within in let at : place ≡ 0 = omega arith in ap (λ (k : ℕ). decider (piece_at new k)) at ∙ none ∙ sym (none_decides a 32) },
@@ -171,7 +171,7 @@ begun (e ∷ es) old new kept same fresh division =
 -- cut at the prefix's first address
 pub record AreReady (es : AddrEntries) (n : Network) (v : ℕ) (pieces : List Piece) (start : ℕ) : Type 0 where
   pub division : IsDivision pieces
-  pub tells : Tells (decided es) pieces
+  pub tells : Tells (deciding_entry es) pieces
   pub ends : HaveEnds (is_end (with_entry network_cmp es n v)) pieces
   pub within : start < length pieces
   pub begins : first_of pieces start ≡ n.address
@@ -185,7 +185,7 @@ module _ (es : AddrEntries) (n : Network) (v : ℕ) (h : AreEntries es) (is : Is
       (record { within = within; begins = ready.begins; reaches = omega arith; ends = λ short. absurd (omega arith); whole = λ same. high }) (change (omega arith))
 
   -- a prefix that ends before the last address is put in by a change of the pieces up to its end
-  pub put_to_end : (cut : List Piece) (end : ℕ) → IsDivision cut → Tells (decided es) cut → HaveEnds (is_end (with_entry network_cmp es n v)) cut → end < length cut → first_of cut end ≡ n.address + size_of n.bits
+  pub put_to_end : (cut : List Piece) (end : ℕ) → IsDivision cut → Tells (deciding_entry es) cut → HaveEnds (is_end (with_entry network_cmp es n v)) cut → end < length cut → first_of cut end ≡ n.address + size_of n.bits
       → ((k : ℕ) → k < length pieces → first_of pieces k < n.address + size_of n.bits → first_of cut k ≡ first_of pieces k) → length pieces ≤ length cut
       → (start ≤ end → AreChanged (Put n v) cut new start end) → AreKept (with_entry network_cmp es n v) new
   put_to_end cut end division tells ends within at before longer change =

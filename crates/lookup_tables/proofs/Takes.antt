@@ -5,9 +5,9 @@ use Rattle.std.proofs.lemmas.Bool.{cases_order}
 use Rattle.std.proofs.lemmas.Bool.Decides.{nat_tests}
 use Rattle.fw_base.specs.Prefix.{Network, Covers, IsNetwork, network, size_of}
 use Rattle.lookup_tables.specs.AddrTable.{AddrEntries, network_cmp}
-use Rattle.lookup_tables.specs.Change.{AreChanged, changed}
+use Rattle.lookup_tables.specs.Change.{AreChanged, decider_after_change}
 use Rattle.lookup_tables.specs.Entries.{value_of, without_key, IsInOrder}
-use Rattle.lookup_tables.specs.Pieces.{first_of, IsIn, IsDivision, Tells, HaveEnds, AreKept, AreEntries, is_end, decided, decided_within}
+use Rattle.lookup_tables.specs.Pieces.{first_of, IsIn, IsDivision, Tells, HaveEnds, AreKept, AreEntries, is_end, deciding_entry, decided_within}
 use Rattle.lookup_tables.specs.declared.change.Change.TheVariants.{Take}
 use Rattle.lookup_tables.specs.declared.piece.Piece.{Piece}
 use Rattle.lookup_tables.proofs.Cuts.{IsRange, change_tells}
@@ -46,7 +46,7 @@ module _ (es : AddrEntries) (n : Network) (h : AreEntries es) (there : IsSome (v
       rw (at (n, w)) at (h.networks place (n, w) within)
 
   -- an address in the prefix and one outside are decided by different ones
-  apart : (a b : ℕ) → Covers n a → (Covers n b → ⊥) → decided es a ≡ decided es b → ⊥
+  apart : (a b : ℕ) → Covers n a → (Covers n b → ⊥) → deciding_entry es a ≡ deciding_entry es b → ⊥
   apart a b covers not same =
       let (w, is) = listed in
       let (place, within, at) = value_of-listed network_cmp network_same es n w is in
@@ -54,19 +54,19 @@ module _ (es : AddrEntries) (n : Network) (h : AreEntries es) (there : IsSome (v
       decided_apart es h.networks place (n, w) a b within (rw key covers) (λ other. not (rw key at other)) same
 
   -- both ends of the prefix are where pieces begin
-  pub range_of : (pieces : List Piece) (start end : ℕ) → IsDivision pieces → Tells (decided es) pieces → n.address < 2 ^ 32 → IsIn pieces n.address start
+  pub range_of : (pieces : List Piece) (start end : ℕ) → IsDivision pieces → Tells (deciding_entry es) pieces → n.address < 2 ^ 32 → IsIn pieces n.address start
       → (end ≡ length pieces × (2 ^ 32 ≤ n.address + size_of n.bits)) ⊎ ((n.address + size_of n.bits < 2 ^ 32) × IsIn pieces (n.address + size_of n.bits) end)
       → IsRange pieces start end n.address (n.address + size_of n.bits) × (start ≤ end)
   range_of pieces start end division t low here reach =
       let is = is_network in
       let some = size_above n.bits in
-      let first = begins_at pieces (decided es) n.address start t here low (λ above same.
+      let first = begins_at pieces (deciding_entry es) n.address start t here low (λ above same.
       apart n.address (n.address - 1) (range-covers n n.address is (omega arith) (omega arith)) (λ before. let (from, to) = covers-range n (n.address - 1) is before in absurd (omega arith)) (sym same)) in
       let inside = here.within in
       elim reach [
         | inl (whole, high) ↦ (record { within = inside; begins = first; reaches = omega arith; ends = λ short. absurd (omega arith); whole = λ same. high }, omega arith)
         | inr (high, at_end) ↦
-            let last = begins_at pieces (decided es) (n.address + size_of n.bits) end t at_end high (λ above same.
+            let last = begins_at pieces (deciding_entry es) (n.address + size_of n.bits) end t at_end high (λ above same.
             apart (n.address + size_of n.bits - 1) (n.address + size_of n.bits) (range-covers n (n.address + size_of n.bits - 1) is (omega arith) (omega arith))
             (λ beyond. let (from, to) = covers-range n (n.address + size_of n.bits) is beyond in absurd (omega arith)) same) in
             let within_end = at_end.within in (
@@ -80,16 +80,16 @@ module _ (es : AddrEntries) (n : Network) (h : AreEntries es) (there : IsSome (v
       ]
 
   -- each piece tells what is left
-  pub take_tells : (pieces new : List Piece) (start end : ℕ) → IsDivision pieces → Tells (decided es) pieces → IsRange pieces start end n.address (n.address + size_of n.bits)
-      → AreChanged (Take n (decided_within (without_key network_cmp es n) n.address n.bits)) pieces new start end → Tells (decided (without_key network_cmp es n)) new
+  pub take_tells : (pieces new : List Piece) (start end : ℕ) → IsDivision pieces → Tells (deciding_entry es) pieces → IsRange pieces start end n.address (n.address + size_of n.bits)
+      → AreChanged (Take n (decided_within (without_key network_cmp es n) n.address n.bits)) pieces new start end → Tells (deciding_entry (without_key network_cmp es n)) new
   take_tells pieces new start end division t range change =
       let is = is_network in
       let (w, value) = listed in
-      change_tells (Take n (decided_within (without_key network_cmp es n) n.address n.bits)) pieces new start end n.address (n.address + size_of n.bits) change division range (decided es) (decided (without_key network_cmp es n)) t
+      change_tells (Take n (decided_within (without_key network_cmp es n) n.address n.bits)) pieces new start end n.address (n.address + size_of n.bits) change division range (deciding_entry es) (deciding_entry (without_key network_cmp es n)) t
       (λ a low from to.
       let covers = range-covers n a is from to in
       take_within es n w value a 32 is.within (network-covers n a is covers)
-      ∙ ap (λ (next : Option (Network × ℕ)). changed (Take n next) (decided es a)) (alike_within (without_key network_cmp es n) a n.address n.bits (λ bits le. inl (scaled a n.address bits (fewer a n.address bits n.bits le is.within covers)))))
+      ∙ ap (λ (next : Option (Network × ℕ)). decider_after_change (Take n next) (deciding_entry es a)) (alike_within (without_key network_cmp es n) a n.address n.bits (λ bits le. inl (scaled a n.address bits (fewer a n.address bits n.bits le is.within covers)))))
       (λ a low outside. take_elsewhere es n a 32 (λ within same. let (from, to) = covers-range n a is (covers-network n a same) in outside from to))
     where
       scaled : (a b bits : ℕ) → a / size_of bits ≡ b / size_of bits → network a bits ≡ network b bits
@@ -114,15 +114,15 @@ module _ (es : AddrEntries) (n : Network) (h : AreEntries es) (there : IsSome (v
           ] is
 
 -- where a prefix ended, an address is decided as the one before it, or another begins or ended there
-pub same_or_end : (es : AddrEntries) → AreEntries es → (a : ℕ) → 0 < a → (decided es (a - 1) ≡ decided es a) ⊎ (is_end es a ≡ true)
+pub same_or_end : (es : AddrEntries) → AreEntries es → (a : ℕ) → 0 < a → (deciding_entry es (a - 1) ≡ deciding_entry es a) ⊎ (is_end es a ≡ true)
 same_or_end es h a above =
-    elim (is_end es a) as (λ b. is_end es a ≡ b → (decided es (a - 1) ≡ decided es a) ⊎ (b ≡ true)) [
+    elim (is_end es a) as (λ b. is_end es a ≡ b → (deciding_entry es (a - 1) ≡ deciding_entry es a) ⊎ (b ≡ true)) [
       | true ↦ λ is. inr refl
       | false ↦ λ not. inl (decided_on es h.networks a above not)
     ] refl
 
 -- what is left of the pieces
-pub left_kept : (es : AddrEntries) (pieces : List Piece) → 0 < length es → IsDivision pieces → Tells (decided es) pieces → HaveEnds (is_end es) pieces → AreKept es pieces
+pub left_kept : (es : AddrEntries) (pieces : List Piece) → 0 < length es → IsDivision pieces → Tells (deciding_entry es) pieces → HaveEnds (is_end es) pieces → AreKept es pieces
 left_kept es pieces some division tells ends = record { none = λ is. absurd (omega arith); division = λ more. division; tells = λ more. tells; ends = ends }
 
 -- where the range ends at the last address, no piece begins behind it

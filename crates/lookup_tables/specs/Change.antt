@@ -13,16 +13,16 @@ is_prefix n m = nat_eq n.address m.address && nat_eq n.bits m.bits
 
 -- what decides afterwards, by what did before: a prefix that is put in, where no longer one did; where
 -- the one that is taken out did, the next shorter one
-abbrev pub changed : Change → Option (Network × ℕ) → Option (Network × ℕ)
-changed (Put prefix value) None = Some (prefix, value)
-changed (Put prefix value) (Some before) = if nat_lt before.0.bits prefix.bits then Some (prefix, value) else Some before
-changed (Take prefix next) None = None
-changed (Take prefix next) (Some before) = if is_prefix prefix before.0 then next else Some before
+abbrev pub decider_after_change : Change → Option (Network × ℕ) → Option (Network × ℕ)
+decider_after_change (Put prefix value) None = Some (prefix, value)
+decider_after_change (Put prefix value) (Some before) = if nat_lt before.0.bits prefix.bits then Some (prefix, value) else Some before
+decider_after_change (Take prefix next) None = None
+decider_after_change (Take prefix next) (Some before) = if is_prefix prefix before.0 then next else Some before
 
 -- the pieces from one place to before another are changed, and all begin where they did
 pub record AreChanged (change : Change) (old new : List Piece) (start end : ℕ) : Type 0 where
   pub many : length new ≡ length old
   pub firsts : (place : ℕ) → first_of new place ≡ first_of old place
-  pub inside : (place : ℕ) → start ≤ place → place < end → decider (piece_at new place) ≡ changed change (decider (piece_at old place))
+  pub inside : (place : ℕ) → start ≤ place → place < end → decider (piece_at new place) ≡ decider_after_change change (decider (piece_at old place))
   pub before : (place : ℕ) → place < start → decider (piece_at new place) ≡ decider (piece_at old place)
   pub behind : (place : ℕ) → end ≤ place → decider (piece_at new place) ≡ decider (piece_at old place)

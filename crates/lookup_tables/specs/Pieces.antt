@@ -59,8 +59,8 @@ decided_within entries address zero = option_map (λ value. (network address 0, 
 decided_within entries address (suc bits) = option_or (option_map (λ value. (network address (suc bits), value)) (value_of network_cmp entries (network address (suc bits)))) (decided_within entries address bits)
 
 -- the longest prefix of the address, and its value
-abbrev pub decided : AddrEntries → ℕ → Option (Network × ℕ)
-decided entries address = decided_within entries address 32
+abbrev pub deciding_entry : AddrEntries → ℕ → Option (Network × ℕ)
+deciding_entry entries address = decided_within entries address 32
 
 -- the address is 0, or one prefix of the entries begins there, or ends before it
 abbrev pub is_end : AddrEntries → ℕ → Bool
@@ -75,7 +75,7 @@ pub record AreEntries (entries : AddrEntries) : Type 0 where
 pub record AreKept (entries : AddrEntries) (pieces : List Piece) : Type 0 where
   pub none : length entries ≡ 0 → pieces ≡ []
   pub division : 0 < length entries → IsDivision pieces
-  pub tells : 0 < length entries → Tells (decided entries) pieces
+  pub tells : 0 < length entries → Tells (deciding_entry entries) pieces
   pub ends : HaveEnds (is_end entries) pieces
 
 -- what a table keeps

@@ -1,5 +1,5 @@
 ghost use Rattle.std.specs.Prelude.{◌≡◌};
-ghost use Rattle.lookup_tables.specs.Change.{changed};
+ghost use Rattle.lookup_tables.specs.Change.{decider_after_change};
 ghost use Rattle.lookup_tables.specs.Piece.{decider};
 
 use crate::Piece;
@@ -25,7 +25,7 @@ impl Change {
     /// The piece after the change.
     pub(crate) fn changed(&self, piece: Piece) -> Piece
         ensures first { result.first ≡ piece.first }
-        ensures decider { decider result ≡ changed self.now (decider piece) }
+        ensures decider { decider result ≡ decider_after_change self.now (decider piece) }
     {
         match self {
             Change::Put { prefix, value } => put(piece, *prefix, *value),
@@ -36,7 +36,7 @@ impl Change {
 
 fn put(piece: Piece, prefix: Prefix, value: u32) -> Piece
     ensures first { result.first ≡ piece.first }
-    ensures decider { decider result ≡ changed (Change.Put prefix value) (decider piece) }
+    ensures decider { decider result ≡ decider_after_change (Change.Put prefix value) (decider piece) }
 {
     if piece.value.is_some() && piece.prefix.length() >= prefix.length() {
         piece
@@ -51,7 +51,7 @@ fn put(piece: Piece, prefix: Prefix, value: u32) -> Piece
 
 fn take(piece: Piece, prefix: Prefix, next: &Option<(Prefix, u32)>) -> Piece
     ensures first { result.first ≡ piece.first }
-    ensures decider { decider result ≡ changed (Change.Take prefix next.now) (decider piece) }
+    ensures decider { decider result ≡ decider_after_change (Change.Take prefix next.now) (decider piece) }
 {
     if piece.value.is_some() && are_equal(piece.prefix, prefix) {
         decided(piece, next)

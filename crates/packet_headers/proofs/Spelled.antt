@@ -10,7 +10,7 @@ use Rattle.fw_base.specs.declared.link.Link.TheVariants.{Null, Ethernet, Raw, Co
 use Rattle.packet_headers.specs.Octets.{octet, two_octets, four_octets}
 use Rattle.packet_headers.specs.Fields.{Fields}
 use Rattle.packet_headers.specs.Options.{option_types}
-use Rattle.packet_headers.specs.Reading.{Ip, read, read_ipv4, read_typed, version, header_words, header_length, total_length, fields}
+use Rattle.packet_headers.specs.Reading.{Ip, reading_of_frame, read_ipv4, read_typed, version, header_words, header_length, total_length, fields}
 use Rattle.packet_headers.specs.Spelling.{Header, IsHeader, packet_bytes, fields_of, IsLinkHeader, SpelledFramesAreRead, option_bytes, SpelledOptionsAreTold}
 use Rattle.packet_headers.proofs.OptionWalk.{option_types-alone, option_types-long}
 
@@ -73,27 +73,27 @@ octet-behind xs ys i j e = rw (← e) (get_or-append-add xs ys i 0)
 pub drop-behind : (xs ys : List ℕ) (i j : ℕ) → length xs + i ≡ j → drop j (xs ++ ys) ≡ drop i ys
 drop-behind xs ys i j e = rw (← e) (drop-append-add xs ys i)
 
-null-read : (bytes : List ℕ) → 4 ≤ length bytes → (four_octets bytes 0 ≡ 2) ⊎ (four_octets bytes 0 ≡ 0x02000000) → read Null bytes ≡ read_ipv4 (drop 4 bytes)
-unfolding read
+null-read : (bytes : List ℕ) → 4 ≤ length bytes → (four_octets bytes 0 ≡ 2) ⊎ (four_octets bytes 0 ≡ 0x02000000) → reading_of_frame Null bytes ≡ read_ipv4 (drop 4 bytes)
+unfolding reading_of_frame
 null-read bytes long family = grind arith
 
-ethernet-read : (bytes : List ℕ) → 14 ≤ length bytes → two_octets bytes 12 ≡ 0x0800 → read Ethernet bytes ≡ read_ipv4 (drop 14 bytes)
-unfolding read read_typed
+ethernet-read : (bytes : List ℕ) → 14 ≤ length bytes → two_octets bytes 12 ≡ 0x0800 → reading_of_frame Ethernet bytes ≡ read_ipv4 (drop 14 bytes)
+unfolding reading_of_frame read_typed
 ethernet-read bytes long type = grind arith
 
-tagged-read : (bytes : List ℕ) → 18 ≤ length bytes → two_octets bytes 12 ≡ 0x8100 → two_octets bytes 16 ≡ 0x0800 → read Ethernet bytes ≡ read_ipv4 (drop 18 bytes)
-unfolding read read_typed
+tagged-read : (bytes : List ℕ) → 18 ≤ length bytes → two_octets bytes 12 ≡ 0x8100 → two_octets bytes 16 ≡ 0x0800 → reading_of_frame Ethernet bytes ≡ read_ipv4 (drop 18 bytes)
+unfolding reading_of_frame read_typed
 tagged-read bytes long tag type = grind arith
 
-cooked-read : (bytes : List ℕ) → 16 ≤ length bytes → two_octets bytes 14 ≡ 0x0800 → read Cooked bytes ≡ read_ipv4 (drop 16 bytes)
-unfolding read read_typed
+cooked-read : (bytes : List ℕ) → 16 ≤ length bytes → two_octets bytes 14 ≡ 0x0800 → reading_of_frame Cooked bytes ≡ read_ipv4 (drop 16 bytes)
+unfolding reading_of_frame read_typed
 cooked-read bytes long type = grind arith
 
-raw-read : (bytes : List ℕ) → version bytes ≡ 4 → read Raw bytes ≡ read_ipv4 bytes
-unfolding read
+raw-read : (bytes : List ℕ) → version bytes ≡ 4 → reading_of_frame Raw bytes ≡ read_ipv4 bytes
+unfolding reading_of_frame
 raw-read bytes four = grind arith
 
-ethernet-front : (addresses packet : List ℕ) → length addresses ≡ 12 → read Ethernet ((addresses ++ 0x08 ∷ 0x00 ∷ []) ++ packet) ≡ read_ipv4 packet
+ethernet-front : (addresses packet : List ℕ) → length addresses ≡ 12 → reading_of_frame Ethernet ((addresses ++ 0x08 ∷ 0x00 ∷ []) ++ packet) ≡ read_ipv4 packet
 ethernet-front addresses packet count =
     let ending : List ℕ = 0x08 ∷ 0x00 ∷ packet in
     let type : two_octets (addresses ++ ending) 12 ≡ 0x0800 = rw (octet-behind addresses ending 0 12 (omega arith), octet-behind addresses ending 1 13 (omega arith)) refl in
@@ -101,7 +101,7 @@ ethernet-front addresses packet count =
     (ethernet-read (addresses ++ ending) (omega (arith, length-append addresses ending)) type
     ∙ ap read_ipv4 (drop-behind addresses ending 2 14 (omega arith)))
 
-tagged-front : (addresses packet : List ℕ) (a b : ℕ) → length addresses ≡ 12 → read Ethernet ((addresses ++ 0x81 ∷ 0x00 ∷ a ∷ b ∷ 0x08 ∷ 0x00 ∷ []) ++ packet) ≡ read_ipv4 packet
+tagged-front : (addresses packet : List ℕ) (a b : ℕ) → length addresses ≡ 12 → reading_of_frame Ethernet ((addresses ++ 0x81 ∷ 0x00 ∷ a ∷ b ∷ 0x08 ∷ 0x00 ∷ []) ++ packet) ≡ read_ipv4 packet
 tagged-front addresses packet a b count =
     let ending : List ℕ = 0x81 ∷ 0x00 ∷ a ∷ b ∷ 0x08 ∷ 0x00 ∷ packet in
     let tag : two_octets (addresses ++ ending) 12 ≡ 0x8100 = rw (octet-behind addresses ending 0 12 (omega arith), octet-behind addresses ending 1 13 (omega arith)) refl in
@@ -110,7 +110,7 @@ tagged-front addresses packet a b count =
     (tagged-read (addresses ++ ending) (omega (arith, length-append addresses ending)) tag type
     ∙ ap read_ipv4 (drop-behind addresses ending 6 18 (omega arith)))
 
-cooked-front : (address packet : List ℕ) → length address ≡ 14 → read Cooked ((address ++ 0x08 ∷ 0x00 ∷ []) ++ packet) ≡ read_ipv4 packet
+cooked-front : (address packet : List ℕ) → length address ≡ 14 → reading_of_frame Cooked ((address ++ 0x08 ∷ 0x00 ∷ []) ++ packet) ≡ read_ipv4 packet
 cooked-front address packet count =
     let ending : List ℕ = 0x08 ∷ 0x00 ∷ packet in
     let type : two_octets (address ++ ending) 14 ≡ 0x0800 = rw (octet-behind address ending 0 14 (omega arith), octet-behind address ending 1 15 (omega arith)) refl in
@@ -118,7 +118,7 @@ cooked-front address packet count =
     (cooked-read (address ++ ending) (omega (arith, length-append address ending)) type
     ∙ ap read_ipv4 (drop-behind address ending 2 16 (omega arith)))
 
-link-read : (link : Link) (front packet : List ℕ) → IsLinkHeader link front → version packet ≡ 4 → read link (front ++ packet) ≡ read_ipv4 packet
+link-read : (link : Link) (front packet : List ℕ) → IsLinkHeader link front → version packet ≡ 4 → reading_of_frame link (front ++ packet) ≡ read_ipv4 packet
 link-read Null front packet (inl e) four = rw e (null-read (2 ∷ 0 ∷ 0 ∷ 0 ∷ packet) (omega arith) (inr refl))
 link-read Null front packet (inr e) four = rw e (null-read (0 ∷ 0 ∷ 0 ∷ 2 ∷ packet) (omega arith) (inl refl))
 link-read Ethernet front packet (addresses, count, inl e) four = rw e (ethernet-front addresses packet count)

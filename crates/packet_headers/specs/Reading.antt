@@ -69,17 +69,17 @@ read_typed type packet = if type == ipv4_type then read_ipv4 packet else Other
 -- Link 1 has the type at byte 12; behind one VLAN tag of four bytes it is at byte 16.
 -- Link 101 has no header; a packet that begins with a half-byte of 6 is IPv6.
 -- Link 113 has the type at byte 14.
-unfoldable pub read : Link → List ℕ → Reading
-read Null bytes =
+unfoldable pub reading_of_frame : Link → List ℕ → Reading
+reading_of_frame Null bytes =
     if nat_lt (length bytes) 4 then Malformed 1
     else if four_octets bytes 0 == 2 || four_octets bytes 0 == 0x0200_0000 then read_ipv4 (drop 4 bytes)
     else Other
-read Ethernet bytes =
+reading_of_frame Ethernet bytes =
     if nat_lt (length bytes) 14 then Malformed 1
     else if not (two_octets bytes 12 == vlan_type) then read_typed (two_octets bytes 12) (drop 14 bytes)
     else if nat_lt (length bytes) 18 then Malformed 1
     else read_typed (two_octets bytes 16) (drop 18 bytes)
-read Raw bytes = if version bytes == 6 then Other else read_ipv4 bytes
-read Cooked bytes =
+reading_of_frame Raw bytes = if version bytes == 6 then Other else read_ipv4 bytes
+reading_of_frame Cooked bytes =
     if nat_lt (length bytes) 16 then Malformed 1
     else read_typed (two_octets bytes 14) (drop 16 bytes)

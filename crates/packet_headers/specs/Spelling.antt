@@ -6,7 +6,7 @@ use Rattle.fw_base.specs.declared.link.Link.{Link}
 use Rattle.fw_base.specs.declared.link.Link.TheVariants.{Null, Ethernet, Raw, Cooked}
 use Rattle.packet_headers.specs.Fields.{Fields}
 use Rattle.packet_headers.specs.Options.{option_types}
-use Rattle.packet_headers.specs.Reading.{Ip, read}
+use Rattle.packet_headers.specs.Reading.{Ip, reading_of_frame}
 
 -- an IPv4 header, but for the lengths
 pub record Header : Type 0 where
@@ -71,7 +71,7 @@ abbrev pub SpelledFramesAreRead : Type 0
 SpelledFramesAreRead =
     (link : Link) (front : List ℕ) (h : Header) (payload padding : List ℕ)
     → IsLinkHeader link front → IsHeader h payload
-    → read link (front ++ (packet_bytes h payload ++ padding)) ≡ Ip (fields_of h payload)
+    → reading_of_frame link (front ++ (packet_bytes h payload ++ padding)) ≡ Ip (fields_of h payload)
 
 -- an option is its type, and but for type 1 a length and its data
 abbrev pub option_bytes : ℕ × List ℕ → List ℕ

@@ -1,7 +1,7 @@
 ghost use Rattle.std.specs.Prelude.{◌≡◌, ◌^◌, ◌<◌, ◌≤◌, length};
 ghost use Rattle.fw_base.specs.declared.link.Link.TheVariants.{Null, Ethernet, Raw, Cooked};
 ghost use Rattle.packet_headers.specs.Packet.{reading_of};
-ghost use Rattle.packet_headers.specs.Reading.{read, read_ipv4, read_typed, total_length};
+ghost use Rattle.packet_headers.specs.Reading.{reading_of_frame, read_ipv4, read_typed, total_length};
 
 use crate::defect::Defect;
 use crate::octets::{four_octets, two_octets};
@@ -23,7 +23,7 @@ const VLAN: u16 = 0x8100;
 /// Reads the frame of a capture with that link type. What it answers is lent from the bytes.
 pub fn read_packet(link: Link, bytes: &[u8]) -> Packet<'_>
     requires { length bytes.now < 2 ^ 32 }
-    ensures { reading_of result ≡ read link bytes.now }
+    ensures { reading_of result ≡ reading_of_frame link bytes.now }
 {
     match link {
         Link::Null => read_null(bytes),
@@ -33,10 +33,10 @@ pub fn read_packet(link: Link, bytes: &[u8]) -> Packet<'_>
     }
 }
 
-#[tactic(auto, unfolding(crate::specs::Reading::read))]
+#[tactic(auto, unfolding(crate::specs::Reading::reading_of_frame))]
 fn read_null(bytes: &[u8]) -> Packet<'_>
     requires { length bytes.now < 2 ^ 32 }
-    ensures { reading_of result ≡ read Null bytes.now }
+    ensures { reading_of result ≡ reading_of_frame Null bytes.now }
 {
     if bytes.len() < 4 {
         return Packet::Malformed(Defect::ShortLinkHeader as u8);
@@ -49,10 +49,10 @@ fn read_null(bytes: &[u8]) -> Packet<'_>
     }
 }
 
-#[tactic(auto, unfolding(crate::specs::Reading::read))]
+#[tactic(auto, unfolding(crate::specs::Reading::reading_of_frame))]
 fn read_ethernet(bytes: &[u8]) -> Packet<'_>
     requires { length bytes.now < 2 ^ 32 }
-    ensures { reading_of result ≡ read Ethernet bytes.now }
+    ensures { reading_of result ≡ reading_of_frame Ethernet bytes.now }
 {
     if bytes.len() < 14 {
         return Packet::Malformed(Defect::ShortLinkHeader as u8);
@@ -67,10 +67,10 @@ fn read_ethernet(bytes: &[u8]) -> Packet<'_>
     read_typed(two_octets(bytes, 16), &bytes[18..])
 }
 
-#[tactic(auto, unfolding(crate::specs::Reading::read))]
+#[tactic(auto, unfolding(crate::specs::Reading::reading_of_frame))]
 fn read_raw(bytes: &[u8]) -> Packet<'_>
     requires { length bytes.now < 2 ^ 32 }
-    ensures { reading_of result ≡ read Raw bytes.now }
+    ensures { reading_of result ≡ reading_of_frame Raw bytes.now }
 {
     if !bytes.is_empty() && bytes[0] / 16 == 6 {
         return Packet::Other;
@@ -78,10 +78,10 @@ fn read_raw(bytes: &[u8]) -> Packet<'_>
     read_ipv4(bytes)
 }
 
-#[tactic(auto, unfolding(crate::specs::Reading::read))]
+#[tactic(auto, unfolding(crate::specs::Reading::reading_of_frame))]
 fn read_cooked(bytes: &[u8]) -> Packet<'_>
     requires { length bytes.now < 2 ^ 32 }
-    ensures { reading_of result ≡ read Cooked bytes.now }
+    ensures { reading_of result ≡ reading_of_frame Cooked bytes.now }
 {
     if bytes.len() < 16 {
         return Packet::Malformed(Defect::ShortLinkHeader as u8);

@@ -16,7 +16,7 @@ use Rattle.eval_engine.specs.declared.docket_entry.DocketEntry.{DocketEntry}
 use Rattle.eval_engine.specs.declared.judgement.Judgement.{Judgement}
 use Rattle.fw_world.specs.Asks.{LaneAsk, asks_of_record, replies_of}
 use Rattle.fw_world.specs.Editions.{edition_numbered, judging_edition}
-use Rattle.fw_world.specs.Entries.{EachRecord, IsEntryFor, IsEvaluated, IsEvaluatedTo, IsEvaluation, evaluated}
+use Rattle.fw_world.specs.Entries.{EachRecord, IsEntryFor, IsEvaluated, IsEvaluatedTo, IsEvaluation, evaluation_under}
 use Rattle.fw_world.specs.Inputs.{Input, Other, Malformed, Packet}
 use Rattle.fw_world.specs.Legal.{lane_asks, EachLane, LaneStands}
 use Rattle.fw_world.specs.RecordValue.{RecordValue}
@@ -32,7 +32,7 @@ packet_of edition packet port second asks = record { edition = edition; packet =
 record Adds (id : ℕ) (part : Count → ℕ) (of_hit : Hit → ℕ) (of_packet : JudgedPacket → ℕ) : Type 0 where
   counted : (hits : List Hit) → part (count_in hits id) ≡ sum_by of_hit hits % 2 ^ 64
   same : (edition : Published) (packet : AnyIp) (port : Port) (second : ℕ) (asks : List LaneAsk)
-      → sum_by of_hit (hits_under (total_of packet) (evaluated edition packet port second asks).hits) ≡ of_packet (packet_of edition packet port second asks)
+      → sum_by of_hit (hits_under (total_of packet) (evaluation_under edition packet port second asks).hits) ≡ of_packet (packet_of edition packet port second asks)
 
 -- a number modulo 2^64 beside a sum
 sum_mod : (a x rest total : ℕ) → a ≡ x % 2 ^ 64 → rest % 2 ^ 64 ≡ total % 2 ^ 64 → (a + rest) % 2 ^ 64 ≡ (x + total) % 2 ^ 64
@@ -101,13 +101,13 @@ bytes_under id bytes (counter ∷ counters) =
 adds_packets : (id : ℕ) → Adds id (λ count. count.packets) (λ hit. cond (hit.counter == id) 1 0) (hits_on id)
 adds_packets id = record {
   counted = λ hits. refl;
-  same = λ edition packet port second asks. count_under id (total_of packet) (evaluated edition packet port second asks).hits;
+  same = λ edition packet port second asks. count_under id (total_of packet) (evaluation_under edition packet port second asks).hits;
 }
 
 adds_bytes : (id : ℕ) → Adds id (λ count. count.bytes) (λ hit. cond (hit.counter == id) hit.bytes 0) (bytes_on id)
 adds_bytes id = record {
   counted = λ hits. refl;
-  same = λ edition packet port second asks. bytes_under id (total_of packet) (evaluated edition packet port second asks).hits;
+  same = λ edition packet port second asks. bytes_under id (total_of packet) (evaluation_under edition packet port second asks).hits;
 }
 
 -- what a judged packet's evaluation came to

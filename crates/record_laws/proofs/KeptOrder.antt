@@ -4,7 +4,7 @@ use Rattle.std.proofs.lemmas.Bool.Decides.{nat_tests}
 use Rattle.std.specs.Prelude.{◌==◌, if◌then◌else◌, Option, Some, None, slice_get}
 use Rattle.std.specs.Option.{option_map}
 use Rattle.pcap_read.specs.Reading.{Captured}
-use Rattle.serial_schedule.specs.Order.{Turn, moment_of, first_head, first_capture, next_of, next_moment, without_next, records_at, turn_from, turns_from, turns, record_count}
+use Rattle.serial_schedule.specs.Order.{Turn, moment_of, first_head, first_capture, next_record_of, next_moment, without_next, records_at, turn_from, turns_from, turns, record_count}
 use Rattle.serial_schedule.specs.declared.head.Head.{Head}
 use Rattle.serial_schedule.specs.declared.moment.Moment.{Moment}
 use Rattle.serial_schedule.proofs.Turns.{first_capture-there, some_is_earlier}
@@ -29,7 +29,7 @@ record Gives (captures : List (List Captured)) (capture : ℕ) : Type 0 where
   first : Captured
   rest : List Captured
   there : slice_get captures capture ≡ Some (first ∷ rest)
-  next : next_of (records_at capture captures) ≡ Some first
+  next : next_record_of (records_at capture captures) ≡ Some first
   left : slice_get (without_next capture captures) capture ≡ Some rest
   fewer : record_count captures ≡ suc (record_count (without_next capture captures))
 

@@ -21,7 +21,7 @@ use Rattle.rule_chain.specs.Answers.{Answer as Applied}
 use Rattle.rule_chain.specs.Apply.{apply}
 use Rattle.rule_chain.specs.Configuration.{Configuration}
 use Rattle.rule_chain.specs.declared.apply_fault.ApplyFault.TheVariants.{NoSuchTable}
-use Rattle.serial_replay.specs.Commands.{Standing, Listing, Rules, Entries, listing_of, answered, listed_answer, after_applied, after_command, after_line, after_lines, first_standing}
+use Rattle.serial_replay.specs.Commands.{Standing, Listing, Rules, Entries, listing_of, line_answer, listed_answer, after_applied, after_command, after_line, after_lines, first_standing}
 use Rattle.serial_replay.specs.Replay.{lines_outcome}
 use Rattle.serial_schedule.specs.Agenda.{all_lines}
 use Rattle.state_journal.specs.declared.entry.Entry.{Entry}
@@ -42,8 +42,8 @@ record IsStanding (s : Standing) : Type 0 where
   counted : s.number ≡ length s.accepted + 1
   named : AllByRecursion (λ (a : LineAnswer). NamesUpTo s.number a.answer) s.answers
 
-with_answer : (s : Standing) (line : ℕ) (answer : Answer) → IsStanding s → NamesUpTo s.number answer → IsStanding (record s { answers = s.answers ++ answered line answer ∷ [] })
-with_answer s line answer is names = record { counted = is.counted; named = all_push (λ (a : LineAnswer). NamesUpTo s.number a.answer) s.answers (answered line answer) is.named names }
+with_answer : (s : Standing) (line : ℕ) (answer : Answer) → IsStanding s → NamesUpTo s.number answer → IsStanding (record s { answers = s.answers ++ line_answer line answer ∷ [] })
+with_answer s line answer is names = record { counted = is.counted; named = all_push (λ (a : LineAnswer). NamesUpTo s.number a.answer) s.answers (line_answer line answer) is.named names }
 
 with_listing : (s : Standing) (line : ℕ) (listing : Listing) → IsStanding s → NamesUpTo s.number (listed_answer s.config s.number listing)
 with_listing s line Rules is = let some = is.counted in (omega arith, omega arith)

@@ -14,7 +14,7 @@ use Rattle.rule_chain.specs.First.{first_configuration}
 use Rattle.serial_replay.specs.Commands.{Standing, listing_of, first_standing, after_line, after_lines}
 use Rattle.serial_replay.proofs.Listed.{changing-of}
 use Rattle.serial_schedule.specs.Agenda.{all_lines}
-use Rattle.replay_driver.specs.FirstEdition.{configured, listings_of, first_edition}
+use Rattle.replay_driver.specs.FirstEdition.{configuration_behind, listings_of, first_edition}
 use Rattle.replay_driver.specs.Promises.{IsAccepted}
 use Rattle.replay_driver.specs.RunResult.{is_refused}
 use Rattle.replay_driver.specs.declared.first_edition.FirstEdition.{FirstEdition}
@@ -26,11 +26,11 @@ AreUnlisted lines = AllByRecursion (λ line. listing_of line.command ≡ None) l
 -- the configuration behind lines that are accepted, with what is accepted behind them
 record IsConfigured (config : Configuration) (lines others : List Line) : Type 0 where
   last : Configuration
-  made : configured config lines ≡ Ok last
+  made : configuration_behind config lines ≡ Ok last
   behind : AreAccepted last others
 
 all_configured : (config : Configuration) (lines others : List Line) → AreUnlisted lines → AreAccepted config (lines ++ others) → IsConfigured config lines others
-unfolding configured
+unfolding configuration_behind
 all_configured config [] others unlisted accepted = record { last = config; made = refl; behind = accepted }
 all_configured config (line ∷ lines) others unlisted (next, applied, more) =
     let rest = all_configured next lines others unlisted.1 more in
@@ -52,7 +52,7 @@ none_answered s (line ∷ lines) unlisted (next, applied, more) =
     ap (λ (t : Standing). (after_lines t lines).answers) is ∙ none_answered made lines unlisted.1 more
 
 -- a load's script gives an edition, and each of its lines behind `live` is accepted
-pub load_accepted : (n : ℕ) → n ≤ MOST_RECORDS → IsAccepted (load.script_of n)
+pub load_accepted : (n : ℕ) → n ≤ MOST_RECORDS → IsAccepted (load.load_script n)
 unfolding first_edition
 load_accepted n few =
     let script : Script = made_script n in

@@ -32,11 +32,11 @@ use Rattle.serial_replay.specs.Commands.{Listing, Rules, Entries, listing_of}
 use Rattle.serial_replay.specs.Reading.{Track, IsRead, AllRead, IsEnd}
 use Rattle.serial_replay.specs.Replay.{limit_for, lines_outcome}
 use Rattle.serial_replay.specs.declared.replay.OpenedCapture.{OpenedCapture}
-use Rattle.replay_driver.specs.FirstEdition.{◌>>=◌, first_edition, configured, listings_of, listed_first, table_shown, shown, with_answer, read_script}
-use Rattle.replay_driver.specs.Found.{FailsEarly, ReadsScript, Finds, FindsReplay, FindsLoad, IsReplayOf, known_left, no_failures, made_capture}
+use Rattle.replay_driver.specs.FirstEdition.{◌>>=◌, first_edition, configuration_behind, listings_of, listed_first, table_shown, first_edition_answer, with_answer, read_script}
+use Rattle.replay_driver.specs.Found.{FailsEarly, ReadsScript, FindsJob, FindsReplay, FindsLoad, IsReplayOf, known_left, no_failures, made_capture}
 use Rattle.replay_driver.specs.Openings.{OpensAll, sources_of}
 use Rattle.replay_driver.specs.Promises.{AllWhole, IsAccepted, IsComplete, IsCompleteJob}
-use Rattle.replay_driver.specs.Run.{IsRun, IsAnswered}
+use Rattle.replay_driver.specs.Run.{IsRunOf, IsAnswered}
 use Rattle.replay_driver.specs.RunResult.{result_status, result_ends, report_status, is_unread, is_stopped, is_refused}
 use Rattle.replay_driver.specs.Served.{ReplayNames, Job, Replays, Loads}
 use Rattle.replay_driver.specs.WholeSource.{ReadsAll}
@@ -110,13 +110,13 @@ ok_same x y e = cc
 shown_well : (config : Configuration) (line : ℕ) (name : List ℕ) (a : Option LineAnswer) → table_shown config line name ≡ Ok a → list_any is_refused (with_answer a []) ≡ false
 shown_well config line name a is = by_test (is_some (table_named config.tables name)) is
   where
-    by_test : (b : Bool) → (if b then Ok (shown line (Some name)) else Err (Refused (record { line = line; fault = NoSuchTable }))) ≡ Ok a → list_any is_refused (with_answer a []) ≡ false
-    by_test true e = subst (λ (o : Option LineAnswer). list_any is_refused (with_answer o []) ≡ false) (ok_same (shown line (Some name)) a e) refl
+    by_test : (b : Bool) → (if b then Ok (first_edition_answer line (Some name)) else Err (Refused (record { line = line; fault = NoSuchTable }))) ≡ Ok a → list_any is_refused (with_answer a []) ≡ false
+    by_test true e = subst (λ (o : Option LineAnswer). list_any is_refused (with_answer o []) ≡ false) (ok_same (first_edition_answer line (Some name)) a e) refl
     by_test false e = absurd (cc)
 
 first_well : (config : Configuration) (line : ℕ) (listing : Option Listing) (a : Option LineAnswer) → listed_first config line listing ≡ Ok a → list_any is_refused (with_answer a []) ≡ false
 first_well config line None a is = subst (λ (o : Option LineAnswer). list_any is_refused (with_answer o []) ≡ false) (ok_same None a is) refl
-first_well config line (Some Rules) a is = subst (λ (o : Option LineAnswer). list_any is_refused (with_answer o []) ≡ false) (ok_same (shown line None) a is) refl
+first_well config line (Some Rules) a is = subst (λ (o : Option LineAnswer). list_any is_refused (with_answer o []) ≡ false) (ok_same (first_edition_answer line None) a is) refl
 first_well config line (Some (Entries name)) a is = shown_well config line name a is
 
 before_others : (a : Option LineAnswer) (others : List LineAnswer) → with_answer a others ≡ with_answer a [] ++ others
@@ -156,10 +156,10 @@ edition_well bytes edition is = by_script (read_script (script_of Serial bytes))
     by_config script (Err e) is = absurd (cc)
     by_config script (Ok config) is = by_listings script config (listings_of config script.before) refl is
 
-    by_script : (r : Result Script ScriptError) → (r >>= λ (script : Script). configured first_configuration script.before >>= λ (config : Configuration). listings_of config script.before >>= λ (answers : List LineAnswer).
+    by_script : (r : Result Script ScriptError) → (r >>= λ (script : Script). configuration_behind first_configuration script.before >>= λ (config : Configuration). listings_of config script.before >>= λ (answers : List LineAnswer).
         let q : Result FirstEdition ScriptError = Ok (record { config = config; answers = answers; live = script.live }) in q) ≡ Ok edition → list_any is_refused edition.answers ≡ false
     by_script (Err e) is = absurd (cc)
-    by_script (Ok script) is = by_config script (configured first_configuration script.before) is
+    by_script (Ok script) is = by_config script (configuration_behind first_configuration script.before) is
 
 -- ---- captures
 
@@ -270,10 +270,10 @@ module _ {K S L : Type 0} (written : K → Option (List ℕ)) (sink_faults : K �
   load_status n few (Reported kept ends journal) finds = absurd finds
   load_status n few (Summed kept ends) found =
       let (records, many, front) = captures_whole n (limit_for 1) (omega (arith, few)) in
-      replayed_well known_left no_failures (load.script_of n) (made_capture (load.capture_of n) ∷ []) kept ends found.sources (load_accepted n few)
-      ((load.capture_of n, refl, refl, (records, front)), tt) found.replay (none_failed found.sources)
+      replayed_well known_left no_failures (load.load_script n) (made_capture (load.load_capture n) ∷ []) kept ends found.sources (load_accepted n few)
+      ((load.load_capture n, refl, refl, (records, front)), tt) found.replay (none_failed found.sources)
 
-  pub ends_0 : (job : Job) → CanBeMade job → IsRun written sink_faults pairs faults refused left failures job library libraryAfter sink sinkAfter outcome
+  pub ends_0 : (job : Job) → CanBeMade job → IsRunOf written sink_faults pairs faults refused left failures job library libraryAfter sink sinkAfter outcome
       → IsCompleteJob written sink_faults pairs faults refused left failures job library libraryAfter sink sinkAfter outcome → (outcome.status ≡ 0) ⊎ (outcome.status ≡ 6)
   ends_0 job few (inl memory) complete = inr memory.status
   ends_0 (Replays names) few (inr a) complete = elim a.written_result.writes.answered [
@@ -286,7 +286,7 @@ module _ {K S L : Type 0} (written : K → Option (List ℕ)) (sink_faults : K �
   ]
 
   -- where all is as it should be a command's run answers 0, or 6 for want of memory
-  pub all_complete : (command : Option Job) → IfSome command CanBeMade → IfSome command (λ job. IsRun written sink_faults pairs faults refused left failures job library libraryAfter sink sinkAfter outcome)
+  pub all_complete : (command : Option Job) → IfSome command CanBeMade → IfSome command (λ job. IsRunOf written sink_faults pairs faults refused left failures job library libraryAfter sink sinkAfter outcome)
       → IfSome command (λ job. IsCompleteJob written sink_faults pairs faults refused left failures job library libraryAfter sink sinkAfter outcome → (outcome.status ≡ 0) ⊎ (outcome.status ≡ 6))
   all_complete None few found = tt
   all_complete (Some job) few found = ends_0 job few found

@@ -12,7 +12,7 @@ use Rattle.command_words.specs.Words.{CommandWords, CaptureNames, Replay, Load, 
 use Rattle.command_words.specs.declared.invocation.Mode.{Mode}
 use Rattle.command_words.specs.declared.invocation.Mode.TheVariants.{Serial, Live}
 use Rattle.load_maker.specs.declared.load.TheConstants.{MOST_RECORDS}
-use Rattle.replay_driver.specs.Served.{Job, Replays, Loads, served, job_of}
+use Rattle.replay_driver.specs.Served.{Job, Replays, Loads, job_of_command, job_of}
 
 -- the number of records of a load can be made
 abbrev pub CanBeMade : Job → Type 0
@@ -80,7 +80,7 @@ words_within (mode ∷ words) = by_arguments (arguments_of words)
 pub job_within : (words : List (List ℕ)) → IfSome (job_of words) CanBeMade
 job_within words = by_command (command_of words) (words_within words)
   where
-    by_command : (found : Option CommandWords) → IfSome found IsWithin → IfSome (option_and_then served found) CanBeMade
+    by_command : (found : Option CommandWords) → IfSome found IsWithin → IfSome (option_and_then job_of_command found) CanBeMade
     by_command None few = tt
     by_command (Some (Replay Serial journal script captures)) few = tt
     by_command (Some (Replay Live journal script captures)) few = tt

@@ -13,11 +13,11 @@ use Rattle.fw_report.specs.declared.ends.LineAnswer.{LineAnswer}
 use Rattle.fw_world.specs.RecordValue.{RecordValue}
 use Rattle.serial_replay.specs.Reading.{Track, AllRead}
 use Rattle.serial_replay.specs.declared.replay.OpenedCapture.{OpenedCapture}
-use Rattle.replay_driver.specs.Found.{Finds, FindsWords, FindsReplay, IsReplayOf, ReplaysNames, ReplaysLoad, known_left, no_failures}
-use Rattle.replay_driver.specs.Openings.{without, sources_of}
-use Rattle.replay_driver.specs.Promises.{IsKept, IsReported, IsSummed, IsUnreadJob, IsUnreadyJob, IsQuiet, IsRefused, IsFaulty, HasFailedRead, opening_order}
-use Rattle.replay_driver.specs.Run.{Writes, WritesResult, IsUsage, IsNoCommand, IsRun, IsAnswered, IsWithoutMemory, IsFoundRun}
-use Rattle.replay_driver.specs.RunResult.{result_status, result_text, usage_text, recorded, report_status, is_unread, is_stopped, is_refused}
+use Rattle.replay_driver.specs.Found.{FindsJob, FindsWords, FindsReplay, IsReplayOf, ReplaysNames, ReplaysLoad, known_left, no_failures}
+use Rattle.replay_driver.specs.Openings.{pairs_without, sources_of}
+use Rattle.replay_driver.specs.Promises.{IsKept, IsReported, IsSummed, IsUnreadJob, IsUnreadyJob, IsQuiet, HasRefusedCommand, IsFaulty, HasFailedRead, opening_order}
+use Rattle.replay_driver.specs.Run.{Writes, WritesResult, IsUsage, IsNoCommand, IsRunOf, IsAnswered, IsWithoutMemory, IsFoundRun}
+use Rattle.replay_driver.specs.RunResult.{result_status, result_text, usage_text, report_record, report_status, is_unread, is_stopped, is_refused}
 use Rattle.replay_driver.specs.Served.{ReplayNames, Job, Replays, Loads}
 use Rattle.replay_driver.specs.declared.run_result.Found.{Found}
 use Rattle.replay_driver.specs.declared.outcome.Outcome.{Outcome}
@@ -105,23 +105,23 @@ module _ {K S L : Type 0} (written : K → Option (List ℕ)) (sink_faults : K �
 
     -- words that are a command
     pub found_run : (command : Option Job) (found : Found S) (outcome : Outcome S) → FindsWords pairs faults refused left failures command library libraryAfter found.result found.sources.items
-        → IsFoundRun written sink_faults found sink sinkAfter outcome → IfSome command (λ job. IsRun written sink_faults pairs faults refused left failures job library libraryAfter sink sinkAfter outcome)
+        → IsFoundRun written sink_faults found sink sinkAfter outcome → IfSome command (λ job. IsRunOf written sink_faults pairs faults refused left failures job library libraryAfter sink sinkAfter outcome)
     found_run None found outcome finds run = tt
     found_run (Some job) found outcome finds (inl memory) = inl memory
     found_run (Some job) found outcome finds (inr (writes, sources)) = inr (record {
       result = found.result;
-      finds = subst (λ (v : Vec S Global). Finds pairs faults refused left failures job library libraryAfter found.result v.items) (sym sources) finds;
+      finds = subst (λ (v : Vec S Global). FindsJob pairs faults refused left failures job library libraryAfter found.result v.items) (sym sources) finds;
       written_result = writes;
     })
 
   module _ (library libraryAfter : L) (sink sinkAfter : K) (outcome : Outcome S) where
     abbrev Run : Job → Type 0
-    Run job = IsRun written sink_faults pairs faults refused left failures job library libraryAfter sink sinkAfter outcome
+    Run job = IsRunOf written sink_faults pairs faults refused left failures job library libraryAfter sink sinkAfter outcome
 
     -- what was found, with another status than 5 and 6: the status is its, and the whole text was written
     record Answered (job : Job) (status : ℕ) : Type 0 where
       result : RunResult
-      finds : Finds pairs faults refused left failures job library libraryAfter result outcome.sources.items
+      finds : FindsJob pairs faults refused left failures job library libraryAfter result outcome.sources.items
       writes : WritesResult written sink_faults sink sinkAfter result outcome
       is : result_status result ≡ status
       text : Appends (written sink) (written sinkAfter) (result_text result)
@@ -154,12 +154,12 @@ module _ {K S L : Type 0} (written : K → Option (List ℕ)) (sink_faults : K �
           captures = found.captures;
           replay = subst (λ (f : Ends). IsReplayOf left failures found.bytes found.opened k f found.captures) ended found.replay;
           given_back = found.given_back;
-          writes = subst (λ (b : Bool). Writes written sink_faults sink sinkAfter (report_status outcome.ends.captures outcome.ends.answers) outcome.status (report_text (recorded k) outcome.ends.captures outcome.ends.answers b)) told
-              (subst (λ (f : Ends). Writes written sink_faults sink sinkAfter (report_status f.captures f.answers) outcome.status (report_text (recorded k) f.captures f.answers journal)) ended w.writes);
+          writes = subst (λ (b : Bool). Writes written sink_faults sink sinkAfter (report_status outcome.ends.captures outcome.ends.answers) outcome.status (report_text (report_record k) outcome.ends.captures outcome.ends.answers b)) told
+              (subst (λ (f : Ends). Writes written sink_faults sink sinkAfter (report_status f.captures f.answers) outcome.status (report_text (report_record k) f.captures f.answers journal)) ended w.writes);
         })
     reported names (Summed k ends) kept finds w e = absurd finds
 
-    summed : (n : ℕ) (result : RunResult) (kept : RecordValue) → Finds pairs faults refused left failures (Loads n) library libraryAfter result outcome.sources.items
+    summed : (n : ℕ) (result : RunResult) (kept : RecordValue) → FindsJob pairs faults refused left failures (Loads n) library libraryAfter result outcome.sources.items
         → WritesResult written sink_faults sink sinkAfter result outcome → outcome.kept ≡ Some kept
         → IsSummed written sink_faults pairs faults refused left failures n library libraryAfter sink sinkAfter outcome kept
     unfolding result_text
@@ -183,7 +183,7 @@ module _ {K S L : Type 0} (written : K → Option (List ℕ)) (sink_faults : K �
     pub is_quiet : (job : Job) → Run job → outcome.status ≡ 0 → IsQuiet outcome
     is_quiet job run zero = let a = answered job run 0 zero (omega arith) in go a.result a.finds a.writes a.is
       where
-        go : (result : RunResult) → Finds pairs faults refused left failures job library libraryAfter result outcome.sources.items → WritesResult written sink_faults sink sinkAfter result outcome → result_status result ≡ 0 → IsQuiet outcome
+        go : (result : RunResult) → FindsJob pairs faults refused left failures job library libraryAfter result outcome.sources.items → WritesResult written sink_faults sink sinkAfter result outcome → result_status result ≡ 0 → IsQuiet outcome
         go Usage finds w e = absurd (omega arith)
         go (Unread name) finds w e = absurd (omega arith)
         go (Unready error) finds w e = absurd (omega arith)
@@ -194,10 +194,10 @@ module _ {K S L : Type 0} (written : K → Option (List ℕ)) (sink_faults : K �
             let (whole, accepted) = quiet_ends ends.captures ends.answers e in
             record { begun = IsSome-from outcome.kept k w.kept; whole = ap (list_any is_stopped) w.ends ∙ whole; accepted = ap (list_any is_refused) w.answers ∙ accepted }
 
-    pub is_refused_run : (job : Job) → Run job → outcome.status ≡ 2 → (kept : RecordValue) → outcome.kept ≡ Some kept → IsRefused outcome
+    pub is_refused_run : (job : Job) → Run job → outcome.status ≡ 2 → (kept : RecordValue) → outcome.kept ≡ Some kept → HasRefusedCommand outcome
     is_refused_run job run two kept had = let a = answered job run 2 two (omega arith) in go a.result a.writes a.is
       where
-        go : (result : RunResult) → WritesResult written sink_faults sink sinkAfter result outcome → result_status result ≡ 2 → IsRefused outcome
+        go : (result : RunResult) → WritesResult written sink_faults sink sinkAfter result outcome → result_status result ≡ 2 → HasRefusedCommand outcome
         go Usage w e = absurd (omega arith)
         go (Unread name) w e = absurd (omega arith)
         go (Unready error) w e = let no = w.kept in absurd (cc)
@@ -232,7 +232,7 @@ module _ {K S L : Type 0} (written : K → Option (List ℕ)) (sink_faults : K �
     pub is_failed_run : (job : Job) → Run job → outcome.status ≡ 4 → (kept : RecordValue) → outcome.kept ≡ Some kept → HasFailedRead outcome.ends.captures
     is_failed_run job run four kept had = let a = answered job run 4 four (omega arith) in go job a.result a.finds a.writes a.is
       where
-        go : (job : Job) (result : RunResult) → Finds pairs faults refused left failures job library libraryAfter result outcome.sources.items → WritesResult written sink_faults sink sinkAfter result outcome
+        go : (job : Job) (result : RunResult) → FindsJob pairs faults refused left failures job library libraryAfter result outcome.sources.items → WritesResult written sink_faults sink sinkAfter result outcome
             → result_status result ≡ 4 → HasFailedRead outcome.ends.captures
         go job Usage finds w e = absurd (omega arith)
         go job (Unread name) finds w e = let no = w.kept in absurd (cc)
@@ -251,7 +251,7 @@ module _ {K S L : Type 0} (written : K → Option (List ℕ)) (sink_faults : K �
     unfolding result_text
     is_unready job run two none = let a = answered job run 2 two (omega arith) in go job a.result a.finds a.writes a.is a.text
       where
-        go : (job : Job) (result : RunResult) → Finds pairs faults refused left failures job library libraryAfter result outcome.sources.items → WritesResult written sink_faults sink sinkAfter result outcome
+        go : (job : Job) (result : RunResult) → FindsJob pairs faults refused left failures job library libraryAfter result outcome.sources.items → WritesResult written sink_faults sink sinkAfter result outcome
             → result_status result ≡ 2 → Appends (written sink) (written sinkAfter) (result_text result)
             → IsUnreadyJob written sink_faults pairs faults refused left failures job library libraryAfter sink sinkAfter outcome
         go job Usage finds w e text = absurd (omega arith)
@@ -265,7 +265,7 @@ module _ {K S L : Type 0} (written : K → Option (List ℕ)) (sink_faults : K �
     unfolding result_text
     is_unread_run job run four none = let a = answered job run 4 four (omega arith) in go job a.result a.finds a.writes a.is a.text
       where
-        go : (job : Job) (result : RunResult) → Finds pairs faults refused left failures job library libraryAfter result outcome.sources.items → WritesResult written sink_faults sink sinkAfter result outcome
+        go : (job : Job) (result : RunResult) → FindsJob pairs faults refused left failures job library libraryAfter result outcome.sources.items → WritesResult written sink_faults sink sinkAfter result outcome
             → result_status result ≡ 4 → Appends (written sink) (written sinkAfter) (result_text result)
             → IsUnreadJob written sink_faults pairs faults refused left failures job library libraryAfter sink sinkAfter outcome
         go job Usage finds w e text = absurd (omega arith)
@@ -286,7 +286,7 @@ module _ {K S L : Type 0} (written : K → Option (List ℕ)) (sink_faults : K �
     pub not_1 : (job : Job) → Run job → outcome.status ≡ 1 → ⊥
     not_1 job run one = let a = answered job run 1 one (omega arith) in go job a.result a.finds ((statuses a.result).1 a.is)
       where
-        go : (job : Job) (result : RunResult) → Finds pairs faults refused left failures job library libraryAfter result outcome.sources.items → result ≡ Usage → ⊥
+        go : (job : Job) (result : RunResult) → FindsJob pairs faults refused left failures job library libraryAfter result outcome.sources.items → result ≡ Usage → ⊥
         go (Replays names) Usage finds e = finds
         go (Loads n) Usage (same, none, found) e = found
         go job (Unread name) finds e = absurd (cc)
@@ -316,11 +316,11 @@ module _ {K S L : Type 0} (written : K → Option (List ℕ)) (sink_faults : K �
 
     -- ---- openings
 
-    pub has_openings : (job : Job) (told : List Pair) → Run job → pairs library ≡ Some told → outcome.status ≢ 6 → pairs libraryAfter ≡ without (take (length outcome.sources.items) (opening_order job)) told
+    pub has_openings : (job : Job) (told : List Pair) → Run job → pairs library ≡ Some told → outcome.status ≢ 6 → pairs libraryAfter ≡ pairs_without (take (length outcome.sources.items) (opening_order job)) told
     has_openings job told (inl memory) is other = absurd (other memory.status)
     has_openings job told (inr a) is other = go job a.result outcome.sources.items a.finds
       where
-        go : (job : Job) (result : RunResult) (sources : List S) → Finds pairs faults refused left failures job library libraryAfter result sources → pairs libraryAfter ≡ without (take (length sources) (opening_order job)) told
+        go : (job : Job) (result : RunResult) (sources : List S) → FindsJob pairs faults refused left failures job library libraryAfter result sources → pairs libraryAfter ≡ pairs_without (take (length sources) (opening_order job)) told
         go (Loads n) result sources (same, none, found) = rw none (ap pairs same ∙ is)
         go (Replays names) Usage sources finds = absurd finds
         go (Replays names) (Unread name) sources (inl found) = script_refused pairs faults refused left failures names library libraryAfter name sources told found is
@@ -337,7 +337,7 @@ module _ {K S L : Type 0} (written : K → Option (List ℕ)) (sink_faults : K �
     steady job (inl memory) kept had = let none = memory.nothing_kept in absurd (cc)
     steady job (inr a) kept had = go job a.result a.finds a.written_result
       where
-        go : (job : Job) (result : RunResult) → Finds pairs faults refused left failures job library libraryAfter result outcome.sources.items → WritesResult written sink_faults sink sinkAfter result outcome → faults libraryAfter ≡ faults library
+        go : (job : Job) (result : RunResult) → FindsJob pairs faults refused left failures job library libraryAfter result outcome.sources.items → WritesResult written sink_faults sink sinkAfter result outcome → faults libraryAfter ≡ faults library
         go (Loads n) result (same, none, found) w = ap faults same
         go (Replays names) Usage finds w = absurd finds
         go (Replays names) (Unread name) finds w = let no = w.kept in absurd (cc)
@@ -375,7 +375,7 @@ module _ {K S L : Type 0} (written : K → Option (List ℕ)) (sink_faults : K �
       ]
     ]
 
-    module _ (command : Option Job) (found : IfSome command (λ job. IsRun written sink_faults pairs faults refused left failures job library libraryAfter sink sinkAfter outcome))
+    module _ (command : Option Job) (found : IfSome command (λ job. IsRunOf written sink_faults pairs faults refused left failures job library libraryAfter sink sinkAfter outcome))
         (usage : command ≡ None → IsNoCommand written sink_faults library libraryAfter sink sinkAfter outcome) where
       -- a fact of each job, which is so of no words that are no command
       of_each : (R : Type 0) → (IsNoCommand written sink_faults library libraryAfter sink sinkAfter outcome → R) → ((job : Job) → Run job → R) → R
@@ -398,9 +398,9 @@ module _ {K S L : Type 0} (written : K → Option (List ℕ)) (sink_faults : K �
       all_unready two = IfNone-by outcome.kept _ (λ none. IfSome-map command _ _ (λ job run. is_unready job run two none) found)
 
       -- status 2 with a record says that a command behind `live` was refused
-      pub all_refused : outcome.status ≡ 2 → IfSome outcome.kept (λ kept. IsRefused outcome)
+      pub all_refused : outcome.status ≡ 2 → IfSome outcome.kept (λ kept. HasRefusedCommand outcome)
       all_refused two = IfSome-by outcome.kept _ (λ kept had.
-          of_each (IsRefused outcome) (λ none. absurd (usage_status none 2 two (omega arith) (λ e. omega arith))) (λ job run. is_refused_run job run two kept had))
+          of_each (HasRefusedCommand outcome) (λ none. absurd (usage_status none 2 two (omega arith) (λ e. omega arith))) (λ job run. is_refused_run job run two kept had))
 
       -- status 3 says that a capture has a fault, and no capture's source failed
       pub all_faulty : outcome.status ≡ 3 → IsFaulty outcome
@@ -424,7 +424,7 @@ module _ {K S L : Type 0} (written : K → Option (List ℕ)) (sink_faults : K �
       all_silent six = of_each (sinkAfter ≡ sink) (λ none. usage_silent none six) (λ job run. is_silent job run six)
 
       -- a run takes the names that it opened, and no others, out of the library's list, but for status 6
-      pub all_openings : IfSome (pairs library) (λ told. IfSome command (λ job. outcome.status ≢ 6 → pairs libraryAfter ≡ without (take (length outcome.sources.items) (opening_order job)) told))
+      pub all_openings : IfSome (pairs library) (λ told. IfSome command (λ job. outcome.status ≢ 6 → pairs libraryAfter ≡ pairs_without (take (length outcome.sources.items) (opening_order job)) told))
       all_openings = IfSome-by (pairs library) _ (λ told is. IfSome-map command _ _ (λ job run other. has_openings job told run is other) found)
 
       -- where a record is kept no opening failed

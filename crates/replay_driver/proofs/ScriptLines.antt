@@ -4,7 +4,7 @@ use Rattle.fw_command.specs.declared.script.Line.{Line}
 use Rattle.rule_chain.specs.Apply.{apply}
 use Rattle.rule_chain.specs.Configuration.{Configuration}
 use Rattle.serial_replay.specs.Commands.{listing_of}
-use Rattle.replay_driver.specs.FirstEdition.{◌>>=◌, GivesView, configured_line, configured, listed_first, with_answer, listings_of}
+use Rattle.replay_driver.specs.FirstEdition.{◌>>=◌, GivesView, configured_line, configuration_behind, listed_first, with_answer, listings_of}
 use Rattle.fw_report.specs.declared.ends.LineAnswer.{LineAnswer}
 use Rattle.replay_driver.specs.declared.script_error.ScriptError.{ScriptError}
 use Rattle.replay_driver.specs.declared.script_error.ScriptError.TheVariants.{Fault, Refused, OutOfMemory}
@@ -23,19 +23,19 @@ passed_on part whole (Fault fault) a b f h = f (Fault fault) h
 passed_on part whole (Refused refused) a b f h = f (Refused refused) h
 
 -- a line that is accepted: the lines behind it are carried out on the configuration that it makes
-pub configured_on : (config next : Configuration) (x : Line) (rest : List Line) → configured_line config x ≡ Ok next → configured config (x ∷ rest) ≡ configured next rest
-unfolding configured
-configured_on config next x rest ok = ap (λ (r : Result Configuration ScriptError). r >>= λ (c : Configuration). configured c rest) ok
+pub configured_on : (config next : Configuration) (x : Line) (rest : List Line) → configured_line config x ≡ Ok next → configuration_behind config (x ∷ rest) ≡ configuration_behind next rest
+unfolding configuration_behind
+configured_on config next x rest ok = ap (λ (r : Result Configuration ScriptError). r >>= λ (c : Configuration). configuration_behind c rest) ok
 
 -- the first line that is refused gives the error of all
-pub configured_stops : (config : Configuration) (x : Line) (rest : List Line) (e : ScriptError) → configured_line config x ≡ Err e → configured config (x ∷ rest) ≡ Err e
-unfolding configured
-configured_stops config x rest e stop = ap (λ (r : Result Configuration ScriptError). r >>= λ (c : Configuration). configured c rest) stop
+pub configured_stops : (config : Configuration) (x : Line) (rest : List Line) (e : ScriptError) → configured_line config x ≡ Err e → configuration_behind config (x ∷ rest) ≡ Err e
+unfolding configuration_behind
+configured_stops config x rest e stop = ap (λ (r : Result Configuration ScriptError). r >>= λ (c : Configuration). configuration_behind c rest) stop
 
 -- where no line is left, the configuration stands as it is
-pub configured_none : (config : Configuration) (lines : List Line) (i : ℕ) → length lines ≤ i → configured config (drop i lines) ≡ Ok config
-unfolding configured
-configured_none config lines i past = ap (configured config) (drop_of_length-le lines {i = i} past)
+pub configured_none : (config : Configuration) (lines : List Line) (i : ℕ) → length lines ≤ i → configuration_behind config (drop i lines) ≡ Ok config
+unfolding configuration_behind
+configured_none config lines i past = ap (configuration_behind config) (drop_of_length-le lines {i = i} past)
 
 -- the answers so far before those to the lines behind
 abbrev pub behind : Configuration → List LineAnswer → List Line → Result (List LineAnswer) ScriptError

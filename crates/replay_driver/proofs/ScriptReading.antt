@@ -6,7 +6,7 @@ use Rattle.fw_command.specs.Scripts.{script_of}
 use Rattle.fw_report.specs.declared.ends.LineAnswer.{LineAnswer}
 use Rattle.rule_chain.specs.Configuration.{Configuration}
 use Rattle.rule_chain.specs.First.{first_configuration}
-use Rattle.replay_driver.specs.FirstEdition.{◌>>=◌, read_script, configured, listings_of, first_edition}
+use Rattle.replay_driver.specs.FirstEdition.{◌>>=◌, read_script, configuration_behind, listings_of, first_edition}
 use Rattle.replay_driver.specs.declared.first_edition.FirstEdition.{FirstEdition}
 use Rattle.replay_driver.specs.declared.script_error.ScriptError.{ScriptError}
 
@@ -18,7 +18,7 @@ abbrev with_listings : Script → Configuration → Result FirstEdition ScriptEr
 with_listings script config = listings_of config script.before >>= λ answers. with_answers script config answers
 
 abbrev of_script : Script → Result FirstEdition ScriptError
-of_script script = configured first_configuration script.before >>= λ config. with_listings script config
+of_script script = configuration_behind first_configuration script.before >>= λ config. with_listings script config
 
 -- a script with a fault gives that fault, and no edition
 pub script_stops : (bytes : List ℕ) (e : ScriptError) → read_script (script_of Serial bytes) ≡ Err e → first_edition bytes ≡ Err e
@@ -31,22 +31,22 @@ read bytes script ok = ap (λ (r : Result Script ScriptError). r >>= λ s. of_sc
 
 -- a command before `live` that is refused gives its refusal, and no edition
 pub command_stops : (bytes : List ℕ) (script : Script) (e : ScriptError) → read_script (script_of Serial bytes) ≡ Ok script
-    → configured first_configuration script.before ≡ Err e → first_edition bytes ≡ Err e
+    → configuration_behind first_configuration script.before ≡ Err e → first_edition bytes ≡ Err e
 command_stops bytes script e ok stop = read bytes script ok ∙ ap (λ (r : Result Configuration ScriptError). r >>= λ config. with_listings script config) stop
 
 configured_to : (bytes : List ℕ) (script : Script) (config : Configuration) → read_script (script_of Serial bytes) ≡ Ok script
-    → configured first_configuration script.before ≡ Ok config → first_edition bytes ≡ with_listings script config
+    → configuration_behind first_configuration script.before ≡ Ok config → first_edition bytes ≡ with_listings script config
 configured_to bytes script config ok to = read bytes script ok ∙ ap (λ (r : Result Configuration ScriptError). r >>= λ c. with_listings script c) to
 
 -- a listing before `live` that is refused gives its refusal, and no edition
 pub listing_stops : (bytes : List ℕ) (script : Script) (config : Configuration) (e : ScriptError) → read_script (script_of Serial bytes) ≡ Ok script
-    → configured first_configuration script.before ≡ Ok config → listings_of config script.before ≡ Err e → first_edition bytes ≡ Err e
+    → configuration_behind first_configuration script.before ≡ Ok config → listings_of config script.before ≡ Err e → first_edition bytes ≡ Err e
 listing_stops bytes script config e ok to stop =
     configured_to bytes script config ok to ∙ ap (λ (r : Result (List LineAnswer) ScriptError). r >>= λ answers. with_answers script config answers) stop
 
 -- a script that is accepted gives edition 1, the answers to its listings, and what stands behind `live`
 pub edition_stands : (bytes : List ℕ) (script : Script) (config : Configuration) (answers : List LineAnswer) → read_script (script_of Serial bytes) ≡ Ok script
-    → configured first_configuration script.before ≡ Ok config → listings_of config script.before ≡ Ok answers
+    → configuration_behind first_configuration script.before ≡ Ok config → listings_of config script.before ≡ Ok answers
     → first_edition bytes ≡ Ok (record { config = config; answers = answers; live = script.live })
 edition_stands bytes script config answers ok to told =
     configured_to bytes script config ok to ∙ ap (λ (r : Result (List LineAnswer) ScriptError). r >>= λ a. with_answers script config a) told

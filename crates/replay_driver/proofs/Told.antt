@@ -7,7 +7,7 @@ use Rattle.std.proofs.lemmas.List.{length-map, map-append}
 use Rattle.command_words.specs.Words.{CaptureNames}
 use Rattle.fw_base.specs.Pairs.{Pair, take_named, TakesOut}
 use Rattle.replay_driver.specs.Found.{ReadsNames, RefusesScript, FailsScript, RefusesCapture}
-use Rattle.replay_driver.specs.Openings.{Opens, Refuses, OpensAll, sources_of, file_names, without}
+use Rattle.replay_driver.specs.Openings.{Opens, RefusesToOpen, OpensAll, sources_of, file_names, pairs_without}
 use Rattle.replay_driver.specs.Served.{ReplayNames}
 use Rattle.replay_driver.proofs.Openings.{opens_length}
 use Rattle.replay_driver.proofs.Statuses.{AreFresh}
@@ -15,19 +15,19 @@ use Rattle.serial_replay.specs.declared.replay.OpenedCapture.{OpenedCapture}
 
 -- the list behind one opening
 one_out : (a b : Option (List Pair)) (name : List ℕ) (names : List (List ℕ)) (left : Option (List ℕ)) (told : List Pair) (last : Option (List Pair)) → TakesOut a b name left → a ≡ Some told
-    → ((rest : List Pair) → b ≡ Some rest → last ≡ without names rest) → last ≡ without (name ∷ names) told
+    → ((rest : List Pair) → b ≡ Some rest → last ≡ pairs_without names rest) → last ≡ pairs_without (name ∷ names) told
 one_out None b name names left told last took is behind = absurd (cc)
 one_out (Some pairs) b name names left told last took is behind =
     let same : pairs ≡ told = cc in
-    subst (λ (l : List Pair). last ≡ without (name ∷ names) l) same (by_place (take_named name pairs) took)
+    subst (λ (l : List Pair). last ≡ pairs_without (name ∷ names) l) same (by_place (take_named name pairs) took)
   where
-    by_place : (found : Option (Pair × List Pair)) → MatchOption found ⊥ (λ f. (left ≡ Some f.0.1) × (b ≡ Some f.1)) → last ≡ option_and_then (λ f. without names f.1) found
+    by_place : (found : Option (Pair × List Pair)) → MatchOption found ⊥ (λ f. (left ≡ Some f.0.1) × (b ≡ Some f.1)) → last ≡ option_and_then (λ f. pairs_without names f.1) found
     by_place None took = absurd took
     by_place (Some f) took = behind f.1 took.1
 
 module _ {L S : Type 0} (pairs : L → Option (List Pair)) (faults : L → ℕ) (refused : L → Option (List ℕ)) (left : S → Option (List ℕ)) (failures : S → ℕ) where
   all_out : (old new : L) (captures : List CaptureNames) (opened : List (OpenedCapture S)) (told : List Pair) → OpensAll pairs faults refused left failures old new captures opened → pairs old ≡ Some told
-      → pairs new ≡ without (file_names captures) told
+      → pairs new ≡ pairs_without (file_names captures) told
   all_out old new [] [] told all is = ap pairs all ∙ is
   all_out old new [] (o ∷ os) told all is = absurd all
   all_out old new (c ∷ cs) [] told all is = absurd all
@@ -37,7 +37,7 @@ module _ {L S : Type 0} (pairs : L → Option (List Pair)) (faults : L → ℕ) 
 
   -- the list behind the script and these captures
   pub names_out : (name : List ℕ) (captures : List CaptureNames) (old new : L) (script : S) (bytes : List ℕ) (opened : List (OpenedCapture S)) (told : List Pair)
-      → ReadsNames pairs faults refused left failures name captures old new script bytes opened → pairs old ≡ Some told → pairs new ≡ without (name ∷ file_names captures) told
+      → ReadsNames pairs faults refused left failures name captures old new script bytes opened → pairs old ≡ Some told → pairs new ≡ pairs_without (name ∷ file_names captures) told
   names_out name captures old new script bytes opened told reads is =
       let first = reads.script_read.opens in
       one_out (pairs old) (pairs reads.between) name (file_names captures) (left reads.script_read.opened) told (pairs new) first.took is
@@ -68,32 +68,32 @@ module _ {L S : Type 0} (pairs : L → Option (List Pair)) (faults : L → ℕ) 
   -- so many sources as names: the list is left without these
   pub all_named : (name : List ℕ) (captures : List CaptureNames) (old new : L) (script : S) (bytes : List ℕ) (opened : List (OpenedCapture S)) (sources : List S) (told : List Pair)
       → ReadsNames pairs faults refused left failures name captures old new script bytes opened → pairs old ≡ Some told → length sources ≡ length opened
-      → pairs new ≡ without (take (suc (length sources)) (name ∷ file_names captures)) told
+      → pairs new ≡ pairs_without (take (suc (length sources)) (name ∷ file_names captures)) told
   all_named name captures old new script bytes opened sources told reads is many =
       let count : length sources ≡ length (file_names captures) = many ∙ opens_length pairs faults refused left failures reads.between new captures opened reads.captures_opened ∙ sym (length-map captures (λ c. c.name)) in
       names_out name captures old new script bytes opened told reads is
-      ∙ ap (λ l. without (name ∷ l) told) (sym (ap (λ n. take n (file_names captures)) count ∙ take-length (file_names captures)))
+      ∙ ap (λ l. pairs_without (name ∷ l) told) (sym (ap (λ n. take n (file_names captures)) count ∙ take-length (file_names captures)))
 
   -- where the script's name was refused, nothing is taken out of the told list
   pub script_refused : (names : ReplayNames) (old new : L) (name : List ℕ) (sources : List S) (told : List Pair) → RefusesScript pairs faults refused left failures names old new name sources → pairs old ≡ Some told
-      → pairs new ≡ without (take (length sources) (names.script ∷ file_names names.captures)) told
+      → pairs new ≡ pairs_without (take (length sources) (names.script ∷ file_names names.captures)) told
   script_refused names old new name sources told found is =
       rw (found.nothing_opened) (found.refuses.list_kept ∙ is)
 
   -- where the script could not be read, its name alone is taken out of the told list
   pub script_failed : (names : ReplayNames) (old new : L) (name : List ℕ) (sources : List S) (told : List Pair) → FailsScript pairs faults refused left failures names old new name sources → pairs old ≡ Some told
-      → pairs new ≡ without (take (length sources) (names.script ∷ file_names names.captures)) told
+      → pairs new ≡ pairs_without (take (length sources) (names.script ∷ file_names names.captures)) told
   script_failed names old new name sources told found is =
       let opens = subst (λ (n : List ℕ). Opens pairs faults refused left failures old new n found.opened) found.named found.opens in
       rw (found.given_back) (one_out (pairs old) (pairs new) names.script [] (left found.opened) told (pairs new) opens.took is (λ rest gone. gone))
 
   -- where a capture's name was refused, the names before it are taken out of the told list
   pub capture_refused : (names : ReplayNames) (old new : L) (name : List ℕ) (sources : List S) (told : List Pair) → RefusesCapture pairs faults refused left failures names old new name sources → pairs old ≡ Some told
-      → pairs new ≡ without (take (length sources) (names.script ∷ file_names names.captures)) told
+      → pairs new ≡ pairs_without (take (length sources) (names.script ∷ file_names names.captures)) told
   capture_refused names old new name sources told found is =
       let before = file_names found.before in
       let split : file_names names.captures ≡ before ++ file_names (found.capture ∷ found.behind) = ap file_names found.stands ∙ map-append (λ c. c.name) found.before (found.capture ∷ found.behind) in
       let count : length (sources_of found.opened) ≡ length before = sources_length found.reads.between found.between found.before found.opened found.reads.captures_opened in
       let front : take (length (sources_of found.opened)) (file_names names.captures) ≡ before =
       ap (λ n. take n (file_names names.captures)) count ∙ ap (take (length before)) split ∙ take-append_seam before (file_names (found.capture ∷ found.behind)) in
-      rw (found.given_back) (found.refuses.list_kept ∙ names_out names.script found.before old found.between found.script found.bytes found.opened told found.reads is ∙ ap (λ l. without (names.script ∷ l) told) (sym front))
+      rw (found.given_back) (found.refuses.list_kept ∙ names_out names.script found.before old found.between found.script found.bytes found.opened told found.reads is ∙ ap (λ l. pairs_without (names.script ∷ l) told) (sym front))

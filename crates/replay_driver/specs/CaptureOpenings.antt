@@ -2,7 +2,7 @@
 use Rattle.std.specs.Prelude.{◌≡◌, ℕ, List, ◌∷◌, ◌++◌, Option}
 use Rattle.command_words.specs.Words.{CaptureNames}
 use Rattle.fw_base.specs.Pairs.{Pair}
-use Rattle.replay_driver.specs.Openings.{Opens, Refuses, OpensAll, port_of}
+use Rattle.replay_driver.specs.Openings.{Opens, RefusesToOpen, OpensAll, port_of}
 use Rattle.replay_driver.specs.declared.capture_openings.CaptureOpening.{CaptureOpening}
 use Rattle.replay_driver.specs.declared.capture_openings.CaptureOpening.TheVariants as one
 use Rattle.replay_driver.specs.declared.capture_openings.CaptureOpenings.{CaptureOpenings}
@@ -13,7 +13,7 @@ module _ {L S : Type 0} (pairs : L → Option (List Pair)) (faults : L → ℕ) 
   -- the capture was opened, or its name refused
   abbrev pub OpensCapture : L → L → CaptureNames → CaptureOpening S → Type 0
   OpensCapture old new capture (one.Opened opened) = (opened.port ≡ port_of capture) × Opens pairs faults refused left failures old new capture.name opened.source
-  OpensCapture old new capture (one.Refused name) = (name ≡ capture.name) × Refuses pairs faults refused old new name
+  OpensCapture old new capture (one.Refused name) = (name ≡ capture.name) × RefusesToOpen pairs faults refused old new name
 
   -- the captures before this one were opened, and its name was refused
   pub record OpensUpTo (old new : L) (captures : List CaptureNames) (name : List ℕ) (opened : List (OpenedCapture S)) : Type 0 where
@@ -24,7 +24,7 @@ module _ {L S : Type 0} (pairs : L → Option (List Pair)) (faults : L → ℕ) 
     pub named : name ≡ capture.name
     pub between : L
     pub opens : OpensAll pairs faults refused left failures old between before opened
-    pub refuses : Refuses pairs faults refused between new name
+    pub refuses : RefusesToOpen pairs faults refused between new name
 
   -- the captures were opened, or the first of their names that is refused
   abbrev pub OpensCaptures : L → L → List CaptureNames → CaptureOpenings S → Type 0

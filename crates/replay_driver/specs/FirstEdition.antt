@@ -16,7 +16,7 @@ use Rattle.rule_chain.specs.Changing.{is_changing}
 use Rattle.rule_chain.specs.Configuration.{Configuration}
 use Rattle.rule_chain.specs.First.{first_configuration}
 use Rattle.rule_chain.specs.declared.apply_fault.ApplyFault.TheVariants.{NoSuchTable}
-use Rattle.serial_replay.specs.Commands.{Listing, Rules, Entries, listing_of, answered}
+use Rattle.serial_replay.specs.Commands.{Listing, Rules, Entries, listing_of, line_answer}
 use Rattle.replay_driver.specs.declared.first_edition.FirstEdition.{FirstEdition}
 use Rattle.replay_driver.specs.declared.script_error.ScriptError.{ScriptError}
 use Rattle.replay_driver.specs.declared.script_error.ScriptError.TheVariants.{Fault, Refused, OutOfMemory}
@@ -37,26 +37,26 @@ abbrev pub configured_line : Configuration → Line → Result Configuration Scr
 configured_line config line = if is_changing line.command then on_line line.line (apply config line.command) else Ok config
 
 -- the configuration behind the commands of these lines, in their order
-unfoldable pub configured : Configuration → List Line → Result Configuration ScriptError
-configured config [] = Ok config
-configured config (line ∷ lines) = do
+unfoldable pub configuration_behind : Configuration → List Line → Result Configuration ScriptError
+configuration_behind config [] = Ok config
+configuration_behind config (line ∷ lines) = do
   next ← configured_line config line
-  configured next lines
+  configuration_behind next lines
 
 -- an answer that shows edition 1
-abbrev pub shown : ℕ → Option (List ℕ) → Option LineAnswer
-shown line table = Some (answered line (Listed 1 table))
+abbrev pub first_edition_answer : ℕ → Option (List ℕ) → Option LineAnswer
+first_edition_answer line table = Some (line_answer line (Listed 1 table))
 
 -- the answer to a listing of this table
 abbrev pub table_shown : Configuration → ℕ → List ℕ → Result (Option LineAnswer) ScriptError
 table_shown config line name =
-    if is_some (table_named config.tables name) then Ok (shown line (Some name))
+    if is_some (table_named config.tables name) then Ok (first_edition_answer line (Some name))
     else Err (Refused (record { line = line; fault = NoSuchTable }))
 
 -- a listing is answered by edition 1; one of no table is refused
 abbrev pub listed_first : Configuration → ℕ → Option Listing → Result (Option LineAnswer) ScriptError
 listed_first config line None = Ok None
-listed_first config line (Some Rules) = Ok (shown line None)
+listed_first config line (Some Rules) = Ok (first_edition_answer line None)
 listed_first config line (Some (Entries name)) = table_shown config line name
 
 -- the answer before the others, where there is one
@@ -82,7 +82,7 @@ read_script (Err fault) = Err (Fault fault)
 unfoldable pub first_edition : List ℕ → Result FirstEdition ScriptError
 first_edition bytes = do
   script ← read_script (script_of Serial bytes)
-  config ← configured first_configuration script.before
+  config ← configuration_behind first_configuration script.before
   answers ← listings_of config script.before
   Ok (record { config = config; answers = answers; live = script.live })
 

@@ -8,12 +8,12 @@ use Rattle.fw_base.specs.declared.port.Direction.TheVariants.{In}
 use Rattle.fw_base.specs.declared.port.Port.{Port}
 use Rattle.fw_report.specs.declared.ends.Ends.{Ends}
 use Rattle.fw_world.specs.RecordValue.{RecordValue}
-use Rattle.load_maker.specs.Load.{script_of, capture_of}
+use Rattle.load_maker.specs.Load.{load_script, load_capture}
 use Rattle.serial_replay.specs.Replay.{IsReplay}
 use Rattle.serial_replay.specs.declared.replay.OpenedCapture.{OpenedCapture}
 use Rattle.serial_replay.specs.declared.replay.Replayed.{Replayed}
 use Rattle.replay_driver.specs.FirstEdition.{first_edition}
-use Rattle.replay_driver.specs.Openings.{Opens, Refuses, OpensAll, sources_of}
+use Rattle.replay_driver.specs.Openings.{Opens, RefusesToOpen, OpensAll, sources_of}
 use Rattle.replay_driver.specs.Served.{ReplayNames, Job, Replays, Loads}
 use Rattle.replay_driver.specs.WholeSource.{ReadsAll}
 use Rattle.replay_driver.specs.declared.first_edition.FirstEdition.{FirstEdition}
@@ -57,7 +57,7 @@ module _ {L S : Type 0} (pairs : L → Option (List Pair)) (faults : L → ℕ) 
   -- the script's name was refused
   pub record RefusesScript (names : ReplayNames) (old new : L) (name : List ℕ) (sources : List S) : Type 0 where
     pub named : name ≡ names.script
-    pub refuses : Refuses pairs faults refused old new name
+    pub refuses : RefusesToOpen pairs faults refused old new name
     pub nothing_opened : sources ≡ []
 
   -- the script was opened, and its source failed
@@ -81,7 +81,7 @@ module _ {L S : Type 0} (pairs : L → Option (List Pair)) (faults : L → ℕ) 
     pub bytes : List ℕ
     pub opened : List (OpenedCapture S)
     pub reads : ReadsNames names.script before old between script bytes opened
-    pub refuses : Refuses pairs faults refused between new name
+    pub refuses : RefusesToOpen pairs faults refused between new name
     pub given_back : sources ≡ script ∷ sources_of opened
 
   -- all names were opened, and the script gives no edition
@@ -130,23 +130,23 @@ no_failures bytes = 0
 -- the made capture of so many records was replayed beside the made script
 pub record ReplaysLoad (n : ℕ) (kept : RecordValue) (ends : Ends) : Type 0 where
   pub sources : List (List ℕ)
-  pub replay : IsReplayOf known_left no_failures (script_of n) (made_capture (capture_of n) ∷ []) kept ends sources
+  pub replay : IsReplayOf known_left no_failures (load_script n) (made_capture (load_capture n) ∷ []) kept ends sources
 
 -- this is found of a load of so many records
 abbrev pub FindsLoad : ℕ → RunResult → Type 0
 FindsLoad n Usage = ⊥
 FindsLoad n (Unread name) = ⊥
-FindsLoad n (Unready error) = first_edition (script_of n) ≡ Err error
+FindsLoad n (Unready error) = first_edition (load_script n) ≡ Err error
 FindsLoad n (Reported kept ends journal) = ⊥
 FindsLoad n (Summed kept ends) = ReplaysLoad n kept ends
 
 module _ {L S : Type 0} (pairs : L → Option (List Pair)) (faults : L → ℕ) (refused : L → Option (List ℕ)) (left : S → Option (List ℕ)) (failures : S → ℕ) where
   -- this is found of a command; a load opens nothing
-  abbrev pub Finds : Job → L → L → RunResult → List S → Type 0
-  Finds (Replays names) old new result sources = FindsReplay pairs faults refused left failures names old new result sources
-  Finds (Loads n) old new result sources = (new ≡ old) × (sources ≡ []) × FindsLoad n result
+  abbrev pub FindsJob : Job → L → L → RunResult → List S → Type 0
+  FindsJob (Replays names) old new result sources = FindsReplay pairs faults refused left failures names old new result sources
+  FindsJob (Loads n) old new result sources = (new ≡ old) × (sources ≡ []) × FindsLoad n result
 
   -- The words are no command, and nothing is opened; or this is found of the command that they are.
   abbrev pub FindsWords : Option Job → L → L → RunResult → List S → Type 0
   FindsWords None old new result sources = (result ≡ Usage) × (new ≡ old) × (sources ≡ [])
-  FindsWords (Some job) old new result sources = Finds job old new result sources
+  FindsWords (Some job) old new result sources = FindsJob job old new result sources

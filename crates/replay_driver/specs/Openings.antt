@@ -19,13 +19,13 @@ abbrev pub sources_of : {S : Type 0} → List (OpenedCapture S) → List S
 sources_of = map (λ opened. opened.source)
 
 -- the told list without the first pair of each of these names in turn
-abbrev pub without : List (List ℕ) → List Pair → Option (List Pair)
-without [] pairs = Some pairs
-without (name ∷ names) pairs = option_and_then (λ found. without names found.1) (take_named name pairs)
+abbrev pub pairs_without : List (List ℕ) → List Pair → Option (List Pair)
+pairs_without [] pairs = Some pairs
+pairs_without (name ∷ names) pairs = option_and_then (λ found. pairs_without names found.1) (take_named name pairs)
 
 module _ {L : Type 0} (pairs : L → Option (List Pair)) (faults : L → ℕ) (refused : L → Option (List ℕ)) where
   -- A name was refused: it is the last one refused, the library's count rose, and its list is as before.
-  pub record Refuses (old new : L) (name : List ℕ) : Type 0 where
+  pub record RefusesToOpen (old new : L) (name : List ℕ) : Type 0 where
     pub name_kept : refused new ≡ Some name
     pub rose : Rose (faults old) (faults new)
     pub list_kept : pairs new ≡ pairs old

@@ -9,16 +9,16 @@ use Rattle.fw_report.specs.Report.{report_text}
 use Rattle.fw_report.specs.declared.capture_end.CaptureEnd.{CaptureEnd}
 use Rattle.fw_report.specs.declared.capture_end.CaptureEnd.TheVariants.{Stopped}
 use Rattle.fw_world.specs.RecordValue.{RecordValue}
-use Rattle.load_maker.specs.Load.{script_of}
+use Rattle.load_maker.specs.Load.{load_script}
 use Rattle.pcap_read.specs.Reading.{Captured, HasFront, Open, AtBoundary}
 use Rattle.pcap_read.specs.declared.capture_fault.CaptureFault.TheVariants.{ReadFault}
 use Rattle.serial_replay.specs.Replay.{limit_for, lines_outcome}
 use Rattle.serial_replay.specs.declared.replay.OpenedCapture.{OpenedCapture}
 use Rattle.replay_driver.specs.FirstEdition.{first_edition}
 use Rattle.replay_driver.specs.Found.{ReadsNames, HasNoEdition, FindsReplay, IsReplayOf, ReplaysLoad}
-use Rattle.replay_driver.specs.Openings.{file_names, without}
+use Rattle.replay_driver.specs.Openings.{file_names, pairs_without}
 use Rattle.replay_driver.specs.Run.{Writes}
-use Rattle.replay_driver.specs.RunResult.{recorded, summary_of, report_status, unread_text, is_unread, is_stopped, is_refused}
+use Rattle.replay_driver.specs.RunResult.{report_record, summary_of, report_status, unread_text, is_unread, is_stopped, is_refused}
 use Rattle.replay_driver.specs.ScriptTexts.{error_text}
 use Rattle.replay_driver.specs.Served.{ReplayNames, Job, Replays, Loads}
 use Rattle.replay_driver.specs.declared.first_edition.FirstEdition.{FirstEdition}
@@ -40,7 +40,7 @@ pub record IsQuiet {S : Type 0} (outcome : Outcome S) : Type 0 where
   pub accepted : list_any is_refused outcome.ends.answers ≡ false
 
 -- The report was begun, each capture was read to its end, and a command behind `live` was refused.
-pub record IsRefused {S : Type 0} (outcome : Outcome S) : Type 0 where
+pub record HasRefusedCommand {S : Type 0} (outcome : Outcome S) : Type 0 where
   pub whole : list_any is_stopped outcome.ends.captures ≡ false
   pub refused : list_any is_refused outcome.ends.answers ≡ true
 
@@ -90,7 +90,7 @@ module _ {K S L : Type 0} (written : K → Option (List ℕ)) (sink_faults : K �
     pub replay : IsReplayOf left failures bytes opened kept outcome.ends captures
     pub given_back : outcome.sources.items ≡ script ∷ captures
     pub writes : Writes written sink_faults sink sinkAfter (report_status outcome.ends.captures outcome.ends.answers) outcome.status
-        (report_text (recorded kept) outcome.ends.captures outcome.ends.answers names.journal)
+        (report_text (report_record kept) outcome.ends.captures outcome.ends.answers names.journal)
 
   -- The made script and the made capture were replayed, and what the sink took is the record's summary.
   pub record IsSummed (n : ℕ) (library libraryAfter : L) (sink sinkAfter : K) (outcome : Outcome S) (kept : RecordValue) : Type 0 where
@@ -127,7 +127,7 @@ module _ {K S L : Type 0} (written : K → Option (List ℕ)) (sink_faults : K �
   -- why the script gives no edition, by the job: a load's is made, and this error is what its first edition comes to
   abbrev pub IsUnreadyJob : Job → L → L → K → K → Outcome S → Type 0
   IsUnreadyJob (Replays names) library libraryAfter sink sinkAfter outcome = IsUnready names library libraryAfter sink sinkAfter outcome
-  IsUnreadyJob (Loads n) library libraryAfter sink sinkAfter outcome = (error : ScriptError) × (first_edition (script_of n) ≡ Err error)
+  IsUnreadyJob (Loads n) library libraryAfter sink sinkAfter outcome = (error : ScriptError) × (first_edition (load_script n) ≡ Err error)
 
   -- ---- completeness
 

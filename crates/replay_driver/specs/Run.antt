@@ -5,7 +5,7 @@ use Rattle.fw_base.specs.Faults.{Rose}
 use Rattle.fw_base.specs.Pairs.{Pair}
 use Rattle.fw_base.specs.Texts.{AppendsPart}
 use Rattle.fw_base.specs.declared.failure.Failed.{Failed}
-use Rattle.replay_driver.specs.Found.{Finds}
+use Rattle.replay_driver.specs.Found.{FindsJob}
 use Rattle.replay_driver.specs.RunResult.{usage_text, result_status, result_text, result_kept, result_ends, result_answers}
 use Rattle.replay_driver.specs.Served.{Job}
 use Rattle.replay_driver.specs.declared.run_result.Found.{Found}
@@ -64,10 +64,10 @@ module _ {K : Type 0} (written : K → Option (List ℕ)) (sink_faults : K → �
       -- What is found of the command is written with its status, and kept.
       pub record IsAnswered (job : Job) (library libraryAfter : L) (sink sinkAfter : K) (outcome : Outcome S) : Type 0 where
         pub result : RunResult
-        pub finds : Finds pairs faults refused left failures job library libraryAfter result outcome.sources.items
+        pub finds : FindsJob pairs faults refused left failures job library libraryAfter result outcome.sources.items
         pub written_result : WritesResult sink sinkAfter result outcome
 
       -- a run of a command
-      abbrev pub IsRun : Job → L → L → K → K → Outcome S → Type 0
-      IsRun job library libraryAfter sink sinkAfter outcome =
+      abbrev pub IsRunOf : Job → L → L → K → K → Outcome S → Type 0
+      IsRunOf job library libraryAfter sink sinkAfter outcome =
           IsWithoutMemory sink sinkAfter outcome ⊎ IsAnswered job library libraryAfter sink sinkAfter outcome

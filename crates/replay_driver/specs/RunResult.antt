@@ -26,8 +26,8 @@ unfoldable pub unread_text : List ℕ → List ℕ
 unread_text name = codes "cannot read " ++ (name ++ codes "\n")
 
 -- what a report is written of: no cache is kept, so there are no hits of it
-abbrev pub recorded : RecordValue → Recorded
-recorded r = record { editions = r.editions; journal = r.journal; dockets = r.dockets; tallies = r.tallies; trackers = r.trackers; hits = [] }
+abbrev pub report_record : RecordValue → Recorded
+report_record r = record { editions = r.editions; journal = r.journal; dockets = r.dockets; tallies = r.tallies; trackers = r.trackers; hits = [] }
 
 -- the summary of a record: its dockets, and how many editions, entries of the journal and live states there are
 abbrev pub summary_of : RecordValue → List ℕ
@@ -87,7 +87,7 @@ unfoldable pub result_text : RunResult → List ℕ
 result_text Usage = usage_text
 result_text (Unread name) = unread_text name
 result_text (Unready error) = error_text error
-result_text (Reported kept ends journal) = report_text (recorded kept) ends.captures ends.answers journal
+result_text (Reported kept ends journal) = report_text (report_record kept) ends.captures ends.answers journal
 result_text (Summed kept ends) = summary_of kept
 
 -- the record that is kept, how the captures ended, and the answers to lines of the script

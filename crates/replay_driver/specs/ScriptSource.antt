@@ -2,7 +2,7 @@
 use Rattle.std.specs.Prelude.{ℕ, List, Option}
 use Rattle.fw_base.specs.Pairs.{Pair}
 use Rattle.replay_driver.specs.Found.{ReadsScript, FailsEarly}
-use Rattle.replay_driver.specs.Openings.{Opens, Refuses}
+use Rattle.replay_driver.specs.Openings.{Opens, RefusesToOpen}
 use Rattle.replay_driver.specs.declared.script_source.ScriptSource.{ScriptSource}
 use Rattle.replay_driver.specs.declared.script_source.ScriptSource.TheVariants.{Read, Broken, Refused}
 
@@ -11,4 +11,4 @@ module _ {L S : Type 0} (pairs : L → Option (List Pair)) (faults : L → ℕ) 
   abbrev pub FindsScript : L → L → List ℕ → ScriptSource S → Type 0
   FindsScript old new name (Read script bytes) = ReadsScript pairs faults refused left failures old new name script bytes.items
   FindsScript old new name (Broken script) = (opened : S) × Opens pairs faults refused left failures old new name opened × FailsEarly left failures opened script
-  FindsScript old new name Refused = Refuses pairs faults refused old new name
+  FindsScript old new name Refused = RefusesToOpen pairs faults refused old new name

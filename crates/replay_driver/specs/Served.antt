@@ -16,11 +16,11 @@ pub data Job : Type 0 where
   Loads : (records : ℕ) → Job
 
 -- what the words ask for, where it is carried out
-abbrev pub served : CommandWords → Option Job
-served (Replay Serial journal script captures) = Some (Replays (record { journal = journal; script = script; captures = captures }))
-served (Replay Live journal script captures) = None
-served (Load records) = Some (Loads records)
+abbrev pub job_of_command : CommandWords → Option Job
+job_of_command (Replay Serial journal script captures) = Some (Replays (record { journal = journal; script = script; captures = captures }))
+job_of_command (Replay Live journal script captures) = None
+job_of_command (Load records) = Some (Loads records)
 
 -- what these words ask for
 abbrev pub job_of : List (List ℕ) → Option Job
-job_of words = option_and_then served (command_of words)
+job_of words = option_and_then job_of_command (command_of words)

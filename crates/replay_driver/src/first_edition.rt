@@ -4,7 +4,7 @@ ghost use Rattle.fw_command.specs.WellFormed.{IsLine, IsScript, IsStepInRange};
 ghost use Rattle.fw_command.specs.declared.script.Pace.TheVariants.{Serial};
 ghost use Rattle.fw_command.specs.Scripts.{script_of};
 ghost use Rattle.rule_chain.specs.First.{first_configuration};
-ghost use Rattle.serial_replay.specs.Commands.{listing_of, table_listing};
+ghost use Rattle.serial_replay.specs.Commands.{listing_of, listing_of_table};
 ghost use Rattle.replay_driver.specs.FirstEdition as spec;
 ghost use Rattle.replay_driver.specs.FirstEdition.{GivesView};
 
@@ -48,7 +48,7 @@ fn apply_line(alloc: Global, config: Config, line: &Line) -> Result<Config, Scri
 /// The configuration behind the commands of these lines.
 fn configure(alloc: Global, lines: &[Line]) -> Result<Config, ScriptError>
     requires { AllByRecursion IsLine lines.now }
-    ensures { GivesView (λ c. c) result (spec.configured first_configuration lines.now) }
+    ensures { GivesView (λ c. c) result (spec.configuration_behind first_configuration lines.now) }
 {
     let mut config = Config::new(alloc)?;
     for line in lines {
@@ -59,7 +59,7 @@ fn configure(alloc: Global, lines: &[Line]) -> Result<Config, ScriptError>
 
 /// An answer that shows edition 1.
 fn listed(line: u32, table: Option<Name>) -> Option<LineAnswer>
-    ensures { result ≡ spec.shown line table }
+    ensures { result ≡ spec.first_edition_answer line table }
 {
     Some(LineAnswer {
         line,
@@ -89,7 +89,7 @@ fn list_entries(
     command: &TableCommand,
 ) -> Result<Option<LineAnswer>, ScriptError>
     ensures { GivesView (λ a. a) result
-        (spec.listed_first config.now line (table_listing name.now command.now)) }
+        (spec.listed_first config.now line (listing_of_table name.now command.now)) }
 {
     match command {
         TableCommand::ListEntries => list_table(config, line, name),

@@ -3,9 +3,9 @@ ghost use Rattle.std.specs.List.{list_any};
 ghost use Rattle.fw_base.specs.Faults.{Rose};
 ghost use Rattle.fw_base.specs.Texts.{WritesText};
 ghost use Rattle.replay_driver.specs.Found.{FindsWords};
-ghost use Rattle.replay_driver.specs.Openings.{without};
-ghost use Rattle.replay_driver.specs.Promises.{IsKept, IsUnreadJob, IsUnreadyJob, IsQuiet, IsRefused, IsFaulty, FailedRead, HasFailedRead, IsCompleteJob, opening_order};
-ghost use Rattle.replay_driver.specs.Run.{IsNoCommand, IsRun, IsFoundRun, status_of};
+ghost use Rattle.replay_driver.specs.Openings.{pairs_without};
+ghost use Rattle.replay_driver.specs.Promises.{IsKept, IsUnreadJob, IsUnreadyJob, IsQuiet, HasRefusedCommand, IsFaulty, FailedRead, HasFailedRead, IsCompleteJob, opening_order};
+ghost use Rattle.replay_driver.specs.Run.{IsNoCommand, IsRunOf, IsFoundRun, status_of};
 ghost use Rattle.replay_driver.specs.RunResult as results;
 ghost use Rattle.replay_driver.specs.Served.{job_of};
 
@@ -121,7 +121,7 @@ fn run_words<L: Library, K: Sink>(
     ensures usage { job_of (map string_bytes words.now) ≡ None
         → IsNoCommand K.written K.faults library.old library.new out.old out.new result }
     ensures found { IfSome (job_of (map string_bytes words.now)) (λ job.
-        IsRun K.written K.faults L.pairs L.faults L.refused L.Reader.left L.Reader.faults
+        IsRunOf K.written K.faults L.pairs L.faults L.refused L.Reader.left L.Reader.faults
         job library.old library.new out.old out.new result) }
 {
     match find(alloc, words, library) {
@@ -151,7 +151,7 @@ where
     ensures usage { job_of (map string_bytes words.now) ≡ None
         → IsNoCommand K.written K.faults library.old library.new out.old out.new result }
     ensures found { IfSome (job_of (map string_bytes words.now)) (λ job.
-        IsRun K.written K.faults L.pairs L.faults L.refused L.Reader.left L.Reader.faults
+        IsRunOf K.written K.faults L.pairs L.faults L.refused L.Reader.left L.Reader.faults
         job library.old library.new out.old out.new result) }
 
     // The headline: where a record is kept, it is the legal one of the script and the captures that the words
@@ -168,7 +168,7 @@ where
         (IfSome (job_of (map string_bytes words.now)) (λ job.
         IsUnreadyJob K.written K.faults L.pairs L.faults L.refused L.Reader.left L.Reader.faults
         job library.old library.new out.old out.new result)) }
-    ensures status_2_with_record { result.status ≡ 2 → IfSome result.kept (λ _. IsRefused result) }
+    ensures status_2_with_record { result.status ≡ 2 → IfSome result.kept (λ _. HasRefusedCommand result) }
     ensures status_3_cause { result.status ≡ 3 → IsFaulty result }
     ensures status_4_before { result.status ≡ 4 → IfNone result.kept
         (IfSome (job_of (map string_bytes words.now)) (λ job.
@@ -182,7 +182,7 @@ where
     // The names are opened in their order, once each, and no other is; with status 1 and for a load none.
     ensures openings { IfSome (L.pairs library.old) (λ pairs.
         IfSome (job_of (map string_bytes words.now)) (λ job. result.status ≢ 6 → L.pairs library.new
-        ≡ without (take (length result.sources.items) (opening_order job)) pairs)) }
+        ≡ pairs_without (take (length result.sources.items) (opening_order job)) pairs)) }
     ensures nothing_opened { job_of (map string_bytes words.now) ≡ None → result.status ≢ 6
         → library.new ≡ library.old }
     ensures no_second_try { IfSome result.kept (λ _. L.faults library.new ≡ L.faults library.old) }

@@ -168,7 +168,7 @@ impl RunResult {
 fn report<K: Sink>(out: &mut K, kept: &Record, ends: &Ends, journal: bool) -> Result<(), Failed>
     requires { 0 < length kept.now.editions }
     ensures { WritesText (K.written out.old) (K.written out.new) (K.faults out.old)
-        (K.faults out.new) (report_text (spec.recorded kept.now) ends.now.captures
+        (K.faults out.new) (report_text (spec.report_record kept.now) ends.now.captures
         ends.now.answers journal) result }
 {
     write_report(

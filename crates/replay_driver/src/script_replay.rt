@@ -1,6 +1,6 @@
 ghost use Rattle.std.specs.Prelude.{◌≡◌, ◌≤◌, ◌∷◌, ◌++◌, IfOk, vec_len};
 ghost use Rattle.replay_driver.specs.Openings.{sources_of};
-ghost use Rattle.replay_driver.specs.ScriptReplay.{CanReport, Replays};
+ghost use Rattle.replay_driver.specs.ScriptReplay.{CanReport, ReplaysScript};
 
 use crate::ScriptError;
 use crate::first_edition::{FirstEdition, read_first_edition};
@@ -58,7 +58,7 @@ pub(crate) fn replay_script<S: Source>(
     opened: Vec<OpenedCapture<S>>,
 ) -> Result<ScriptReplay<S>, OutOfMemory>
     requires { (1 ≤ vec_len opened) × (vec_len opened ≤ 16) }
-    ensures replays { IfOk result (Replays S.left S.faults script.now opened.items) }
+    ensures replays { IfOk result (ReplaysScript S.left S.faults script.now opened.items) }
     ensures reportable { IfOk result CanReport }
 {
     let FirstEdition {

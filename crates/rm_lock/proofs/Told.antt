@@ -6,7 +6,7 @@ use Rattle.atomic_table.specs.Seated.{TableId}
 use Rattle.rm_core.specs.declared.event.Heard.TheVariants.{Held}
 use Rattle.rm_table.specs.declared.padded_slot.Slot.{Slot}
 use Rattle.rm_table.specs.declared.view.View.{View}
-use Rattle.rm_table.specs.Meanings.{Meanings, numbered}
+use Rattle.rm_table.specs.Meanings.{Meanings, numbered_names}
 use Rattle.rm_table.specs.Moves.{Hand, entered_view, informed_view, SeenUpTo}
 use Rattle.rm_table.specs.Answers.{AnswersCheck}
 use Rattle.rm_lock.specs.Tokens.{TokenState, greatest_pair_number, told_number, IsOutBy, IsReceiptBy}
@@ -25,7 +25,7 @@ module _ {L : Type 0} where
       omega arith
 
   -- the last of a history's names has the greatest number
-  greatest_numbered : {T : Type 0} (from : ℕ) (history : List (L × T)) (number : ℕ) → from + length history ≡ number + 1 → from ≤ number → greatest_pair_number (numbered from history) ≡ number
+  greatest_numbered : {T : Type 0} (from : ℕ) (history : List (L × T)) (number : ℕ) → from + length history ≡ number + 1 → from ≤ number → greatest_pair_number (numbered_names from history) ≡ number
   greatest_numbered from [] number counts begun = absurd (omega arith)
   greatest_numbered from (x ∷ []) number counts begun = omega arith
   greatest_numbered from (x ∷ y ∷ ys) number counts begun = let e = greatest_numbered (from + 1) (y ∷ ys) number (omega arith) (omega arith) in omega arith
@@ -37,7 +37,7 @@ module _ {E B T L I : Type 0} where
 
   -- the processor has heard a receipt
   told_informed : (v r : View E B T L I) (heard : ℕ) (hand : Hand E B) → IsReceiptBy heard r hand → told_number (informed_view v r) ≡ max (told_number v) r.number
-  told_informed v r heard hand is = greatest_both v.part.pairs (numbered r.opened r.history) ∙ ap (λ (n : ℕ). max (told_number v) n) (greatest_numbered r.opened r.history r.number is.counts is.begun)
+  told_informed v r heard hand is = greatest_both v.part.pairs (numbered_names r.opened r.history) ∙ ap (λ (n : ℕ). max (told_number v) n) (greatest_numbered r.opened r.history r.number is.counts is.begun)
 
   -- who hears a receipt has been told of the greater of both numbers
   pub told_by : (p r : TokenState E B T L I) (table its_table : TableId) (heard : ℕ) (s0 spent s1 : Me (Slot E B) (View E B T L I)) → record { table_id = table; view = s0.0 } ≡ p → record { table_id = its_table; view = spent.0 } ≡ r → IsReceiptBy heard spent.0 spent.1 → s1 ≡ (informed_view s0.0 spent.0, s0.1)

@@ -10,7 +10,7 @@ use Rattle.rm_core.specs.declared.processor_state.ProcessorState.{ProcessorState
 use Rattle.rm_core.specs.CoreState.{processor_of, with_processor, IsProcessor}
 use Rattle.rm_core.proofs.Changes.{processor_of-at, processor_of-within, IsProcessor-from, with_processor-some}
 use Rattle.rm_table.specs.Layout.{index_of_word, number_index, behind_index, book_index, tracker_index, token_index}
-use Rattle.rm_table.specs.Meanings.{put, values_from}
+use Rattle.rm_table.specs.Meanings.{with_value_at, values_from}
 use Rattle.rm_table.specs.Rule.{WholeState, core_of, LockWords}
 
 -- the value that there is
@@ -20,27 +20,27 @@ some_of None is = absurd cc
 
 module _ {A : Type 0} where
   -- the value that was put stands at its place
-  pub put_here : (f : ℕ → A) (p : ℕ) (a : A) → put f p a p ≡ a
-  unfolding put
+  pub put_here : (f : ℕ → A) (p : ℕ) (a : A) → with_value_at f p a p ≡ a
+  unfolding with_value_at
   put_here f p a = ap (λ (b : Bool). if b then a else f p) (eq-eqb p p refl)
 
   -- a value at another place stays
-  pub put_else : (f : ℕ → A) (p : ℕ) (a : A) (k : ℕ) → k ≢ p → put f p a k ≡ f k
-  unfolding put
+  pub put_else : (f : ℕ → A) (p : ℕ) (a : A) (k : ℕ) → k ≢ p → with_value_at f p a k ≡ f k
+  unfolding with_value_at
   put_else f p a k other = ap (λ (b : Bool). if b then a else f k) (ne_eqb k p other)
 
   -- what holds of the new value at its place and of each other value at its own
-  pub at_put : (P : ℕ → A → Type 0) (f : ℕ → A) (p : ℕ) (a : A) → P p a → ((k : ℕ) → k ≢ p → P k (f k)) → (k : ℕ) → P k (put f p a k)
+  pub at_put : (P : ℕ → A → Type 0) (f : ℕ → A) (p : ℕ) (a : A) → P p a → ((k : ℕ) → k ≢ p → P k (f k)) → (k : ℕ) → P k (with_value_at f p a k)
   at_put P f p a here rest_of k =
-      elim (eqb_tells k p) as (λ _. P k (put f p a k)) [
+      elim (eqb_tells k p) as (λ _. P k (with_value_at f p a k)) [
         | inl same ↦
-            let e : put f p a k ≡ a = ap (put f p a) same.1 ∙ put_here f p a in
+            let e : with_value_at f p a k ≡ a = ap (with_value_at f p a) same.1 ∙ put_here f p a in
             subst (λ (x : A). P k x) (sym e) (subst (λ (n : ℕ). P n a) (sym same.1) here)
         | inr other ↦ subst (λ (x : A). P k x) (sym (put_else f p a k other.1)) (rest_of k other.1)
       ]
 
   -- a property of the values that the new value keeps
-  pub put_keeps : {X : Type 0} (g : A → X) (f : ℕ → A) (p : ℕ) (a : A) → g a ≡ g (f p) → (k : ℕ) → g (put f p a k) ≡ g (f k)
+  pub put_keeps : {X : Type 0} (g : A → X) (f : ℕ → A) (p : ℕ) (a : A) → g a ≡ g (f p) → (k : ℕ) → g (with_value_at f p a k) ≡ g (f k)
   put_keeps g f p a same = at_put (λ k x. g x ≡ g (f k)) f p a same (λ k other. refl)
 
   -- at each place within a list stands an element
@@ -79,24 +79,24 @@ module _ {A : Type 0} where
   values_at f from (suc n) (suc j) h = let e : suc from + j ≡ from + suc j = omega arith in values_at f (suc from) n j (omega arith) ∙ ap (λ (k : ℕ). Some (f k)) e
 
   -- a value put before `from` changes nothing
-  values-below : (f : ℕ → A) (from n p : ℕ) (a : A) → p < from → values_from (put f p a) from n ≡ values_from f from n
+  values-below : (f : ℕ → A) (from n p : ℕ) (a : A) → p < from → values_from (with_value_at f p a) from n ≡ values_from f from n
   values-below f from zero p a h = refl
   values-below f from (suc n) p a h =
-      let one : put f p a from ≡ f from = put_else f p a from (λ clash. absurd (omega arith)) in
-      let others : values_from (put f p a) (suc from) n ≡ values_from f (suc from) n = values-below f (suc from) n p a (omega arith) in
+      let one : with_value_at f p a from ≡ f from = put_else f p a from (λ clash. absurd (omega arith)) in
+      let others : values_from (with_value_at f p a) (suc from) n ≡ values_from f (suc from) n = values-below f (suc from) n p a (omega arith) in
       cc
 
   -- a value that is put at a place is set in the list of values
-  values-put : (f : ℕ → A) (from n p j : ℕ) (a : A) → p ≡ from + j → values_from (put f p a) from n ≡ slice_set (values_from f from n) j a
+  values-put : (f : ℕ → A) (from n p j : ℕ) (a : A) → p ≡ from + j → values_from (with_value_at f p a) from n ≡ slice_set (values_from f from n) j a
   values-put f from zero p j a e = refl
   values-put f from (suc n) p zero a e =
       let same : from ≡ p = omega arith in
-      let one : put f p a from ≡ a = ap (put f p a) same ∙ put_here f p a in
-      let others : values_from (put f p a) (suc from) n ≡ values_from f (suc from) n = values-below f (suc from) n p a (omega arith) in
+      let one : with_value_at f p a from ≡ a = ap (with_value_at f p a) same ∙ put_here f p a in
+      let others : values_from (with_value_at f p a) (suc from) n ≡ values_from f (suc from) n = values-below f (suc from) n p a (omega arith) in
       cc
   values-put f from (suc n) p (suc j) a e =
-      let one : put f p a from ≡ f from = put_else f p a from (λ clash. absurd (omega arith)) in
-      let others : values_from (put f p a) (suc from) n ≡ slice_set (values_from f (suc from) n) j a = values-put f (suc from) n p j a (omega arith) in
+      let one : with_value_at f p a from ≡ f from = put_else f p a from (λ clash. absurd (omega arith)) in
+      let others : values_from (with_value_at f p a) (suc from) n ≡ slice_set (values_from f (suc from) n) j a = values-put f (suc from) n p j a (omega arith) in
       cc
 
   -- a change of each value changes each in the list
@@ -229,9 +229,9 @@ module _ {E B T L I : Type 0} (c : WholeState E B T L I) where
       (within.0, high, cc)
 
   -- a change of one processor
-  pub core-put : (p : ℕ) (change : ProcessorState → ProcessorState) → 0 < p → p ≤ c.count → core_of (record c { state = put c.state p (change (c.state p)) }) ≡ with_processor (core_of c) p change
+  pub core-put : (p : ℕ) (change : ProcessorState → ProcessorState) → 0 < p → p ≤ c.count → core_of (record c { state = with_value_at c.state p (change (c.state p)) }) ≡ with_processor (core_of c) p change
   core-put p change low high =
-      let same : values_from (put c.state p (change (c.state p))) 1 c.count ≡ slice_set (values_from c.state 1 c.count) (p - 1) (change (c.state p)) = values-put c.state 1 c.count p (p - 1) (change (c.state p)) (omega arith) in
+      let same : values_from (with_value_at c.state p (change (c.state p))) 1 c.count ≡ slice_set (values_from c.state 1 c.count) (p - 1) (change (c.state p)) = values-put c.state 1 c.count p (p - 1) (change (c.state p)) (omega arith) in
       ap (λ (ps : List ProcessorState). record (core_of c) { processors = ps }) same ∙ sym (with_processor-some (core_of c) p change (c.state p) (there p low high))
 
 module _ {A : Type 0} where

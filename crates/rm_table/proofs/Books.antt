@@ -15,8 +15,8 @@ use Rattle.rm_table.specs.declared.padded_slot.Slot.TheVariants.{Book}
 use Rattle.rm_table.specs.declared.part.Part.{Part}
 use Rattle.rm_table.specs.declared.view.View.{View}
 use Rattle.rm_table.specs.Layout.{book_index, tracker_word, holder_word}
-use Rattle.rm_table.specs.Meanings.{Meanings, put, BeginsWith}
-use Rattle.rm_table.specs.Rule.{WholeState, lent, LockWords, tracker_of, token_of, Slots, Desk, Lists, Live, OperatorKeeps, Shows}
+use Rattle.rm_table.specs.Meanings.{Meanings, with_value_at, BeginsWith}
+use Rattle.rm_table.specs.Rule.{WholeState, lent_book, LockWords, tracker_of, token_of, Slots, Desk, Lists, Live, OperatorKeeps, Shows}
 use Rattle.rm_table.specs.Moves.{Hand, with_step, book_part, book_taken, given_part, book_given, FoundBy, LeftBy, LeftByOperator, AllDrained, IsOperator, IsWorking}
 use Rattle.rm_table.proofs.Base.{put_here, put_else, at_put, put_keeps, at_slice, slice_at, words_like, words_book}
 use Rattle.rm_table.proofs.Keeping.{Beside, begins_same, each_after, every_seat_after}
@@ -31,7 +31,7 @@ pos_of_ne n other = grind (arith, other)
 
 -- what a step on the book changes
 abbrev pub desk_core : {E B T L I : Type 0} → WholeState E B T L I → ℕ → ℕ → B → Bool → Bool → Part E L I → WholeState E B T L I
-desk_core c p holder book stale ready a = record c { holder = holder; book = book; stale = stale; ready = ready; part = put c.part p a }
+desk_core c p holder book stale ready a = record c { holder = holder; book = book; stale = stale; ready = ready; part = with_value_at c.part p a }
 
 module _ {E B T L I : Type 0} (m : Meanings E B T L I) where
   -- the book is taken
@@ -65,10 +65,10 @@ module _ {E B T L I : Type 0} (m : Meanings E B T L I) where
         → x ≡ holder
         → Slots m c.number c.count c.state c.name c.tag holder book homes
         → Desk m c.number c.count c.state c.tag holder book stale
-        → Lists m c.count book stale c.own (put c.part v.place a)
+        → Lists m c.count book stale c.own (with_value_at c.part v.place a)
         → (ready ≡ true → m.book_ready book ≡ true)
-        → ((k : ℕ) → k ≢ v.place → 0 < k → lent holder book k ≡ lent c.holder c.book k)
-        → lends ≡ lent holder book v.place
+        → ((k : ℕ) → k ≢ v.place → 0 < k → lent_book holder book k ≡ lent_book c.holder c.book k)
+        → lends ≡ lent_book holder book v.place
         → a.sections ≡ v.part.sections → a.held ≡ v.part.held → a.refusal ≡ v.part.refusal → a.read ≡ v.part.read → a.reading ≡ v.part.reading → a.pairs ≡ v.part.pairs
         → (v.place ≢ c.count + 1 → (ready ≡ c.ready) × (stale ≡ c.stale))
         → (v.role ≡ Operator → (now_ready ≡ ready) × (now_stale ≡ stale))
@@ -165,17 +165,17 @@ module _ {E B T L I : Type 0} (m : Meanings E B T L I) where
         by_flag true is = absurd (other (shows.desk.writer is))
         by_flag false is = is
 
-    lent_else : (holder : ℕ) (book : B) (k : ℕ) → holder ≢ k → lent holder book k ≡ None
+    lent_else : (holder : ℕ) (book : B) (k : ℕ) → holder ≢ k → lent_book holder book k ≡ None
     lent_else holder book k other = ap (λ (b : Bool). if b then Some book else None) (ne_eqb holder k other)
 
-    lent_here : (p : ℕ) (book : B) → lent p book p ≡ Some book
+    lent_here : (p : ℕ) (book : B) → lent_book p book p ≡ Some book
     lent_here p book = ap (λ (b : Bool). if b then Some book else None) (eq-eqb p p refl)
 
     -- take book
     pub book_is_home : c.holder ≡ 0 → get_elem? t.homes 0 ≡ at.some (at.some (Book (Some c.book)))
     book_is_home free = book_at_home m free shows.slots
 
-    part_same : {X : Type 0} (f : Part E L I → X) (a : Part E L I) → f a ≡ f v.part → (k : ℕ) → f (put c.part v.place a k) ≡ f (c.part k)
+    part_same : {X : Type 0} (f : Part E L I → X) (a : Part E L I) → f a ≡ f v.part → (k : ℕ) → f (with_value_at c.part v.place a k) ≡ f (c.part k)
     part_same f a same = put_keeps f c.part v.place a (same ∙ ap f w_live.part)
 
     -- once a free book is taken the table shows a state by the rule

@@ -10,7 +10,7 @@ use Rattle.rm_table.specs.declared.part.Part.{Part}
 use Rattle.rm_table.specs.declared.view.View.{View}
 use Rattle.rm_table.specs.Layout.{is_held_by}
 use Rattle.rm_table.specs.Meanings.{Meanings, BeginsWith}
-use Rattle.rm_table.specs.Rule.{WholeState, lent, Live, KeptAt, OperatorKeeps, IsSeatOf, EverySeat, Agrees}
+use Rattle.rm_table.specs.Rule.{WholeState, lent_book, Live, KeptAt, OperatorKeeps, IsSeatOf, EverySeat, Agrees}
 use Rattle.rm_table.proofs.Base.{get_within}
 
 module _ {A : Type 0} where
@@ -43,7 +43,7 @@ pub record Beside {E B T L I : Type 0} (c d : WholeState E B T L I) (p : ℕ) : 
   pub phase : (k : ℕ) → k ≢ p → (d.state k).phase ≡ (c.state k).phase
   pub part : (k : ℕ) → k ≢ p → d.part k ≡ c.part k
   pub behind : (k : ℕ) → k ≢ p → is_held_by d.behind k ≡ is_held_by c.behind k
-  pub book : (k : ℕ) → k ≢ p → 0 < k → lent d.holder d.book k ≡ lent c.holder c.book k
+  pub book : (k : ℕ) → k ≢ p → 0 < k → lent_book d.holder d.book k ≡ lent_book c.holder c.book k
   pub operator : p ≢ c.count + 1 → Quiet c d p
 
 module _ {E B T L I : Type 0} (m : Meanings E B T L I) where

@@ -16,7 +16,7 @@ use Rattle.rm_table.specs.declared.padded_slot.Slot.{Slot}
 use Rattle.rm_table.specs.declared.part.Part.{Part}
 use Rattle.rm_table.specs.declared.view.View.{View}
 use Rattle.rm_table.specs.Layout.{behind_index, tracker_word, holder_word, is_held_by}
-use Rattle.rm_table.specs.Meanings.{Meanings, numbered, put, BeginsWith}
+use Rattle.rm_table.specs.Meanings.{Meanings, numbered_names, with_value_at, BeginsWith}
 use Rattle.rm_table.specs.Rule.{WholeState, core_of, LockWords, tracker_of, token_of, InHistory, Live, OperatorKeeps, Shows}
 use Rattle.rm_table.specs.Moves.{Hand, with_step, behind_part, behind_taken, unread_part, behind_given, read_part, number_read, informed_part, informed_view, AllSplit, IsWorking, NoneRevoked}
 use Rattle.rm_table.proofs.Base.{put_here, put_else, at_put, put_keeps, at_slice, all_values, length-values, words_unchanged, words_like, words_behind}
@@ -25,7 +25,7 @@ use Rattle.rm_table.proofs.Own.{sound_after, numbers_after}
 
 -- what a step on the lock behind changes
 abbrev pub lock_core : {E B T L I : Type 0} → WholeState E B T L I → ℕ → Option ℕ → Part E L I → WholeState E B T L I
-lock_core c p b a = record c { behind = b; part = put c.part p a }
+lock_core c p b a = record c { behind = b; part = with_value_at c.part p a }
 
 -- a part that shows the same but for what was read, for pairs seen and for counts
 pub record SamePart {E L I : Type 0} (a b : Part E L I) : Type 0 where
@@ -85,7 +85,7 @@ module _ {E B T L I : Type 0} (m : Meanings E B T L I) where
         let p : ℕ = v.place in
         let d : WholeState E B T L I = lock_core c p b a in
         let l : Live m c id v = working_live in
-        let part_is : put c.part p a p ≡ a = put_here c.part p a in
+        let part_is : with_value_at c.part p a p ≡ a = put_here c.part p a in
         let was : v.part ≡ c.part p = l.part in
         let beside : Beside c d p = record {
           count = refl;
@@ -251,7 +251,7 @@ module _ {E B T L I : Type 0} (m : Meanings E B T L I) where
         (subst (λ (xs : List ℕ). LockWords c.count c.number (holder_word c.behind) c.holder (tracker_of c.state c.part) (token_of c.state) xs) (sym same) shows.words)
 
   -- a receipt's names in the pairs of the processor that has heard it
-  numbered_at : (from : ℕ) (history : List (L × T)) (i x : ℕ) (l : L) → get_elem? (numbered from history) i ≡ at.some (x, l) → (x ≡ from + i) × ((tag : T) × (get_elem? history i ≡ at.some (l, tag)))
+  numbered_at : (from : ℕ) (history : List (L × T)) (i x : ℕ) (l : L) → get_elem? (numbered_names from history) i ≡ at.some (x, l) → (x ≡ from + i) × ((tag : T) × (get_elem? history i ≡ at.some (l, tag)))
   numbered_at from [] i x l is = absurd (at.some-ne-none (x, l) (sym is))
   numbered_at from (y ∷ ys) zero x l is =
       let e = at.some-injective (from, y.0) (x, l) is in
@@ -281,5 +281,5 @@ module _ {E B T L I : Type 0} (m : Meanings E B T L I) where
       let got = numbered_at w.opened w.history new.0 x name new.1 in
       let from : x - c.opened ≡ new.0 = let e = got.0 in let o = r.opened_is in omega arith in
       (let e = got.0 in let o = r.opened_is in omega arith, (got.1.0, ap (get_elem? c.history) from ∙ ap (λ (h : List (L × T)). get_elem? h new.0) r.prefix.1 ∙ at_longer w.history r.prefix.0 new.0 (name, got.1.0) got.1.1)))
-      (at_append v.part.pairs (numbered w.opened w.history) j (x, name) is))
+      (at_append v.part.pairs (numbered_names w.opened w.history) j (x, name) is))
       shows.words

@@ -12,7 +12,7 @@ use Rattle.rm_table.specs.declared.padded_slot.Slot.{Slot}
 use Rattle.rm_table.specs.declared.part.Part.{Part}
 use Rattle.rm_table.specs.declared.view.View.{View}
 use Rattle.rm_table.specs.Layout.{number_index, behind_index, holder_word, is_held_by}
-use Rattle.rm_table.specs.Meanings.{Meanings, numbered, BeginsWith}
+use Rattle.rm_table.specs.Meanings.{Meanings, numbered_names, BeginsWith}
 use Rattle.rm_table.specs.Moves.{IsLast}
 use Rattle.rm_table.specs.Rule.{WholeState, core_of, Live, KeptAt, OperatorKeeps, IsSeatOf, Shows}
 use Rattle.rm_table.specs.Moments.{HasSeat, IsReader, IsCountedOut, ReadsPublished, ReadingLaw, StayingLaw, HomeLaw, AwayLaw, ApartLaw, SeatLaw, OperatorLaw, PlaceLaw, BehindLaw, BookLaw, SeenLaw, PrefixLaw, HeardLaw}
@@ -21,7 +21,7 @@ use Rattle.rm_table.proofs.Own.{in_history}
 
 module _ {L T : Type 0} where
   -- the last pair of a numbered history
-  last_numbered : (from : ℕ) (history : List (L × T)) (number : ℕ) → from + length history ≡ number + 1 → 0 < length history → (j : ℕ) × (name : L) × (slice_get (numbered from history) j ≡ Some (number, name))
+  last_numbered : (from : ℕ) (history : List (L × T)) (number : ℕ) → from + length history ≡ number + 1 → 0 < length history → (j : ℕ) × (name : L) × (slice_get (numbered_names from history) j ≡ Some (number, name))
   last_numbered from [] number counts some = absurd (omega arith)
   last_numbered from (x ∷ []) number counts some = let e : from ≡ number = omega arith in (0, x.0, ap (λ (n : ℕ). Some (n, x.0)) e)
   last_numbered from (x ∷ y ∷ ys) number counts some = let got = last_numbered (from + 1) (y ∷ ys) number (omega arith) (omega arith) in (suc got.0, got.1, got.2)
@@ -238,4 +238,4 @@ module _ {E B T L I : Type 0} (m : Meanings E B T L I) where
   pub heard_holds : HeardLaw m
   heard_holds v r number begun counts seen =
       let got = last_numbered r.opened r.history r.number counts (omega arith) in
-      seen (length v.part.pairs + got.0) r.number got.1 (get_behind v.part.pairs (numbered r.opened r.history) got.0 (r.number, got.1) got.2)
+      seen (length v.part.pairs + got.0) r.number got.1 (get_behind v.part.pairs (numbered_names r.opened r.history) got.0 (r.number, got.1) got.2)

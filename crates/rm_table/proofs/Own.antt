@@ -21,8 +21,8 @@ use Rattle.rm_table.specs.declared.padded_slot.Slot.{Slot}
 use Rattle.rm_table.specs.declared.part.Part.{Part}
 use Rattle.rm_table.specs.declared.view.View.{View}
 use Rattle.rm_table.specs.Layout.{holder_word, is_held_by}
-use Rattle.rm_table.specs.Meanings.{Meanings, put, BeginsWith}
-use Rattle.rm_table.specs.Rule.{WholeState, core_of, lent, LockWords, tracker_of, token_of, Sound, IsPending, InHistory, Current, Slots, Numbers, Live, Shows}
+use Rattle.rm_table.specs.Meanings.{Meanings, with_value_at, BeginsWith}
+use Rattle.rm_table.specs.Rule.{WholeState, core_of, lent_book, LockWords, tracker_of, token_of, Sound, IsPending, InHistory, Current, Slots, Numbers, Live, Shows}
 use Rattle.rm_table.specs.Moves.{SeenUpTo}
 use Rattle.rm_table.proofs.Base.{put_here, put_else, at_put, put_keeps, there, get_within, slice_at}
 use Rattle.rm_table.proofs.Keeping.{Beside, begins_same, each_after, every_seat_after}
@@ -60,7 +60,7 @@ module _ {E B T L I : Type 0} where
 
 -- what a step of a processor on its own state and part changes
 abbrev pub own_core : {E B T L I : Type 0} → WholeState E B T L I → ℕ → ProcessorState → Part E L I → WholeState E B T L I
-own_core c p r a = record c { state = put c.state p r; part = put c.part p a }
+own_core c p r a = record c { state = with_value_at c.state p r; part = with_value_at c.part p a }
 
 module _ {E B T L I : Type 0} (m : Meanings E B T L I) where
   -- a processor's step on its own state changes nothing that other seats may see
@@ -125,14 +125,14 @@ module _ {E B T L I : Type 0} (m : Meanings E B T L I) where
     pub may : MayCome (core_of c) e
     pub revoked : r.revoked ≡ (c.state v.place).revoked
     pub drained : r.drained ≡ (c.state v.place).drained
-    pub words_are : LockWords c.count c.number (holder_word c.behind) c.holder (tracker_of (put c.state v.place r) (put c.part v.place a)) (token_of (put c.state v.place r)) words
-    pub slots_are : Slots m c.number c.count (put c.state v.place r) c.name c.tag c.holder c.book homes
+    pub words_are : LockWords c.count c.number (holder_word c.behind) c.holder (tracker_of (with_value_at c.state v.place r) (with_value_at c.part v.place a)) (token_of (with_value_at c.state v.place r)) words
+    pub slots_are : Slots m c.number c.count (with_value_at c.state v.place r) c.name c.tag c.holder c.book homes
     pub reading : r.phase ≡ In → (x : E) × (a.reading ≡ Some x) × Current m c.number c.name c.tag x
     pub pairs : (j x : ℕ) (l : L) → get_elem? a.pairs j ≡ at.some (x, l) → InHistory c.opened c.history x l
     pub desk : c.holder ≡ v.place → r.phase ≡ In
     pub own : a.own ≡ v.part.own
     pub first : a.first ≡ v.part.first
-    pub helds : (k : ℕ) → (put c.part v.place a k).held ≡ (if is_regain_of k e then c.number else (c.part k).held)
+    pub helds : (k : ℕ) → (with_value_at c.part v.place a k).held ≡ (if is_regain_of k e then c.number else (c.part k).held)
     pub read : (x : ℕ) → c.behind ≡ Some v.place → a.read ≡ Some x → x ≡ c.number
     pub refusal : (x : ℕ) → a.refusal ≡ Some x → (v.part.refusal ≡ Some x) ⊎ IsPending (core_of (own_core c v.place r a)) v.place x
     pub now_role : w.role ≡ Processor
@@ -156,15 +156,15 @@ module _ {E B T L I : Type 0} (m : Meanings E B T L I) where
       let l : Live m c id v = processor_live c t id v o.shows o.is_at o.role in
       let high : p ≤ c.count = (o.shows.each id v o.is_at).processor o.role in
       let b : Beside c d p = own_beside c p r a o.revoked o.drained in
-      let state_is : put c.state p r p ≡ r = put_here c.state p r in
-      let part_is : put c.part p a p ≡ a = put_here c.part p a in
+      let state_is : with_value_at c.state p r p ≡ r = put_here c.state p r in
+      let part_is : with_value_at c.part p a p ≡ a = put_here c.part p a in
       record {
         words = o.words_are;
         sound = sound_after c d e o.core_is refl o.may o.shows.sound.holder o.shows.sound;
         past = o.shows.past;
         slots = o.slots_are;
         insides = record {
-          reading = at_put (λ k (x : ProcessorState). 0 < k → k ≤ c.count → x.phase ≡ In → (y : E) × ((put c.part p a k).reading ≡ Some y) × Current m c.number c.name c.tag y) c.state p r
+          reading = at_put (λ k (x : ProcessorState). 0 < k → k ≤ c.count → x.phase ≡ In → (y : E) × ((with_value_at c.part p a k).reading ≡ Some y) × Current m c.number c.name c.tag y) c.state p r
               (λ low within inside. let got = o.reading inside in (got.0, ap (λ (x : Part E L I). x.reading) part_is ∙ got.1, got.2))
               (λ k other low within inside. let got = o.shows.insides.reading k low within inside in (got.0, ap (λ (x : Part E L I). x.reading) (put_else c.part p a k other) ∙ got.1, got.2));
           pairs = at_put (λ k (x : Part E L I). 0 < k → k ≤ c.count → (j n : ℕ) (l : L) → get_elem? x.pairs j ≡ at.some (n, l) → InHistory c.opened c.history n l) c.part p a
@@ -203,10 +203,10 @@ module _ {E B T L I : Type 0} (m : Meanings E B T L I) where
             low = let e = o.now_place in let low = l.low in omega arith;
             high = let e = o.now_place in omega arith;
             seat = ap c.seat o.now_place ∙ l.seat;
-            phase = o.now_phase ∙ sym (ap (λ (x : ProcessorState). x.phase) (ap (put c.state p r) o.now_place ∙ state_is));
-            part = o.now_part ∙ sym (ap (put c.part p a) o.now_place ∙ part_is);
+            phase = o.now_phase ∙ sym (ap (λ (x : ProcessorState). x.phase) (ap (with_value_at c.state p r) o.now_place ∙ state_is));
+            part = o.now_part ∙ sym (ap (with_value_at c.part p a) o.now_place ∙ part_is);
             behind = o.now_behind ∙ l.behind ∙ ap (is_held_by c.behind) (sym o.now_place);
-            book = o.now_book ∙ l.book ∙ ap (lent c.holder c.book) (sym o.now_place);
+            book = o.now_book ∙ l.book ∙ ap (lent_book c.holder c.book) (sym o.now_place);
           };
           processor = λ _. let e = o.now_place in omega arith;
           operator = λ operator. let clash : Processor ≡ Operator = sym o.now_role ∙ operator in absurd cc;

@@ -9,7 +9,7 @@ use Rattle.rm_table.specs.declared.view.Role.TheVariants.{Operator}
 use Rattle.rm_table.specs.declared.padded_slot.Slot.{Slot}
 use Rattle.rm_table.specs.declared.part.Part.{Part}
 use Rattle.rm_table.specs.declared.view.View.{View}
-use Rattle.rm_table.specs.Meanings.{Meanings, put}
+use Rattle.rm_table.specs.Meanings.{Meanings, with_value_at}
 use Rattle.rm_table.specs.Moves.{Hand, KeepsPart, kept_at, split_off, right_of, processor_view, joined_view, AllSplit, AllJoined, NoneRevoked, NoneDrained}
 use Rattle.rm_table.specs.Ends.{first_part, first_view, OpensTable}
 use Rattle.rm_table.specs.Rests.{IsIdle, IsAtRest, IsOpening, IsClosing, IsRejoined, OpensFrom, IsRejoinedFrom}
@@ -75,7 +75,7 @@ module _ {E B T L I : Type 0} where
 
   -- the first join, and each later one: the part of the seat joined is kept beside those that were
   closing_joins : (next : ℕ) (parts : ℕ → Part E L I) (v w : View E B T L I) → v.role ≡ Operator → w.place ≡ next → next ≤ v.count → length v.kept ≡ v.count + 1 → ((k : ℕ) → next < k → k ≤ v.count → kept_at v k ≡ Some (Some (parts k))) → v.book ≡ None → NoneRevoked v → NoneDrained v
-      → IsClosing next (put parts next w.part) (joined_view v w)
+      → IsClosing next (with_value_at parts next w.part) (joined_view v w)
   closing_joins next parts v w operator place within size kept bookless unrevoked undrained = record {
     operator = operator;
     closing = refl;
@@ -112,17 +112,17 @@ module _ {E B T L I : Type 0} where
       by_end (inl rest) = (rest.1.operator.role, inr rest.1.operator.split)
       by_end (inr closing) = (closing.operator, inl closing.closing)
 
-  joined_after : (place : ℕ) (parts : ℕ → Part E L I) (v w : View E B T L I) (hand : Hand E B) → w.place ≡ place → place ≤ v.count → IsRejoined (place + 1) parts v hand → IsClosing place (put parts place w.part) (joined_view v w)
+  joined_after : (place : ℕ) (parts : ℕ → Part E L I) (v w : View E B T L I) (hand : Hand E B) → w.place ≡ place → place ≤ v.count → IsRejoined (place + 1) parts v hand → IsClosing place (with_value_at parts place w.part) (joined_view v w)
   joined_after place parts v w hand is within (inl rest) = closing_joins place parts v w rest.1.operator.role is within rest.1.kept_size (λ k above inside. absurd (let past = rest.0 in omega arith)) rest.1.bookless rest.1.unrevoked rest.1.undrained
   joined_after place parts v w hand is within (inr c) = closing_joins place parts v w c.operator is within c.kept_size (λ k above inside. c.kept k (omega arith) inside) c.bookless c.unrevoked c.undrained
 
   -- a join adds the part of the seat joined
-  rejoined_after : (place : ℕ) (parts : ℕ → Part E L I) (old new : Me (Slot E B) (View E B T L I)) (w : View E B T L I) → new ≡ (joined_view old.0 w, old.1) → w.place ≡ place → place ≤ old.0.count → IsRejoined (place + 1) parts old.0 old.1 → IsRejoined place (put parts place w.part) new.0 new.1
-  rejoined_after place parts old new w is at within r = subst (λ (s : Me (Slot E B) (View E B T L I)). IsRejoined place (put parts place w.part) s.0 s.1) (sym is) (inr (joined_after place parts old.0 w old.1 at within r))
+  rejoined_after : (place : ℕ) (parts : ℕ → Part E L I) (old new : Me (Slot E B) (View E B T L I)) (w : View E B T L I) → new ≡ (joined_view old.0 w, old.1) → w.place ≡ place → place ≤ old.0.count → IsRejoined (place + 1) parts old.0 old.1 → IsRejoined place (with_value_at parts place w.part) new.0 new.1
+  rejoined_after place parts old new w is at within r = subst (λ (s : Me (Slot E B) (View E B T L I)). IsRejoined place (with_value_at parts place w.part) s.0 s.1) (sym is) (inr (joined_after place parts old.0 w old.1 at within r))
 
   -- once a place is joined, those from it on are
   pub after_join : (place : ℕ) (old new : Me (Slot E B) (View E B T L I)) (w : View E B T L I) → new ≡ (joined_view old.0 w, old.1) → w.place ≡ place → place ≤ old.0.count → IsRejoinedFrom (place + 1) old.0 old.1 → IsRejoinedFrom place new.0 new.1
-  after_join place old new w is at within r = (put r.0 place w.part, rejoined_after place r.0 old new w is at within r.1)
+  after_join place old new w is at within r = (with_value_at r.0 place w.part, rejoined_after place r.0 old new w is at within r.1)
 
   -- once the first place is joined, the operator keeps a part of each place
   pub rejoined_closing : (v : View E B T L I) (hand : Hand E B) → 0 < v.count → IsRejoinedFrom 1 v hand → (parts : ℕ → Part E L I) × IsClosing 1 parts v

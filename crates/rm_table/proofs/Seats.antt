@@ -12,8 +12,8 @@ use Rattle.rm_table.specs.declared.view.Role.TheVariants.{Processor, Operator, R
 use Rattle.rm_table.specs.declared.padded_slot.Slot.{Slot}
 use Rattle.rm_table.specs.declared.part.Part.{Part}
 use Rattle.rm_table.specs.declared.view.View.{View}
-use Rattle.rm_table.specs.Meanings.{Meanings, put, BeginsWith}
-use Rattle.rm_table.specs.Rule.{WholeState, lent, Live, KeptAt, OperatorKeeps, IsSeatOf, EverySeat, Agrees, Shows}
+use Rattle.rm_table.specs.Meanings.{Meanings, with_value_at, BeginsWith}
+use Rattle.rm_table.specs.Rule.{WholeState, lent_book, Live, KeptAt, OperatorKeeps, IsSeatOf, EverySeat, Agrees, Shows}
 use Rattle.rm_table.specs.Moves.{split_off, processor_view, receipt_view, spent_view, joined_view}
 use Rattle.rm_table.proofs.Base.{put_here, put_else, get_within, slice_at}
 use Rattle.rm_table.proofs.Keeping.{begins_same, every_seat_after}
@@ -26,7 +26,7 @@ at_end (x ∷ xs) a b (suc j) e = ⊎_elim (λ old. inl old) (λ new. inr (ap su
 
 -- what changes where a place gets another seat
 abbrev pub seat_core : {E B T L I : Type 0} → WholeState E B T L I → ℕ → ℕ → WholeState E B T L I
-seat_core c k id = record c { seat = put c.seat k id }
+seat_core c k id = record c { seat = with_value_at c.seat k id }
 
 module _ {E B T L I : Type 0} (m : Meanings E B T L I) where
   module _ (c : WholeState E B T L I) (k id : ℕ) where
@@ -96,7 +96,7 @@ module _ {E B T L I : Type 0} (m : Meanings E B T L I) where
     operator_only k u here found = at.some-injective u v (sym found ∙ ap (get_elem? t.views) here ∙ is_at)
 
     -- the rest of the rule doesn't speak of seats
-    seats_changed : (k id' : ℕ) (views : List (View E B T L I)) → EverySeat c.count (put c.seat k id') views → ((j : ℕ) (u : View E B T L I) → get_elem? views j ≡ at.some u → Agrees m (seat_core c k id') j u)
+    seats_changed : (k id' : ℕ) (views : List (View E B T L I)) → EverySeat c.count (with_value_at c.seat k id') views → ((j : ℕ) (u : View E B T L I) → get_elem? views j ≡ at.some u → Agrees m (seat_core c k id') j u)
         → Shows m (seat_core c k id') (record { words = t.words; homes = t.homes; views = views })
     seats_changed k id' views seats each = record {
       words = shows.words;
@@ -113,7 +113,7 @@ module _ {E B T L I : Type 0} (m : Meanings E B T L I) where
     }
 
     -- who is out hasn't the book
-    not_lent : (k : ℕ) → 0 < k → k ≤ c.count → (c.state k).phase ≡ Out → None ≡ lent c.holder c.book k
+    not_lent : (k : ℕ) → 0 < k → k ≤ c.count → (c.state k).phase ≡ Out → None ≡ lent_book c.holder c.book k
     not_lent k low high out =
         sym (ap (λ (b : Bool). if b then Some c.book else None) (ne_eqb c.holder k (λ same.
         let at_desk = shows.desk.inside (λ free. absurd (omega arith)) (λ writer. absurd (omega arith)) in
@@ -121,10 +121,10 @@ module _ {E B T L I : Type 0} (m : Meanings E B T L I) where
         let clash : Out ≡ In = sym out ∙ inside in absurd cc)))
 
     -- every seat exists after a split: the new seat has the place
-    seats_split : (k : ℕ) (part : Part E L I) → k ≢ c.count + 1 → EverySeat c.count (put c.seat k (length t.views)) (slice_set t.views id (split_off v k) ++ processor_view v k part ∷ [])
+    seats_split : (k : ℕ) (part : Part E L I) → k ≢ c.count + 1 → EverySeat c.count (with_value_at c.seat k (length t.views)) (slice_set t.views id (split_off v k) ++ processor_view v k part ∷ [])
     seats_split k part other = record {
-      processors = λ j low high. elim (eqb_tells j k) as (λ _. (u : View E B T L I) × (get_elem? now (put c.seat k (length t.views) j) ≡ at.some u) × IsSeatOf u j) [
-        | inl same ↦ (processor_view v k part, ap (get_elem? now) (ap (put c.seat k (length t.views)) same.1 ∙ put_here c.seat k (length t.views)) ∙ at_last left (processor_view v k part) (length t.views) (length-set t.views id (split_off v k)), inl (refl, sym same.1))
+      processors = λ j low high. elim (eqb_tells j k) as (λ _. (u : View E B T L I) × (get_elem? now (with_value_at c.seat k (length t.views) j) ≡ at.some u) × IsSeatOf u j) [
+        | inl same ↦ (processor_view v k part, ap (get_elem? now) (ap (with_value_at c.seat k (length t.views)) same.1 ∙ put_here c.seat k (length t.views)) ∙ at_last left (processor_view v k part) (length t.views) (length-set t.views id (split_off v k)), inl (refl, sym same.1))
         | inr apart ↦ let got = shows.seats.processors j low high in moved j apart.1 got.0 got.1 got.2
       ];
       operator = (
@@ -143,8 +143,8 @@ module _ {E B T L I : Type 0} (m : Meanings E B T L I) where
         mine : get_elem? now id ≡ at.some (split_off v k)
         mine = at_longer left (processor_view v k part ∷ []) id (split_off v k) (set_here t.views id (split_off v k) (get_within t.views id v is_at))
 
-        moved : (j : ℕ) → j ≢ k → (u : View E B T L I) → get_elem? t.views (c.seat j) ≡ at.some u → IsSeatOf u j → (u : View E B T L I) × (get_elem? now (put c.seat k (length t.views) j) ≡ at.some u) × IsSeatOf u j
-        moved j apart u found seat = elim (eqb_tells (c.seat j) id) as (λ _. (u : View E B T L I) × (get_elem? now (put c.seat k (length t.views) j) ≡ at.some u) × IsSeatOf u j) [
+        moved : (j : ℕ) → j ≢ k → (u : View E B T L I) → get_elem? t.views (c.seat j) ≡ at.some u → IsSeatOf u j → (u : View E B T L I) × (get_elem? now (with_value_at c.seat k (length t.views) j) ≡ at.some u) × IsSeatOf u j
+        moved j apart u found seat = elim (eqb_tells (c.seat j) id) as (λ _. (u : View E B T L I) × (get_elem? now (with_value_at c.seat k (length t.views) j) ≡ at.some u) × IsSeatOf u j) [
           | inl here ↦
               let is : u ≡ v = operator_only j u here.1 found in
               let kept : IsSeatOf v j = subst (λ (x : View E B T L I). IsSeatOf x j) is seat in (
@@ -198,10 +198,10 @@ module _ {E B T L I : Type 0} (m : Meanings E B T L I) where
         (at_end (slice_set t.views id (split_off v k)) (processor_view v k part) u j is))
 
     -- every seat exists after a join: the operator's keeps the place
-    seats_join : (other : ℕ) (w : View E B T L I) → ¬ (other ≡ id) → get_elem? t.views other ≡ at.some w → w.role ≡ Processor → w.place ≤ c.count → EverySeat c.count (put c.seat w.place id) (slice_set (slice_set t.views id (joined_view v w)) other spent_view)
+    seats_join : (other : ℕ) (w : View E B T L I) → ¬ (other ≡ id) → get_elem? t.views other ≡ at.some w → w.role ≡ Processor → w.place ≤ c.count → EverySeat c.count (with_value_at c.seat w.place id) (slice_set (slice_set t.views id (joined_view v w)) other spent_view)
     seats_join other w apart there processor high = record {
-      processors = λ j low within. elim (eqb_tells j k) as (λ _. (u : View E B T L I) × (get_elem? now (put c.seat k id j) ≡ at.some u) × IsSeatOf u j) [
-        | inl same ↦ (joined_view v w, ap (get_elem? now) (ap (put c.seat k id) same.1 ∙ put_here c.seat k id) ∙ mine, inr (role, (w.part, ap (slice_get (slice_set v.kept k (Some w.part))) same.1 ∙ get_set_here v.kept k (Some w.part) (let e = operator_here.kept_size in omega arith))))
+      processors = λ j low within. elim (eqb_tells j k) as (λ _. (u : View E B T L I) × (get_elem? now (with_value_at c.seat k id j) ≡ at.some u) × IsSeatOf u j) [
+        | inl same ↦ (joined_view v w, ap (get_elem? now) (ap (with_value_at c.seat k id) same.1 ∙ put_here c.seat k id) ∙ mine, inr (role, (w.part, ap (slice_get (slice_set v.kept k (Some w.part))) same.1 ∙ get_set_here v.kept k (Some w.part) (let e = operator_here.kept_size in omega arith))))
         | inr else' ↦ let got = shows.seats.processors j low within in moved j else'.1 got.0 got.1 got.2
       ];
       operator = (
@@ -223,8 +223,8 @@ module _ {E B T L I : Type 0} (m : Meanings E B T L I) where
         mine : get_elem? now id ≡ at.some (joined_view v w)
         mine = set_else left other id spent_view (λ same. apart (sym same)) ∙ set_here t.views id (joined_view v w) (get_within t.views id v is_at)
 
-        moved : (j : ℕ) → j ≢ k → (u : View E B T L I) → get_elem? t.views (c.seat j) ≡ at.some u → IsSeatOf u j → (u : View E B T L I) × (get_elem? now (put c.seat k id j) ≡ at.some u) × IsSeatOf u j
-        moved j else' u found seat = elim (eqb_tells (c.seat j) id) as (λ _. (u : View E B T L I) × (get_elem? now (put c.seat k id j) ≡ at.some u) × IsSeatOf u j) [
+        moved : (j : ℕ) → j ≢ k → (u : View E B T L I) → get_elem? t.views (c.seat j) ≡ at.some u → IsSeatOf u j → (u : View E B T L I) × (get_elem? now (with_value_at c.seat k id j) ≡ at.some u) × IsSeatOf u j
+        moved j else' u found seat = elim (eqb_tells (c.seat j) id) as (λ _. (u : View E B T L I) × (get_elem? now (with_value_at c.seat k id j) ≡ at.some u) × IsSeatOf u j) [
           | inl here ↦
               let is : u ≡ v = operator_only j u here.1 found in
               let kept : IsSeatOf v j = subst (λ (x : View E B T L I). IsSeatOf x j) is seat in (

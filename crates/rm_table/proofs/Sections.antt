@@ -22,7 +22,7 @@ use Rattle.rm_table.specs.declared.padded_slot.Slot.TheVariants.{Edition}
 use Rattle.rm_table.specs.declared.part.Part.{Part}
 use Rattle.rm_table.specs.declared.view.View.{View}
 use Rattle.rm_table.specs.Layout.{tracker_index, token_index, tracker_word, token_word, holder_word, is_held_by}
-use Rattle.rm_table.specs.Meanings.{Meanings, put}
+use Rattle.rm_table.specs.Meanings.{Meanings, with_value_at}
 use Rattle.rm_table.specs.Rule.{WholeState, core_of, LockWords, tracker_of, token_of, IsPending, InHistory, Current, Slots, Live, Shows}
 use Rattle.rm_table.specs.Moves.{Hand, with_step, begun_part, raised_view, greater_refusal, refused_part, refused_view, left_part, lowered_view, regained_part, regained_view, entered_part, entered_view}
 use Rattle.rm_table.proofs.Base.{put_here, put_else, at_put, put_keeps, is_there, there, core-put, words_unchanged, words_like, words_tracker, words_token}
@@ -67,7 +67,7 @@ module _ {E B T L I : Type 0} (m : Meanings E B T L I) where
         let at_desk = shows.desk.inside (λ free. let low = l.low in absurd (omega arith)) (λ writer. absurd (omega arith)) in
         outside (subst (λ (k : ℕ). (c.state k).phase ≡ In) here at_desk.1)
 
-    same_held : (a : Part E L I) → a.held ≡ v.part.held → (k : ℕ) → (put c.part v.place a k).held ≡ (c.part k).held
+    same_held : (a : Part E L I) → a.held ≡ v.part.held → (k : ℕ) → (with_value_at c.part v.place a k).held ≡ (c.part k).held
     same_held a same = put_keeps (λ (x : Part E L I). x.held) c.part v.place a (same ∙ ap (λ (x : Part E L I). x.held) live_of.part)
 
     same_read : (x : ℕ) → c.behind ≡ Some v.place → v.part.read ≡ Some x → x ≡ c.number
@@ -82,24 +82,24 @@ module _ {E B T L I : Type 0} (m : Meanings E B T L I) where
         let got = shows.insides.reading v.place live_of.low high_of inside in
         (got.0, ap (λ (y : Part E L I). y.reading) live_of.part ∙ got.1, got.2)
 
-    same_away : (r : ProcessorState) → ((c.state v.place).phase ≡ In → IsAway r) → r.drained ≡ (c.state v.place).drained → (k : ℕ) → IsAway (c.state k) → IsAway (put c.state v.place r k)
+    same_away : (r : ProcessorState) → ((c.state v.place).phase ≡ In → IsAway r) → r.drained ≡ (c.state v.place).drained → (k : ℕ) → IsAway (c.state k) → IsAway (with_value_at c.state v.place r k)
     same_away r inside drained = at_put (λ k x. IsAway (c.state k) → IsAway x) c.state v.place r (λ was. ⊎_elim inside (λ flag. inr (drained ∙ flag)) was) (λ k other was. was)
 
-    others_away : (r : ProcessorState) (k : ℕ) → k ≢ v.place → IsAway (c.state k) → IsAway (put c.state v.place r k)
+    others_away : (r : ProcessorState) (k : ℕ) → k ≢ v.place → IsAway (c.state k) → IsAway (with_value_at c.state v.place r k)
     others_away r k other was = subst IsAway (sym (put_else c.state v.place r k other)) was
 
     abbrev pub raised_state : ProcessorState
     raised_state = record (c.state v.place) { phase = Raised }
 
     tracker_set : (r : ProcessorState) (a : Part E L I) (x : ℕ) → r.token ≡ (c.state v.place).token → x ≡ tracker_word a.sections r.phase
-        → LockWords c.count c.number (holder_word c.behind) c.holder (tracker_of (put c.state v.place r) (put c.part v.place a)) (token_of (put c.state v.place r)) (slice_set t.words (tracker_index v.place) x)
+        → LockWords c.count c.number (holder_word c.behind) c.holder (tracker_of (with_value_at c.state v.place r) (with_value_at c.part v.place a)) (token_of (with_value_at c.state v.place r)) (slice_set t.words (tracker_index v.place) x)
     tracker_set r a x token is =
         let p : ℕ = v.place in
-        words_like (tracker_of (put c.state p r) (put c.part p a)) (token_of (put c.state p r)) (λ k. refl)
+        words_like (tracker_of (with_value_at c.state p r) (with_value_at c.part p a)) (token_of (with_value_at c.state p r)) (λ k. refl)
         (put_keeps (λ (y : ProcessorState). token_word y.token) c.state p r (ap token_word token))
-        (words_tracker p x (tracker_of (put c.state p r) (put c.part p a)) live_of.low high_of
-        (ap (λ (y : Part E L I). tracker_word y.sections (put c.state p r p).phase) (put_here c.part p a) ∙ ap (λ (y : ProcessorState). tracker_word a.sections y.phase) (put_here c.state p r) ∙ sym is)
-        (λ k other. ap (λ (y : Part E L I). tracker_word y.sections (put c.state p r k).phase) (put_else c.part p a k other) ∙ ap (λ (y : ProcessorState). tracker_word (c.part k).sections y.phase) (put_else c.state p r k other))
+        (words_tracker p x (tracker_of (with_value_at c.state p r) (with_value_at c.part p a)) live_of.low high_of
+        (ap (λ (y : Part E L I). tracker_word y.sections (with_value_at c.state p r p).phase) (put_here c.part p a) ∙ ap (λ (y : ProcessorState). tracker_word a.sections y.phase) (put_here c.state p r) ∙ sym is)
+        (λ k other. ap (λ (y : Part E L I). tracker_word y.sections (with_value_at c.state p r k).phase) (put_else c.part p a k other) ∙ ap (λ (y : ProcessorState). tracker_word (c.part k).sections y.phase) (put_else c.state p r k other))
         shows.words)
 
     -- raise
@@ -121,7 +121,7 @@ module _ {E B T L I : Type 0} (m : Meanings E B T L I) where
           revoked = refl;
           drained = refl;
           words_are = tracker_set raised_state (begun_part v.part) x refl is;
-          slots_are = slots_stay m (put c.state v.place raised_state) (same_away raised_state (λ inside. let clash : Out ≡ In = sym was ∙ inside in absurd cc) refl) shows.slots;
+          slots_are = slots_stay m (with_value_at c.state v.place raised_state) (same_away raised_state (λ inside. let clash : Out ≡ In = sym was ∙ inside in absurd cc) refl) shows.slots;
           reading = λ never. absurd cc;
           pairs = same_pairs;
           desk = λ here. absurd (not_at_desk (λ inside. let clash : Out ≡ In = sym was ∙ inside in absurd cc) here);
@@ -141,13 +141,13 @@ module _ {E B T L I : Type 0} (m : Meanings E B T L I) where
 
     -- a check changes no tracker word and no token word
     words_loaded : (r : ProcessorState) (a : Part E L I) (i : ℕ) → a.sections ≡ v.part.sections → r.token ≡ (c.state v.place).token → tracker_word v.part.sections r.phase ≡ tracker_word v.part.sections (c.state v.place).phase
-        → LockWords c.count c.number (holder_word c.behind) c.holder (tracker_of (put c.state v.place r) (put c.part v.place a)) (token_of (put c.state v.place r)) (slice_set t.words i (slice_index t.words i))
+        → LockWords c.count c.number (holder_word c.behind) c.holder (tracker_of (with_value_at c.state v.place r) (with_value_at c.part v.place a)) (token_of (with_value_at c.state v.place r)) (slice_set t.words i (slice_index t.words i))
     words_loaded r a i sections token phase =
         let p : ℕ = v.place in
         let same : a.sections ≡ (c.part p).sections = sections ∙ ap (λ (y : Part E L I). y.sections) live_of.part in
-        words_like (tracker_of (put c.state p r) (put c.part p a)) (token_of (put c.state p r))
+        words_like (tracker_of (with_value_at c.state p r) (with_value_at c.part p a)) (token_of (with_value_at c.state p r))
         (λ k.
-        ap (λ (n : ℕ). tracker_word n (put c.state p r k).phase) (put_keeps (λ (y : Part E L I). y.sections) c.part p a same k)
+        ap (λ (n : ℕ). tracker_word n (with_value_at c.state p r k).phase) (put_keeps (λ (y : Part E L I). y.sections) c.part p a same k)
         ∙ at_put (λ k x. tracker_word (c.part k).sections x.phase ≡ tracker_word (c.part k).sections (c.state k).phase) c.state p r
         (let e : (c.part p).sections ≡ v.part.sections = ap (λ (y : Part E L I). y.sections) (sym live_of.part) in
         ap (λ (n : ℕ). tracker_word n r.phase) e ∙ phase ∙ ap (λ (n : ℕ). tracker_word n (c.state p).phase) (sym e))
@@ -181,7 +181,7 @@ module _ {E B T L I : Type 0} (m : Meanings E B T L I) where
           revoked = refl;
           drained = refl;
           words_are = words_loaded in_state a i refl refl (ap (tracker_word v.part.sections) (sym was));
-          slots_are = slots_take m (put c.state v.place in_state) v.place live_of.low (subst IsAway (sym (put_here c.state v.place in_state)) (inl refl)) (others_away in_state) shows.slots;
+          slots_are = slots_take m (with_value_at c.state v.place in_state) v.place live_of.low (subst IsAway (sym (put_here c.state v.place in_state)) (inl refl)) (others_away in_state) shows.slots;
           reading = λ inside. (e, refl, current);
           pairs = λ j x l is. ⊎_elim (λ old. same_pairs j x l old)
               (λ new.
@@ -231,7 +231,7 @@ module _ {E B T L I : Type 0} (m : Meanings E B T L I) where
           revoked = refl;
           drained = refl;
           words_are = words_loaded (c.state v.place) a i refl refl refl;
-          slots_are = slots_stay m (put c.state v.place (c.state v.place)) (same_away (c.state v.place) (λ inside. inl inside) refl) shows.slots;
+          slots_are = slots_stay m (with_value_at c.state v.place (c.state v.place)) (same_away (c.state v.place) (λ inside. inl inside) refl) shows.slots;
           reading = λ inside. absurd (outside inside);
           pairs = same_pairs;
           desk = λ here. absurd (not_at_desk outside here);
@@ -269,7 +269,7 @@ module _ {E B T L I : Type 0} (m : Meanings E B T L I) where
 
     -- after a lowering that leaves the slots by the rule the table shows a state by the rule
     lower_shows : (x : ℕ) (homes : List (at.Option (Slot E B))) → (v.phase ≡ Raised) ⊎ (v.phase ≡ In) → v.book ≡ None → x ≡ tracker_word v.part.sections Out
-        → Slots m c.number c.count (put c.state v.place out_state) c.name c.tag c.holder c.book homes
+        → Slots m c.number c.count (with_value_at c.state v.place out_state) c.name c.tag c.holder c.book homes
         → Shows m (own_core c v.place out_state (left_part v.part)) (record { words = slice_set t.words (tracker_index v.place) x; homes = homes; views = slice_set t.views id (with_step (lowered_view v) (tracker_index v.place) x) })
     lower_shows x homes begun none is slots =
         let e : v.phase ≡ (c.state v.place).phase = live_of.phase in
@@ -307,14 +307,14 @@ module _ {E B T L I : Type 0} (m : Meanings E B T L I) where
     lower_raised_shows x hand raised none is =
         let was : (c.state v.place).phase ≡ Raised = sym live_of.phase ∙ raised in
         lower_shows x t.homes (inl raised) none is
-        (slots_stay m (put c.state v.place out_state) (same_away out_state (λ inside. let clash : Raised ≡ In = sym was ∙ inside in absurd cc) refl) shows.slots)
+        (slots_stay m (with_value_at c.state v.place out_state) (same_away out_state (λ inside. let clash : Raised ≡ In = sym was ∙ inside in absurd cc) refl) shows.slots)
 
     -- after a lowering that gives the edition home the table shows a state by the rule
     pub lower_in_shows : (x : ℕ) (hand : Hand E B) (e : E) → v.phase ≡ In → v.book ≡ None → x ≡ tracker_word v.part.sections Out → Current m c.number c.name c.tag e
         → Shows m (own_core c v.place out_state (left_part v.part)) (stepped t (tracker_index v.place) x id ((v.place, Edition (Some e)) ∷ hand) (with_step (lowered_view v) (tracker_index v.place) x) gives)
     lower_in_shows x hand e inside none is current =
         lower_shows x (slice_set t.homes v.place (at.some (Edition (Some e)))) (inr inside) none is
-        (slots_give m (put c.state v.place out_state) v.place e live_of.low current (others_away out_state) shows.slots)
+        (slots_give m (with_value_at c.state v.place out_state) v.place e live_of.low current (others_away out_state) shows.slots)
 
     -- regain
     abbrev pub held_state : ProcessorState
@@ -364,17 +364,17 @@ module _ {E B T L I : Type 0} (m : Meanings E B T L I) where
           revoked = refl;
           drained = refl;
           words_are =
-              subst (λ (n : ℕ). LockWords c.count c.number (holder_word c.behind) c.holder (tracker_of (put c.state p held_state) (put c.part p a)) (token_of (put c.state p held_state)) (slice_set t.words (token_index n p) 0)) (sym live_of.count)
-              (words_like (tracker_of (put c.state p held_state) (put c.part p a)) (token_of (put c.state p held_state))
+              subst (λ (n : ℕ). LockWords c.count c.number (holder_word c.behind) c.holder (tracker_of (with_value_at c.state p held_state) (with_value_at c.part p a)) (token_of (with_value_at c.state p held_state)) (slice_set t.words (token_index n p) 0)) (sym live_of.count)
+              (words_like (tracker_of (with_value_at c.state p held_state) (with_value_at c.part p a)) (token_of (with_value_at c.state p held_state))
               (λ k.
-              ap (λ (n : ℕ). tracker_word n (put c.state p held_state k).phase) (put_keeps (λ (y : Part E L I). y.sections) c.part p a (ap (λ (y : Part E L I). y.sections) live_of.part) k)
+              ap (λ (n : ℕ). tracker_word n (with_value_at c.state p held_state k).phase) (put_keeps (λ (y : Part E L I). y.sections) c.part p a (ap (λ (y : Part E L I). y.sections) live_of.part) k)
               ∙ ap (tracker_word (c.part k).sections) (put_keeps (λ (y : ProcessorState). y.phase) c.state p held_state refl k))
               (λ k. refl)
-              (words_token p 0 (token_of (put c.state p held_state)) live_of.low high_of
+              (words_token p 0 (token_of (with_value_at c.state p held_state)) live_of.low high_of
               (ap (λ (y : ProcessorState). token_word y.token) (put_here c.state p held_state))
               (λ k other. ap (λ (y : ProcessorState). token_word y.token) (put_else c.state p held_state k other))
               shows.words));
-          slots_are = slots_stay m (put c.state p held_state) (same_away held_state (λ inside. inl inside) refl) shows.slots;
+          slots_are = slots_stay m (with_value_at c.state p held_state) (same_away held_state (λ inside. inl inside) refl) shows.slots;
           reading = λ inside. absurd (outside inside);
           pairs = same_pairs;
           desk = λ here. absurd (not_at_desk outside here);

@@ -17,7 +17,7 @@ use Rattle.rm_table.specs.declared.padded_slot.Slot.{Slot}
 use Rattle.rm_table.specs.declared.padded_slot.Slot.TheVariants.{Edition}
 use Rattle.rm_table.specs.declared.view.View.{View}
 use Rattle.rm_table.specs.Layout.{token_index, tracker_word, token_word, holder_word}
-use Rattle.rm_table.specs.Meanings.{Meanings, put}
+use Rattle.rm_table.specs.Meanings.{Meanings, with_value_at}
 use Rattle.rm_table.specs.Rule.{WholeState, core_of, LockWords, tracker_of, token_of, Current, Slots, Live, OperatorKeeps, Shows}
 use Rattle.rm_table.specs.Moves.{Hand, with_step, revoked_view, drained_view, is_revoked, is_drained, IsLast, IsOperator}
 use Rattle.rm_table.proofs.Base.{put_here, put_else, at_put, put_keeps, at_slice, length-values, values_like, is_there, core-put, words_unchanged, words_like, words_token}
@@ -28,7 +28,7 @@ use Rattle.rm_table.proofs.Slots.{IsAway, slots_stay, slots_take, at_home}
 
 -- what a revocation and a drain change
 abbrev pub state_core : {E B T L I : Type 0} → WholeState E B T L I → ℕ → ProcessorState → WholeState E B T L I
-state_core c k r = record c { state = put c.state k r }
+state_core c k r = record c { state = with_value_at c.state k r }
 
 -- the words of a tracker are even where its processor is out
 pub even_word : (sections : ℕ) (phase : Phase) → (phase ≡ Out) × (tracker_word sections phase % 2 ≡ 0) ⊎ (phase ≢ Out) × (tracker_word sections phase % 2 ≡ 1)
@@ -48,7 +48,7 @@ module _ {E B T L I : Type 0} (m : Meanings E B T L I) where
 
     -- the flags of one processor set
     flag_set : (xs : List Bool) (state : ℕ → ProcessorState) (f : ProcessorState → Bool) (k : ℕ) (r : ProcessorState) → k < length xs → f r ≡ true
-        → ((j : ℕ) → 0 < j → j ≤ c.count → slice_index_or xs j false ≡ f (state j)) → (j : ℕ) → 0 < j → j ≤ c.count → slice_index_or (slice_set xs k true) j false ≡ f (put state k r j)
+        → ((j : ℕ) → 0 < j → j ≤ c.count → slice_index_or xs j false ≡ f (state j)) → (j : ℕ) → 0 < j → j ≤ c.count → slice_index_or (slice_set xs k true) j false ≡ f (with_value_at state k r j)
     flag_set xs state f k r inside is flags =
         at_put (λ j x. 0 < j → j ≤ c.count → slice_index_or (slice_set xs k true) j false ≡ f x) state k r
         (λ low high. get_or-set_same xs k true false inside ∙ sym is)
@@ -57,17 +57,17 @@ module _ {E B T L I : Type 0} (m : Meanings E B T L I) where
     -- a step of the operator on one processor's token or flags
     writer_shows : (e : Event) (k : ℕ) (r : ProcessorState) (rs ds : List Bool) (steps : List (ℕ × ℕ)) (words : List ℕ) (homes : List (at.Option (Slot E B))) → core_of (state_core c k r) ≡ after (core_of c) e → MayCome (core_of c) e
         → r.phase ≡ (c.state k).phase → ((j : ℕ) → is_regain_of j e ≡ false)
-        → LockWords c.count c.number (holder_word c.behind) c.holder (tracker_of (put c.state k r) c.part) (token_of (put c.state k r)) words
-        → Slots m c.number c.count (put c.state k r) c.name c.tag c.holder c.book homes
+        → LockWords c.count c.number (holder_word c.behind) c.holder (tracker_of (with_value_at c.state k r) c.part) (token_of (with_value_at c.state k r)) words
+        → Slots m c.number c.count (with_value_at c.state k r) c.name c.tag c.holder c.book homes
         → length rs ≡ c.count + 1 → length ds ≡ c.count + 1
-        → ((j : ℕ) → 0 < j → j ≤ c.count → slice_index_or rs j false ≡ (put c.state k r j).revoked)
-        → ((j : ℕ) → 0 < j → j ≤ c.count → slice_index_or ds j false ≡ (put c.state k r j).drained)
+        → ((j : ℕ) → 0 < j → j ≤ c.count → slice_index_or rs j false ≡ (with_value_at c.state k r j).revoked)
+        → ((j : ℕ) → 0 < j → j ≤ c.count → slice_index_or ds j false ≡ (with_value_at c.state k r j).drained)
         → Shows m (state_core c k r) (record { words = words; homes = homes; views = slice_set t.views id (record v { revoked = rs; drained = ds; steps = steps }) })
     writer_shows e k r rs ds steps words homes core_is may phase unregained words_are slots_are rs_size ds_size rs_are ds_are =
         let d : WholeState E B T L I = state_core c k r in
         let l : Live m c id v = writer_live in
         let o : OperatorKeeps m c id v = writer_keeps in
-        let phases : (j : ℕ) → (put c.state k r j).phase ≡ (c.state j).phase = put_keeps (λ (x : ProcessorState). x.phase) c.state k r phase in
+        let phases : (j : ℕ) → (with_value_at c.state k r j).phase ≡ (c.state j).phase = put_keeps (λ (x : ProcessorState). x.phase) c.state k r phase in
         let beside : Beside c d v.place = record {
           count = refl;
           opened = refl;
@@ -163,12 +163,12 @@ module _ {E B T L I : Type 0} (m : Meanings E B T L I) where
         (revoke_event k low within)
         (is_there c (λ q. q.revoked ≡ false) k low within was, holds_behind behind, let e = o.number in omega arith)
         refl (λ j. refl)
-        (subst (λ (n : ℕ). LockWords c.count c.number (holder_word c.behind) c.holder (tracker_of (put c.state k r) c.part) (token_of (put c.state k r)) (slice_set t.words (token_index n k) x)) (sym l.count)
-        (words_like (tracker_of (put c.state k r) c.part) (token_of (put c.state k r))
+        (subst (λ (n : ℕ). LockWords c.count c.number (holder_word c.behind) c.holder (tracker_of (with_value_at c.state k r) c.part) (token_of (with_value_at c.state k r)) (slice_set t.words (token_index n k) x)) (sym l.count)
+        (words_like (tracker_of (with_value_at c.state k r) c.part) (token_of (with_value_at c.state k r))
         (λ j. ap (tracker_word (c.part j).sections) (put_keeps (λ (y : ProcessorState). y.phase) c.state k r refl j)) (λ j. refl)
-        (words_token k x (token_of (put c.state k r)) low within (ap (λ (y : ProcessorState). token_word y.token) (put_here c.state k r) ∙ sym number)
+        (words_token k x (token_of (with_value_at c.state k r)) low within (ap (λ (y : ProcessorState). token_word y.token) (put_here c.state k r) ∙ sym number)
         (λ j other. ap (λ (y : ProcessorState). token_word y.token) (put_else c.state k r j other)) shows.words)))
-        (slots_stay m (put c.state k r) (at_put (λ j y. IsAway (c.state j) → IsAway y) c.state k r (λ away. away) (λ j other away. away)) shows.slots)
+        (slots_stay m (with_value_at c.state k r) (at_put (λ j y. IsAway (c.state j) → IsAway y) c.state k r (λ away. away) (λ j other away. away)) shows.slots)
         (length-set v.revoked k true ∙ o.revoked_size) o.drained_size
         (flag_set v.revoked c.state (λ y. y.revoked) k r (let e = o.revoked_size in omega arith) refl o.revoked)
         (λ j low' within'. o.drained j low' within' ∙ sym (put_keeps (λ (y : ProcessorState). y.drained) c.state k r refl j))
@@ -194,7 +194,7 @@ module _ {E B T L I : Type 0} (m : Meanings E B T L I) where
     drain_missed_event k low high inside =
         let same : c.state k ≡ after_drain (c.state k) = not_out (c.state k).phase (c.state k) inside in
         ap (λ (ps : List ProcessorState). record (core_of c) { processors = ps })
-        (values_like c.state (put c.state k (after_drain (c.state k))) 1 c.count (λ j. sym (put_keeps (λ (y : ProcessorState). y) c.state k (after_drain (c.state k)) (sym same) j)))
+        (values_like c.state (with_value_at c.state k (after_drain (c.state k))) 1 c.count (λ j. sym (put_keeps (λ (y : ProcessorState). y) c.state k (after_drain (c.state k)) (sym same) j)))
         ∙ core-put c k after_drain low high
       where
         not_out : (phase : Phase) (q : ProcessorState) → phase ≢ Out → q ≡ with_tracker_read phase q
@@ -219,11 +219,11 @@ module _ {E B T L I : Type 0} (m : Meanings E B T L I) where
         let r : ProcessorState = drained_state k in
         writer_shows (Drain k) k r v.revoked (slice_set v.drained k true) (v.steps ++ (i, slice_index t.words i) ∷ []) (slice_set t.words i (slice_index t.words i)) (slice_set t.homes k at.none)
         (drain_event k low within out) (drain_may k low high revoked undrained) refl (λ j. refl)
-        (words_like (tracker_of (put c.state k r) c.part) (token_of (put c.state k r))
+        (words_like (tracker_of (with_value_at c.state k r) c.part) (token_of (with_value_at c.state k r))
         (λ j. ap (tracker_word (c.part j).sections) (put_keeps (λ (y : ProcessorState). y.phase) c.state k r refl j))
         (put_keeps (λ (y : ProcessorState). token_word y.token) c.state k r refl)
         (words_unchanged i shows.words))
-        (slots_take m (put c.state k r) k low (subst IsAway (sym (put_here c.state k r)) (inr refl)) (λ j other away. subst IsAway (sym (put_else c.state k r j other)) away) shows.slots)
+        (slots_take m (with_value_at c.state k r) k low (subst IsAway (sym (put_here c.state k r)) (inr refl)) (λ j other away. subst IsAway (sym (put_else c.state k r j other)) away) shows.slots)
         o.revoked_size (length-set v.drained k true ∙ o.drained_size)
         (λ j low' within'. o.revoked j low' within' ∙ sym (put_keeps (λ (y : ProcessorState). y.revoked) c.state k r refl j))
         (flag_set v.drained c.state (λ y. y.drained) k r (let e = o.drained_size in omega arith) refl o.drained)

@@ -17,8 +17,8 @@ abbrev pub meanings : {E B T L I : Type 0} → (E → ℕ) → (E → T) → (E 
 meanings number tag name book_number book_tag book_ready of item = record { number = number; tag = tag; name = name; book_number = book_number; book_tag = book_tag; book_ready = book_ready; of = of; item = item }
 
 -- f, but a at p
-unfoldable pub put : {A : Type 0} → (ℕ → A) → ℕ → A → ℕ → A
-put f p a k = if k == p then a else f k
+unfoldable pub with_value_at : {A : Type 0} → (ℕ → A) → ℕ → A → ℕ → A
+with_value_at f p a k = if k == p then a else f k
 
 -- the values of f at `from` and the n - 1 numbers behind it
 abbrev pub values_from : {A : Type 0} → (ℕ → A) → ℕ → ℕ → List A
@@ -26,9 +26,9 @@ values_from f from zero = []
 values_from f from (suc n) = f from ∷ values_from f (suc from) n
 
 -- the names of a history with their numbers, of which the first is `from`
-abbrev pub numbered : {L T : Type 0} → ℕ → List (L × T) → List (ℕ × L)
-numbered from [] = []
-numbered from (x ∷ xs) = (from, x.0) ∷ numbered (from + 1) xs
+abbrev pub numbered_names : {L T : Type 0} → ℕ → List (L × T) → List (ℕ × L)
+numbered_names from [] = []
+numbered_names from (x ∷ xs) = (from, x.0) ∷ numbered_names (from + 1) xs
 
 -- ys begins with xs
 abbrev pub BeginsWith : {A : Type 0} → List A → List A → Type 0

@@ -9,7 +9,7 @@ use Rattle.rm_table.specs.declared.padded_slot.Slot.{Slot}
 use Rattle.rm_table.specs.declared.padded_slot.Slot.TheVariants.{Edition, Book}
 use Rattle.rm_table.specs.declared.part.Part.{Part}
 use Rattle.rm_table.specs.declared.view.View.{View}
-use Rattle.rm_table.specs.Meanings.{Meanings, numbered, BeginsWith}
+use Rattle.rm_table.specs.Meanings.{Meanings, numbered_names, BeginsWith}
 
 -- the slots that a seat has, the last one taken first
 abbrev pub Hand : Type 0 → Type 0 → Type 0
@@ -35,7 +35,7 @@ module _ {E L I : Type 0} where
 
   -- join seat, of a receipt: the processor has seen each number and name of that history, the first of which has the number `opened`
   abbrev pub informed_part : {T : Type 0} → Part E L I → ℕ → List (L × T) → Part E L I
-  informed_part part opened history = record part { pairs = part.pairs ++ numbered opened history }
+  informed_part part opened history = record part { pairs = part.pairs ++ numbered_names opened history }
 
   -- lower: the section has ended
   abbrev pub left_part : Part E L I → Part E L I

@@ -41,8 +41,8 @@ abbrev pub core_of : {E B T L I : Type 0} → WholeState E B T L I → CoreState
 core_of c = record { number = c.number; holder = c.behind; processors = values_from c.state 1 c.count }
 
 -- the book, where this place has it
-abbrev pub lent : {B : Type 0} → ℕ → B → ℕ → Option B
-lent holder book place = if holder == place then Some book else None
+abbrev pub lent_book : {B : Type 0} → ℕ → B → ℕ → Option B
+lent_book holder book place = if holder == place then Some book else None
 
 -- Part 1, the words: the number, who holds the two locks, and of each processor tracker and token. The unused words between them are 0.
 pub record LockWords (n number behind holder : ℕ) (tracker token : ℕ → ℕ) (words : List ℕ) : Type 0 where
@@ -157,7 +157,7 @@ module _ {E B T L I : Type 0} (m : Meanings E B T L I) where
     pub phase : v.phase ≡ (c.state v.place).phase
     pub part : v.part ≡ c.part v.place
     pub behind : v.behind ≡ is_held_by c.behind v.place
-    pub book : v.book ≡ lent c.holder c.book v.place
+    pub book : v.book ≡ lent_book c.holder c.book v.place
 
   -- A processor whose seat isn't split off yet, or was joined again: it is out and holds no lock. Before it is split off, it has begun
   -- no section and holds its token.

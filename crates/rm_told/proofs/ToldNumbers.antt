@@ -2,7 +2,7 @@
 use Rattle.std.proofs.Common.{◌≡◌, ℕ, zero, suc, ◌≤◌, Some, List, [], ◌∷◌, ◌++◌, sym, ◌∙◌, ap, subst, arith, inl, inr}
 use Rattle.std.specs.Prelude.{slice_get}
 use Rattle.rm_table.specs.declared.view.View.{View}
-use Rattle.rm_table.specs.Meanings.{Meanings, numbered}
+use Rattle.rm_table.specs.Meanings.{Meanings, numbered_names}
 use Rattle.rm_lock.specs.Tokens.{TokenState, told_number, greatest_pair_number}
 use Rattle.rm_lock.specs.Calls.{Enters}
 use Rattle.rm_lock.specs.declared.reader_calls.Entry.TheVariants as entry
@@ -29,7 +29,7 @@ module _ {E B T L I : Type 0} where
     never_falls before after (LostTry index holder found) = alike before.view after.view _ found.step (omega arith)
     never_falls before after (TakeBook book taken) = alike before.view after.view _ taken.after_is (omega arith)
     never_falls before after (GiveBook book given) = alike before.view after.view _ given (omega arith)
-    never_falls before after (Hear receipt heard) = alike before.view after.view _ heard.heard (grows before.view.part.pairs (numbered receipt.view.opened receipt.view.history))
+    never_falls before after (Hear receipt heard) = alike before.view after.view _ heard.heard (grows before.view.part.pairs (numbered_names receipt.view.opened receipt.view.history))
 
     never_fall : (first : TokenState E B T L I) (calls : List (TokenState E B T L I)) → CallsThrough m first calls → told_number first.view ≤ told_number (last_token m first calls).view
     never_fall first [] through = omega arith

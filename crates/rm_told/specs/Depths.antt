@@ -22,8 +22,8 @@ module _ {E B T L I : Type 0} where
   MeetsTold m before (Revoked p number) = Unit {0}
 
   -- the reading as it was, one section deeper
-  abbrev pub deeper : DeepState E B T L I → DeepState E B T L I
-  deeper d = record d { depth = d.depth + 1 }
+  abbrev pub one_section_deeper : DeepState E B T L I → DeepState E B T L I
+  one_section_deeper d = record d { depth = d.depth + 1 }
 
   -- What a call to leave does. A section that lies in another ends, and the reading stays as it was; the outermost one ends as the lock's own
   -- does, with one store that lowers the tracker.

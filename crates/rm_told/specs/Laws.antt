@@ -6,7 +6,7 @@ use Rattle.rm_lock.specs.declared.reader_calls.Entry.TheVariants as entry
 use Rattle.rm_lock.specs.Tokens.{TokenState, told_number}
 use Rattle.rm_lock.specs.Calls.{Enters, Regains, FindsHeld, TakesBook, after_giving_book, after_lower}
 use Rattle.rm_told.specs.DeepState.{DeepState}
-use Rattle.rm_told.specs.Depths.{EntersAtOne, Leaves, deeper}
+use Rattle.rm_told.specs.Depths.{EntersAtOne, Leaves, one_section_deeper}
 use Rattle.rm_told.specs.declared.told.DeepEntry.TheVariants.{In}
 use Rattle.rm_told.specs.declared.told.Left.TheVariants.{Still}
 
@@ -18,7 +18,7 @@ module _ {E B T L I : Type 0} where
 
   -- In a section: one that lies in it begins, or one that lies in another ends.
   abbrev pub Nests : DeepState E B T L I → DeepState E B T L I → Type 0
-  Nests before after = (after ≡ deeper before) ⊎ Leaves before (Still after)
+  Nests before after = (after ≡ one_section_deeper before) ⊎ Leaves before (Still after)
 
   -- each of these is what one call makes of the one before it
   abbrev pub NestsThrough : DeepState E B T L I → List (DeepState E B T L I) → Type 0

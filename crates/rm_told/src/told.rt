@@ -1,6 +1,6 @@
 ghost use Rattle.std.specs.Prelude.{◌≡◌, ◌↔◌, IfOk, IfErr, IsErr};
 ghost use Rattle.rm_table.specs.Meanings.{meanings};
-ghost use Rattle.rm_told.specs.Depths.{EntersAtOne, MeetsTold, Leaves, deeper};
+ghost use Rattle.rm_told.specs.Depths.{EntersAtOne, MeetsTold, Leaves, one_section_deeper};
 
 use crate::{Deep, MOST_DEPTH};
 use fw_base::{Kept, Numbered};
@@ -87,7 +87,7 @@ impl<E: Numbered<Tag = B::Facts>, B: Kept> Told<E, B> {
     /// A section in the section: one deeper, with the same edition and no atomic step. Refused exactly at
     /// `MOST_DEPTH`.
     pub fn again(&self, d: Deep<E, B>) -> Result<Deep<E, B>, TooDeep<E, B>>
-        ensures deeper { IfOk result (λ e. e ≡ deeper d) }
+        ensures deeper { IfOk result (λ e. e ≡ one_section_deeper d) }
         ensures back { IfErr result (λ t. t.back ≡ d) }
         ensures refused { IsErr result ↔ d.depth ≡ MOST_DEPTH }
     {

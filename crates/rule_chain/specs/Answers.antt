@@ -15,9 +15,9 @@ abbrev pub ◌>>=◌ : {X Y : Type 0} → Answer X → (X → Answer Y) → Answ
 (Err fault) >>= f = Err fault
 
 -- the answer, where nothing is refused
-abbrev pub unless : {X : Type 0} → Option ApplyFault → Answer X → Answer X
-unless None answer = answer
-unless (Some fault) answer = Err fault
+abbrev pub unless_refused : {X : Type 0} → Option ApplyFault → Answer X → Answer X
+unless_refused None answer = answer
+unless_refused (Some fault) answer = Err fault
 
 -- the first refusal among those of the numbers, in their order
 abbrev pub first_fault : (ℕ → Option ApplyFault) → List ℕ → Option ApplyFault

@@ -12,11 +12,11 @@ use Rattle.fw_rule.specs.declared.command.Command.{Command}
 use Rattle.fw_rule.specs.declared.command.Command.TheVariants.{Add, Delete, DeleteSet, Flush, Zero, ListRules, SetMask, MoveSet, MoveRule, SwapSets, Table, Sysctl, Local}
 use Rattle.rule_chain.specs.declared.apply_fault.ApplyFault.{ApplyFault}
 use Rattle.rule_chain.specs.declared.apply_fault.ApplyFault.TheVariants.{NoSuchRule, ReservedRule, ReservedSet, TooManyRules, TooManyCounters}
-use Rattle.rule_chain.specs.Answers.{Answer, ◌>>=◌, unless, first_fault}
+use Rattle.rule_chain.specs.Answers.{Answer, ◌>>=◌, unless_refused, first_fault}
 use Rattle.rule_chain.specs.Configuration.{Configuration}
 use Rattle.rule_chain.specs.Lookups.{with_uses, change_tables}
 use Rattle.rule_chain.specs.Names.{name_of, with_name_of}
-use Rattle.rule_chain.specs.Rules.{has_rule, chosen_number, rule_of, insert_rule, without_numbers, without_set, flushed, is_zeroed, renumber, count_of, move_rules, set_moved, set_of_number, set_swapped}
+use Rattle.rule_chain.specs.Rules.{has_rule, chosen_number, rule_of, insert_rule, without_numbers, without_set, rules_kept_by_flush, is_zeroed, renumber, count_of, move_rules, set_moved, set_of_number, set_swapped}
 use Rattle.rule_chain.specs.Uses.{uses_of}
 
 -- that many more counter numbers don't pass 16,777,216, number 0 among them
@@ -46,7 +46,7 @@ deletion_fault rules number = if number == 65535 then Some ReservedRule else if 
 
 -- `delete` of numbers, all or none
 unfoldable pub delete_rules : Configuration → List ℕ → Answer Configuration
-delete_rules c numbers = unless (first_fault (deletion_fault c.rules) numbers) (Ok (record c { rules = without_numbers numbers c.rules }))
+delete_rules c numbers = unless_refused (first_fault (deletion_fault c.rules) numbers) (Ok (record c { rules = without_numbers numbers c.rules }))
 
 -- `delete set`
 unfoldable pub delete_set : Configuration → ℕ → Answer Configuration
@@ -54,15 +54,15 @@ delete_set c set = Ok (record c { rules = without_set set c.rules })
 
 -- `flush`: every rule goes that isn't in set 31
 unfoldable pub flush_rules : Configuration → Answer Configuration
-flush_rules c = Ok (record c { rules = flushed c.rules })
+flush_rules c = Ok (record c { rules = rules_kept_by_flush c.rules })
 
 -- `zero` of a number
 abbrev pub zeroing_fault : List Rule → ℕ → Option ApplyFault
 zeroing_fault rules number = if has_rule rules number then None else Some NoSuchRule
 
 -- each rule that is named gets a fresh counter number, in list order
-abbrev pub zeroed : Configuration → List ℕ → Configuration
-zeroed c numbers = record c {
+abbrev pub with_fresh_counters : Configuration → List ℕ → Configuration
+with_fresh_counters c numbers = record c {
   rules = renumber (is_zeroed numbers) (c.greatest_counter + 1) c.rules;
   greatest_counter = c.greatest_counter + count_of (is_zeroed numbers) c.rules;
 }
@@ -70,8 +70,8 @@ zeroed c numbers = record c {
 -- `zero` of numbers, or of all rules where none is named
 unfoldable pub zero_counters : Configuration → List ℕ → Answer Configuration
 zero_counters c numbers =
-    unless (first_fault (zeroing_fault c.rules) numbers)
-    (if has_counters c (count_of (is_zeroed numbers) c.rules) then Ok (zeroed c numbers) else Err TooManyCounters)
+    unless_refused (first_fault (zeroing_fault c.rules) numbers)
+    (if has_counters c (count_of (is_zeroed numbers) c.rules) then Ok (with_fresh_counters c numbers) else Err TooManyCounters)
 
 -- the one mask's sets are disabled, and then those of the other enabled
 abbrev pub mask_after : ℕ → ℕ → ℕ → ℕ

@@ -53,31 +53,31 @@ with_uses tables (u ∷ uses) = with_use tables u >>= λ made. with_uses made us
 -- Entries
 
 -- an entry is put in where its key isn't there
-abbrev pub added : {X : Type 0} → Bool → X → Answer X
-added there entries = if there then Err EntryExists else Ok entries
+abbrev pub answer_to_add : {X : Type 0} → Bool → X → Answer X
+answer_to_add there entries = if there then Err EntryExists else Ok entries
 
 -- an entry is taken out where its key is there
-abbrev pub removed : {X : Type 0} → Bool → X → Answer X
-removed there entries = if there then Ok entries else Err NoSuchEntry
+abbrev pub answer_to_remove : {X : Type 0} → Bool → X → Answer X
+answer_to_remove there entries = if there then Ok entries else Err NoSuchEntry
 
 -- an entry more, of a key that fits the table's type
 abbrev pub add_key : Table → Key → ℕ → Answer Table
-add_key (AddressTable entries) (Net prefix) value = added (is_some (value_of network_cmp entries prefix)) (AddressTable (with_entry network_cmp entries prefix value))
-add_key (NumberTable entries) (Number n) value = added (is_some (value_of nat_cmp entries n)) (NumberTable (with_entry nat_cmp entries n value))
+add_key (AddressTable entries) (Net prefix) value = answer_to_add (is_some (value_of network_cmp entries prefix)) (AddressTable (with_entry network_cmp entries prefix value))
+add_key (NumberTable entries) (Number n) value = answer_to_add (is_some (value_of nat_cmp entries n)) (NumberTable (with_entry nat_cmp entries n value))
 add_key (AddressTable entries) (Number n) value = Err WrongType
 add_key (NumberTable entries) (Net prefix) value = Err WrongType
 
 -- an entry less
 abbrev pub remove_key : Table → Key → Answer Table
-remove_key (AddressTable entries) (Net prefix) = removed (is_some (value_of network_cmp entries prefix)) (AddressTable (without_key network_cmp entries prefix))
-remove_key (NumberTable entries) (Number n) = removed (is_some (value_of nat_cmp entries n)) (NumberTable (without_key nat_cmp entries n))
+remove_key (AddressTable entries) (Net prefix) = answer_to_remove (is_some (value_of network_cmp entries prefix)) (AddressTable (without_key network_cmp entries prefix))
+remove_key (NumberTable entries) (Number n) = answer_to_remove (is_some (value_of nat_cmp entries n)) (NumberTable (without_key nat_cmp entries n))
 remove_key (AddressTable entries) (Number n) = Err WrongType
 remove_key (NumberTable entries) (Net prefix) = Err WrongType
 
 -- a table of the same type without an entry
-abbrev pub cleared : Table → Table
-cleared (AddressTable entries) = AddressTable []
-cleared (NumberTable entries) = NumberTable []
+abbrev pub table_without_entries : Table → Table
+table_without_entries (AddressTable entries) = AddressTable []
+table_without_entries (NumberTable entries) = NumberTable []
 
 -- both are of one type
 abbrev pub are_alike : Table → Table → Bool
@@ -89,9 +89,9 @@ are_alike (NumberTable entries) (AddressTable others) = false
 -- Commands
 
 -- a table that has to be there
-abbrev pub found : Option Table → Answer Table
-found None = Err NoSuchTable
-found (Some table) = Ok table
+abbrev pub existing_table : Option Table → Answer Table
+existing_table None = Err NoSuchTable
+existing_table (Some table) = Ok table
 
 -- the table of the name, or a new one of addresses
 abbrev pub found_or_new : Option Table → Table
@@ -105,7 +105,7 @@ create_table tables name kind = if is_some (table_named tables name) then Err En
 -- `table NAME destroy`; not where a rule names it
 unfoldable pub destroy_table : NamedTables → List Rule → List ℕ → Answer NamedTables
 destroy_table tables rules name = do
-  table ← found (table_named tables name)
+  table ← existing_table (table_named tables name)
   if list_any (names_table name) rules then Err TableInUse else Ok (without_key name_cmp tables name)
 
 -- `table NAME add`, which makes the table where there is none
@@ -117,21 +117,21 @@ add_entry tables name key value = do
 -- `table NAME delete`
 unfoldable pub remove_entry_of : NamedTables → List ℕ → Key → Answer NamedTables
 remove_entry_of tables name key = do
-  table ← found (table_named tables name)
+  table ← existing_table (table_named tables name)
   rest ← remove_key table key
   Ok (put_table tables name rest)
 
 -- `table NAME flush`
 unfoldable pub clear_table : NamedTables → List ℕ → Answer NamedTables
 clear_table tables name = do
-  table ← found (table_named tables name)
-  Ok (put_table tables name (cleared table))
+  table ← existing_table (table_named tables name)
+  Ok (put_table tables name (table_without_entries table))
 
 -- `table NAME swap`, of tables of one type
 unfoldable pub swap_tables : NamedTables → List ℕ → List ℕ → Answer NamedTables
 swap_tables tables name other = do
-  first ← found (table_named tables name)
-  second ← found (table_named tables other)
+  first ← existing_table (table_named tables name)
+  second ← existing_table (table_named tables other)
   if are_alike first second then Ok (put_table (put_table tables name second) other first) else Err WrongType
 
 -- `list` changes nothing, and is answered by who prints

@@ -42,8 +42,8 @@ abbrev pub name_of : Action → Option Body → Option (List ℕ)
 name_of action body = option_or (action_name action) (body_name body)
 
 -- the number of the name: the first place where it stands; the list's length where it stands nowhere
-abbrev pub number_of : List (List ℕ) → List ℕ → ℕ
-number_of names name = position_or_len (λ other. pointwise nat_eq other name) names
+abbrev pub number_of_name : List (List ℕ) → List ℕ → ℕ
+number_of_name names name = position_or_len (λ other. pointwise nat_eq other name) names
 
 -- the name has a number
 abbrev pub is_listed : List (List ℕ) → List ℕ → Bool
@@ -63,7 +63,7 @@ with_name_of names (Some name) = with_name names name
 
 -- the name that a rule names has a number
 abbrev pub IsNamed : List (List ℕ) → Rule → Type 0
-IsNamed names rule = IfSome (name_of rule.action rule.body) (λ name. number_of names name < length names)
+IsNamed names rule = IfSome (name_of rule.action rule.body) (λ name. number_of_name names name < length names)
 
 -- `default` has number 0, no two names are equal, and there are at most 64
 pub record AreNames (names : List (List ℕ)) : Type 0 where

@@ -83,8 +83,8 @@ abbrev pub without_set : ℕ → List Rule → List Rule
 without_set set rules = filter (λ rule. not (rule.set == set) || rule.number == 65535) rules
 
 -- the rules of set 31
-abbrev pub flushed : List Rule → List Rule
-flushed rules = filter (λ rule. rule.set == 31) rules
+abbrev pub rules_kept_by_flush : List Rule → List Rule
+rules_kept_by_flush rules = filter (λ rule. rule.set == 31) rules
 
 -- `zero` of these numbers names the rule; that of none names each
 abbrev pub is_zeroed : List ℕ → Rule → Bool

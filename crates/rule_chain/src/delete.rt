@@ -49,7 +49,7 @@ fn take_set(rules: &mut Vec<Arc<Rule>>, set: u8)
 
 /// Takes out the rules of all sets but 31.
 fn take_unreserved(rules: &mut Vec<Arc<Rule>>)
-    ensures { map arc_value rules.new.items ≡ lists.flushed (map arc_value rules.old.items) }
+    ensures { map arc_value rules.new.items ≡ lists.rules_kept_by_flush (map arc_value rules.old.items) }
 {
     rules.retain(|rule| rule.set == LAST_SET);
 }
@@ -72,7 +72,7 @@ fn without_set(alloc: Global, rules: RuleList, set: u8) -> Result<RuleList, OutO
 }
 
 fn flushed(alloc: Global, rules: RuleList) -> Result<RuleList, OutOfMemory>
-    ensures { IfOk result (λ left. left ≡ lists.flushed rules) }
+    ensures { IfOk result (λ left. left ≡ lists.rules_kept_by_flush rules) }
 {
     let mut owned = rules.own(alloc)?;
     take_unreserved(&mut owned);

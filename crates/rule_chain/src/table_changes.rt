@@ -135,7 +135,7 @@ fn found_or_new(alloc: Global, table: Option<SharedTable>) -> Result<Table, OutO
 
 /// The table to change.
 fn found(table: Option<SharedTable>) -> Result<Table, ApplyFault>
-    ensures { Gives result (spec.found table) }
+    ensures { Gives result (spec.existing_table table) }
 {
     match table {
         Some(table) => Ok(table.own()?),
@@ -193,7 +193,7 @@ fn remove_entry(
 }
 
 fn cleared(alloc: Global, table: &Table) -> Table
-    ensures { result ≡ spec.cleared table.now }
+    ensures { result ≡ spec.table_without_entries table.now }
 {
     match table {
         Table::Addresses(_) => Table::Addresses(AddrTable::new(alloc)),
@@ -228,7 +228,7 @@ fn are_alike(table: &Table, other: &Table) -> bool
 
 /// The table of the name for one more place: no entry is copied.
 fn share_of(tables: &Tables, name: &Name) -> Result<SharedTable, ApplyFault>
-    ensures { Gives result (spec.found (table_named tables.now name.now)) }
+    ensures { Gives result (spec.existing_table (table_named tables.now name.now)) }
 {
     match tables.shared(name) {
         Some(table) => Ok(table.share()?),

@@ -14,7 +14,7 @@ use Rattle.ip6_headers.specs.declared.any_ip.AnyIp.{AnyIp}
 use Rattle.lookup_tables.specs.Tables.{NamedTables}
 use Rattle.ip6_headers.specs.declared.any_ip.AnyIp.TheVariants.{Four, Six}
 use Rattle.rule_match.specs.Holds.{holds, holds_addresses, holds_family, holds_ports, holds_protocol}
-use Rattle.rule_match.specs.Packet.{Address, source_of, destination_of}
+use Rattle.rule_match.specs.Packet.{Address, source_address_of, destination_address_of}
 use Rattle.rule_match.specs.Ports.{source_port, destination_port}
 use Rattle.rule_gates.specs.Covers.{CoversAddresses, CoversPorts, IsExactAddresses, IsExactGate, IsExactPorts, IsGateOfBody, IsOpen, TellsAddresses, TellsBody, TellsPorts, is_beside, is_six_address, narrower}
 use Rattle.rule_gates.specs.Gates.{admits, admits_version, is_exact}
@@ -74,8 +74,8 @@ pub open_admits : (gate : Gate) (every : Interval) → every.low ≡ 0 → every
     → IsOpen gate
 open_admits gate every low span source destination source_ports destination_ports protocol version packet key is =
     admits_by gate key
-    (rw source (every_has every _ low span (word_within key.source (address_number (source_of packet)) gate.source_word is.source gate.chosen.0)))
-    (rw destination (every_has every _ low span (word_within key.destination (address_number (destination_of packet)) gate.destination_word is.destination gate.chosen.1)))
+    (rw source (every_has every _ low span (word_within key.source (address_number (source_address_of packet)) gate.source_word is.source gate.chosen.0)))
+    (rw destination (every_has every _ low span (word_within key.destination (address_number (destination_address_of packet)) gate.destination_word is.destination gate.chosen.1)))
     (rw destination_ports (every_has every _ low span (let few = key.ported.1 in omega arith)))
     (rw protocol refl)
     (rw source_ports (every_has every _ low span (let few = key.ported.0 in omega arith)))
@@ -85,11 +85,11 @@ open_admits gate every low span source destination source_ports destination_port
     word_within words n place are within = rw (key_word words n place are within) (word-fits place n)
 
 -- a packet's addresses are of its version
-source_version : (packet : AnyIp) → is_six_address (source_of packet) ≡ is_six packet
+source_version : (packet : AnyIp) → is_six_address (source_address_of packet) ≡ is_six packet
 source_version (Four packet) = refl
 source_version (Six packet) = refl
 
-destination_version : (packet : AnyIp) → is_six_address (destination_of packet) ≡ is_six packet
+destination_version : (packet : AnyIp) → is_six_address (destination_address_of packet) ≡ is_six packet
 destination_version (Four packet) = refl
 destination_version (Six packet) = refl
 
@@ -146,11 +146,11 @@ body_admits body gate source destination sources destinations source_ports desti
     let by_source_ports = and_parts _ _ by_source.1 in
     let by_destination = and_parts _ _ by_source_ports.1 in
     let by_destination_ports = and_parts _ _ by_destination.1 in
-    let from = sources tables locals (source_of packet) by_source.0 in
-    let to = destinations tables locals (destination_of packet) by_destination.0 in
+    let from = sources tables locals (source_address_of packet) by_source.0 in
+    let to = destinations tables locals (destination_address_of packet) by_destination.0 in
     admits_by gate key
-    (addressed gate.source source.word gate.source_word key.source (address_number (source_of packet)) source_is source_at is.source from.1)
-    (addressed gate.destination destination.word gate.destination_word key.destination (address_number (destination_of packet)) destination_is destination_at is.destination to.1)
+    (addressed gate.source source.word gate.source_word key.source (address_number (source_address_of packet)) source_is source_at is.source from.1)
+    (addressed gate.destination destination.word gate.destination_word key.destination (address_number (destination_address_of packet)) destination_is destination_at is.destination to.1)
     (rw is.destination_port (destination_ports (destination_port packet) (rw (← is.destination_port) key.ported.1) by_destination_ports.0))
     (rw (protocol, is.protocol) by_protocol.0)
     (rw is.source_port (source_ports (source_port packet) (rw (← is.source_port) key.ported.0) by_source_ports.0))
@@ -236,9 +236,9 @@ no_elements (x ∷ xs) none =
 holds_by : (body : Body) (tables : NamedTables) (locals : List Addr) (packet : AnyIp) (port : Port)
     → holds_family body.family packet ≡ true
     → holds_protocol body.protocol (protocol_of packet) ≡ true
-    → holds_addresses tables locals (source_of packet) body.source ≡ true
+    → holds_addresses tables locals (source_address_of packet) body.source ≡ true
     → holds_ports (source_port packet) body.source_ports ≡ true
-    → holds_addresses tables locals (destination_of packet) body.destination ≡ true
+    → holds_addresses tables locals (destination_address_of packet) body.destination ≡ true
     → holds_ports (destination_port packet) body.destination_ports ≡ true
     → body.options ≡ []
     → holds body tables locals packet port ≡ true
@@ -267,14 +267,14 @@ body_exact body gate source destination source_ports destination_ports sources d
     holds_by body tables locals packet port
     (version_held body.family packet (narrower_among body.family (narrower source.family destination.family) (is_six packet) of_version))
     (rw (← protocol, ← is.protocol) parts.protocol)
-    (sources tables locals (source_of packet) by_source.0 fit.source (
+    (sources tables locals (source_address_of packet) by_source.0 fit.source (
       ap (λ six. admits_version source.family six) (source_version packet) ∙ among.0 (is_six packet) of_version,
-      told gate.source source.word gate.source_word key.source (address_number (source_of packet)) source_is source_at is.source parts.source,
+      told gate.source source.word gate.source_word key.source (address_number (source_address_of packet)) source_is source_at is.source parts.source,
     ))
     (source_ports_of (source_port packet) by_source_ports.0 (rw (← source_ports_are, ← is.source_port) parts.source_ports))
-    (destinations tables locals (destination_of packet) by_destination.0 fit.destination (
+    (destinations tables locals (destination_address_of packet) by_destination.0 fit.destination (
       ap (λ six. admits_version destination.family six) (destination_version packet) ∙ among.1 (is_six packet) of_version,
-      told gate.destination destination.word gate.destination_word key.destination (address_number (destination_of packet)) destination_is destination_at is.destination parts.destination,
+      told gate.destination destination.word gate.destination_word key.destination (address_number (destination_address_of packet)) destination_is destination_at is.destination parts.destination,
     ))
     (destination_ports_of (destination_port packet) by_destination_ports.0 (rw (← destination_ports_are, ← is.destination_port) parts.destination_ports))
     (no_elements body.options by_destination_ports.1)

@@ -3,7 +3,7 @@ use Rattle.std.specs.Prelude.{◌≡◌, ℕ, ◌^◌, ◌<◌, ⊤, Bool, true,
 use Rattle.ip6_headers.specs.declared.any_ip.AnyIp.{AnyIp}
 use Rattle.ip6_headers.specs.declared.any_ip.AnyIp.TheVariants.{Four, Six}
 use Rattle.ip6_headers.specs.Either.{protocol_of}
-use Rattle.rule_match.specs.Packet.{Address, V4, V6, source_of, destination_of}
+use Rattle.rule_match.specs.Packet.{Address, V4, V6, source_address_of, destination_address_of}
 use Rattle.rule_match.specs.Ports.{source_port, destination_port}
 use Rattle.rule_gates.specs.Words.{address_number, words_of}
 use Rattle.rule_gates.specs.declared.key.Key.{Key}
@@ -20,8 +20,8 @@ port_number (Some port) = port
 
 -- the key of this packet: the words of its addresses, its ports, its protocol and its version
 pub record IsKeyOf (packet : AnyIp) (key : Key) : Type 0 where
-  pub source : key.source ≡ words_of (address_number (source_of packet))
-  pub destination : key.destination ≡ words_of (address_number (destination_of packet))
+  pub source : key.source ≡ words_of (address_number (source_address_of packet))
+  pub destination : key.destination ≡ words_of (address_number (destination_address_of packet))
   pub source_port : key.source_port ≡ port_number (source_port packet)
   pub destination_port : key.destination_port ≡ port_number (destination_port packet)
   pub protocol : key.protocol ≡ protocol_of packet
@@ -34,5 +34,5 @@ IsAddress (V6 address) = ⊤
 
 -- so of both addresses of the packet, as of every packet that was read
 pub record HasAddresses (packet : AnyIp) : Type 0 where
-  pub source : IsAddress (source_of packet)
-  pub destination : IsAddress (destination_of packet)
+  pub source : IsAddress (source_address_of packet)
+  pub destination : IsAddress (destination_address_of packet)

@@ -9,7 +9,7 @@ use Rattle.fw_rule.specs.declared.port_list.PortList.{PortList}
 use Rattle.ip6_headers.specs.declared.any_ip.AnyIp.{AnyIp}
 use Rattle.ip6_headers.specs.Either.{protocol_of}
 use Rattle.rule_match.specs.Holds.{has_address, holds_family, holds_ports, holds_protocol}
-use Rattle.rule_match.specs.Packet.{V4, source_of, destination_of}
+use Rattle.rule_match.specs.Packet.{V4, source_address_of, destination_address_of}
 use Rattle.rule_match.specs.Ports.{source_port, destination_port}
 
 -- the addresses of this prefix alone
@@ -25,9 +25,9 @@ only_range range = Some (record { negated = false; ranges = range ∷ [] })
 pub record MayHold (body : Body) (packet : AnyIp) : Type 0 where
   pub version : holds_family body.family packet ≡ true
   pub protocol : holds_protocol body.protocol (protocol_of packet) ≡ true
-  pub source : (net : Network) (address : ℕ) → body.source ≡ only_net net → source_of packet ≡ V4 address → address < 2 ^ 32
+  pub source : (net : Network) (address : ℕ) → body.source ≡ only_net net → source_address_of packet ≡ V4 address → address < 2 ^ 32
       → has_address net address ≡ true
-  pub destination : (net : Network) (address : ℕ) → body.destination ≡ only_net net → destination_of packet ≡ V4 address → address < 2 ^ 32
+  pub destination : (net : Network) (address : ℕ) → body.destination ≡ only_net net → destination_address_of packet ≡ V4 address → address < 2 ^ 32
       → has_address net address ≡ true
   pub source_ports : (range : Ports) → body.source_ports ≡ only_range range → holds_ports (source_port packet) body.source_ports ≡ true
   pub destination_ports : (range : Ports) → body.destination_ports ≡ only_range range → holds_ports (destination_port packet) body.destination_ports ≡ true

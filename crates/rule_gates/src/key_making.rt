@@ -2,7 +2,7 @@ ghost use Rattle.std.specs.Prelude.{◌≡◌, ◌≤◌};
 ghost use Rattle.rule_gates.specs.Keys as spec;
 ghost use Rattle.rule_gates.specs.Keys.{HasAddresses, IsAddress, IsKeyOf};
 ghost use Rattle.rule_gates.specs.Words.{address_number};
-ghost use Rattle.rule_match.specs.Packet.{source_of, destination_of};
+ghost use Rattle.rule_match.specs.Packet.{source_address_of, destination_address_of};
 ghost use Rattle.rule_match.specs.Ports as ports;
 
 use crate::Key;
@@ -23,8 +23,8 @@ fn is_six(packet: &AnyIp<'_>) -> bool
 
 /// The source address as a number.
 fn source_number(packet: &AnyIp<'_>) -> u128
-    ensures number { result ≡ address_number (source_of packet.now) }
-    ensures fits { IsAddress (source_of packet.now) }
+    ensures number { result ≡ address_number (source_address_of packet.now) }
+    ensures fits { IsAddress (source_address_of packet.now) }
 {
     match packet {
         AnyIp::Four(packet) => u128::from(packet.source().0),
@@ -34,8 +34,8 @@ fn source_number(packet: &AnyIp<'_>) -> u128
 
 /// The destination address as a number.
 fn destination_number(packet: &AnyIp<'_>) -> u128
-    ensures number { result ≡ address_number (destination_of packet.now) }
-    ensures fits { IsAddress (destination_of packet.now) }
+    ensures number { result ≡ address_number (destination_address_of packet.now) }
+    ensures fits { IsAddress (destination_address_of packet.now) }
 {
     match packet {
         AnyIp::Four(packet) => u128::from(packet.destination().0),

@@ -19,7 +19,7 @@ use Rattle.ip6_headers.specs.declared.any_ip.AnyIp.{AnyIp}
 use Rattle.ip6_headers.specs.declared.any_ip.AnyIp.TheVariants.{Four, Six}
 use Rattle.ip6_headers.specs.Either.{protocol_of}
 use Rattle.lookup_tables.specs.Tables.{NamedTables, table_named}
-use Rattle.rule_match.specs.Packet.{Address, V4, V6, source_of, destination_of}
+use Rattle.rule_match.specs.Packet.{Address, V4, V6, source_address_of, destination_address_of}
 use Rattle.rule_match.specs.Ports.{source_port, destination_port, is_in_ranges}
 use Rattle.rule_match.specs.Tables.{address_value}
 use Rattle.rule_match.specs.Tests.{holds_test}
@@ -94,8 +94,8 @@ unfoldable pub holds : Body → NamedTables → List Addr → AnyIp → Port →
 holds body tables locals packet port =
     holds_family body.family packet
     && (holds_protocol body.protocol (protocol_of packet)
-    && (holds_addresses tables locals (source_of packet) body.source
+    && (holds_addresses tables locals (source_address_of packet) body.source
     && (holds_ports (source_port packet) body.source_ports
-    && (holds_addresses tables locals (destination_of packet) body.destination
+    && (holds_addresses tables locals (destination_address_of packet) body.destination
     && (holds_ports (destination_port packet) body.destination_ports
     && list_all (holds_option tables packet port) body.options)))))

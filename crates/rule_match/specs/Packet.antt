@@ -11,19 +11,19 @@ pub data Address : Type 0 where
   V6 : ℕ → Address
 
 -- the source address
-abbrev pub source_of : AnyIp → Address
-source_of (Four packet) = V4 packet.source
-source_of (Six packet) = V6 packet.source
+abbrev pub source_address_of : AnyIp → Address
+source_address_of (Four packet) = V4 packet.source
+source_address_of (Six packet) = V6 packet.source
 
 -- the destination address
-abbrev pub destination_of : AnyIp → Address
-destination_of (Four packet) = V4 packet.destination
-destination_of (Six packet) = V6 packet.destination
+abbrev pub destination_address_of : AnyIp → Address
+destination_address_of (Four packet) = V4 packet.destination
+destination_address_of (Six packet) = V6 packet.destination
 
 -- the type of an ICMP message; no IPv6 packet has one, whatever its protocol
-abbrev pub icmp_type_of : AnyIp → Option ℕ
-icmp_type_of (Four packet) = ipv4.icmp_type_of packet
-icmp_type_of (Six packet) = None
+abbrev pub icmp_type_of_packet : AnyIp → Option ℕ
+icmp_type_of_packet (Four packet) = ipv4.icmp_type_of packet
+icmp_type_of_packet (Six packet) = None
 
 -- the type of an ICMPv6 message; no IPv4 packet has one, whatever its protocol
 abbrev pub icmpv6_type_of : AnyIp → Option ℕ

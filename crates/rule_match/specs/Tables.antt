@@ -8,7 +8,7 @@ use Rattle.lookup_tables.specs.Tables.{NamedTables, table_named}
 use Rattle.lookup_tables.specs.declared.table.Table.{Table}
 use Rattle.lookup_tables.specs.declared.table.Table.TheVariants.{Addresses, Numbers}
 use Rattle.ip6_headers.specs.declared.any_ip.AnyIp.{AnyIp}
-use Rattle.rule_match.specs.Packet.{Address, V4, V6, source_of, destination_of}
+use Rattle.rule_match.specs.Packet.{Address, V4, V6, source_address_of, destination_address_of}
 use Rattle.rule_match.specs.Ports.{source_port, destination_port}
 
 -- a table of addresses answers for an address; a table that isn't there, or has numbers, doesn't
@@ -35,7 +35,7 @@ port_value table (Some port) = number_value table port
 
 -- what the table of that name answers for the field of the packet
 abbrev pub field_value : NamedTables → AnyIp → Field → List ℕ → Option ℕ
-field_value tables packet SrcIp name = answer_for (table_named tables name) (source_of packet)
-field_value tables packet DstIp name = answer_for (table_named tables name) (destination_of packet)
+field_value tables packet SrcIp name = answer_for (table_named tables name) (source_address_of packet)
+field_value tables packet DstIp name = answer_for (table_named tables name) (destination_address_of packet)
 field_value tables packet SrcPort name = port_value (table_named tables name) (source_port packet)
 field_value tables packet DstPort name = port_value (table_named tables name) (destination_port packet)

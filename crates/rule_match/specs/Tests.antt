@@ -12,7 +12,7 @@ use Rattle.ip6_headers.specs.Either.{offset_of, any_tcp_flags_of}
 use Rattle.lookup_tables.specs.Tables.{NamedTables}
 use Rattle.packet_headers.specs.Options.{has_option}
 use Rattle.rule_match.specs.Interfaces.{is_in, is_out, holds_recv, holds_xmit, holds_via}
-use Rattle.rule_match.specs.Packet.{icmp_type_of, icmpv6_type_of}
+use Rattle.rule_match.specs.Packet.{icmp_type_of_packet, icmpv6_type_of}
 use Rattle.rule_match.specs.Tables.{field_value}
 
 -- the bits of TCP's flags (RFC 9293 section 3.1)
@@ -43,9 +43,9 @@ has_flags set clear None = false
 has_flags set clear (Some flags) = bit_and flags set == set && bit_and flags clear == 0
 
 -- ICMP of a type whose bit the mask has
-abbrev pub has_type : ℕ → Option ℕ → Bool
-has_type types None = false
-has_type types (Some type) = nat_lt type 32 && has_bit types type
+abbrev pub has_icmp_type : ℕ → Option ℕ → Bool
+has_icmp_type types None = false
+has_icmp_type types (Some type) = nat_lt type 32 && has_bit types type
 
 -- ICMPv6 of a type of the set
 abbrev pub has_icmpv6_type : TypeSet → Option ℕ → Bool
@@ -96,7 +96,7 @@ holds_test tables packet port (Recv asked) = holds_recv port asked
 holds_test tables packet port (Xmit asked) = holds_xmit port asked
 holds_test tables packet port (Via asked) = holds_via port asked
 holds_test tables packet port (TcpFlags set clear) = has_flags set clear (any_tcp_flags_of packet)
-holds_test tables packet port (IcmpTypes types) = has_type types (icmp_type_of packet)
+holds_test tables packet port (IcmpTypes types) = has_icmp_type types (icmp_type_of_packet packet)
 holds_test tables packet port (Icmp6Types types) = has_icmpv6_type types (icmpv6_type_of packet)
 holds_test tables packet port (IpOptions present absent) = holds_ip_options present absent packet
 holds_test tables packet port (Lookup field name) = is_some (field_value tables packet field name)

@@ -2,7 +2,7 @@ ghost use Rattle.std.specs.Prelude.{◌≡◌, ◌==◌, is_some};
 ghost use Rattle.std.specs.List.{list_any};
 ghost use Rattle.lookup_tables.specs.Tables.{table_named};
 ghost use Rattle.rule_match.specs.Holds as spec;
-ghost use Rattle.rule_match.specs.Packet.{V4, source_of, destination_of};
+ghost use Rattle.rule_match.specs.Packet.{V4, source_address_of, destination_address_of};
 ghost use Rattle.rule_match.specs.Tables as answers;
 
 use crate::lookups::address_value;
@@ -118,7 +118,7 @@ fn holds_addresses6(address: Addr6, asked: &AddrSpec) -> bool
 
 /// Whether the packet's source address is one that the rule asks for.
 pub fn holds_source(tables: &Tables, locals: &[Addr], packet: &AnyIp<'_>, asked: &AddrSpec) -> bool
-    ensures { result ≡ spec.holds_addresses tables.now locals.now (source_of packet.now) asked.now }
+    ensures { result ≡ spec.holds_addresses tables.now locals.now (source_address_of packet.now) asked.now }
 {
     match packet {
         AnyIp::Four(packet) => holds_addresses4(tables, locals, packet.source(), asked),
@@ -133,7 +133,7 @@ pub fn holds_destination(
     packet: &AnyIp<'_>,
     asked: &AddrSpec,
 ) -> bool
-    ensures { result ≡ spec.holds_addresses tables.now locals.now (destination_of packet.now)
+    ensures { result ≡ spec.holds_addresses tables.now locals.now (destination_address_of packet.now)
         asked.now }
 {
     match packet {

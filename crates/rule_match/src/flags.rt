@@ -42,7 +42,7 @@ pub fn has_flags(set: u8, clear: u8, flags: Option<u8>) -> bool
 
 /// Whether the ICMP type, where the packet has one, is one of the mask.
 pub fn has_type(types: u32, kind: Option<u8>) -> bool
-    ensures { result ≡ spec.has_type types kind }
+    ensures { result ≡ spec.has_icmp_type types kind }
 {
     match kind {
         Some(kind) => kind < 32 && has_bit(types, u32::from(kind)),

@@ -1,6 +1,6 @@
 ghost use Rattle.std.specs.Prelude.{◌≡◌};
 ghost use Rattle.std.specs.Option.{option_copied};
-ghost use Rattle.rule_match.specs.Packet.{source_of, destination_of};
+ghost use Rattle.rule_match.specs.Packet.{source_address_of, destination_address_of};
 ghost use Rattle.rule_match.specs.Tables as spec;
 
 use crate::ports::{destination_port, source_port};
@@ -40,7 +40,7 @@ fn port_value(table: Option<&Table>, port: Option<u16>) -> Option<u32>
 
 /// What a table answers for the packet's source address; it knows none of IPv6.
 fn source_value(table: Option<&Table>, packet: &AnyIp<'_>) -> Option<u32>
-    ensures { result ≡ spec.answer_for (option_copied table.entry) (source_of packet.now) }
+    ensures { result ≡ spec.answer_for (option_copied table.entry) (source_address_of packet.now) }
 {
     match packet {
         AnyIp::Four(packet) => address_value(table, packet.source()),
@@ -50,7 +50,7 @@ fn source_value(table: Option<&Table>, packet: &AnyIp<'_>) -> Option<u32>
 
 /// The same of its destination address.
 fn destination_value(table: Option<&Table>, packet: &AnyIp<'_>) -> Option<u32>
-    ensures { result ≡ spec.answer_for (option_copied table.entry) (destination_of packet.now) }
+    ensures { result ≡ spec.answer_for (option_copied table.entry) (destination_address_of packet.now) }
 {
     match packet {
         AnyIp::Four(packet) => address_value(table, packet.destination()),

@@ -2,7 +2,7 @@ ghost use Rattle.std.specs.Prelude.{◌≡◌};
 ghost use Rattle.std.specs.List.{list_all};
 ghost use Rattle.rule_match.specs.Holds as body;
 ghost use Rattle.packet_headers.specs.Options.{has_option};
-ghost use Rattle.rule_match.specs.Packet.{icmp_type_of, icmpv6_type_of};
+ghost use Rattle.rule_match.specs.Packet.{icmp_type_of_packet, icmpv6_type_of};
 ghost use Rattle.rule_match.specs.Tests as spec;
 
 use crate::addresses::as_signed;
@@ -72,7 +72,7 @@ fn holds_ip_options(present: u8, absent: u8, packet: &AnyIp<'_>) -> bool
 
 /// Whether the packet is ICMP, of IPv4, of a type of the mask.
 fn holds_icmp_types(types: u32, packet: &AnyIp<'_>) -> bool
-    ensures { result ≡ spec.has_type types (icmp_type_of packet.now) }
+    ensures { result ≡ spec.has_icmp_type types (icmp_type_of_packet packet.now) }
 {
     match packet {
         AnyIp::Four(packet) => has_type(types, packet.icmp_type()),

@@ -9,12 +9,12 @@ use Rattle.pcap_read.specs.Capture.{source_of}
 use Rattle.pcap_read.specs.Reading.{Captured}
 use Rattle.serial_replay.specs.Reading as reading
 use Rattle.serial_replay.specs.Reading.{Origin, origin_of, IsRead, AllRead, track_inputs, input_of}
-use Rattle.serial_replay.specs.Running.{inputs_of, joined, first_of}
-use Rattle.serial_replay.specs.Tracks.{AreTracks, IsTrack, IsSettled, GoesOn, HasEnded, end_of, held_in, held_of, source_at}
+use Rattle.serial_replay.specs.Running.{inputs_of, joined_records, first_capture_of}
+use Rattle.serial_replay.specs.Tracks.{AreTracks, IsTrack, IsSettled, GoesOn, IsReadToEnd, end_of, held_in, held_record_of, source_at}
 use Rattle.serial_replay.specs.declared.replay.OpenedCapture.{OpenedCapture}
 use Rattle.serial_replay.specs.declared.track.Track.{Track}
 use Rattle.serial_replay.specs.declared.track.Track.TheVariants.{Open, Refused}
-use Rattle.serial_schedule.specs.Order.{next_of}
+use Rattle.serial_schedule.specs.Order.{next_record_of}
 use Rattle.serial_schedule.proofs.Turns.{no_records, none_first}
 
 -- what the tracks tell as inputs is what was replayed
@@ -23,11 +23,11 @@ inputs-same [] = refl
 inputs-same (track ∷ told) = ap (λ rest. track_inputs track ∷ rest) (inputs-same told)
 
 module _ {S : Type 0} where
-  none-held : (tracks : List (Track S)) → map next_of (map no_records (map held_of tracks)) ≡ map held_of tracks → AllByRecursion (λ (t : Track S). held_of t ≡ None) tracks
+  none-held : (tracks : List (Track S)) → map next_record_of (map no_records (map held_record_of tracks)) ≡ map held_record_of tracks → AllByRecursion (λ (t : Track S). held_record_of t ≡ None) tracks
   none-held [] is = tt
   none-held (track ∷ tracks) is =
-      let first : held_of track ≡ None = cc in
-      let rest : map next_of (map no_records (map held_of tracks)) ≡ map held_of tracks = cc in
+      let first : held_record_of track ≡ None = cc in
+      let rest : map next_record_of (map no_records (map held_record_of tracks)) ≡ map held_record_of tracks = cc in
       (first, none-held tracks rest)
 
   module _ (left : S → Option (List ℕ)) (faults : S → ℕ) where
@@ -39,7 +39,7 @@ module _ {S : Type 0} where
       origin_is : origin_of told ≡ origin
       records : told.records ≡ done
 
-    told-ended : (limit : ℕ) (opened : OpenedCapture S) (track : Track S) (source : S) (end : CaptureEnd) (done : List Captured) (origin : Origin) → source_at track ≡ source → end_of track ≡ end → HasEnded left faults limit opened source end done origin → Told limit opened track done origin
+    told-ended : (limit : ℕ) (opened : OpenedCapture S) (track : Track S) (source : S) (end : CaptureEnd) (done : List Captured) (origin : Origin) → source_at track ≡ source → end_of track ≡ end → IsReadToEnd left faults limit opened source end done origin → Told limit opened track done origin
     told-ended limit opened track source end done origin source-is end-is h =
         let told : reading.Track = record { port = opened.port; bytes = h.bytes; records = done } in
         record {
@@ -50,7 +50,7 @@ module _ {S : Type 0} where
           records = refl;
         }
 
-    told-track : (limit : ℕ) (opened : OpenedCapture S) (track : Track S) (done : List Captured) (origin : Origin) → held_of track ≡ None → IsSettled left faults track → IsTrack left faults limit opened track done origin → Told limit opened track done origin
+    told-track : (limit : ℕ) (opened : OpenedCapture S) (track : Track S) (done : List Captured) (origin : Origin) → held_record_of track ≡ None → IsSettled left faults track → IsTrack left faults limit opened track done origin → Told limit opened track done origin
     told-track limit opened (Refused source end) done origin none settled is = told-ended limit opened (Refused source end) source end done origin refl refl is
     told-track limit opened (Open track) done origin none settled is = cases track.end refl
       where
@@ -60,7 +60,7 @@ module _ {S : Type 0} where
             let empty = ap is_some none in
             cc
         cases (Some end) ended =
-            let h = subst (λ e. MatchOption e (GoesOn left faults limit opened track done origin) (λ end. HasEnded left faults limit opened (source_of track.capture) end done origin × (held_in track ≡ None))) ended is.1 in
+            let h = subst (λ e. MatchOption e (GoesOn left faults limit opened track done origin) (λ end. IsReadToEnd left faults limit opened (source_of track.capture) end done origin × (held_in track ≡ None))) ended is.1 in
             told-ended limit opened (Open track) (source_of track.capture) end done origin refl (ap (λ e. unwrap_or e (Read track.records)) ended) h.0
 
     -- what all captures came to
@@ -70,7 +70,7 @@ module _ {S : Type 0} where
       pub origins_are : map origin_of told ≡ origins
       pub records : map (λ (t : reading.Track). t.records) told ≡ dones
 
-    told-all : (limit : ℕ) (captures : List (OpenedCapture S)) (tracks : List (Track S)) (dones : List (List Captured)) (origins : List Origin) → AllByRecursion (λ (t : Track S). held_of t ≡ None) tracks → AreTracks left faults limit captures tracks dones origins → AllTold limit captures tracks dones origins
+    told-all : (limit : ℕ) (captures : List (OpenedCapture S)) (tracks : List (Track S)) (dones : List (List Captured)) (origins : List Origin) → AllByRecursion (λ (t : Track S). held_record_of t ≡ None) tracks → AreTracks left faults limit captures tracks dones origins → AllTold limit captures tracks dones origins
     told-all limit [] [] [] [] none are = record { told = []; read = tt; origins_are = refl; records = refl }
     told-all limit [] [] [] (origin ∷ origins) none are = absurd are
     told-all limit [] [] (done ∷ dones) origins none are = absurd are
@@ -89,11 +89,11 @@ module _ {S : Type 0} where
         }
 
     -- where none comes first they have ended
-    pub ended-told : (limit : ℕ) (captures : List (OpenedCapture S)) (tracks : List (Track S)) (dones : List (List Captured)) (origins : List Origin) → first_of tracks ≡ None → AreTracks left faults limit captures tracks dones origins → AllTold limit captures tracks dones origins
-    ended-told limit captures tracks dones origins first are = told-all limit captures tracks dones origins (none-held tracks (none_first (map held_of tracks) first)) are
+    pub ended-told : (limit : ℕ) (captures : List (OpenedCapture S)) (tracks : List (Track S)) (dones : List (List Captured)) (origins : List Origin) → first_capture_of tracks ≡ None → AreTracks left faults limit captures tracks dones origins → AllTold limit captures tracks dones origins
+    ended-told limit captures tracks dones origins first are = told-all limit captures tracks dones origins (none-held tracks (none_first (map held_record_of tracks) first)) are
 
     -- nothing is still to come behind what was replayed
-    pub joined-none : (limit : ℕ) (captures : List (OpenedCapture S)) (tracks : List (Track S)) (dones : List (List Captured)) (origins : List Origin) → AreTracks left faults limit captures tracks dones origins → joined dones (map no_records (map held_of tracks)) ≡ dones
+    pub joined-none : (limit : ℕ) (captures : List (OpenedCapture S)) (tracks : List (Track S)) (dones : List (List Captured)) (origins : List Origin) → AreTracks left faults limit captures tracks dones origins → joined_records dones (map no_records (map held_record_of tracks)) ≡ dones
     joined-none limit [] [] [] origins are = refl
     joined-none limit [] [] (done ∷ dones) origins are = absurd are
     joined-none limit [] (track ∷ tracks) dones origins are = absurd are
@@ -101,4 +101,4 @@ module _ {S : Type 0} where
     joined-none limit (opened ∷ captures) (track ∷ tracks) [] origins are = absurd are
     joined-none limit (opened ∷ captures) (track ∷ tracks) (done ∷ dones) [] are = absurd are
     joined-none limit (opened ∷ captures) (track ∷ tracks) (done ∷ dones) (origin ∷ origins) are =
-        ap (λ records. records ∷ joined dones (map no_records (map held_of tracks))) (append-nil done) ∙ ap (λ others. done ∷ others) (joined-none limit captures tracks dones origins are.2)
+        ap (λ records. records ∷ joined_records dones (map no_records (map held_record_of tracks))) (append-nil done) ∙ ap (λ others. done ∷ others) (joined-none limit captures tracks dones origins are.2)

@@ -11,11 +11,11 @@ use Rattle.pcap_read.specs.Reading.{Captured}
 use Rattle.serial_replay.specs.Commands.{after_line, after_lines}
 use Rattle.serial_replay.specs.Events.{ReplaysAll}
 use Rattle.serial_replay.specs.Live.{run_state, IsSound, IsLive, RunsALine}
-use Rattle.serial_replay.specs.Running.{IsReady, Keeps, HaveTracks, inputs_of, first_of}
-use Rattle.serial_replay.specs.Tracks.{AreTracks, held_of, rooms_of}
+use Rattle.serial_replay.specs.Running.{IsReady, Keeps, HaveTracks, inputs_of, first_capture_of}
+use Rattle.serial_replay.specs.Tracks.{AreTracks, held_record_of, rooms_of}
 use Rattle.serial_replay.specs.declared.running.Running.{Running}
 use Rattle.serial_schedule.specs.Agenda.{all_lines, AreLast, GivesDue, NoneIsDue, GivesRest, NoneIsLeft}
-use Rattle.serial_schedule.specs.Order.{in_order, next_of, next_moment, first_capture, moment_of}
+use Rattle.serial_schedule.specs.Order.{in_order, next_record_of, next_moment, first_capture, moment_of}
 use Rattle.serial_schedule.specs.Schedule.{Ran, events_from}
 use Rattle.serial_schedule.specs.Steps.{steps_of}
 use Rattle.serial_schedule.proofs.Events.{events-due, events-settled, events-ended, events-none, events-rest}
@@ -38,7 +38,7 @@ module _ {S : Type 0} (left : S → Option (List ℕ)) (faults : S → ℕ) wher
 
   -- a line ran
   keeps-line : (old new : Running S) (line : Line) → IsReady left faults old → RunsALine old.live new.live line → all_lines (steps_of old.agenda) ≡ line ∷ all_lines (steps_of new.agenda) → AreLast (Run line ∷ steps_of new.agenda) (steps_of old.agenda)
-      → ((rests : List (List Captured)) → map next_of rests ≡ map held_of old.tracks → events_from old.taken (steps_of old.agenda) (in_order rests) ≡ Ran line ∷ events_from new.taken (steps_of new.agenda) (in_order rests))
+      → ((rests : List (List Captured)) → map next_record_of rests ≡ map held_record_of old.tracks → events_from old.taken (steps_of old.agenda) (in_order rests) ≡ Ran line ∷ events_from new.taken (steps_of new.agenda) (in_order rests))
       → new.tracks ≡ old.tracks → new.taken ≡ old.taken → Keeps left faults old new
   unfolding after_lines
   keeps-line old new line ready runs lines last events tracks taken = record {
@@ -56,7 +56,7 @@ module _ {S : Type 0} (left : S → Option (List ℕ)) (faults : S → ℕ) wher
       live = runs.live config (inputs_of origins h.dones) h.standing h.live;
       lines = sym (ap (after_lines h.standing) lines) ∙ h.lines;
       comes = λ rests end fits all.
-          let fitting : map next_of rests ≡ map held_of old.tracks = fits ∙ ap (map held_of) tracks in
+          let fitting : map next_record_of rests ≡ map held_record_of old.tracks = fits ∙ ap (map held_record_of) tracks in
           h.comes rests end fitting (subst (λ events. ReplaysAll origins (run_state old.live) end events) (sym (events rests fitting)) (run_state new.live, runs.runs, all));
     };
   }
@@ -68,7 +68,7 @@ module _ {S : Type 0} (left : S → Option (List ℕ)) (faults : S → ℕ) wher
 
   -- only steps were passed over
   keeps-same : (old new : Running S) → IsReady left faults old → all_lines (steps_of old.agenda) ≡ all_lines (steps_of new.agenda) → AllByRecursion IsStepInRange (steps_of new.agenda)
-      → ((rests : List (List Captured)) → map next_of rests ≡ map held_of old.tracks → events_from old.taken (steps_of old.agenda) (in_order rests) ≡ events_from old.taken (steps_of new.agenda) (in_order rests))
+      → ((rests : List (List Captured)) → map next_record_of rests ≡ map held_record_of old.tracks → events_from old.taken (steps_of old.agenda) (in_order rests) ≡ events_from old.taken (steps_of new.agenda) (in_order rests))
       → new.live ≡ old.live → new.tracks ≡ old.tracks → new.taken ≡ old.taken → Keeps left faults old new
   keeps-same old new ready lines formed events live tracks taken = record {
     ready = record {
@@ -85,7 +85,7 @@ module _ {S : Type 0} (left : S → Option (List ℕ)) (faults : S → ℕ) wher
       live = subst (IsLive config (inputs_of origins h.dones) h.standing) (sym live) h.live;
       lines = sym (ap (after_lines h.standing) lines) ∙ h.lines;
       comes = λ rests end fits all.
-          let fitting : map next_of rests ≡ map held_of old.tracks = fits ∙ ap (map held_of) tracks in
+          let fitting : map next_record_of rests ≡ map held_record_of old.tracks = fits ∙ ap (map held_record_of) tracks in
           let here = subst (λ l. ReplaysAll origins (run_state l) end (events_from new.taken (steps_of new.agenda) (in_order rests))) live all in
           let then_taken = subst (λ n. ReplaysAll origins (run_state old.live) end (events_from n (steps_of new.agenda) (in_order rests))) taken here in
           h.comes rests end fitting (subst (λ events. ReplaysAll origins (run_state old.live) end events) (sym (events rests fitting)) then_taken);
@@ -98,23 +98,23 @@ module _ {S : Type 0} (left : S → Option (List ℕ)) (faults : S → ℕ) wher
       keeps-same old new ready none.all (formed-last (steps_of old.agenda) (steps_of new.agenda) none.last ready.formed) (λ rests fits. events-settled old.taken (steps_of old.agenda) (steps_of new.agenda) (in_order rests) none) live tracks taken
 
   -- the moments of rests that fit are those of what is held
-  pub none_of_rests : (rests : List (List Captured)) (held : List (Option Captured)) → map next_of rests ≡ held → first_capture (map (option_map moment_of) held) ≡ None → first_capture (map next_moment rests) ≡ None
+  pub none_of_rests : (rests : List (List Captured)) (held : List (Option Captured)) → map next_record_of rests ≡ held → first_capture (map (option_map moment_of) held) ≡ None → first_capture (map next_moment rests) ≡ None
   none_of_rests rests held fits none = ap first_capture (moments-heads rests) ∙ ap (λ h. first_capture (map (option_map moment_of) h)) fits ∙ none
 
   -- no step is left
-  pub keeps-ended : (old new : Running S) → IsReady left faults old → first_of old.tracks ≡ None → NoneIsLeft (steps_of old.agenda) (steps_of new.agenda) → new.live ≡ old.live → new.tracks ≡ old.tracks → new.taken ≡ old.taken → Keeps left faults old new
+  pub keeps-ended : (old new : Running S) → IsReady left faults old → first_capture_of old.tracks ≡ None → NoneIsLeft (steps_of old.agenda) (steps_of new.agenda) → new.live ≡ old.live → new.tracks ≡ old.tracks → new.taken ≡ old.taken → Keeps left faults old new
   keeps-ended old new ready none nothing live tracks taken =
       let no_lines : all_lines (steps_of new.agenda) ≡ [] = ap all_lines nothing.steps in
       keeps-same old new ready (nothing.all ∙ sym no_lines) (subst (λ steps. AllByRecursion IsStepInRange steps) (sym nothing.steps) tt) (λ rests fits.
-      let first = none_of_rests rests (map held_of old.tracks) fits none in
+      let first = none_of_rests rests (map held_record_of old.tracks) fits none in
       events-ended old.taken (steps_of old.agenda) rests first ∙ events-none old.taken (steps_of old.agenda) nothing.all
       ∙ sym (events-ended old.taken (steps_of new.agenda) rests first ∙ events-none old.taken (steps_of new.agenda) no_lines)) live tracks taken
 
   -- a line ran where no capture has a record left
-  pub keeps-left : (old new : Running S) (line : Line) → IsReady left faults old → first_of old.tracks ≡ None → RunsALine old.live new.live line → GivesRest (steps_of old.agenda) line (steps_of new.agenda) → new.tracks ≡ old.tracks → new.taken ≡ old.taken → Keeps left faults old new
+  pub keeps-left : (old new : Running S) (line : Line) → IsReady left faults old → first_capture_of old.tracks ≡ None → RunsALine old.live new.live line → GivesRest (steps_of old.agenda) line (steps_of new.agenda) → new.tracks ≡ old.tracks → new.taken ≡ old.taken → Keeps left faults old new
   keeps-left old new line ready none runs gives tracks taken =
       keeps-line old new line ready runs gives.all gives.last (λ rests fits.
-      let first = none_of_rests rests (map held_of old.tracks) fits none in
+      let first = none_of_rests rests (map held_record_of old.tracks) fits none in
       events-ended old.taken (steps_of old.agenda) rests first
       ∙ events-rest old.taken (steps_of old.agenda) line (steps_of new.agenda) gives
       ∙ ap (λ n. Ran line ∷ events_from n (steps_of new.agenda) []) (sym taken)

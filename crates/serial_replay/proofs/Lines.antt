@@ -18,9 +18,9 @@ use Rattle.generation_store.specs.Published.{Published}
 use Rattle.rule_chain.specs.Apply.{apply}
 use Rattle.state_journal.specs.Journal.{Journal}
 use Rattle.rule_chain.specs.Configuration.{Configuration}
-use Rattle.serial_replay.specs.Commands.{Standing, Listing, listing_of, listed_answer, answered, after_applied, after_command, after_line}
+use Rattle.serial_replay.specs.Commands.{Standing, Listing, listing_of, listed_answer, line_answer, after_applied, after_command, after_line}
 use Rattle.serial_replay.specs.Events.{RunState, RunsLine}
-use Rattle.serial_replay.specs.Live.{run_state, HasConfig, IsClean, IsSound, IsLive, AnswersLine, IsListed, Accepts, Refuses, RunsALine}
+use Rattle.serial_replay.specs.Live.{run_state, HasConfig, IsClean, IsSound, IsLive, AnswersLine, IsListed, Accepts, RefusesLine, RunsALine}
 use Rattle.serial_replay.specs.declared.live_world.LiveWorld.{LiveWorld}
 
 -- the world and its lanes
@@ -55,10 +55,10 @@ live-answers first inputs standing after old new answer h is live = subst (λ s.
 })
 
 -- a listing was answered
-pub runs-listed : (old new : LiveWorld) (line : Line) (listing : Listing) (answer : Answer) → listing_of line.command ≡ Some listing → IsListed old listing answer → AnswersLine old new (answered line.line answer) → RunsALine old new line
+pub runs-listed : (old new : LiveWorld) (line : Line) (listing : Listing) (answer : Answer) → listing_of line.command ≡ Some listing → IsListed old listing answer → AnswersLine old new (line_answer line.line answer) → RunsALine old new line
 runs-listed old new line listing answer is listed h = record {
-  runs = subst (λ l. RunsLine (run_state old) (run_state new) line.command l) (sym is) (state-same old new (answered line.line answer) h);
-  sound = sound-answers old new (answered line.line answer) h;
+  runs = subst (λ l. RunsLine (run_state old) (run_state new) line.command l) (sym is) (state-same old new (line_answer line.line answer) h);
+  sound = sound-answers old new (line_answer line.line answer) h;
   lanes = ap length h.lanes;
   live = λ first inputs standing live.
       let (edition, last, config) = live.config in
@@ -66,24 +66,24 @@ runs-listed old new line listing answer is listed h = record {
       let same : listed.config ≡ standing.config = sym other_config ∙ ap (λ (e : Published). e.config) (same-last old.world.editions other edition other_last last) ∙ config in
       let told : answer ≡ listed_answer standing.config standing.number listing =
       listed.listed ∙ ap (λ c. listed_answer c (published_count old.world) listing) same ∙ ap (λ n. listed_answer standing.config n listing) (sym live.number) in
-      let after : after_line standing line ≡ record standing { answers = standing.answers ++ answered line.line answer ∷ [] } =
-      ap (after_command standing line.line line.command) is ∙ ap (λ (a : Answer). record standing { answers = standing.answers ++ answered line.line a ∷ [] }) (sym told) in
-      live-answers first inputs standing (after_line standing line) old new (answered line.line answer) h after live;
+      let after : after_line standing line ≡ record standing { answers = standing.answers ++ line_answer line.line answer ∷ [] } =
+      ap (after_command standing line.line line.command) is ∙ ap (λ (a : Answer). record standing { answers = standing.answers ++ line_answer line.line a ∷ [] }) (sym told) in
+      live-answers first inputs standing (after_line standing line) old new (line_answer line.line answer) h after live;
 }
 
 -- a command was refused
-pub runs-refused : (old new : LiveWorld) (line : Line) → listing_of line.command ≡ None → Refuses old new line → RunsALine old new line
+pub runs-refused : (old new : LiveWorld) (line : Line) → listing_of line.command ≡ None → RefusesLine old new line → RunsALine old new line
 runs-refused old new line is h = record {
-  runs = subst (λ l. RunsLine (run_state old) (run_state new) line.command l) (sym is) (inr ((h.fault, h.refusal), state-same old new (answered line.line (Refused h.fault)) h.answers));
-  sound = sound-answers old new (answered line.line (Refused h.fault)) h.answers;
+  runs = subst (λ l. RunsLine (run_state old) (run_state new) line.command l) (sym is) (inr ((h.fault, h.refusal), state-same old new (line_answer line.line (Refused h.fault)) h.answers));
+  sound = sound-answers old new (line_answer line.line (Refused h.fault)) h.answers;
   lanes = ap length h.answers.lanes;
   live = λ first inputs standing live.
       let (edition, last, config) = live.config in
       let same : h.refusal.edition.config ≡ standing.config = ap (λ (e : Published). e.config) (same-last old.world.editions h.refusal.edition edition h.refusal.last last) ∙ config in
       let refused : apply standing.config line.command ≡ Err h.fault = ap (λ c. apply c line.command) (sym same) ∙ h.refusal.refused in
-      let after : after_line standing line ≡ record standing { answers = standing.answers ++ answered line.line (Refused h.fault) ∷ [] } =
+      let after : after_line standing line ≡ record standing { answers = standing.answers ++ line_answer line.line (Refused h.fault) ∷ [] } =
       ap (after_command standing line.line line.command) is ∙ ap (after_applied standing line.line line.command) refused in
-      live-answers first inputs standing (after_line standing line) old new (answered line.line (Refused h.fault)) h.answers after live;
+      live-answers first inputs standing (after_line standing line) old new (line_answer line.line (Refused h.fault)) h.answers after live;
 }
 
 lanes-kept : (old new : WorldValue) (place : ℕ) (lanes : List LaneValue) → ((lane : LaneValue) → IsLaneOf old lane → IsLaneOf new lane) → AreLanesFrom old place lanes → AreLanesFrom new place lanes
@@ -137,7 +137,7 @@ runs-accepted old new line is h = record {
 }
 
 -- a command was published or refused
-pub runs-command : (old new : LiveWorld) (line : Line) → listing_of line.command ≡ None → Accepts old new line.command ⊎ Refuses old new line → RunsALine old new line
+pub runs-command : (old new : LiveWorld) (line : Line) → listing_of line.command ≡ None → Accepts old new line.command ⊎ RefusesLine old new line → RunsALine old new line
 runs-command old new line is (inl h) = runs-accepted old new line is h
 runs-command old new line is (inr h) = runs-refused old new line is h
 

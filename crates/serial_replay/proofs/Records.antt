@@ -11,7 +11,7 @@ use Rattle.state_journal.specs.Items.{asks_of}
 use Rattle.fw_world.specs.Closing.{AreLanesFrom, EachStandsFor}
 use Rattle.fw_world.specs.Editions.{IsLastOf}
 use Rattle.fw_world.specs.Inputs.{Input, Packet}
-use Rattle.fw_world.specs.Lane.{LaneValue, with_entry}
+use Rattle.fw_world.specs.Lane.{LaneValue, with_docket_entry}
 use Rattle.fw_world.specs.Steps.{Judges, ChangesAsksOf}
 use Rattle.fw_world.specs.World.{WorldValue, published_count, IsLaneOf, LaneStandsFor, DeskStandsFor}
 use Rattle.fw_world.proofs.Keeping.{is_lane_beside, stands_beside}
@@ -150,7 +150,7 @@ replays-judged k input packet port second old new lane after judgement input-is 
 -- an entry was made for a record that isn't judged
 pub replays-entered : (k : ℕ) (input : Input) (entered : DocketEntry) (old new : LiveWorld) (lane after : LaneValue) (met : Input) → met ≡ input → (EntersAt k (run_state old) (run_state new) entered → ReplaysInput k (run_state old) (run_state new) met)
     → k < length old.lanes.items → lane ≡ get_or old.lanes.items k lane → new.lanes.items ≡ slice_set old.lanes.items k after → new.desk ≡ old.desk → new.answers.items ≡ old.answers.items
-    → new.world ≡ old.world → after ≡ with_entry entered lane
+    → new.world ≡ old.world → after ≡ with_docket_entry entered lane
     → ((own : List Input) → LaneStandsFor old.world lane own → LaneStandsFor old.world after (own ++ met ∷ [])) → IsLaneOf old.world after → ReplaysARecord k input old new
 replays-entered k input entered old new lane after met input-is replays within is set desk answers world lane-is stands of =
     let at = slice_get_read old.lanes.items (length old.lanes.items) k lane refl within is in

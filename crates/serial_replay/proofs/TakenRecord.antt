@@ -14,15 +14,15 @@ use Rattle.serial_replay.specs.Commands.{after_lines}
 use Rattle.serial_replay.specs.Events.{ReplaysAll, ReplaysInput, ReplaysTurn}
 use Rattle.serial_replay.specs.Live.{run_state, with_input, IsLive, ReplaysARecord}
 use Rattle.serial_replay.specs.Reading.{Origin, input_of}
-use Rattle.serial_replay.specs.Running.{inputs_of, joined, with_last, first_of, IsReady, TakesRecord}
-use Rattle.serial_replay.specs.Tracks.{AreTracks, IsTrack, GoesOn, HasEnded, GoesFurther, GoesFurtherAt, held_in, held_of, open_of, room_of, rooms_of}
+use Rattle.serial_replay.specs.Running.{inputs_of, joined_records, with_last, first_capture_of, IsReady, TakesRecord}
+use Rattle.serial_replay.specs.Tracks.{AreTracks, IsTrack, GoesOn, IsReadToEnd, GoesFurther, GoesFurtherAt, held_in, held_record_of, open_of, room_of, rooms_of}
 use Rattle.serial_replay.specs.declared.open_track.OpenTrack.{OpenTrack}
 use Rattle.serial_replay.specs.declared.replay.OpenedCapture.{OpenedCapture}
 use Rattle.serial_replay.specs.declared.track.Track.{Track}
 use Rattle.serial_replay.specs.declared.track.Track.TheVariants.{Open, Refused}
 use Rattle.serial_replay.specs.declared.running.Running.{Running}
 use Rattle.serial_schedule.specs.Agenda.{all_lines, NoneIsDue}
-use Rattle.serial_schedule.specs.Order.{Turn, first_capture, in_order, moment_of, next_moment, next_of}
+use Rattle.serial_schedule.specs.Order.{Turn, first_capture, in_order, moment_of, next_moment, next_record_of}
 use Rattle.serial_schedule.specs.Schedule.{events_from, schedule}
 use Rattle.serial_schedule.specs.Steps.{steps_of}
 use Rattle.serial_schedule.specs.declared.moment.Moment.{Moment}
@@ -40,16 +40,16 @@ inputs-with_last zero r (first ∷ origins) (done ∷ dones) origin at =
 inputs-with_last (suc k) r (first ∷ origins) (done ∷ dones) origin at = ap (λ inputs. map (input_of first.link first.port) done ∷ inputs) (inputs-with_last k r origins dones origin at)
 
 -- what was replayed and what is to come are the same records before and after
-pub joined-with_last : (k : ℕ) (r : Captured) (dones rests : List (List Captured)) → joined (with_last k r dones) rests ≡ joined dones (with_next k r rests)
+pub joined-with_last : (k : ℕ) (r : Captured) (dones rests : List (List Captured)) → joined_records (with_last k r dones) rests ≡ joined_records dones (with_next k r rests)
 joined-with_last k r [] rests = refl
 joined-with_last zero r (done ∷ dones) [] = refl
 joined-with_last (suc k) r (done ∷ dones) [] = refl
-joined-with_last zero r (done ∷ dones) (rest ∷ rests) = ap (λ records. records ∷ joined dones rests) (append_assoc done (r ∷ []) rest)
+joined-with_last zero r (done ∷ dones) (rest ∷ rests) = ap (λ records. records ∷ joined_records dones rests) (append_assoc done (r ∷ []) rest)
 joined-with_last (suc k) r (done ∷ dones) (rest ∷ rests) = ap (λ others. (done ++ rest) ∷ others) (joined-with_last k r dones rests)
 
 module _ {S : Type 0} (left : S → Option (List ℕ)) (faults : S → ℕ) where
   -- the tracks where that at this place went on
-  are-further : (limit : ℕ) (captures : List (OpenedCapture S)) (tracks : List (Track S)) (dones : List (List Captured)) (origins : List Origin) (k : ℕ) (before after : Track S) (r : Captured) → slice_get tracks k ≡ Some before → held_of before ≡ Some r → GoesFurther left faults before after
+  are-further : (limit : ℕ) (captures : List (OpenedCapture S)) (tracks : List (Track S)) (dones : List (List Captured)) (origins : List Origin) (k : ℕ) (before after : Track S) (r : Captured) → slice_get tracks k ≡ Some before → held_record_of before ≡ Some r → GoesFurther left faults before after
       → AreTracks left faults limit captures tracks dones origins → AreTracks left faults limit captures (slice_set tracks k after) (with_last k r dones) origins × (rooms_of (slice_set tracks k after) < rooms_of tracks)
   are-further limit [] [] dones origins k before after r at held goes are = cc
   are-further limit (opened ∷ captures) [] dones origins k before after r at held goes are = cc
@@ -84,10 +84,10 @@ module _ {S : Type 0} (left : S → Option (List ℕ)) (faults : S → ℕ) wher
     where
       cases : (end : Option CaptureEnd) → track.end ≡ end → origin ≡ record { link = link_of track.capture; port = track.port }
       cases None running =
-          let on = subst (λ e. MatchOption e (GoesOn left faults limit opened track done origin) (λ end. HasEnded left faults limit opened (source_of track.capture) end done origin × (held_in track ≡ None))) running is.1 in
+          let on = subst (λ e. MatchOption e (GoesOn left faults limit opened track done origin) (λ end. IsReadToEnd left faults limit opened (source_of track.capture) end done origin × (held_in track ≡ None))) running is.1 in
           on.origin_is ∙ ap (λ (p : Port). record { link = link_of track.capture; port = p }) (sym is.0)
       cases (Some end) ended =
-          let none = subst (λ e. MatchOption e (GoesOn left faults limit opened track done origin) (λ end. HasEnded left faults limit opened (source_of track.capture) end done origin × (held_in track ≡ None))) ended is.1 in
+          let none = subst (λ e. MatchOption e (GoesOn left faults limit opened track done origin) (λ end. IsReadToEnd left faults limit opened (source_of track.capture) end done origin × (held_in track ≡ None))) ended is.1 in
           let never : Some r ≡ None = sym held ∙ none.1 in
           absurd (cc)
 
@@ -103,20 +103,20 @@ length-kept (y ∷ xs) (suc k) x = let rest = length-kept xs k x in omega arith
 
 module _ {S : Type 0} where
   -- the capture that comes first holds a record
-  pub held-first : (tracks : List (Track S)) (k : ℕ) → first_of tracks ≡ Some k → (track : Track S) × (r : Captured) × (slice_get tracks k ≡ Some track) × (held_of track ≡ Some r)
+  pub held-first : (tracks : List (Track S)) (k : ℕ) → first_capture_of tracks ≡ Some k → (track : Track S) × (r : Captured) × (slice_get tracks k ≡ Some track) × (held_record_of track ≡ Some r)
   held-first tracks k first =
-      let (moment, there) = first_capture-there (map (option_map moment_of) (map held_of tracks)) k first in
-      let mapped : option_map (option_map moment_of) (option_map held_of (slice_get tracks k)) ≡ Some (Some moment) =
-      ap (option_map (option_map moment_of)) (sym (slice_get-map held_of tracks k)) ∙ sym (slice_get-map (option_map moment_of) (map held_of tracks) k) ∙ there in
+      let (moment, there) = first_capture-there (map (option_map moment_of) (map held_record_of tracks)) k first in
+      let mapped : option_map (option_map moment_of) (option_map held_record_of (slice_get tracks k)) ≡ Some (Some moment) =
+      ap (option_map (option_map moment_of)) (sym (slice_get-map held_record_of tracks k)) ∙ sym (slice_get-map (option_map moment_of) (map held_record_of tracks) k) ∙ there in
       found (slice_get tracks k) refl moment mapped
     where
-      holds : (track : Track S) (held : Option Captured) → held_of track ≡ held → slice_get tracks k ≡ Some track → (moment : Moment) → Some (option_map moment_of held) ≡ Some (Some moment) → (t : Track S) × (r : Captured) × (slice_get tracks k ≡ Some t) × (held_of t ≡ Some r)
+      holds : (track : Track S) (held : Option Captured) → held_record_of track ≡ held → slice_get tracks k ≡ Some track → (moment : Moment) → Some (option_map moment_of held) ≡ Some (Some moment) → (t : Track S) × (r : Captured) × (slice_get tracks k ≡ Some t) × (held_record_of t ≡ Some r)
       holds track None held at moment is = cc
       holds track (Some r) held at moment is = (track, r, at, held)
 
-      found : (o : Option (Track S)) → slice_get tracks k ≡ o → (moment : Moment) → option_map (option_map moment_of) (option_map held_of o) ≡ Some (Some moment) → (t : Track S) × (r : Captured) × (slice_get tracks k ≡ Some t) × (held_of t ≡ Some r)
+      found : (o : Option (Track S)) → slice_get tracks k ≡ o → (moment : Moment) → option_map (option_map moment_of) (option_map held_record_of o) ≡ Some (Some moment) → (t : Track S) × (r : Captured) × (slice_get tracks k ≡ Some t) × (held_record_of t ≡ Some r)
       found None at moment is = cc
-      found (Some track) at moment is = holds track (held_of track) refl at moment is
+      found (Some track) at moment is = holds track (held_record_of track) refl at moment is
 
   -- a track that is open stands there
   pub open-at : (tracks : List (Track S)) (k : ℕ) (track : OpenTrack S) → Some track ≡ open_of (slice_get tracks k) → slice_get tracks k ≡ Some (Open track)
@@ -128,30 +128,30 @@ module _ {S : Type 0} where
       found (Some (Refused source end)) at is = cc
 
   -- it can't be another
-  pub never-closed : (tracks : List (Track S)) (k : ℕ) → first_of tracks ≡ Some k → None ≡ open_of (slice_get tracks k) → ⊥
+  pub never-closed : (tracks : List (Track S)) (k : ℕ) → first_capture_of tracks ≡ Some k → None ≡ open_of (slice_get tracks k) → ⊥
   never-closed tracks k first is =
       let (track, r, at, held) = held-first tracks k first in
       found track r held (is ∙ ap open_of at)
     where
-      found : (track : Track S) (r : Captured) → held_of track ≡ Some r → None ≡ open_of (Some track) → ⊥
+      found : (track : Track S) (r : Captured) → held_record_of track ≡ Some r → None ≡ open_of (Some track) → ⊥
       found (Open track) r held is = cc
       found (Refused source end) r held is = cc
 
   -- nor can it hold none
-  pub never-empty : (tracks : List (Track S)) (k : ℕ) (track : OpenTrack S) → first_of tracks ≡ Some k → slice_get tracks k ≡ Some (Open track) → None ≡ held_in track → ⊥
+  pub never-empty : (tracks : List (Track S)) (k : ℕ) (track : OpenTrack S) → first_capture_of tracks ≡ Some k → slice_get tracks k ≡ Some (Open track) → None ≡ held_in track → ⊥
   never-empty tracks k track first at none =
       let (other, r, there, held) = held-first tracks k first in
       let same : other ≡ Open track = let e : Some other ≡ Some (Open track) = sym there ∙ at in cc in
-      let never : Some r ≡ None = sym held ∙ ap held_of same ∙ sym none in
+      let never : Some r ≡ None = sym held ∙ ap held_record_of same ∙ sym none in
       cc
 
   module _ (left : S → Option (List ℕ)) (faults : S → ℕ) where
     -- the record of the capture that comes first was replayed
-    pub takes-record : (old new : Running S) (k : ℕ) (track : OpenTrack S) (r : Captured) → IsReady left faults old → NoneIsDue old.taken (steps_of old.agenda) (steps_of old.agenda) → first_of old.tracks ≡ Some k → slice_get old.tracks k ≡ Some (Open track) → held_in track ≡ Some r
+    pub takes-record : (old new : Running S) (k : ℕ) (track : OpenTrack S) (r : Captured) → IsReady left faults old → NoneIsDue old.taken (steps_of old.agenda) (steps_of old.agenda) → first_capture_of old.tracks ≡ Some k → slice_get old.tracks k ≡ Some (Open track) → held_in track ≡ Some r
         → ReplaysARecord k (input_of (link_of track.capture) track.port r) old.live new.live → GoesFurtherAt left faults k old.tracks new.tracks → steps_of new.agenda ≡ steps_of old.agenda → new.taken ≡ old.taken + 1 → TakesRecord left faults old new
     takes-record old new k track r ready none first at held replays further agenda taken =
         let before_is : further.before ≡ Open track = let e : Some further.before ≡ Some (Open track) = sym further.at ∙ at in cc in
-        let before_held : held_of further.before ≡ Some r = ap held_of before_is ∙ held in
+        let before_held : held_record_of further.before ≡ Some r = ap held_record_of before_is ∙ held in
         let t = ready.tracked in
         let on = are-further left faults t.limit t.captures old.tracks t.dones t.origins k further.before further.after r further.at before_held further.goes t.are in
         let fewer : rooms_of new.tracks < rooms_of old.tracks = subst (λ ts. rooms_of ts < rooms_of old.tracks) (sym further.set) on.1 in
@@ -184,14 +184,14 @@ module _ {S : Type 0} where
                   lines = ap (λ steps. after_lines h.standing (all_lines steps)) agenda ∙ h.lines;
                   comes = λ rests end fits all.
                       let full = with_next k r rests in
-                      let held_at : slice_get (map held_of old.tracks) k ≡ Some (Some r) = slice_get-map held_of old.tracks k ∙ ap (option_map held_of) at ∙ ap Some held in
-                      let heads : map next_of full ≡ map held_of old.tracks =
-                      heads-with_next k r rests ∙ ap (λ hs. slice_set hs k (Some r)) (fits ∙ ap (map held_of) further.set ∙ map-set held_of old.tracks k further.after)
-                      ∙ set-back (map held_of old.tracks) k (Some r) (held_of further.after) held_at in
+                      let held_at : slice_get (map held_record_of old.tracks) k ≡ Some (Some r) = slice_get-map held_record_of old.tracks k ∙ ap (option_map held_record_of) at ∙ ap Some held in
+                      let heads : map next_record_of full ≡ map held_record_of old.tracks =
+                      heads-with_next k r rests ∙ ap (λ hs. slice_set hs k (Some r)) (fits ∙ ap (map held_record_of) further.set ∙ map-set held_record_of old.tracks k further.after)
+                      ∙ set-back (map held_record_of old.tracks) k (Some r) (held_record_of further.after) held_at in
                       let within : k < length rests =
                       let there : k < length old.tracks = slice_get_within old.tracks k (Open track) at in
-                      let lengths : length (map next_of rests) ≡ length (map held_of new.tracks) = ap length fits in
-                      omega (arith, there, lengths, length-map rests next_of, length-map new.tracks held_of, length-kept old.tracks k further.after, ap length further.set) in
+                      let lengths : length (map next_record_of rests) ≡ length (map held_record_of new.tracks) = ap length fits in
+                      omega (arith, there, lengths, length-map rests next_record_of, length-map new.tracks held_record_of, length-kept old.tracks k further.after, ap length further.set) in
                       let comes_first : first_capture (map next_moment full) ≡ Some k = ap first_capture (moments-heads full) ∙ ap (λ hs. first_capture (map (option_map moment_of) hs)) heads ∙ first in
                       let events = events-next old.taken (steps_of old.agenda) (steps_of old.agenda) k r rests none within comes_first in
                       let all_taken = subst (λ n. ReplaysAll origins (run_state new.live) end (events_from n (steps_of new.agenda) (in_order rests))) taken all in

@@ -7,7 +7,7 @@ use Rattle.std.proofs.lemmas.List.{map-append}
 use Rattle.serial_schedule.specs.Order.{moment_of}
 use Rattle.serial_schedule.specs.declared.moment.Moment.{Moment}
 use Rattle.serial_replay.specs.Reading.{Origin}
-use Rattle.serial_replay.specs.Tracks.{Begins, BeginAll, GoesFurther, GoesFurtherAt, AreTracks, room_of, rooms_of, held_of}
+use Rattle.serial_replay.specs.Tracks.{Begins, BeginAll, GoesFurther, GoesFurtherAt, AreTracks, room_of, rooms_of, held_record_of}
 use Rattle.serial_replay.specs.declared.replay.OpenedCapture.{OpenedCapture}
 use Rattle.serial_replay.specs.declared.track.Track.{Track}
 
@@ -17,12 +17,12 @@ map-itself [] = refl
 map-itself (x ∷ xs) = ap (λ rest. x ∷ rest) (map-itself xs)
 
 -- the moments of the records that are held, with one track more
-pub moments-push : {S : Type 0} (tracks : List (Track S)) (track : Track S) (moments pushed : List (Option Moment)) {moment : Option Moment} → moments ≡ map (option_map moment_of) (map held_of tracks) → moment ≡ option_map moment_of (held_of track)
-    → pushed ≡ moments ++ moment ∷ [] → pushed ≡ map (option_map moment_of) (map held_of (tracks ++ track ∷ []))
+pub moments-push : {S : Type 0} (tracks : List (Track S)) (track : Track S) (moments pushed : List (Option Moment)) {moment : Option Moment} → moments ≡ map (option_map moment_of) (map held_record_of tracks) → moment ≡ option_map moment_of (held_record_of track)
+    → pushed ≡ moments ++ moment ∷ [] → pushed ≡ map (option_map moment_of) (map held_record_of (tracks ++ track ∷ []))
 moments-push tracks track moments pushed {moment} is one e =
-    e ∙ ap (λ ms. ms ++ moment ∷ []) is ∙ ap (λ m. map (option_map moment_of) (map held_of tracks) ++ m ∷ []) one
-    ∙ sym (map-append (option_map moment_of) (map held_of tracks) (held_of track ∷ []))
-    ∙ ap (map (option_map moment_of)) (sym (map-append held_of tracks (track ∷ [])))
+    e ∙ ap (λ ms. ms ++ moment ∷ []) is ∙ ap (λ m. map (option_map moment_of) (map held_record_of tracks) ++ m ∷ []) one
+    ∙ sym (map-append (option_map moment_of) (map held_record_of tracks) (held_record_of track ∷ []))
+    ∙ ap (map (option_map moment_of)) (sym (map-append held_record_of tracks (track ∷ [])))
 
 map-set : {X Y : Type 0} (f : X → Y) (xs : List X) (k : ℕ) (x : X) → map f (slice_set xs k x) ≡ slice_set (map f xs) k (f x)
 map-set f [] k x = refl
@@ -30,12 +30,12 @@ map-set f (y ∷ xs) zero x = refl
 map-set f (y ∷ xs) (suc k) x = ap (λ rest. f y ∷ rest) (map-set f xs k x)
 
 -- the moments where the track at this place is another
-pub moments-set : {S : Type 0} (tracks : List (Track S)) (moments : List (Option Moment)) (k : ℕ) (track : Track S) (moment : Option Moment) → moments ≡ map (option_map moment_of) (map held_of tracks) → moment ≡ option_map moment_of (held_of track)
-    → slice_set moments k moment ≡ map (option_map moment_of) (map held_of (slice_set tracks k track))
+pub moments-set : {S : Type 0} (tracks : List (Track S)) (moments : List (Option Moment)) (k : ℕ) (track : Track S) (moment : Option Moment) → moments ≡ map (option_map moment_of) (map held_record_of tracks) → moment ≡ option_map moment_of (held_record_of track)
+    → slice_set moments k moment ≡ map (option_map moment_of) (map held_record_of (slice_set tracks k track))
 moments-set tracks moments k track moment is one =
-    ap (λ ms. slice_set ms k moment) is ∙ ap (slice_set (map (option_map moment_of) (map held_of tracks)) k) one
-    ∙ sym (map-set (option_map moment_of) (map held_of tracks) k (held_of track))
-    ∙ ap (map (option_map moment_of)) (sym (map-set held_of tracks k track))
+    ap (λ ms. slice_set ms k moment) is ∙ ap (slice_set (map (option_map moment_of) (map held_record_of tracks)) k) one
+    ∙ sym (map-set (option_map moment_of) (map held_record_of tracks) k (held_record_of track))
+    ∙ ap (map (option_map moment_of)) (sym (map-set held_record_of tracks k track))
 
 -- what is read at the place that was written
 pub read-set : {X : Type 0} (xs : List X) (k : ℕ) (x found : X) → k < length xs → found ≡ get_or (slice_set xs k x) k found → found ≡ x

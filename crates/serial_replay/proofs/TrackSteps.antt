@@ -12,7 +12,7 @@ use Rattle.pcap_read.specs.Reading.{Captured, header_of}
 use Rattle.pcap_read.specs.declared.capture.Capture.{Capture}
 use Rattle.pcap_read.specs.declared.capture_fault.CaptureFault.{CaptureFault}
 use Rattle.serial_replay.specs.Reading.{Origin, origin_of, link_in, IsEnd}
-use Rattle.serial_replay.specs.Tracks.{GoesOn, HasEnded, IsOpenTrack, IsSettled, StepsOn, StepsOnOrEnded, GoesFurther, held_in, steps_left, while_open}
+use Rattle.serial_replay.specs.Tracks.{GoesOn, IsReadToEnd, IsOpenTrack, IsSettled, StepsOn, StepsOnOrEnded, GoesFurther, held_in, steps_left, while_open}
 use Rattle.serial_replay.specs.declared.open_track.OpenTrack.{OpenTrack}
 use Rattle.serial_replay.specs.declared.track.Track.TheVariants.{Open, Refused}
 use Rattle.serial_replay.specs.declared.replay.OpenedCapture.{OpenedCapture}
@@ -132,7 +132,7 @@ module _ {S : Type 0} (left : S → Option (List ℕ)) (faults : S → ℕ) wher
           let on : StepsOn left faults old new = at_none old.end _ _ running steps in
           (subst (λ records. IsOpenTrack left faults limit opened new (done ++ records) origin) (ap option_to_list held) (on.goes limit opened done origin is), on.settled, on.fewer)
       cases limit opened done origin r held is (Some end) ended =
-          let none = subst (λ e. MatchOption e (GoesOn left faults limit opened old done origin) (λ end. HasEnded left faults limit opened (source_of old.capture) end done origin × (held_in old ≡ None))) ended is.1 in
+          let none = subst (λ e. MatchOption e (GoesOn left faults limit opened old done origin) (λ end. IsReadToEnd left faults limit opened (source_of old.capture) end done origin × (held_in old ≡ None))) ended is.1 in
           let never : Some r ≡ None = sym held ∙ none.1 in
           absurd (cc)
 

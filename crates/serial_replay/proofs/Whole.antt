@@ -11,7 +11,7 @@ use Rattle.fw_world.specs.Lane.{LaneValue, first_lanes}
 use Rattle.fw_world.specs.Legal.{IsLegal, lane_asks, StandFor}
 use Rattle.fw_world.specs.RecordValue.{RecordValue}
 use Rattle.fw_world.specs.World.{WorldValue, published_count, DeskStandsFor}
-use Rattle.fw_world.specs.WorldKept.{IsOpened}
+use Rattle.fw_world.specs.WorldKept.{IsNewWorld}
 use Rattle.generation_store.specs.Published.{Published}
 use Rattle.pcap_read.specs.Reading.{Captured}
 use Rattle.rule_chain.specs.Configuration.{Configuration}
@@ -22,14 +22,14 @@ use Rattle.serial_replay.specs.Live.{run_state, IsClean, IsSound}
 use Rattle.serial_replay.specs.Reading as reading
 use Rattle.serial_replay.specs.Reading.{Origin, origin_of, AllRead, track_inputs}
 use Rattle.serial_replay.specs.Replay.{limit_for, lines_outcome, IsReplay}
-use Rattle.serial_replay.specs.Running.{inputs_of, joined, IsReady, Goes, Closes, RunsOut}
-use Rattle.serial_replay.specs.Tracks.{AreTracks, BeginAll, held_of, source_at}
+use Rattle.serial_replay.specs.Running.{inputs_of, joined_records, IsReady, IsUnderway, Closes, RunsOut}
+use Rattle.serial_replay.specs.Tracks.{AreTracks, BeginAll, held_record_of, source_at}
 use Rattle.serial_replay.specs.declared.replay.OpenedCapture.{OpenedCapture}
 use Rattle.serial_replay.specs.declared.replay.Replayed.{Replayed}
 use Rattle.serial_replay.specs.declared.running.Running.{Running}
 use Rattle.serial_replay.specs.declared.track.Track.{Track}
 use Rattle.serial_schedule.specs.Agenda.{all_lines}
-use Rattle.serial_schedule.specs.Order.{in_order, next_of}
+use Rattle.serial_schedule.specs.Order.{in_order, next_record_of}
 use Rattle.serial_schedule.specs.Schedule.{events_from, schedule}
 use Rattle.serial_schedule.specs.Steps.{steps_of}
 use Rattle.serial_schedule.proofs.Events.{events-ended, events-none}
@@ -76,11 +76,11 @@ stands-first world place (suc count) (origin ∷ origins) [] asks a b = absurd (
 stands-first world place (suc count) (origin ∷ origins) (track ∷ tracks) asks a b =
     (subst (λ own. StandFor world.editions own (record { entries = []; refused = 0 }) [] []) (sym (asks place)) (stands-none world.editions), stands-first world (place + 1) count origins tracks asks (omega arith) (omega arith))
 
-joined-first : {S : Type 0} (tracks : List (Track S)) (rests : List (List Captured)) → map next_of rests ≡ map held_of tracks → joined (map (λ (track : Track S). []) tracks) rests ≡ rests
+joined-first : {S : Type 0} (tracks : List (Track S)) (rests : List (List Captured)) → map next_record_of rests ≡ map held_record_of tracks → joined_records (map (λ (track : Track S). []) tracks) rests ≡ rests
 joined-first [] [] fits = refl
 joined-first [] (rest ∷ rests) fits = cc
 joined-first (track ∷ tracks) [] fits = cc
-joined-first (track ∷ tracks) (rest ∷ rests) fits = let others : map next_of rests ≡ map held_of tracks = cc in ap (λ more. rest ∷ more) (joined-first tracks rests others)
+joined-first (track ∷ tracks) (rest ∷ rests) fits = let others : map next_record_of rests ≡ map held_record_of tracks = cc in ap (λ more. rest ∷ more) (joined-first tracks rests others)
 
 module _ {S : Type 0} (left : S → Option (List ℕ)) (faults : S → ℕ) where
   lengths : (limit : ℕ) (captures : List (OpenedCapture S)) (tracks : List (Track S)) (dones : List (List Captured)) (origins : List Origin) → AreTracks left faults limit captures tracks dones origins → (length tracks ≡ length captures) × (length origins ≡ length captures)
@@ -96,7 +96,7 @@ module _ {S : Type 0} (left : S → Option (List ℕ)) (faults : S → ℕ) wher
   -- A replay that begins.
   pub record Starts (config : Configuration) (steps : List Step) (limit : ℕ) (captures : List (OpenedCapture S)) (run : Running S) : Type 0 where
     pub count : ℕ
-    pub opened : IsOpened config count run.live.world
+    pub opened : IsNewWorld config count run.live.world
     pub lanes : run.live.lanes.items ≡ first_lanes 1 count
     pub desk : run.live.desk ≡ run.live.world.editions
     pub answers : run.live.answers.items ≡ []
@@ -133,7 +133,7 @@ module _ {S : Type 0} (left : S → Option (List ℕ)) (faults : S → ℕ) wher
             omega (arith, product, h.tracks.room, h.taken);
       }
 
-  starts-goes : (config : Configuration) (steps : List Step) (limit : ℕ) (captures : List (OpenedCapture S)) (run : Running S) → (h : Starts config steps limit captures run) → Goes left faults config steps limit captures h.tracks.origins (run_state run.live) run
+  starts-goes : (config : Configuration) (steps : List Step) (limit : ℕ) (captures : List (OpenedCapture S)) (run : Running S) → (h : Starts config steps limit captures run) → IsUnderway left faults config steps limit captures h.tracks.origins (run_state run.live) run
   starts-goes config steps limit captures run h =
       let same = lengths limit captures run.tracks (map (λ (track : Track S). []) run.tracks) h.tracks.origins h.tracks.begun in
       let asks : (k : ℕ) → lane_asks k run.live.world.journal.entries ≡ [] = λ k. ap (λ (j : Journal). lane_asks k j.entries) h.opened.journal in
@@ -174,9 +174,9 @@ module _ {S : Type 0} (left : S → Option (List ℕ)) (faults : S → ℕ) wher
       let count : h.count ≡ length all.told =
       let same = lengths limit captures ended.tracks goes.dones origins goes.tracks in
       h.counted ∙ sym same.1 ∙ sym (ap length all.origins_are) ∙ length-map all.told origin_of in
-      let held = map held_of ended.tracks in
+      let held = map held_record_of ended.tracks in
       let rests = map no_records held in
-      let heads : map next_of rests ≡ held = none_first held out.ended in
+      let heads : map next_record_of rests ≡ held = none_first held out.ended in
       let no_event : events_from ended.taken (steps_of ended.agenda) (in_order rests) ≡ [] =
       events-ended ended.taken (steps_of ended.agenda) rests (none_of_rests left faults rests held heads out.ended) ∙ events-none ended.taken (steps_of ended.agenda) out.lines in
       let whole = goes.comes rests (run_state ended.live) heads (subst (λ events. ReplaysAll origins (run_state ended.live) (run_state ended.live) events) (sym no_event) refl) in

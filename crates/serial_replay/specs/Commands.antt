@@ -21,14 +21,14 @@ pub data Listing : Type 0 where
   Entries : List ℕ → Listing
 
 -- `table NAME list` is a listing, and no other command on a table
-abbrev pub table_listing : List ℕ → TableCommand → Option Listing
-table_listing name (entries.Create type) = None
-table_listing name entries.Destroy = None
-table_listing name (entries.Add key value) = None
-table_listing name (entries.Remove key) = None
-table_listing name entries.Clear = None
-table_listing name (entries.SwapWith other) = None
-table_listing name entries.ListEntries = Some (Entries name)
+abbrev pub listing_of_table : List ℕ → TableCommand → Option Listing
+listing_of_table name (entries.Create type) = None
+listing_of_table name entries.Destroy = None
+listing_of_table name (entries.Add key value) = None
+listing_of_table name (entries.Remove key) = None
+listing_of_table name entries.Clear = None
+listing_of_table name (entries.SwapWith other) = None
+listing_of_table name entries.ListEntries = Some (Entries name)
 
 -- the listing that a command is, if it is one; all others change the configuration
 abbrev pub listing_of : Command → Option Listing
@@ -42,13 +42,13 @@ listing_of (SetMask disable enable) = None
 listing_of (MoveSet from to) = None
 listing_of (MoveRule number to) = None
 listing_of (SwapSets first second) = None
-listing_of (Table name command) = table_listing name command
+listing_of (Table name command) = listing_of_table name command
 listing_of (Sysctl setting value) = None
 listing_of (Local addresses) = None
 
 -- the answer under its line
-abbrev pub answered : ℕ → Answer → LineAnswer
-answered line answer = record { line = line; answer = answer }
+abbrev pub line_answer : ℕ → Answer → LineAnswer
+line_answer line answer = record { line = line; answer = answer }
 
 -- a listing is answered by the edition of this number and configuration; one of no table is refused
 abbrev pub listed_answer : Configuration → ℕ → Listing → Answer
@@ -65,12 +65,12 @@ pub record Standing : Type 0 where
 -- an accepted command makes the next edition; a refused one is answered with its fault
 abbrev pub after_applied : Standing → ℕ → Command → Applied Configuration → Standing
 after_applied s line command (Ok made) = record s { config = made; number = s.number + 1; accepted = s.accepted ++ command ∷ [] }
-after_applied s line command (Err fault) = record s { answers = s.answers ++ answered line (Refused fault) ∷ [] }
+after_applied s line command (Err fault) = record s { answers = s.answers ++ line_answer line (Refused fault) ∷ [] }
 
 -- what stands after a command: a listing is answered by the edition that stands then
 abbrev pub after_command : Standing → ℕ → Command → Option Listing → Standing
 after_command s line command None = after_applied s line command (apply s.config command)
-after_command s line command (Some listing) = record s { answers = s.answers ++ answered line (listed_answer s.config s.number listing) ∷ [] }
+after_command s line command (Some listing) = record s { answers = s.answers ++ line_answer line (listed_answer s.config s.number listing) ∷ [] }
 
 -- what stands after a line
 abbrev pub after_line : Standing → Line → Standing

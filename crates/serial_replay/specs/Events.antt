@@ -9,7 +9,7 @@ use Rattle.eval_engine.specs.declared.judgement.Judgement.{Judgement}
 use Rattle.fw_rule.specs.declared.command.Command.{Command}
 use Rattle.fw_world.specs.Committing.{RefusesCommand}
 use Rattle.fw_world.specs.Inputs.{Input, Other, Malformed, Packet}
-use Rattle.fw_world.specs.Lane.{LaneValue, admitted, with_entry}
+use Rattle.fw_world.specs.Lane.{LaneValue, lane_after_admission, with_docket_entry}
 use Rattle.fw_world.specs.Steps.{Judges, Publishes}
 use Rattle.fw_world.specs.World.{WorldValue, published_count}
 use Rattle.ip6_headers.specs.declared.any_ip.AnyIp.{AnyIp}
@@ -27,7 +27,7 @@ pub record RunState : Type 0 where
 -- The lane after a packet that was judged under the edition of this number, which leaves this tally. It is
 -- refused once, and regains, exactly where it held another edition.
 abbrev pub judged_lane : ℕ → Judgement → List Count → LaneValue → LaneValue
-judged_lane number judgement tally lane = record (with_entry (judged_entry judgement) (admitted number lane)) { tally = tally }
+judged_lane number judgement tally lane = record (with_docket_entry (judged_entry judgement) (lane_after_admission number lane)) { tally = tally }
 
 -- the lane at this place, from 0, became this one, and the others stay
 abbrev pub ChangesLane : ℕ → List LaneValue → List LaneValue → LaneValue → LaneValue → Type 0
@@ -45,7 +45,7 @@ pub record JudgesAt (place : ℕ) (old new : RunState) (packet : AnyIp) (port : 
 pub record EntersAt (place : ℕ) (old new : RunState) (entered : DocketEntry) : Type 0 where
   pub lane : LaneValue
   pub world : new.world ≡ old.world
-  pub changes : ChangesLane place old.lanes new.lanes lane (with_entry entered lane)
+  pub changes : ChangesLane place old.lanes new.lanes lane (with_docket_entry entered lane)
 
 -- a record of the lane at this place was replayed
 abbrev pub ReplaysInput : ℕ → RunState → RunState → Input → Type 0
@@ -54,14 +54,14 @@ ReplaysInput place old new (Malformed kind) = EntersAt place old new (entry.Malf
 ReplaysInput place old new (Packet packet port second) = JudgesAt place old new packet port second
 
 -- the last edition's configuration refuses the command
-abbrev pub IsRefused : WorldValue → Command → Type 0
-IsRefused world command = (fault : ApplyFault) × RefusesCommand world command fault
+abbrev pub HasRefusalOf : WorldValue → Command → Type 0
+HasRefusalOf world command = (fault : ApplyFault) × RefusesCommand world command fault
 
 -- a command was published, or refused, which changes nothing
 abbrev pub RunsCommand : RunState → RunState → Command → Type 0
 RunsCommand old new command =
     ((new.lanes ≡ old.lanes) × Publishes old.world new.world command)
-    ⊎ (IsRefused old.world command × (new ≡ old))
+    ⊎ (HasRefusalOf old.world command × (new ≡ old))
 
 -- a listing changes nothing
 abbrev pub RunsLine : RunState → RunState → Command → Option Listing → Type 0
@@ -74,11 +74,11 @@ ReplaysTurn None old new turn = ⊥
 ReplaysTurn (Some origin) old new turn = ReplaysInput turn.capture old new (input_of origin.link origin.port turn.taken)
 
 -- an event: a line ran, or a record was taken
-abbrev pub Replays : List Origin → RunState → RunState → Event → Type 0
-Replays origins old new (Ran line) = RunsLine old new line.command (listing_of line.command)
-Replays origins old new (Taken turn) = ReplaysTurn (slice_get origins turn.capture) old new turn
+abbrev pub ReplaysEvent : List Origin → RunState → RunState → Event → Type 0
+ReplaysEvent origins old new (Ran line) = RunsLine old new line.command (listing_of line.command)
+ReplaysEvent origins old new (Taken turn) = ReplaysTurn (slice_get origins turn.capture) old new turn
 
 -- one event after the other
 abbrev pub ReplaysAll : List Origin → RunState → RunState → List Event → Type 0
 ReplaysAll origins old new [] = new ≡ old
-ReplaysAll origins old new (event ∷ events) = (between : RunState) × Replays origins old between event × ReplaysAll origins between new events
+ReplaysAll origins old new (event ∷ events) = (between : RunState) × ReplaysEvent origins old between event × ReplaysAll origins between new events

@@ -16,7 +16,7 @@ use Rattle.fw_world.specs.World.{WorldValue, published_count, IsLaneOf, LaneStan
 use Rattle.generation_store.specs.Published.{Published}
 use Rattle.rule_chain.specs.Configuration.{Configuration}
 use Rattle.rule_chain.specs.declared.apply_fault.ApplyFault.{ApplyFault}
-use Rattle.serial_replay.specs.Commands.{Standing, Listing, listing_of, listed_answer, answered, after_line}
+use Rattle.serial_replay.specs.Commands.{Standing, Listing, listing_of, listed_answer, line_answer, after_line}
 use Rattle.serial_replay.specs.Events.{RunState, RunsLine, ReplaysInput}
 use Rattle.serial_replay.specs.declared.live_world.LiveWorld.{LiveWorld}
 
@@ -72,10 +72,10 @@ pub record Accepts (old new : LiveWorld) (command : Command) : Type 0 where
   pub accepts : (first : Configuration) (commands : List Command) → DeskStandsFor old.desk first commands → DeskStandsFor new.desk first (commands ++ command ∷ [])
 
 -- the command was refused
-pub record Refuses (old new : LiveWorld) (line : Line) : Type 0 where
+pub record RefusesLine (old new : LiveWorld) (line : Line) : Type 0 where
   pub fault : ApplyFault
   pub refusal : RefusesCommand old.world line.command fault
-  pub answers : AnswersLine old new (answered line.line (Refused fault))
+  pub answers : AnswersLine old new (line_answer line.line (Refused fault))
 
 -- a line ran
 pub record RunsALine (old new : LiveWorld) (line : Line) : Type 0 where

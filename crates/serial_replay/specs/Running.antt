@@ -12,17 +12,17 @@ use Rattle.serial_replay.specs.Events.{RunState, ReplaysAll}
 use Rattle.serial_replay.specs.Live.{run_state, IsSound, IsLive}
 use Rattle.serial_replay.specs.Reading.{Origin, input_of}
 use Rattle.serial_replay.specs.Replay.{lines_outcome}
-use Rattle.serial_replay.specs.Tracks.{AreTracks, end_of, held_of, rooms_of, source_at}
+use Rattle.serial_replay.specs.Tracks.{AreTracks, end_of, held_record_of, rooms_of, source_at}
 use Rattle.serial_replay.specs.declared.replay.OpenedCapture.{OpenedCapture}
 use Rattle.fw_rule.specs.declared.command.Command.{Command}
-use Rattle.fw_world.specs.Closing.{EachStandsFor, record_of}
+use Rattle.fw_world.specs.Closing.{EachStandsFor, record_of_world}
 use Rattle.fw_world.specs.Legal.{IsLegal}
 use Rattle.fw_world.specs.World.{DeskStandsFor}
 use Rattle.serial_replay.specs.declared.replay.Replayed.{Replayed}
 use Rattle.serial_replay.specs.declared.running.Running.{Running}
 use Rattle.serial_replay.specs.declared.track.Track.{Track}
 use Rattle.serial_schedule.specs.Agenda.{all_lines, NoneIsDue}
-use Rattle.serial_schedule.specs.Order.{first_capture, in_order, moment_of, next_of}
+use Rattle.serial_schedule.specs.Order.{first_capture, in_order, moment_of, next_record_of}
 use Rattle.serial_schedule.specs.Schedule.{events_from, schedule}
 use Rattle.serial_schedule.specs.Steps.{steps_of}
 
@@ -33,10 +33,10 @@ inputs_of (origin ∷ origins) [] = []
 inputs_of (origin ∷ origins) (done ∷ dones) = map (input_of origin.link origin.port) done ∷ inputs_of origins dones
 
 -- of each capture these records and then those
-abbrev pub joined : List (List Captured) → List (List Captured) → List (List Captured)
-joined [] rests = []
-joined (done ∷ dones) [] = []
-joined (done ∷ dones) (rest ∷ rests) = (done ++ rest) ∷ joined dones rests
+abbrev pub joined_records : List (List Captured) → List (List Captured) → List (List Captured)
+joined_records [] rests = []
+joined_records (done ∷ dones) [] = []
+joined_records (done ∷ dones) (rest ∷ rests) = (done ++ rest) ∷ joined_records dones rests
 
 -- one record more of the capture at that place
 abbrev pub with_last : ℕ → Captured → List (List Captured) → List (List Captured)
@@ -46,8 +46,8 @@ with_last (suc place) r (done ∷ dones) = done ∷ with_last place r dones
 
 module _ {S : Type 0} where
   -- the record that comes first is that of this capture, or there is none
-  abbrev pub first_of : List (Track S) → Option ℕ
-  first_of tracks = first_capture (map (option_map moment_of) (map held_of tracks))
+  abbrev pub first_capture_of : List (Track S) → Option ℕ
+  first_capture_of tracks = first_capture (map (option_map moment_of) (map held_record_of tracks))
 
   module _ (left : S → Option (List ℕ)) (faults : S → ℕ) where
     -- they are the tracks of some captures
@@ -68,20 +68,20 @@ module _ {S : Type 0} where
 
     -- Of the captures these records were replayed, and the lines so far. Whatever is still to come: going
     -- through it from here is going through the whole schedule from the first state.
-    pub record Goes (config : Configuration) (steps : List Step) (limit : ℕ) (captures : List (OpenedCapture S)) (origins : List Origin) (first : RunState) (run : Running S) : Type 0 where
+    pub record IsUnderway (config : Configuration) (steps : List Step) (limit : ℕ) (captures : List (OpenedCapture S)) (origins : List Origin) (first : RunState) (run : Running S) : Type 0 where
       pub dones : List (List Captured)
       pub standing : Standing
       pub tracks : AreTracks left faults limit captures run.tracks dones origins
       pub live : IsLive config (inputs_of origins dones) standing run.live
       pub lines : after_lines standing (all_lines (steps_of run.agenda)) ≡ lines_outcome config steps
-      pub comes : (rests : List (List Captured)) (last : RunState) → map next_of rests ≡ map held_of run.tracks
-          → ReplaysAll origins (run_state run.live) last (events_from run.taken (steps_of run.agenda) (in_order rests)) → ReplaysAll origins first last (schedule steps (joined dones rests))
+      pub comes : (rests : List (List Captured)) (last : RunState) → map next_record_of rests ≡ map held_record_of run.tracks
+          → ReplaysAll origins (run_state run.live) last (events_from run.taken (steps_of run.agenda) (in_order rests)) → ReplaysAll origins first last (schedule steps (joined_records dones rests))
 
     -- what a call keeps
     pub record Keeps (old new : Running S) : Type 0 where
       pub ready : IsReady new
       pub goes : (config : Configuration) (steps : List Step) (limit : ℕ) (captures : List (OpenedCapture S)) (origins : List Origin) (first : RunState)
-          → Goes config steps limit captures origins first old → Goes config steps limit captures origins first new
+          → IsUnderway config steps limit captures origins first old → IsUnderway config steps limit captures origins first new
 
     -- the lines that were due ran
     pub record RunsDue (old new : Running S) : Type 0 where
@@ -98,11 +98,11 @@ module _ {S : Type 0} where
     pub record RunsOut (old new : Running S) : Type 0 where
       pub keeps : Keeps old new
       pub lines : all_lines (steps_of new.agenda) ≡ []
-      pub ended : first_of new.tracks ≡ None
+      pub ended : first_capture_of new.tracks ≡ None
 
     -- The replay was closed: its record is that of its world and lanes, and legal where they stand for these.
     pub record Closes (run : Running S) (r : Replayed S) : Type 0 where
-      pub record_is : r.record ≡ record_of run.live.world run.live.lanes.items
+      pub record_is : r.record ≡ record_of_world run.live.world run.live.lanes.items
       pub legal : (first : Configuration) (commands : List Command) (inputs : List (List Input)) → DeskStandsFor run.live.desk first commands → EachStandsFor run.live.world run.live.lanes.items inputs → IsLegal first commands inputs r.record
       pub sources : r.sources.items ≡ map source_at run.tracks
       pub ends : r.ends.captures ≡ map end_of run.tracks

@@ -23,9 +23,9 @@ module _ {S : Type 0} where
   held_in track = current_of track.capture
 
   -- the same, of any track: one that is refused holds none
-  abbrev pub held_of : Track S → Option Captured
-  held_of (Open track) = held_in track
-  held_of (Refused source end) = None
+  abbrev pub held_record_of : Track S → Option Captured
+  held_record_of (Open track) = held_in track
+  held_record_of (Refused source end) = None
 
   -- how many steps it can go on at most
   abbrev pub steps_left : OpenTrack S → ℕ
@@ -68,7 +68,7 @@ module _ {S : Type 0} where
       pub origin_is : origin ≡ record { link = link_of track.capture; port = opened.port }
 
     -- It was read to its end, and these are all of its records.
-    pub record HasEnded (limit : ℕ) (opened : OpenedCapture S) (source : S) (end : CaptureEnd) (done : List Captured) (origin : Origin) : Type 0 where
+    pub record IsReadToEnd (limit : ℕ) (opened : OpenedCapture S) (source : S) (end : CaptureEnd) (done : List Captured) (origin : Origin) : Type 0 where
       pub bytes : List ℕ
       pub read : IsRead left faults limit opened.source source (record { port = opened.port; bytes = bytes; records = done }) end
       pub origin_is : origin ≡ origin_of (record { port = opened.port; bytes = bytes; records = done })
@@ -76,12 +76,12 @@ module _ {S : Type 0} where
     -- these records of that capture were replayed: the track goes on behind them, or it has ended and holds none
     abbrev pub IsOpenTrack : ℕ → OpenedCapture S → OpenTrack S → List Captured → Origin → Type 0
     IsOpenTrack limit opened track done origin = (track.port ≡ opened.port)
-        × MatchOption track.end (GoesOn limit opened track done origin) (λ end. HasEnded limit opened (source_of track.capture) end done origin × (held_in track ≡ None))
+        × MatchOption track.end (GoesOn limit opened track done origin) (λ end. IsReadToEnd limit opened (source_of track.capture) end done origin × (held_in track ≡ None))
 
     -- these records of that capture were replayed, and those behind the one that it holds are still to come
     abbrev pub IsTrack : ℕ → OpenedCapture S → Track S → List Captured → Origin → Type 0
     IsTrack limit opened (Open track) done origin = IsOpenTrack limit opened track done origin
-    IsTrack limit opened (Refused source end) done origin = HasEnded limit opened source end done origin
+    IsTrack limit opened (Refused source end) done origin = IsReadToEnd limit opened source end done origin
 
     -- a track that goes on holds a record
     abbrev pub IsSettled : Track S → Type 0
@@ -125,7 +125,7 @@ module _ {S : Type 0} where
 
     -- A track that holds a record went on: that record was replayed.
     pub record GoesFurther (old new : Track S) : Type 0 where
-      pub goes : (limit : ℕ) (opened : OpenedCapture S) (done : List Captured) (origin : Origin) (r : Captured) → held_of old ≡ Some r → IsTrack limit opened old done origin
+      pub goes : (limit : ℕ) (opened : OpenedCapture S) (done : List Captured) (origin : Origin) (r : Captured) → held_record_of old ≡ Some r → IsTrack limit opened old done origin
           → IsTrack limit opened new (done ++ r ∷ []) origin × IsSettled new × (room_of new < room_of old)
 
     -- the track at this place did

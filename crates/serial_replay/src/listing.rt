@@ -16,7 +16,7 @@ pub(crate) enum Listing<'a> {
 
 /// The listing that a command of a table is, if it is one.
 fn table_listing<'a>(name: &'a Name, command: &TableCommand) -> Option<Listing<'a>>
-    ensures { option_map listing_in result ≡ commands.table_listing name.now command.now }
+    ensures { option_map listing_in result ≡ commands.listing_of_table name.now command.now }
 {
     match command {
         TableCommand::Create(_)

@@ -2,9 +2,9 @@ ghost use Rattle.std.specs.Prelude.{◌≡◌, ◌<◌, ◌≤◌, ◌⊎◌, le
 ghost use Rattle.fw_command.specs.WellFormed.{IsLine};
 ghost use Rattle.pcap_read.specs.Capture.{captured_of};
 ghost use Rattle.rule_chain.specs.Changing.{IsChanging};
-ghost use Rattle.serial_replay.specs.Commands.{answered};
+ghost use Rattle.serial_replay.specs.Commands.{line_answer};
 ghost use Rattle.serial_replay.specs.Listings.{listing_in};
-ghost use Rattle.serial_replay.specs.Live.{AnswersLine, IsListed, Accepts, Refuses, RunsALine, ReplaysARecord, IsSound};
+ghost use Rattle.serial_replay.specs.Live.{AnswersLine, IsListed, Accepts, RefusesLine, RunsALine, ReplaysARecord, IsSound};
 ghost use Rattle.serial_replay.specs.Reading.{input_of};
 
 use crate::listing::{Listing, listing_of};
@@ -29,7 +29,7 @@ pub(crate) struct LiveWorld {
 impl LiveWorld {
     /// Answers a line.
     fn answer(&mut self, line: u32, answer: Answer) -> Result<(), OutOfMemory>
-        ensures { OnOk result (AnswersLine self.old self.new (answered line answer)) }
+        ensures { OnOk result (AnswersLine self.old self.new (line_answer line answer)) }
     {
         self.answers.push(LineAnswer { line, answer })?;
         Ok(())
@@ -66,7 +66,7 @@ impl LiveWorld {
         requires changing { IsChanging line.now.command }
         requires desk { self.old.desk ≡ self.old.world.editions }
         ensures { OnOk result (Accepts self.old self.new line.now.command
-            ⊎ Refuses self.old self.new line.now) }
+            ⊎ RefusesLine self.old self.new line.now) }
     {
         match self.world.edit(alloc, &mut self.desk, &line.command) {
             Ok(_number) => Ok(()),

@@ -1,5 +1,5 @@
 ghost use Rattle.std.specs.Prelude.{◌≡◌, None, IfOk, OnOk, Some};
-ghost use Rattle.serial_replay.specs.Running.{Closes, IsReady, RunsDue, TakesRecord, RunsOut, first_of};
+ghost use Rattle.serial_replay.specs.Running.{Closes, IsReady, RunsDue, TakesRecord, RunsOut, first_capture_of};
 ghost use Rattle.serial_schedule.specs.Agenda.{NoneIsDue};
 ghost use Rattle.serial_schedule.specs.Steps.{steps_of};
 
@@ -39,7 +39,7 @@ impl<S: Source> Running<'_, S> {
         requires ready { IsReady S.left S.faults self.old }
         requires due { NoneIsDue self.old.taken (steps_of self.old.agenda)
             (steps_of self.old.agenda) }
-        requires first { first_of self.old.tracks ≡ Some capture }
+        requires first { first_capture_of self.old.tracks ≡ Some capture }
         ensures { OnOk result (TakesRecord S.left S.faults self.old self.new) }
     {
         if let Some(track) = self.tracks.open_track(capture) {
@@ -56,7 +56,7 @@ impl<S: Source> Running<'_, S> {
     /// Runs the lines that are left when all captures have ended.
     fn run_left(&mut self, alloc: Global) -> Result<(), OutOfMemory>
         requires ready { IsReady S.left S.faults self.old }
-        requires ended { first_of self.old.tracks ≡ None }
+        requires ended { first_capture_of self.old.tracks ≡ None }
         ensures { OnOk result (RunsOut S.left S.faults self.old self.new) }
     {
         while let Some(line) = self.agenda.next_left() {

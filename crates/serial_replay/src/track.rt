@@ -1,6 +1,6 @@
 ghost use Rattle.std.specs.Prelude.{◌≡◌, ◌≤◌, IfOk};
 ghost use Rattle.std.specs.Option.{option_map};
-ghost use Rattle.serial_replay.specs.Tracks.{Begins, BeginsRefused, GoesFurther, end_of, held_of, source_at};
+ghost use Rattle.serial_replay.specs.Tracks.{Begins, BeginsRefused, GoesFurther, end_of, held_record_of, source_at};
 ghost use Rattle.serial_schedule.specs.Order.{moment_of};
 
 use crate::OpenedCapture;
@@ -67,7 +67,7 @@ impl<S: Source> Track<S> {
 
     /// When the record that it holds was captured.
     pub(crate) fn moment(&self) -> Option<Moment>
-        ensures { result ≡ option_map moment_of (held_of self.now) }
+        ensures { result ≡ option_map moment_of (held_record_of self.now) }
     {
         match self {
             Track::Open(track) => track.moment(),

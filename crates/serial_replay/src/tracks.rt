@@ -1,6 +1,6 @@
 ghost use Rattle.std.specs.Prelude.{◌≡◌, ◌<◌, ◌≤◌, ℕ, IfOk, Some, map, length, vec_len, slice_get};
 ghost use Rattle.std.specs.Option.{option_copied, option_map};
-ghost use Rattle.serial_replay.specs.Tracks.{BeginAll, GoesFurtherAt, end_of, held_of, open_of, source_at};
+ghost use Rattle.serial_replay.specs.Tracks.{BeginAll, GoesFurtherAt, end_of, held_record_of, open_of, source_at};
 ghost use Rattle.serial_schedule.specs.Order as order;
 ghost use Rattle.serial_schedule.specs.Order.{moment_of};
 
@@ -25,7 +25,7 @@ impl<S> Model for Tracks<S> {
     ghost use Rattle.std.specs.Prelude.{◌≡◌, List, map};
     ghost use Rattle.std.specs.Option.{option_map};
     ghost use Rattle.serial_replay.specs.declared.track.Track.{Track};
-    ghost use Rattle.serial_replay.specs.Tracks.{held_of};
+    ghost use Rattle.serial_replay.specs.Tracks.{held_record_of};
     ghost use Rattle.serial_schedule.specs.Order.{moment_of};
 
     ghost Value = { List (Track S) };
@@ -33,7 +33,7 @@ impl<S> Model for Tracks<S> {
     ghost view = { λ t. t.tracks.items };
 
     ghost invariant = { λ t. t.moments.items
-        ≡ map (option_map moment_of) (map held_of t.tracks.items) };
+        ≡ map (option_map moment_of) (map held_record_of t.tracks.items) };
 }
 
 impl<S: Source> Tracks<S> {
@@ -59,7 +59,7 @@ impl<S: Source> Tracks<S> {
 
     /// The capture whose held record comes first.
     pub(crate) fn first(&self) -> Option<usize>
-        ensures { result ≡ order.first_capture (map (option_map moment_of) (map held_of self.now)) }
+        ensures { result ≡ order.first_capture (map (option_map moment_of) (map held_record_of self.now)) }
     {
         first_capture(&self.moments)
     }

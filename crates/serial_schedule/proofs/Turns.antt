@@ -3,7 +3,7 @@ use Rattle.std.proofs.Common.{◌≡◌, ℕ, zero, suc, ◌+◌, ◌<◌, true,
 use Rattle.std.specs.Prelude.{if◌then◌else◌, slice_get, slice_set}
 use Rattle.std.specs.Option.{option_map}
 use Rattle.pcap_read.specs.Reading.{Captured}
-use Rattle.serial_schedule.specs.Order.{moment_of, is_before, earlier_head, first_head, first_capture, next_of, next_moment, without_next, records_at, turn_from, turns_from, turns, record_count, in_order}
+use Rattle.serial_schedule.specs.Order.{moment_of, is_before, earlier_head, first_head, first_capture, next_record_of, next_moment, without_next, records_at, turn_from, turns_from, turns, record_count, in_order}
 use Rattle.serial_schedule.specs.declared.head.Head.{Head}
 use Rattle.serial_schedule.specs.declared.moment.Moment.{Moment}
 
@@ -14,26 +14,26 @@ with_next zero r (records ∷ others) = (r ∷ records) ∷ others
 with_next (suc capture) r (records ∷ others) = records ∷ with_next capture r others
 
 -- their next records are the same but for that one
-pub heads-with_next : (capture : ℕ) (r : Captured) (rests : List (List Captured)) → map next_of (with_next capture r rests) ≡ slice_set (map next_of rests) capture (Some r)
+pub heads-with_next : (capture : ℕ) (r : Captured) (rests : List (List Captured)) → map next_record_of (with_next capture r rests) ≡ slice_set (map next_record_of rests) capture (Some r)
 heads-with_next capture r [] = refl
 heads-with_next zero r (records ∷ others) = refl
-heads-with_next (suc capture) r (records ∷ others) = ap (λ heads. next_of records ∷ heads) (heads-with_next capture r others)
+heads-with_next (suc capture) r (records ∷ others) = ap (λ heads. next_record_of records ∷ heads) (heads-with_next capture r others)
 
-moment-head : (records : List Captured) → next_moment records ≡ option_map moment_of (next_of records)
+moment-head : (records : List Captured) → next_moment records ≡ option_map moment_of (next_record_of records)
 moment-head [] = refl
 moment-head (r ∷ records) = refl
 
 -- when they were captured follows from the next records
-pub moments-heads : (rests : List (List Captured)) → map next_moment rests ≡ map (option_map moment_of) (map next_of rests)
+pub moments-heads : (rests : List (List Captured)) → map next_moment rests ≡ map (option_map moment_of) (map next_record_of rests)
 moments-heads [] = refl
-moments-heads (records ∷ others) = ap (λ m. m ∷ map next_moment others) (moment-head records) ∙ ap (λ ms. option_map moment_of (next_of records) ∷ ms) (moments-heads others)
+moments-heads (records ∷ others) = ap (λ m. m ∷ map next_moment others) (moment-head records) ∙ ap (λ ms. option_map moment_of (next_record_of records) ∷ ms) (moments-heads others)
 
 without-with_next : (capture : ℕ) (r : Captured) (rests : List (List Captured)) → without_next capture (with_next capture r rests) ≡ rests
 without-with_next capture r [] = refl
 without-with_next zero r (records ∷ others) = refl
 without-with_next (suc capture) r (records ∷ others) = ap (λ rests. records ∷ rests) (without-with_next capture r others)
 
-next-with_next : (capture : ℕ) (r : Captured) (rests : List (List Captured)) → capture < length rests → next_of (records_at capture (with_next capture r rests)) ≡ Some r
+next-with_next : (capture : ℕ) (r : Captured) (rests : List (List Captured)) → capture < length rests → next_record_of (records_at capture (with_next capture r rests)) ≡ Some r
 next-with_next capture r [] within = absurd (omega arith)
 next-with_next zero r (records ∷ others) within = refl
 next-with_next (suc capture) r (records ∷ others) within = next-with_next capture r others (omega arith)
@@ -106,14 +106,14 @@ some_is_earlier head (Some first) same = elim (is_before first.moment head.momen
 abbrev pub no_records : Option Captured → List Captured
 no_records held = []
 
-no_head : (capture : ℕ) (held : List (Option Captured)) → first_head capture (map (option_map moment_of) held) ≡ None → map next_of (map no_records held) ≡ held
+no_head : (capture : ℕ) (held : List (Option Captured)) → first_head capture (map (option_map moment_of) held) ≡ None → map next_record_of (map no_records held) ≡ held
 unfolding first_head
 no_head capture [] none = refl
 no_head capture (None ∷ held) none = ap (λ heads. None ∷ heads) (no_head (capture + 1) held none)
 no_head capture (Some r ∷ held) none = absurd (some_is_earlier (record { capture = capture; moment = moment_of r }) (first_head (capture + 1) (map (option_map moment_of) held)) none)
 
 -- where none of these next records comes first there are none
-pub none_first : (held : List (Option Captured)) → first_capture (map (option_map moment_of) held) ≡ None → map next_of (map no_records held) ≡ held
+pub none_first : (held : List (Option Captured)) → first_capture (map (option_map moment_of) held) ≡ None → map next_record_of (map no_records held) ≡ held
 none_first held none = no_head 0 held (none_of (first_head 0 (map (option_map moment_of) held)) none)
   where
     none_of : (first : Option Head) → option_map (λ (head : Head). head.capture) first ≡ None → first ≡ None

@@ -50,9 +50,9 @@ pub record Turn : Type 0 where
   pub taken : Captured
 
 -- the next record of a capture, if it has one left
-abbrev pub next_of : List Captured → Option Captured
-next_of [] = None
-next_of (r ∷ rest) = Some r
+abbrev pub next_record_of : List Captured → Option Captured
+next_record_of [] = None
+next_record_of (r ∷ rest) = Some r
 
 -- when a capture's next record was taken
 abbrev pub next_moment : List Captured → Option Moment
@@ -79,7 +79,7 @@ turn_from behind captures capture (Some r) = record { capture = capture; taken =
 -- the turns from that of the capture that comes next, if one does
 abbrev pub turns_from : (List (List Captured) → List Turn) → List (List Captured) → Option ℕ → List Turn
 turns_from behind captures None = []
-turns_from behind captures (Some capture) = turn_from behind captures capture (next_of (records_at capture captures))
+turns_from behind captures (Some capture) = turn_from behind captures capture (next_record_of (records_at capture captures))
 
 -- one turn after the other, so many at most
 unfoldable pub turns : ℕ → List (List Captured) → List Turn

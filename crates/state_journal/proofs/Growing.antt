@@ -6,7 +6,7 @@ use Rattle.dyn_states.specs.declared.reply.Reply.{Reply}
 use Rattle.dyn_states.specs.StateObject.{StateObject, reply_of, after_ask, after_publication}
 use Rattle.state_journal.specs.declared.entry.Entry.{Entry}
 use Rattle.state_journal.specs.declared.entry.Entry.TheVariants.{Publish, Ask}
-use Rattle.state_journal.specs.Journal.{Journal, IsJournal, IsLawfulFrom, object_from, published, no_states, AreNumberedFrom, last_rules, BeginsWithOne, NamesRuleOf, IsFoundOf, with_ask, with_publication, first_journal}
+use Rattle.state_journal.specs.Journal.{Journal, IsJournal, IsLawfulFrom, object_from, object_after_publication, no_states, AreNumberedFrom, last_rules, BeginsWithOne, NamesRuleOf, IsFoundOf, with_ask, with_publication, first_journal}
 use Rattle.state_journal.proofs.Ruled.{AreRuled, found_of_ask, AreRuled-after_ask, AreRuled-publication, has_id-zero}
 
 -- an ask behind lawful entries, with the state object's answer, leaves them lawful
@@ -15,7 +15,7 @@ IsLawfulFrom-ask : (o : StateObject) (facts : List Facts) (entries : List Entry)
 IsLawfulFrom-ask o [] [] lane at op reply is same = (same, tt)
 IsLawfulFrom-ask o (next ∷ facts) [] lane at op reply is same = absurd is
 IsLawfulFrom-ask o [] (Publish number ∷ entries) lane at op reply is same = absurd is
-IsLawfulFrom-ask o (next ∷ facts) (Publish number ∷ entries) lane at op reply is same = (is.0, IsLawfulFrom-ask (published o next) facts entries lane at op reply is.1 same)
+IsLawfulFrom-ask o (next ∷ facts) (Publish number ∷ entries) lane at op reply is same = (is.0, IsLawfulFrom-ask (object_after_publication o next) facts entries lane at op reply is.1 same)
 IsLawfulFrom-ask o [] (Ask by asked told when ∷ entries) lane at op reply is same = (is.0, IsLawfulFrom-ask (after_ask o asked) [] entries lane at op reply is.1 same)
 IsLawfulFrom-ask o (next ∷ facts) (Ask by asked told when ∷ entries) lane at op reply is same = (is.0, IsLawfulFrom-ask (after_ask o asked) (next ∷ facts) entries lane at op reply is.1 same)
 
@@ -25,7 +25,7 @@ object_from-ask : (o : StateObject) (facts : List Facts) (entries : List Entry) 
 object_from-ask o [] [] lane at op reply is = refl
 object_from-ask o (next ∷ facts) [] lane at op reply is = absurd is
 object_from-ask o [] (Publish number ∷ entries) lane at op reply is = absurd is
-object_from-ask o (next ∷ facts) (Publish number ∷ entries) lane at op reply is = object_from-ask (published o next) facts entries lane at op reply is.1
+object_from-ask o (next ∷ facts) (Publish number ∷ entries) lane at op reply is = object_from-ask (object_after_publication o next) facts entries lane at op reply is.1
 object_from-ask o [] (Ask by asked told when ∷ entries) lane at op reply is = object_from-ask (after_ask o asked) [] entries lane at op reply is.1
 object_from-ask o (next ∷ facts) (Ask by asked told when ∷ entries) lane at op reply is = object_from-ask (after_ask o asked) (next ∷ facts) entries lane at op reply is.1
 
@@ -35,17 +35,17 @@ IsLawfulFrom-publication : (o : StateObject) (facts : List Facts) (entries : Lis
 IsLawfulFrom-publication o [] [] more is = (refl, tt)
 IsLawfulFrom-publication o (next ∷ facts) [] more is = absurd is
 IsLawfulFrom-publication o [] (Publish number ∷ entries) more is = absurd is
-IsLawfulFrom-publication o (next ∷ facts) (Publish number ∷ entries) more is = (is.0, IsLawfulFrom-publication (published o next) facts entries more is.1)
+IsLawfulFrom-publication o (next ∷ facts) (Publish number ∷ entries) more is = (is.0, IsLawfulFrom-publication (object_after_publication o next) facts entries more is.1)
 IsLawfulFrom-publication o [] (Ask by asked told when ∷ entries) more is = (is.0, IsLawfulFrom-publication (after_ask o asked) [] entries more is.1)
 IsLawfulFrom-publication o (next ∷ facts) (Ask by asked told when ∷ entries) more is = (is.0, IsLawfulFrom-publication (after_ask o asked) (next ∷ facts) entries more is.1)
 
 -- the state object after one publication more
 object_from-publication : (o : StateObject) (facts : List Facts) (entries : List Entry) (more : Facts)
-    → IsLawfulFrom o facts entries → object_from o (facts ++ more ∷ []) (entries ++ Publish more.number ∷ []) ≡ published (object_from o facts entries) more
+    → IsLawfulFrom o facts entries → object_from o (facts ++ more ∷ []) (entries ++ Publish more.number ∷ []) ≡ object_after_publication (object_from o facts entries) more
 object_from-publication o [] [] more is = refl
 object_from-publication o (next ∷ facts) [] more is = absurd is
 object_from-publication o [] (Publish number ∷ entries) more is = absurd is
-object_from-publication o (next ∷ facts) (Publish number ∷ entries) more is = object_from-publication (published o next) facts entries more is.1
+object_from-publication o (next ∷ facts) (Publish number ∷ entries) more is = object_from-publication (object_after_publication o next) facts entries more is.1
 object_from-publication o [] (Ask by asked told when ∷ entries) more is = object_from-publication (after_ask o asked) [] entries more is.1
 object_from-publication o (next ∷ facts) (Ask by asked told when ∷ entries) more is = object_from-publication (after_ask o asked) (next ∷ facts) entries more is.1
 
@@ -84,7 +84,7 @@ unfolding after_publication
 IsJournal-publication j facts is next = record {
   begins = BeginsWithOne-append j.entries _ is.begins;
   lawful = IsLawfulFrom-publication no_states j.facts j.entries facts is.lawful;
-  object = ap (λ (o : StateObject). published o facts) is.object ∙ sym (object_from-publication no_states j.facts j.entries facts is.lawful);
+  object = ap (λ (o : StateObject). object_after_publication o facts) is.object ∙ sym (object_from-publication no_states j.facts j.entries facts is.lawful);
   numbered = AreNumberedFrom-append 1 j.facts facts is.numbered (omega arith);
   ruled = subst (λ (rules : List ℕ). AreRuled rules (with_publication j facts).object.states) (sym (last_rules-append j.facts facts))
       (AreRuled-publication facts.rules facts.settings.keep j.object.states (has_id-zero facts.rules facts.ordered));

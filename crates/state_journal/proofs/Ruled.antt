@@ -15,7 +15,7 @@ use Rattle.dyn_states.specs.Facts.{is_rule_list}
 use Rattle.dyn_states.specs.RuleLists.{has_id}
 use Rattle.dyn_states.specs.declared.state.RuleRef.{RuleRef}
 use Rattle.dyn_states.specs.declared.state.State.{State}
-use Rattle.dyn_states.specs.StateObject.{StateObject, raised, with_first, found_reply, or_full, limit_reply, install_reply, after_lookup, after_install, lookup_reply, new_state, reply_of, after_ask, touched, considers, has_rule_among, is_live, renewed, with_flags, handed_over, states_after, last_rule_ref}
+use Rattle.dyn_states.specs.StateObject.{StateObject, object_at_second, with_first, found_reply, or_full, limit_reply, install_reply, after_lookup, after_install, lookup_reply, new_state, reply_of, after_ask, state_after_lookup, considers, has_rule_among, is_live, renewed_state, with_flags, handed_over, states_after, last_rule_ref}
 use Rattle.state_journal.specs.Journal.{IsFoundOf, NamesRuleOf}
 
 -- the rules of these states are among those
@@ -71,18 +71,18 @@ install_is_none : (rules : List ℕ) (b : Bool) (r : Reply) → IsFoundOf rules 
 install_is_none rules true r none = tt
 install_is_none rules false r none = none
 
-pub AreRuled-raised : (rules : List ℕ) (o : StateObject) (second : ℕ) → AreRuled rules o.states → AreRuled rules (raised o second).states
-unfolding raised
+pub AreRuled-raised : (rules : List ℕ) (o : StateObject) (second : ℕ) → AreRuled rules o.states → AreRuled rules (object_at_second o second).states
+unfolding object_at_second
 AreRuled-raised rules o second all = AreRuled-filter rules (is_live (max o.clock second)) o.states all
 
 -- what an ask finds has a rule of the list
 pub found_of_ask : (rules : List ℕ) (o : StateObject) (op : Op) → AreRuled rules o.states → IsFoundOf rules (reply_of o op)
 unfolding lookup_reply install_reply
-found_of_ask rules o (Lookup flags flow second name) all = found_is_ruled rules flow (considers flow name) (raised o second).states (AreRuled-raised rules o second all)
+found_of_ask rules o (Lookup flags flow second name) all = found_is_ruled rules flow (considers flow name) (object_at_second o second).states (AreRuled-raised rules o second all)
 found_of_ask rules o (Install flags flow second rule limit name) all =
-    install_is_none rules _ _ (limit_is_none rules (raised o second) rule limit flow)
+    install_is_none rules _ _ (limit_is_none rules (object_at_second o second) rule limit flow)
 
-same_rule : (rules : List ℕ) (o : StateObject) (flow : Flow) (flags : ℕ) (s : State) (way : Way) → IsTrue (has_rule_among rules s) → IsTrue (has_rule_among rules (renewed o.settings o.clock (with_flags way flags s)))
+same_rule : (rules : List ℕ) (o : StateObject) (flow : Flow) (flags : ℕ) (s : State) (way : Way) → IsTrue (has_rule_among rules s) → IsTrue (has_rule_among rules (renewed_state o.settings o.clock (with_flags way flags s)))
 same_rule rules o flow flags s Forward is = is
 same_rule rules o flow flags s Reverse is = is
 
@@ -95,9 +95,9 @@ made_is_ruled rules false o s all one = all
 pub AreRuled-after_ask : (rules : List ℕ) (o : StateObject) (op : Op) → NamesRuleOf rules op → AreRuled rules o.states → AreRuled rules (after_ask o op).states
 unfolding after_lookup after_install
 AreRuled-after_ask rules o (Lookup flags flow second name) names all =
-    AreRuled-with_first rules (considers flow name) (touched (raised o second) flow flags) (λ s is. same_rule rules (raised o second) flow flags s (way_of s.flow flow) is) (raised o second).states (AreRuled-raised rules o second all)
+    AreRuled-with_first rules (considers flow name) (state_after_lookup (object_at_second o second) flow flags) (λ s is. same_rule rules (object_at_second o second) flow flags s (way_of s.flow flow) is) (object_at_second o second).states (AreRuled-raised rules o second all)
 AreRuled-after_ask rules o (Install flags flow second rule limit name) names all =
-    made_is_ruled rules _ (raised o second) (new_state (raised o second) flow flags rule limit name) (AreRuled-raised rules o second all) names
+    made_is_ruled rules _ (object_at_second o second) (new_state (object_at_second o second) flow flags rule limit name) (AreRuled-raised rules o second all) names
 
 -- the states that a publication keeps or drops
 handed_is_ruled : (rules : List ℕ) (b : Bool) (s : State) → IsTrue (has_id rules 0) → b ≡ has_rule_among rules s → IsTrue (has_rule_among rules (cond b s (record s { rule = last_rule_ref })))

@@ -26,8 +26,8 @@ abbrev pub no_states : StateObject
 no_states = first_object default_values
 
 -- the state object after a publication
-abbrev pub published : StateObject → Facts → StateObject
-published o facts = after_publication o facts.rules (values_of facts.settings)
+abbrev pub object_after_publication : StateObject → Facts → StateObject
+object_after_publication o facts = after_publication o facts.rules (values_of facts.settings)
 
 -- Each reply is the state object's after the entries before it, and each publication is that of the next
 -- facts.
@@ -35,7 +35,7 @@ abbrev pub IsLawfulFrom : StateObject → List Facts → List Entry → Type 0
 IsLawfulFrom o [] [] = ⊤
 IsLawfulFrom o (next ∷ facts) [] = ⊥
 IsLawfulFrom o [] (Publish number ∷ entries) = ⊥
-IsLawfulFrom o (next ∷ facts) (Publish number ∷ entries) = (number ≡ next.number) × IsLawfulFrom (published o next) facts entries
+IsLawfulFrom o (next ∷ facts) (Publish number ∷ entries) = (number ≡ next.number) × IsLawfulFrom (object_after_publication o next) facts entries
 IsLawfulFrom o [] (Ask lane op reply at ∷ entries) = (reply ≡ reply_of o op) × IsLawfulFrom (after_ask o op) [] entries
 IsLawfulFrom o (next ∷ facts) (Ask lane op reply at ∷ entries) = (reply ≡ reply_of o op) × IsLawfulFrom (after_ask o op) (next ∷ facts) entries
 
@@ -43,7 +43,7 @@ IsLawfulFrom o (next ∷ facts) (Ask lane op reply at ∷ entries) = (reply ≡ 
 abbrev pub object_from : StateObject → List Facts → List Entry → StateObject
 object_from o facts [] = o
 object_from o [] (Publish number ∷ entries) = object_from o [] entries
-object_from o (next ∷ facts) (Publish number ∷ entries) = object_from (published o next) facts entries
+object_from o (next ∷ facts) (Publish number ∷ entries) = object_from (object_after_publication o next) facts entries
 object_from o [] (Ask lane op reply at ∷ entries) = object_from (after_ask o op) [] entries
 object_from o (next ∷ facts) (Ask lane op reply at ∷ entries) = object_from (after_ask o op) (next ∷ facts) entries
 
@@ -96,7 +96,7 @@ abbrev pub with_publication : Journal → Facts → Journal
 with_publication j facts = record j {
   facts = j.facts ++ facts ∷ [];
   entries = j.entries ++ Publish facts.number ∷ [];
-  object = published j.object facts;
+  object = object_after_publication j.object facts;
   ready = false;
 }
 
@@ -106,6 +106,6 @@ first_journal lanes facts = record {
   lanes = lanes;
   facts = facts ∷ [];
   entries = Publish facts.number ∷ [];
-  object = published no_states facts;
+  object = object_after_publication no_states facts;
   ready = false;
 }

@@ -154,7 +154,7 @@ fn is_among(rules: &[u32], wanted: u32) -> bool
 /// The states as the first publication leaves them.
 fn open_states(alloc: Global, facts: &Facts) -> Result<States, OutOfMemory>
     ensures object { IfOk result (λ states. states.object
-        ≡ journal.published journal.no_states facts.now) }
+        ≡ journal.object_after_publication journal.no_states facts.now) }
     ensures room { IfOk result (λ states. 65536 ≤ states.room) }
 {
     States::open(alloc, MOST_STATES, facts.settings)

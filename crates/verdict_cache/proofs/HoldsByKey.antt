@@ -20,7 +20,7 @@ use Rattle.rule_match.specs.Holds.{as_signed, holds_family, holds_protocol, hold
 use Rattle.rule_match.specs.Interfaces.{is_in, is_out, holds_recv, holds_xmit, holds_via}
 use Rattle.rule_match.specs.Packet.{V4}
 use Rattle.rule_match.specs.Tables.{answer_for, port_value, field_value}
-use Rattle.rule_match.specs.Tests.{agrees, is_established, is_setup, has_flags, has_type, holds_test}
+use Rattle.rule_match.specs.Tests.{agrees, is_established, is_setup, has_flags, has_icmp_type, holds_test}
 use Rattle.verdict_cache.specs.Key.{key_of}
 use Rattle.verdict_cache.specs.EqualKeys.{EqualKeysHoldAlike}
 use Rattle.verdict_cache.specs.declared.key.Key.{Key}
@@ -57,7 +57,7 @@ test_by tables key port (Recv asked) = holds_recv port asked
 test_by tables key port (Xmit asked) = holds_xmit port asked
 test_by tables key port (Via asked) = holds_via port asked
 test_by tables key port (TcpFlags set clear) = has_flags set clear key.tcp_flags
-test_by tables key port (IcmpTypes types) = has_type types key.icmp_type
+test_by tables key port (IcmpTypes types) = has_icmp_type types key.icmp_type
 test_by tables key port (Icmp6Types types) = false
 test_by tables key port (IpOptions present absent) = options_by present absent key.options
 test_by tables key port (Lookup field name) = is_some (field_by tables key field name)

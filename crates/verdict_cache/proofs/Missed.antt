@@ -3,7 +3,7 @@ use Rattle.std.proofs.Common.{◌≡◌, ℕ, zero, suc, ◌-◌, ◌<◌, Bool,
 use Rattle.std.specs.Map.{lookup, lookup_entry}
 use Rattle.lru.specs.LruCache.{LruCache, promoted, put_entries}
 use Rattle.verdict_cache.specs.Key.{same_key}
-use Rattle.verdict_cache.specs.Cache.{Kept, value_of, with_key_first, WasMissed}
+use Rattle.verdict_cache.specs.Cache.{Kept, kept_value_of, with_key_first, WasMissed}
 use Rattle.verdict_cache.specs.declared.key.Key.{Key}
 
 module _ {K V : Type 0} (test : K → Bool) where
@@ -30,7 +30,7 @@ module _ {V : Type 0} where
 
   -- where a look finds nothing, the key isn't there after it either
   pub missed : (result : Option V) (number : ℕ) (key : Key) (kept : Kept V)
-      → kept.number ≡ Some number → result ≡ value_of key kept
+      → kept.number ≡ Some number → result ≡ kept_value_of key kept
       → IfNone result (WasMissed number key (with_key_first key kept))
   missed (Some value) number key kept given is = tt
   missed None number key kept given is = record {

@@ -36,8 +36,8 @@ module _ {V : Type 0} where
   }
 
   -- what is kept for a key
-  abbrev pub value_of : Key → Kept V → Option V
-  value_of key kept = lookup (same_key key) kept.pairs
+  abbrev pub kept_value_of : Key → Kept V → Option V
+  kept_value_of key kept = lookup (same_key key) kept.pairs
 
   -- the pair of the key, if there is one, before all others
   abbrev pub with_key_first : Key → Kept V → Kept V
@@ -58,4 +58,4 @@ module _ {V : Type 0} where
   -- the look before, with this number and this key, found nothing
   pub record WasMissed (number : ℕ) (key : Key) (kept : Kept V) : Type 0 where
     pub given : kept.number ≡ Some number
-    pub missing : value_of key kept ≡ None
+    pub missing : kept_value_of key kept ≡ None

@@ -2,7 +2,7 @@ ghost use Rattle.std.specs.Prelude.{◌≡◌, ◌≤◌, OnOk, OnErr, IfOk, IfN
 ghost use Rattle.std.specs.Map.{lookup};
 ghost use Rattle.lru.specs.LruCache.{promoted};
 ghost use Rattle.verdict_cache.specs.Key.{same_key};
-ghost use Rattle.verdict_cache.specs.Cache.{is_given, empty_cache, at_number, value_of, with_key_first, with_pair, WasMissed};
+ghost use Rattle.verdict_cache.specs.Cache.{is_given, empty_cache, at_number, kept_value_of, with_key_first, with_pair, WasMissed};
 
 use crate::Key;
 use fw_base::OutOfMemory;
@@ -82,7 +82,7 @@ impl<V: Copy> VerdictCache<V> {
     /// The value that is kept for the key, which becomes the most recent; none exactly where the key
     /// isn't kept. It first empties the cache where `number` isn't the last one given. It takes no memory.
     pub fn look(&mut self, number: u64, key: Key) -> Option<V>
-        ensures value { result ≡ value_of key (at_number number self.old) }
+        ensures value { result ≡ kept_value_of key (at_number number self.old) }
         ensures pairs { self.new ≡ with_key_first key (at_number number self.old) }
         ensures missed { IfNone result (WasMissed number key self.new) }
     {

@@ -19,7 +19,7 @@ use Rattle.fw_rule.specs.declared.state_opt.StateOpt.TheVariants.{Keep, Limit}
 use Rattle.fw_rule.specs.declared.body.Body.{Body}
 use Rattle.fw_lex.specs.declared.token.Token.{Token}
 use Rattle.ipfw_parser.specs.declared.kind.Kind.TheVariants.{UnknownWord, Misplaced, SecondState, BadName}
-use Rattle.ipfw_parser.specs.Reading.{Word, fault_at, same, first, expected, word_at}
+use Rattle.ipfw_parser.specs.Reading.{Word, fault_at, same, first, words_behind_word, word_at}
 use Rattle.ipfw_parser.specs.Numbers.{number, starts_with_digit, set_number}
 use Rattle.ipfw_parser.specs.Names.{is_name, starts_with_colon, is_any_flow, named_flow, table_name, iface, place, word_in, found_word, code}
 use Rattle.ipfw_parser.specs.Lists.{types, types6, signs}
@@ -189,10 +189,10 @@ unfolding body
 body_on end words =
     on_bind (first end words) _ (λ _. ⊤) IsBodyForm (any_on (first end words)) (λ next _.
     on_bind (protocol next.0) _ (λ n. IsProtocolForm next.0.text n) IsBodyForm (protocol_on next.0) (λ asked small.
-    on_bind (expected (codes "from") end next.1) _ (λ _. ⊤) IsBodyForm (any_on (expected (codes "from") end next.1)) (λ from_end _.
+    on_bind (words_behind_word (codes "from") end next.1) _ (λ _. ⊤) IsBodyForm (any_on (words_behind_word (codes "from") end next.1)) (λ from_end _.
     on_bind (addr_spec end from_end) _ (λ r. IsListForm IsItemForm r.0.items) IsBodyForm (addr_spec_on end from_end) (λ source from_form.
     on_bind (source_ports end source.1) _ (λ r. ArePorts r.0) IsBodyForm (source_ports_on end source.1) (λ ports ports_form.
-    on_bind (expected (codes "to") end ports.1) _ (λ _. ⊤) IsBodyForm (any_on (expected (codes "to") end ports.1)) (λ to_end _.
+    on_bind (words_behind_word (codes "to") end ports.1) _ (λ _. ⊤) IsBodyForm (any_on (words_behind_word (codes "to") end ports.1)) (λ to_end _.
     on_bind (addr_spec end to_end) _ (λ r. IsListForm IsItemForm r.0.items) IsBodyForm (addr_spec_on end to_end) (λ target to_form.
     on_bind (destination_ports end target.1) _ (λ r. ArePorts r.0) IsBodyForm (destination_ports_on end target.1) (λ target_ports target_form.
     on_bind (options (length target_ports.1) end false target_ports.1) _ (λ p. IsPlacedForm p.options p.state p.state_at) IsBodyForm (options_on (length target_ports.1) end false target_ports.1) (λ placed placed_form.

@@ -10,7 +10,7 @@ use Rattle.fw_rule.specs.declared.state_opt.StateOpt.TheVariants.{Limit}
 use Rattle.fw_rule.specs.declared.test.Test.{Test}
 use Rattle.fw_rule.specs.declared.port_list.PortList.{PortList}
 use Rattle.ipfw_parser.specs.declared.kind.Kind.TheVariants.{UnknownWord, Misplaced, SecondState}
-use Rattle.ipfw_parser.specs.Reading.{Word, Fault, WordReading, fault_at, ◌>>=◌, same, first, expected, negation, word_at}
+use Rattle.ipfw_parser.specs.Reading.{Word, Fault, WordReading, fault_at, ◌>>=◌, same, first, words_behind_word, negation, word_at}
 use Rattle.ipfw_parser.specs.Numbers.{number, set_number, starts_with_digit}
 use Rattle.ipfw_parser.specs.Names.{table_name, starts_with_colon, is_any_flow, named_flow, code}
 use Rattle.ipfw_parser.specs.Addresses.{items, addr_spec}
@@ -21,8 +21,8 @@ use Rattle.ipfw_parser.specs.Places.{IsColumn, FaultsStandAtWords}
 use Rattle.ipfw_parser.proofs.Places.Words.{Told, Within, Any, Rest, bind_told, if_told, bind_word, told_more, rest_more, all_words, one_less, after_first, first_told, bind_first, number_at, set_at, name_at, flow_at, code_at, items_at, ranges_at, field_at, limit_mask_at, test_of_at, protocol_at}
 
 -- readings of words
-pub expected_in : (name : List ℕ) (end : ℕ) (words : List Word) → Told end words (λ rest. Within end rest words) (expected name end words)
-unfolding expected
+pub expected_in : (name : List ℕ) (end : ℕ) (words : List Word) → Told end words (λ rest. Within end rest words) (words_behind_word name end words)
+unfolding words_behind_word
 expected_in name end words =
     after_first end words _ (λ rest. Within end rest words) (λ next here more.
     if_told end words (same next.0.text name) (Ok next.1) (fault_at next.0.column UnknownWord) (λ rest. Within end rest words) more here)
@@ -148,10 +148,10 @@ unfolding body
 body_in end words =
     after_first end words _ Any (λ next here more.
     bind_word end words next.0.column (protocol next.0) _ Any here (protocol_at next.0) (λ asked.
-    told_more end next.1 words _ more (bind_told end next.1 (expected (codes "from") end next.1) _ (λ rest. Within end rest next.1) Any (expected_in (codes "from") end next.1) (λ from_end in_from.
+    told_more end next.1 words _ more (bind_told end next.1 (words_behind_word (codes "from") end next.1) _ (λ rest. Within end rest next.1) Any (expected_in (codes "from") end next.1) (λ from_end in_from.
     told_more end from_end next.1 _ in_from (bind_told end from_end (addr_spec end from_end) _ (Rest end from_end) Any (addr_spec_in end from_end) (λ source in_source.
     told_more end source.1 from_end _ in_source (bind_told end source.1 (source_ports end source.1) _ (Rest end source.1) Any (source_ports_in end source.1) (λ ports in_ports.
-    told_more end ports.1 source.1 _ in_ports (bind_told end ports.1 (expected (codes "to") end ports.1) _ (λ rest. Within end rest ports.1) Any (expected_in (codes "to") end ports.1) (λ to_end in_to.
+    told_more end ports.1 source.1 _ in_ports (bind_told end ports.1 (words_behind_word (codes "to") end ports.1) _ (λ rest. Within end rest ports.1) Any (expected_in (codes "to") end ports.1) (λ to_end in_to.
     told_more end to_end ports.1 _ in_to (bind_told end to_end (addr_spec end to_end) _ (Rest end to_end) Any (addr_spec_in end to_end) (λ target in_target.
     told_more end target.1 to_end _ in_target (bind_told end target.1 (destination_ports end target.1) _ (Rest end target.1) Any (destination_ports_in end target.1) (λ target_ports in_ports_of.
     told_more end target_ports.1 target.1 _ in_ports_of (bind_told end target_ports.1 (options (length target_ports.1) end false target_ports.1) _ Any Any (options_in (length target_ports.1) end false target_ports.1) (λ placed u. tt))))))))))))))))

@@ -21,7 +21,7 @@ use Rattle.fw_rule.specs.declared.port_list.PortList.{PortList}
 use Rattle.fw_rule.specs.declared.body.Body.{Body}
 use Rattle.fw_rule.specs.declared.rule.Rule.{Rule}
 use Rattle.fw_rule.specs.declared.rule_draft.RuleDraft.{RuleDraft}
-use Rattle.ipfw_parser.specs.Reading.{Word, Fault, WordReading, same, first, expected, negation}
+use Rattle.ipfw_parser.specs.Reading.{Word, Fault, WordReading, same, first, words_behind_word, negation}
 use Rattle.ipfw_parser.specs.Numbers.{starts_with_digit}
 use Rattle.ipfw_parser.specs.Names.{place, word_in, code}
 use Rattle.ipfw_parser.specs.Addresses.{addr_spec}
@@ -233,7 +233,7 @@ unfolding same
 from_from = refl
 
 body_again : (b : Body) (c : List (List ℕ) → ℕ) (end : ℕ) → IsBodyForm b → body end (at_columns c (body_words b)) ≡ Ok b
-unfolding body first expected
+unfolding body first words_behind_word
 body_again b c end form =
     rw (
       version_again b.family b.protocol (c (body_words b)) form.family form.protocol,

@@ -6,7 +6,7 @@ use Rattle.std.proofs.lemmas.Bool.{and_parts}
 use Rattle.fw_rule.specs.Values.{values_of}
 use Rattle.dyn_states.specs.declared.state.State.{State}
 use Rattle.dyn_states.specs.Slots.{IsFirstPlace, slot, no_state, is_held, held_states}
-use Rattle.dyn_states.specs.StateObject.{StateObject, lookup_reply, after_lookup, found_reply, considers, touched, with_first}
+use Rattle.dyn_states.specs.StateObject.{StateObject, lookup_reply, after_lookup, found_reply, considers, state_after_lookup, with_first}
 use Rattle.dyn_states.specs.StateTable.{slots_of, states_of, object_of}
 use Rattle.dyn_states.proofs.CountLaws.{live-touch}
 use Rattle.dyn_states.proofs.SlotLaws.{find-none, find-held, with_first-held, with_first-none}
@@ -26,8 +26,8 @@ returns-in-None-clause-after c =
     let o : StateObject = object_of c.args.table.now c.args.clock (values_of c.args.settings.now) in
     let test = considers c.args.flow.now c.args.name in
     let first : IsFirstPlace test (slots_of c.make_room.new.self) None = rw c.in-None.is at c.place_of.ensures in
-    let same = with_first-none test (touched o c.args.flow.now c.args.flags) (slots_of c.make_room.new.self) first in
-    ap (λ (states : List State). let p : StateObject = record o { states = states } in p) (sym same ∙ ap (λ (states : List State). with_first test (touched o c.args.flow.now c.args.flags) states) c.make_room.ensures.states)
+    let same = with_first-none test (state_after_lookup o c.args.flow.now c.args.flags) (slots_of c.make_room.new.self) first in
+    ap (λ (states : List State). let p : StateObject = record o { states = states } in p) (sym same ∙ ap (λ (states : List State). with_first test (state_after_lookup o c.args.flow.now c.args.flags) states) c.make_room.ensures.states)
 
 pub returns-in-Some-clause-reply : goal.returns-in-Some-clause-reply
 unfolding lookup_reply
@@ -42,7 +42,7 @@ unfolding after_lookup
 returns-in-Some-clause-after c =
     let o : StateObject = object_of c.args.table.now c.args.clock (values_of c.args.settings.now) in
     let test = considers c.args.flow.now c.args.name in
-    let change = touched o c.args.flow.now c.args.flags in
+    let change = state_after_lookup o c.args.flow.now c.args.flags in
     let slots : List State = slots_of c.make_room.new.self in
     let first : IsFirstPlace test slots (Some c.in-Some.place) = rw c.in-Some.is at c.place_of.ensures in
     let is : c.touched.result ≡ change (slot slots c.in-Some.place) = rw c.slots.ensures at c.touched.ensures.value in

@@ -2,7 +2,7 @@ use Rattle.std.proofs.Common.{◌≡◌, ◌+◌, length, ◌∙◌, arith, rule
 use Rattle.fw_base.specs.Prefix.{size_of}
 use Rattle.lookup_tables.specs.AddrTable.{network_cmp}
 use Rattle.lookup_tables.specs.Entries.{with_entry}
-use Rattle.lookup_tables.specs.Pieces.{is_end, decided}
+use Rattle.lookup_tables.specs.Pieces.{is_end, deciding_entry}
 use Rattle.lookup_tables.specs.declared.change.Change.TheVariants.{Put}
 use Rattle.lookup_tables.proofs.Cuts.{changed_to}
 use Rattle.lookup_tables.proofs.Puts.{AreReady, begun, begins_end, ends_end, ends_more, end_put_here, put_to_end, put_to_last}
@@ -17,14 +17,14 @@ returns-in-Some-clause-kept c = λ es h fresh kept.
     let more = ends_more es n v c.begin.new.pieces.items first.1 in
     let ready : AreReady es n v c.cut_at-start.new.pieces.items c.cut_at-start.result = record {
       division = c.cut_at-start.ensures.division;
-      tells = c.cut_at-start.ensures.tells (decided es) first.0;
+      tells = c.cut_at-start.ensures.tells (deciding_entry es) first.0;
       ends = c.cut_at-start.ensures.ends (is_end (with_entry network_cmp es n v)) more (end_put_here es n v c.address.result.0 (begins_end n c.address.result.0 c.address.ensures));
       within = c.cut_at-start.ensures.within;
       begins = c.cut_at-start.ensures.begins ∙ c.address.ensures;
     } in
     let hi : c.in-Some.address.0 ≡ n.address + size_of n.bits = c.in-Some.ensures.end in
     put_to_end es n v h is fresh c.cut_at-start.new.pieces.items c.change_pieces.new.pieces.items c.cut_at-start.result ready
-    c.cut_at-end.new.pieces.items c.cut_at-end.result c.cut_at-end.ensures.division (c.cut_at-end.ensures.tells (decided es) ready.tells)
+    c.cut_at-end.new.pieces.items c.cut_at-end.result c.cut_at-end.ensures.division (c.cut_at-end.ensures.tells (deciding_entry es) ready.tells)
     (c.cut_at-end.ensures.ends (is_end (with_entry network_cmp es n v)) ready.ends (end_put_here es n v c.in-Some.address.0 (ends_end n c.in-Some.address.0 hi)))
     c.cut_at-end.ensures.within (c.cut_at-end.ensures.begins ∙ hi) (λ k within less. c.cut_at-end.ensures.before k within (omega arith)) c.cut_at-end.ensures.longer c.change_pieces.ensures.changed
 
@@ -37,7 +37,7 @@ returns-in-None-clause-kept c = λ es h fresh kept.
     let more = ends_more es n v c.begin.new.pieces.items first.1 in
     let ready : AreReady es n v c.cut_at-start.new.pieces.items c.cut_at-start.result = record {
       division = c.cut_at-start.ensures.division;
-      tells = c.cut_at-start.ensures.tells (decided es) first.0;
+      tells = c.cut_at-start.ensures.tells (deciding_entry es) first.0;
       ends = c.cut_at-start.ensures.ends (is_end (with_entry network_cmp es n v)) more (end_put_here es n v c.address.result.0 (begins_end n c.address.result.0 c.address.ensures));
       within = c.cut_at-start.ensures.within;
       begins = c.cut_at-start.ensures.begins ∙ c.address.ensures;

@@ -3,7 +3,7 @@ use Rattle.fw_base.specs.Prefix.{size_of}
 use Rattle.lookup_tables.specs.AddrTable.{network_cmp}
 use Rattle.lookup_tables.specs.Change.{AreChanged}
 use Rattle.lookup_tables.specs.Entries.{without_key}
-use Rattle.lookup_tables.specs.Pieces.{is_end, decided, decided_within, IsIn, HaveEnds, AreEntries}
+use Rattle.lookup_tables.specs.Pieces.{is_end, deciding_entry, decided_within, IsIn, HaveEnds, AreEntries}
 use Rattle.lookup_tables.specs.declared.change.Change.TheVariants.{Take}
 use Rattle.lookup_tables.proofs.Cuts.{change_ends}
 use Rattle.lookup_tables.proofs.Takes.{range_of, take_tells, ends_left, ends_low, left_kept, same_or_end}
@@ -33,13 +33,13 @@ returns-in-Some c = λ es h some there is kept.
     let ends = change_ends (Take n (decided_within rest n.address n.bits)) c.args.pieces.now.items c.change_pieces.new.pieces.items c.place_in-start.result c.place_in-end.result change
     (λ a. (is_end rest a || nat_eq a n.address) || nat_eq a (n.address + size_of n.bits)) (ends_left es n h there c.args.pieces.now.items kept.ends) in
     let ends_end = subst (λ (x : ℕ). HaveEnds (λ a. (is_end rest a || nat_eq a n.address) || nat_eq a x) c.change_pieces.new.pieces.items) (sym hi) ends in
-    let tells_joined = c.join_at.ensures.tells (decided rest) tells in
-    let ends_joined = c.join_at.ensures.ends (λ a. is_end rest a || nat_eq a n.address) (decided rest) tells ends_end refl
+    let tells_joined = c.join_at.ensures.tells (deciding_entry rest) tells in
+    let ends_joined = c.join_at.ensures.ends (λ a. is_end rest a || nat_eq a n.address) (deciding_entry rest) tells ends_end refl
     (λ above. elim (same_or_end rest lawful c.in-Some.address.0 above) [ inl same ↦ inl same | inr e ↦ inr (rw e refl) ]) in
     let ends_start = subst (λ (x : ℕ). HaveEnds (λ a. is_end rest a || nat_eq a x) c.join_at.new.pieces.items) (sym c.address-in-Some.ensures) ends_joined in
     let nonempty : 0 < length c.args.entries.now = search rules in
-    rw is (left_kept rest c.join_at-in-Some.new.pieces.items (rw is at nonempty) c.join_at-in-Some.ensures.division (c.join_at-in-Some.ensures.tells (decided rest) tells_joined)
-    (c.join_at-in-Some.ensures.ends (is_end rest) (decided rest) tells_joined ends_start refl (same_or_end rest lawful c.address-in-Some.result.0)))
+    rw is (left_kept rest c.join_at-in-Some.new.pieces.items (rw is at nonempty) c.join_at-in-Some.ensures.division (c.join_at-in-Some.ensures.tells (deciding_entry rest) tells_joined)
+    (c.join_at-in-Some.ensures.ends (is_end rest) (deciding_entry rest) tells_joined ends_start refl (same_or_end rest lawful c.address-in-Some.result.0)))
 
 pub returns-in-None : goal.returns-in-None
 returns-in-None c = λ es h some there is kept.
@@ -61,5 +61,5 @@ returns-in-None c = λ es h some there is kept.
     let ends_joined = ends_low (λ a. is_end rest a || nat_eq a n.address) (n.address + size_of n.bits) c.change_pieces-in-None.new.pieces.items division high ends in
     let ends_start = subst (λ (x : ℕ). HaveEnds (λ a. is_end rest a || nat_eq a x) c.change_pieces-in-None.new.pieces.items) (sym c.address-in-None.ensures) ends_joined in
     let nonempty : 0 < length c.args.entries.now = search rules in
-    rw is (left_kept rest c.join_at-in-None.new.pieces.items (rw is at nonempty) c.join_at-in-None.ensures.division (c.join_at-in-None.ensures.tells (decided rest) tells)
-    (c.join_at-in-None.ensures.ends (is_end rest) (decided rest) tells ends_start refl (same_or_end rest lawful c.address-in-None.result.0)))
+    rw is (left_kept rest c.join_at-in-None.new.pieces.items (rw is at nonempty) c.join_at-in-None.ensures.division (c.join_at-in-None.ensures.tells (deciding_entry rest) tells)
+    (c.join_at-in-None.ensures.ends (is_end rest) (deciding_entry rest) tells ends_start refl (same_or_end rest lawful c.address-in-None.result.0)))

@@ -2,9 +2,9 @@ use Rattle.std.proofs.Common.{◌≡◌, ℕ, List, [], ◌∷◌, length, get_o
 use Rattle.std.proofs.lemmas.List.Sorted.{IsPermutation-refl}
 use Rattle.eval_engine.specs.declared.docket_entry.DocketEntry.TheVariants.{Other}
 use Rattle.fw_world.specs.Closing.{AreLanesFrom, by_place}
-use Rattle.fw_world.specs.Lane.{LaneValue, first_lane, with_entry}
+use Rattle.fw_world.specs.Lane.{LaneValue, first_lane, with_docket_entry}
 use Rattle.fw_world.specs.World.{WorldValue, published_count}
-use Rattle.fw_world.specs.WorldKept.{IsOpened}
+use Rattle.fw_world.specs.WorldKept.{IsNewWorld}
 use Rattle.fw_world.proofs.Arranging.{by_place-moved}
 use Rattle.rule_chain.specs.Configuration.{Configuration}
 use Rattle.record_laws.proofs.tests.entered_by_two.Goals as goal
@@ -12,9 +12,9 @@ use Rattle.record_laws.proofs.tests.entered_by_two.Goals.{then-turned, else-turn
 
 -- two new lanes, of which the second passed a record over
 abbrev pair : List LaneValue
-pair = first_lane 1 ∷ with_entry Other (first_lane 2) ∷ []
+pair = first_lane 1 ∷ with_docket_entry Other (first_lane 2) ∷ []
 
-are-pair : (config : Configuration) (world : WorldValue) → IsOpened config 2 world → AreLanesFrom world 1 pair
+are-pair : (config : Configuration) (world : WorldValue) → IsNewWorld config 2 world → AreLanesFrom world 1 pair
 are-pair config world opened =
     let one : published_count world ≡ 1 = ap length opened.editions in
     let two : world.journal.lanes ≡ 2 = ap (λ j. j.lanes) opened.journal in (
@@ -27,7 +27,7 @@ are-pair config world opened =
       ),
     )
 
-close_in : (config : Configuration) (world after : WorldValue) (lanes moved : List LaneValue) → IsOpened config 2 world → after ≡ world → lanes ≡ pair → IsPermutation lanes moved → AreLanesFrom after 1 (by_place moved)
+close_in : (config : Configuration) (world after : WorldValue) (lanes moved : List LaneValue) → IsNewWorld config 2 world → after ≡ world → lanes ≡ pair → IsPermutation lanes moved → AreLanesFrom after 1 (by_place moved)
 close_in config world after lanes moved opened unchanged is same =
     let are = are-pair config world opened in
     let ordered : by_place moved ≡ pair = by_place-moved world 1 pair moved are (subst (λ (l : List LaneValue). IsPermutation l moved) is same) in
@@ -38,7 +38,7 @@ close-requires-clause-lanes c =
     let opened = c.in_ok-world.ensures in
     let lane : LaneValue = c.pass_over.new.lane in
     let second : c.index_mut.result.now ≡ first_lane 2 = c.index_mut.ensures.value ∙ ap (λ (l : List LaneValue). get_or l 1 c.index_mut.result.now) opened.lanes in
-    let passed : lane ≡ with_entry Other (first_lane 2) = c.in_ok-pass_over.ensures.lane ∙ ap (λ (l : LaneValue). with_entry Other l) second in
+    let passed : lane ≡ with_docket_entry Other (first_lane 2) = c.in_ok-pass_over.ensures.lane ∙ ap (λ (l : LaneValue). with_docket_entry Other l) second in
     let is : slice_set c.in_ok-world.field-0.lanes.items 1 lane ≡ pair = ap (λ (l : List LaneValue). slice_set l 1 lane) opened.lanes ∙ ap (λ (l : LaneValue). first_lane 1 ∷ l ∷ []) passed in
     let closes = λ (moved : List LaneValue). close_in _ _ c.pass_over.new.self (slice_set c.in_ok-world.field-0.lanes.items 1 lane) moved opened.world c.in_ok-pass_over.ensures.world is in
     elim c.if-turned.branch [

@@ -1,5 +1,5 @@
 use Rattle.std.proofs.Common.{◌≡◌, ◌∙◌, ap, sym, subst, List, [], ◌∷◌, ◌++◌, ℕ}
-use Rattle.load_maker.specs.Load.{script_of, capture_of}
+use Rattle.load_maker.specs.Load.{load_script, load_capture}
 use Rattle.replay_driver.specs.Found.{IsReplayOf, made_capture, known_left, no_failures}
 use Rattle.serial_replay.specs.declared.replay.OpenedCapture.{OpenedCapture}
 use Rattle.replay_driver.proofs.replay_load.replay_load.Goals as goal
@@ -13,6 +13,6 @@ returns-clause-finds c =
     ∙ ap (λ (o : OpenedCapture (List ℕ)). o ∷ []) (c.in_ok-open_made.ensures ∙ ap made_capture c.in_ok-script.ensures.capture) in
     record {
       sources = c.in-Replayed.sources.items;
-      replay = subst (λ (l : List ℕ). IsReplayOf known_left no_failures l (made_capture (capture_of n) ∷ []) c.in-Replayed.kept c.in-Replayed.ends c.in-Replayed.sources.items) script
+      replay = subst (λ (l : List ℕ). IsReplayOf known_left no_failures l (made_capture (load_capture n) ∷ []) c.in-Replayed.kept c.in-Replayed.ends c.in-Replayed.sources.items) script
           (subst (λ (os : List (OpenedCapture (List ℕ))). IsReplayOf known_left no_failures c.deref.result.now os c.in-Replayed.kept c.in-Replayed.ends c.in-Replayed.sources.items) opened replays);
     }

@@ -7,7 +7,7 @@ use Rattle.state_journal.specs.Journal.{last_rules}
 use Rattle.fw_world.specs.AskRuns.{Evaluates}
 use Rattle.fw_world.specs.Columns.{no_columns}
 use Rattle.fw_world.specs.Editions.{IsLastOf}
-use Rattle.fw_world.specs.Lane.{LaneValue, with_entry}
+use Rattle.fw_world.specs.Lane.{LaneValue, with_docket_entry}
 use Rattle.fw_world.specs.Steps.{Judges, ChangesAsksOf, question_under}
 use Rattle.std.specs.Prelude.{IfOk}
 use Rattle.std.proofs.lemmas.Result.{IfOk-weaker}
@@ -76,7 +76,7 @@ returns-clause-stands c =
     let world : IsWorld c.args.self.now = subst (λ (w : WorldValue). IsWorld w) c.self.view_is c.self.invariant.0 in
     OnOk-both c.judge.result
     (λ judgement. Judges c.args.self.now (record { editions = editions; journal = new }) before.place at c.args.packet.now c.args.port.now c.args.second before.tally after.tally judgement)
-    (λ judgement. after ≡ record (with_entry (judged_entry judgement) before) { tally = after.tally })
+    (λ judgement. after ≡ record (with_docket_entry (judged_entry judgement) before) { tally = after.tally })
     _
     (λ judgement judges lane. λ inputs stands.
     LaneStandsFor-judged c.args.self.now (record { editions = editions; journal = new }) before after c.args.packet.now c.args.port.now c.args.second judgement inputs world judges

@@ -2,15 +2,15 @@ use Rattle.std.proofs.Common.{◌≡◌, List, [], ◌∷◌, ◌++◌, ◌∙�
 use Rattle.std.specs.Prelude.{OnOk}
 use Rattle.eval_engine.specs.declared.docket_entry.DocketEntry.{DocketEntry}
 use Rattle.fw_world.specs.Inputs.{Input}
-use Rattle.fw_world.specs.Lane.{LaneValue, with_entry}
+use Rattle.fw_world.specs.Lane.{LaneValue, with_docket_entry}
 use Rattle.fw_world.specs.Skips.{entry_for, skipped_input}
 use Rattle.fw_world.specs.World.{IsLaneOf, LaneStandsFor}
 use Rattle.fw_world.proofs.Passing.{IsLane-passed, IsLaneOf-passed, LaneStandsFor-passed}
 use Rattle.fw_world.proofs.serial_world.SerialWorld.pass_over.Goals as goal
 use Rattle.fw_world.proofs.serial_world.SerialWorld.pass_over.Goals.{After-skip}
 
-entered : (c : After-skip) → OnOk c.skip.result (c.skip.new.self ≡ with_entry (entry_for c.args.entry) c.lane.inside.state)
-entered c = subst (λ (e : DocketEntry). OnOk c.skip.result (c.skip.new.self ≡ with_entry e c.lane.inside.state)) c.skipped_entry.ensures c.skip.ensures.entered
+entered : (c : After-skip) → OnOk c.skip.result (c.skip.new.self ≡ with_docket_entry (entry_for c.args.entry) c.lane.inside.state)
+entered c = subst (λ (e : DocketEntry). OnOk c.skip.result (c.skip.new.self ≡ with_docket_entry e c.lane.inside.state)) c.skipped_entry.ensures c.skip.ensures.entered
 
 pub invariant_of-lane : goal.invariant_of-lane
 invariant_of-lane c = IsLane-passed c.skip.result c.args.entry c.lane.inside.state c.skip.new.self (entered c) c.skip.ensures.failed c.lane.invariant

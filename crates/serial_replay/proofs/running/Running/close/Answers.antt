@@ -1,5 +1,5 @@
 use Rattle.std.proofs.Common.{List, sym, ap, subst, ◌∙◌}
-use Rattle.fw_world.specs.Closing.{AreLanesFrom, EachStandsFor, record_of}
+use Rattle.fw_world.specs.Closing.{AreLanesFrom, EachStandsFor, record_of_world}
 use Rattle.fw_world.specs.Lane.{LaneValue}
 use Rattle.fw_world.specs.Legal.{IsLegal}
 use Rattle.fw_world.proofs.Arranging.{by_place-same}
@@ -16,7 +16,7 @@ returns g c =
     let live = c.args.self.live in
     let lanes = live.lanes.items in
     let same = by_place-same live.world 1 lanes c.requires.sound.lanes in
-    let exact = c.in_ok-record.ensures.exact ∙ ap (record_of live.world) same in
+    let exact = c.in_ok-record.ensures.exact ∙ ap (record_of_world live.world) same in
     record {
       record_is = exact;
       legal = λ first commands inputs accepted stands.
