@@ -51,7 +51,8 @@ pub(crate) fn open_at<'r>(question: &Question<'_, '_>, op: Op) -> Result<Story<'
 
 /// A reply that isn't one to its ask.
 pub(crate) fn mistaken<'r>(question: &Question<'_, '_>, op: Op) -> Result<Story<'r>, OutOfMemory>
-    ensures { IfOk result (λ story. story_of story ≡ told.story_with_ask op (told.plain_story told.Mistakes)) }
+    ensures { IfOk result (λ story. story_of story
+        ≡ told.story_with_ask op (told.plain_story told.Mistakes)) }
 {
     asked(op, plainly(question.alloc, Ending::Mistakes))
 }

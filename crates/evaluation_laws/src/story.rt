@@ -54,7 +54,8 @@ pub(crate) fn asked<'r>(op: Op, story: Story<'r>) -> Result<Story<'r>, OutOfMemo
 
 /// Behind this hit.
 pub(crate) fn hit<'r>(counter: u32, story: Story<'r>) -> Result<Story<'r>, OutOfMemory>
-    ensures { IfOk result (λ more. story_of more ≡ spec.story_with_hit counter (story_of story.entry)) }
+    ensures { IfOk result (λ more. story_of more
+        ≡ spec.story_with_hit counter (story_of story.entry)) }
 {
     let mut story = story;
     story.hits.push_front(counter)?;

@@ -36,7 +36,8 @@ impl Change {
 
 fn put(piece: Piece, prefix: Prefix, value: u32) -> Piece
     ensures first { result.first ≡ piece.first }
-    ensures decider { decider result ≡ decider_after_change (Change.Put prefix value) (decider piece) }
+    ensures decider { decider result
+        ≡ decider_after_change (Change.Put prefix value) (decider piece) }
 {
     if piece.value.is_some() && piece.prefix.length() >= prefix.length() {
         piece
@@ -51,7 +52,8 @@ fn put(piece: Piece, prefix: Prefix, value: u32) -> Piece
 
 fn take(piece: Piece, prefix: Prefix, next: &Option<(Prefix, u32)>) -> Piece
     ensures first { result.first ≡ piece.first }
-    ensures decider { decider result ≡ decider_after_change (Change.Take prefix next.now) (decider piece) }
+    ensures decider { decider result
+        ≡ decider_after_change (Change.Take prefix next.now) (decider piece) }
 {
     if piece.value.is_some() && are_equal(piece.prefix, prefix) {
         decided(piece, next)

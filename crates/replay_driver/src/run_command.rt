@@ -168,7 +168,8 @@ where
         (IfSome (job_of (map string_bytes words.now)) (λ job.
         IsUnreadyJob K.written K.faults L.pairs L.faults L.refused L.Reader.left L.Reader.faults
         job library.old library.new out.old out.new result)) }
-    ensures status_2_with_record { result.status ≡ 2 → IfSome result.kept (λ _. HasRefusedCommand result) }
+    ensures status_2_with_record { result.status ≡ 2
+        → IfSome result.kept (λ _. HasRefusedCommand result) }
     ensures status_3_cause { result.status ≡ 3 → IsFaulty result }
     ensures status_4_before { result.status ≡ 4 → IfNone result.kept
         (IfSome (job_of (map string_bytes words.now)) (λ job.

@@ -49,7 +49,8 @@ fn take_set(rules: &mut Vec<Arc<Rule>>, set: u8)
 
 /// Takes out the rules of all sets but 31.
 fn take_unreserved(rules: &mut Vec<Arc<Rule>>)
-    ensures { map arc_value rules.new.items ≡ lists.rules_kept_by_flush (map arc_value rules.old.items) }
+    ensures { map arc_value rules.new.items
+        ≡ lists.rules_kept_by_flush (map arc_value rules.old.items) }
 {
     rules.retain(|rule| rule.set == LAST_SET);
 }

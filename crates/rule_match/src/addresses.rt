@@ -118,7 +118,8 @@ fn holds_addresses6(address: Addr6, asked: &AddrSpec) -> bool
 
 /// Whether the packet's source address is one that the rule asks for.
 pub fn holds_source(tables: &Tables, locals: &[Addr], packet: &AnyIp<'_>, asked: &AddrSpec) -> bool
-    ensures { result ≡ spec.holds_addresses tables.now locals.now (source_address_of packet.now) asked.now }
+    ensures { result
+        ≡ spec.holds_addresses tables.now locals.now (source_address_of packet.now) asked.now }
 {
     match packet {
         AnyIp::Four(packet) => holds_addresses4(tables, locals, packet.source(), asked),
@@ -133,8 +134,8 @@ pub fn holds_destination(
     packet: &AnyIp<'_>,
     asked: &AddrSpec,
 ) -> bool
-    ensures { result ≡ spec.holds_addresses tables.now locals.now (destination_address_of packet.now)
-        asked.now }
+    ensures { result
+        ≡ spec.holds_addresses tables.now locals.now (destination_address_of packet.now) asked.now }
 {
     match packet {
         AnyIp::Four(packet) => holds_addresses4(tables, locals, packet.destination(), asked),

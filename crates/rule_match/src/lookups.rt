@@ -50,7 +50,8 @@ fn source_value(table: Option<&Table>, packet: &AnyIp<'_>) -> Option<u32>
 
 /// The same of its destination address.
 fn destination_value(table: Option<&Table>, packet: &AnyIp<'_>) -> Option<u32>
-    ensures { result ≡ spec.answer_for (option_copied table.entry) (destination_address_of packet.now) }
+    ensures { result
+        ≡ spec.answer_for (option_copied table.entry) (destination_address_of packet.now) }
 {
     match packet {
         AnyIp::Four(packet) => address_value(table, packet.destination()),

@@ -59,7 +59,8 @@ impl<S: Source> Tracks<S> {
 
     /// The capture whose held record comes first.
     pub(crate) fn first(&self) -> Option<usize>
-        ensures { result ≡ order.first_capture (map (option_map moment_of) (map held_record_of self.now)) }
+        ensures { result
+            ≡ order.first_capture (map (option_map moment_of) (map held_record_of self.now)) }
     {
         first_capture(&self.moments)
     }
