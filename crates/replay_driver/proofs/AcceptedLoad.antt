@@ -1,5 +1,5 @@
 -- The script of a load is accepted.
-use Rattle.std.proofs.Common.{◌≡◌, ℕ, ◌+◌, ◌≤◌, None, Ok, List, [], ◌∷◌, ◌++◌, refl, ap, ◌∙◌}
+use Rattle.std.proofs.Common.{◌≡◌, ℕ, ◌+◌, ◌≤◌, None, Ok, Err, List, [], ◌∷◌, ◌++◌, refl, ap, ◌∙◌}
 use Rattle.std.specs.List.{list_any, AllByRecursion}
 use Rattle.fw_command.specs.declared.script.Line.{Line}
 use Rattle.fw_command.specs.declared.script.Script.{Script}
@@ -18,6 +18,7 @@ use Rattle.replay_driver.specs.FirstEdition.{configuration_behind, listings_of, 
 use Rattle.replay_driver.specs.Promises.{IsAccepted}
 use Rattle.replay_driver.specs.RunResult.{is_refused}
 use Rattle.replay_driver.specs.declared.first_edition.FirstEdition.{FirstEdition}
+use Rattle.replay_driver.specs.declared.script_error.ScriptError.{ScriptError}
 
 -- no line has a listing
 abbrev AreUnlisted : List Line → Type 0
@@ -64,3 +65,7 @@ load_accepted n few =
       first = rw (scripts_read n few) (rw (made.made, none_listed made.last script.before unlisted) refl);
       accepted = ap (list_any is_refused) (none_answered (first_standing made.last) (all_lines script.live) (refl, tt) made.behind);
     }
+
+-- so it has no error
+pub load_ready : (n : ℕ) → n ≤ MOST_RECORDS → (error : ScriptError) → first_edition (load.load_script n) ≡ Err error → ⊥
+load_ready n few error failed = let ok = (load_accepted n few).first in cc

@@ -45,9 +45,10 @@ use Rattle.replay_driver.specs.declared.outcome.Outcome.{Outcome}
 use Rattle.replay_driver.specs.declared.run_result.RunResult.{RunResult}
 use Rattle.replay_driver.specs.declared.run_result.RunResult.TheVariants.{Usage, Unread, Unready, Reported, Summed}
 use Rattle.replay_driver.specs.declared.script_error.ScriptError.{ScriptError}
-use Rattle.replay_driver.proofs.AcceptedLoad.{load_accepted}
+use Rattle.replay_driver.proofs.AcceptedLoad.{load_accepted, load_ready}
 use Rattle.replay_driver.proofs.LoadWords.{CanBeMade}
 use Rattle.replay_driver.proofs.Openings.{opens_length}
+use Rattle.replay_driver.proofs.Promised.{IfSome-both}
 use Rattle.replay_driver.proofs.Statuses.{all_well}
 use Rattle.replay_driver.proofs.Told.{names_steady}
 
@@ -264,9 +265,7 @@ module _ {K S L : Type 0} (written : K → Option (List ℕ)) (sink_faults : K �
   load_status : (n : ℕ) → n ≤ MOST_RECORDS → (result : RunResult) → FindsLoad n result → result_status result ≡ 0
   load_status n few Usage finds = absurd finds
   load_status n few (Unread name) finds = absurd finds
-  load_status n few (Unready error) found =
-      let ok = (load_accepted n few).first in
-      absurd (cc)
+  load_status n few (Unready error) found = absurd (load_ready n few error found)
   load_status n few (Reported kept ends journal) finds = absurd finds
   load_status n few (Summed kept ends) found =
       let (records, many, front) = captures_whole n (limit_for 1) (omega (arith, few)) in
@@ -288,5 +287,4 @@ module _ {K S L : Type 0} (written : K → Option (List ℕ)) (sink_faults : K �
   -- where all is as it should be a command's run answers 0, or 6 for want of memory
   pub all_complete : (command : Option Job) → IfSome command CanBeMade → IfSome command (λ job. IsRunOf written sink_faults pairs faults refused left failures job library libraryAfter sink sinkAfter outcome)
       → IfSome command (λ job. IsCompleteJob written sink_faults pairs faults refused left failures job library libraryAfter sink sinkAfter outcome → (outcome.status ≡ 0) ⊎ (outcome.status ≡ 6))
-  all_complete None few found = tt
-  all_complete (Some job) few found = ends_0 job few found
+  all_complete command few found = IfSome-both command _ _ _ (λ job few run complete. ends_0 job few run complete) few found

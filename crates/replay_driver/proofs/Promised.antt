@@ -23,6 +23,8 @@ use Rattle.replay_driver.specs.declared.run_result.Found.{Found}
 use Rattle.replay_driver.specs.declared.outcome.Outcome.{Outcome}
 use Rattle.replay_driver.specs.declared.run_result.RunResult.{RunResult}
 use Rattle.replay_driver.specs.declared.run_result.RunResult.TheVariants.{Usage, Unread, Unready, Reported, Summed}
+use Rattle.replay_driver.proofs.AcceptedLoad.{load_ready}
+use Rattle.replay_driver.proofs.LoadWords.{CanBeMade}
 use Rattle.replay_driver.proofs.Statuses.{quiet_ends, refused_lines, faulty_ends, unread_ends, few, AreFresh, failed_read}
 use Rattle.replay_driver.proofs.Told.{names_steady, all_fresh, all_named, script_refused, script_failed, capture_refused}
 
@@ -38,6 +40,11 @@ IfNone-by (Some x) P f = tt
 pub IfSome-map : {A : Type 0} (o : Option A) (P Q : A → Type 0) → ((x : A) → P x → Q x) → IfSome o P → IfSome o Q
 IfSome-map None P Q f h = tt
 IfSome-map (Some x) P Q f h = f x h
+
+-- what follows of two facts of each value
+pub IfSome-both : {A : Type 0} (o : Option A) (P Q R : A → Type 0) → ((x : A) → P x → Q x → R x) → IfSome o P → IfSome o Q → IfSome o R
+IfSome-both None P Q R f p q = tt
+IfSome-both (Some x) P Q R f p q = f x p q
 
 -- a case by what there is
 pub by_option : {A : Type 0} (o : Option A) (P : A → Type 0) (R : Type 0) → (o ≡ None → R) → IfSome o P → ((x : A) → P x → R) → R
@@ -247,19 +254,19 @@ module _ {K S L : Type 0} (written : K → Option (List ℕ)) (sink_faults : K �
 
     -- ---- before a replay
 
-    pub is_unready : (job : Job) → Run job → outcome.status ≡ 2 → outcome.kept ≡ None → IsUnreadyJob written sink_faults pairs faults refused left failures job library libraryAfter sink sinkAfter outcome
+    pub is_unready : (job : Job) → CanBeMade job → Run job → outcome.status ≡ 2 → outcome.kept ≡ None → IsUnreadyJob written sink_faults pairs faults refused left failures job library libraryAfter sink sinkAfter outcome
     unfolding result_text
-    is_unready job run two none = let a = answered job run 2 two (omega arith) in go job a.result a.finds a.writes a.is a.text
+    is_unready job few run two none = let a = answered job run 2 two (omega arith) in go job few a.result a.finds a.writes a.is a.text
       where
-        go : (job : Job) (result : RunResult) → FindsJob pairs faults refused left failures job library libraryAfter result outcome.sources.items → WritesResult written sink_faults sink sinkAfter result outcome
+        go : (job : Job) → CanBeMade job → (result : RunResult) → FindsJob pairs faults refused left failures job library libraryAfter result outcome.sources.items → WritesResult written sink_faults sink sinkAfter result outcome
             → result_status result ≡ 2 → Appends (written sink) (written sinkAfter) (result_text result)
             → IsUnreadyJob written sink_faults pairs faults refused left failures job library libraryAfter sink sinkAfter outcome
-        go job Usage finds w e text = absurd (omega arith)
-        go job (Unread name) finds w e text = absurd (omega arith)
-        go (Replays names) (Unready error) finds w e text = record { error = error; cause = finds; text = text }
-        go (Loads n) (Unready error) (same, nothing, found) w e text = (error, found)
-        go job (Reported k ends journal) finds w e text = let some = w.kept in absurd (cc)
-        go job (Summed k ends) finds w e text = let some = w.kept in absurd (cc)
+        go job few Usage finds w e text = absurd (omega arith)
+        go job few (Unread name) finds w e text = absurd (omega arith)
+        go (Replays names) few (Unready error) finds w e text = record { error = error; cause = finds; text = text }
+        go (Loads n) few (Unready error) (same, nothing, found) w e text = absurd (load_ready n few error found)
+        go job few (Reported k ends journal) finds w e text = let some = w.kept in absurd (cc)
+        go job few (Summed k ends) finds w e text = let some = w.kept in absurd (cc)
 
     pub is_unread_run : (job : Job) → Run job → outcome.status ≡ 4 → outcome.kept ≡ None → IsUnreadJob written sink_faults pairs faults refused left failures job library libraryAfter sink sinkAfter outcome
     unfolding result_text
@@ -393,9 +400,9 @@ module _ {K S L : Type 0} (written : K → Option (List ℕ)) (sink_faults : K �
       pub all_1 : outcome.status ≡ 1 → command ≡ None
       all_1 one = only_none command _ found (λ job run. not_1 job run one)
 
-      -- status 2 without a record says that the script gives no edition
-      pub all_unready : outcome.status ≡ 2 → IfNone outcome.kept (IfSome command (λ job. IsUnreadyJob written sink_faults pairs faults refused left failures job library libraryAfter sink sinkAfter outcome))
-      all_unready two = IfNone-by outcome.kept _ (λ none. IfSome-map command _ _ (λ job run. is_unready job run two none) found)
+      -- status 2 without a record says that the script gives no edition, which a load's always does
+      pub all_unready : IfSome command CanBeMade → outcome.status ≡ 2 → IfNone outcome.kept (IfSome command (λ job. IsUnreadyJob written sink_faults pairs faults refused left failures job library libraryAfter sink sinkAfter outcome))
+      all_unready few two = IfNone-by outcome.kept _ (λ none. IfSome-both command _ _ _ (λ job few run. is_unready job few run two none) few found)
 
       -- status 2 with a record says that a command behind `live` was refused
       pub all_refused : outcome.status ≡ 2 → IfSome outcome.kept (λ kept. HasRefusedCommand outcome)

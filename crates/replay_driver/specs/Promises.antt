@@ -1,5 +1,5 @@
 -- What a run promises, one fact each.
-use Rattle.std.specs.Prelude.{◌≡◌, ◌≢◌, ℕ, ◌<◌, ◌≤◌, Bool, true, false, ⊤, IsSome, List, [], ◌∷◌, length, Option, Some, Ok, Err, ◌⊎◌}
+use Rattle.std.specs.Prelude.{◌≡◌, ◌≢◌, ℕ, ◌<◌, ◌≤◌, Bool, true, false, ⊤, IsSome, List, [], ◌∷◌, length, Option, Some, Ok, ◌⊎◌}
 use Rattle.std.specs.List.{list_any, AllByRecursion}
 use Rattle.std.specs.Io.KnownBytes.{Appends}
 use Rattle.command_words.specs.Words.{CaptureNames}
@@ -9,7 +9,6 @@ use Rattle.fw_report.specs.Report.{report_text}
 use Rattle.fw_report.specs.declared.capture_end.CaptureEnd.{CaptureEnd}
 use Rattle.fw_report.specs.declared.capture_end.CaptureEnd.TheVariants.{Stopped}
 use Rattle.fw_world.specs.RecordValue.{RecordValue}
-use Rattle.load_maker.specs.Load.{load_script}
 use Rattle.pcap_read.specs.Reading.{Captured, HasFront, Open, AtBoundary}
 use Rattle.pcap_read.specs.declared.capture_fault.CaptureFault.TheVariants.{ReadFault}
 use Rattle.serial_replay.specs.Replay.{limit_for, lines_outcome}
@@ -124,10 +123,10 @@ module _ {K S L : Type 0} (written : K → Option (List ℕ)) (sink_faults : K �
     pub cause : HasNoEdition pairs faults refused left failures names library libraryAfter error outcome.sources.items
     pub text : Appends (written sink) (written sinkAfter) (error_text error)
 
-  -- why the script gives no edition, by the job: a load's is made, and this error is what its first edition comes to
+  -- a load's script always gives an edition
   abbrev pub IsUnreadyJob : Job → L → L → K → K → Outcome S → Type 0
   IsUnreadyJob (Replays names) library libraryAfter sink sinkAfter outcome = IsUnready names library libraryAfter sink sinkAfter outcome
-  IsUnreadyJob (Loads n) library libraryAfter sink sinkAfter outcome = (error : ScriptError) × (first_edition (load_script n) ≡ Err error)
+  IsUnreadyJob (Loads n) library libraryAfter sink sinkAfter outcome = ⊥
 
   -- ---- completeness
 

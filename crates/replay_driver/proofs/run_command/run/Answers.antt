@@ -20,7 +20,7 @@ returns-clause-status_1_cause g c = all_1 g.K.Sink.written g.K.Sink.faults g.L.L
 
 pub returns-clause-status_2_before : goal.returns-clause-status_2_before
 returns-clause-status_2_before g c = all_unready g.K.Sink.written g.K.Sink.faults g.L.Library.pairs g.L.Library.faults g.L.Library.refused g.L.Reader.Source.left g.L.Reader.Source.faults
-    c.args.library.now c.run_words.new.library c.args.out.now c.run_words.new.out c.run_words.result (job_of (map string_bytes c.args.words.now)) c.run_words.ensures.found c.run_words.ensures.usage
+    c.args.library.now c.run_words.new.library c.args.out.now c.run_words.new.out c.run_words.result (job_of (map string_bytes c.args.words.now)) c.run_words.ensures.found c.run_words.ensures.usage (job_within (map string_bytes c.args.words.now))
 
 pub returns-clause-status_2_with_record : goal.returns-clause-status_2_with_record
 returns-clause-status_2_with_record g c = all_refused g.K.Sink.written g.K.Sink.faults g.L.Library.pairs g.L.Library.faults g.L.Library.refused g.L.Reader.Source.left g.L.Reader.Source.faults
