@@ -25,7 +25,7 @@ impl Facts {
     {
         Ok(Facts {
             number: self.number,
-            rules: self.rules.share()?,
+            rules: self.rules.clone()?,
             settings: self.settings,
         })
     }

@@ -7,7 +7,7 @@ use std::sync::Arc;
 
 /// The identities of an edition's rules. Several editions may have one list at once, in any threads, and
 /// none of them changes it. Contracts see it as the identities themselves.
-#[derive(Debug, Drop)]
+#[derive(Clone, Debug, Drop)]
 pub struct Identities {
     identities: Arc<Vec<u32>>,
 }
@@ -36,14 +36,5 @@ impl Identities {
         ensures { result.now ≡ self.now }
     {
         self.identities.as_slice()
-    }
-
-    /// The same list for one more edition: nothing is copied.
-    pub fn share(&self) -> Result<Identities, OutOfMemory>
-        ensures { IfOk result (λ list. list ≡ self.now) }
-    {
-        Ok(Identities {
-            identities: Arc::try_clone(&self.identities)?,
-        })
     }
 }

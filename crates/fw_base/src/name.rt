@@ -22,7 +22,7 @@ pub fn are_name_bytes(bytes: &[u8]) -> bool
 }
 
 /// A name of a table, an interface, a file: any bytes, ordered by them.
-#[derive(Debug, Drop)]
+#[derive(Clone, Debug, Drop)]
 pub struct Name {
     bytes: Vec<u8>,
 }
@@ -48,15 +48,6 @@ impl Name {
         ensures { result.now ≡ self.now }
     {
         &self.bytes
-    }
-
-    /// A second name with the same bytes.
-    pub fn copy(&self) -> Result<Name, OutOfMemory>
-        ensures { IfOk result (λ name. name ≡ self.now) }
-    {
-        Ok(Name {
-            bytes: self.bytes.clone()?,
-        })
     }
 }
 

@@ -1,6 +1,7 @@
-ghost use Rattle.std.specs.Prelude.{◌≡◌, IfOk};
+ghost use Rattle.std.specs.Prelude.{◌≡◌};
 
-use fw_base::{Name, OutOfMemory, Prefix, Prefix6};
+use fw_base::{Name, Prefix, Prefix6};
+use std::alloc::AllocError;
 
 /// One element of a list of addresses.
 #[derive(Debug, Drop)]
@@ -19,18 +20,17 @@ pub enum AddrItem {
     TableValue(Name, u32),
 }
 
-impl AddrItem {
-    /// The same element, a second time.
-    pub fn copy(&self) -> Result<AddrItem, OutOfMemory>
-        ensures { IfOk result (λ item. item ≡ self.now) }
-    {
+impl Clone for AddrItem {
+    ghost is_clone = { λ item copy. copy ≡ item };
+
+    fn clone(&self) -> Result<AddrItem, AllocError> {
         Ok(match self {
             AddrItem::Any => AddrItem::Any,
             AddrItem::Me => AddrItem::Me,
             AddrItem::Net(prefix) => AddrItem::Net(*prefix),
             AddrItem::Net6(prefix) => AddrItem::Net6(*prefix),
-            AddrItem::InTable(table) => AddrItem::InTable(table.copy()?),
-            AddrItem::TableValue(table, value) => AddrItem::TableValue(table.copy()?, *value),
+            AddrItem::InTable(table) => AddrItem::InTable(table.clone()?),
+            AddrItem::TableValue(table, value) => AddrItem::TableValue(table.clone()?, *value),
         })
     }
 }

@@ -18,7 +18,7 @@ impl AddrSpec {
     {
         let mut items = Vec::new(alloc);
         for item in self.items.as_slice() {
-            items.push(item.copy()?)?;
+            items.push(item.clone()?)?;
         }
         Ok(AddrSpec {
             negated: self.negated,

@@ -57,7 +57,7 @@ fn copy_state(state: &Option<StateOpt>) -> Result<Option<StateOpt>, OutOfMemory>
     ensures { IfOk result (λ copied. copied ≡ state.now) }
 {
     match state {
-        Some(option) => Ok(Some(option.copy()?)),
+        Some(option) => Ok(Some(option.clone()?)),
         None => Ok(None),
     }
 }
@@ -76,7 +76,7 @@ fn copy_options(alloc: Global, options: &Items<Opt>) -> Result<Items<Opt>, OutOf
 {
     let mut copied = Vec::new(alloc);
     for option in options.as_slice() {
-        copied.push(option.copy()?)?;
+        copied.push(option.clone()?)?;
     }
     Ok(Items::from_vec(copied))
 }

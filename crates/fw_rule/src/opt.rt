@@ -1,7 +1,7 @@
-ghost use Rattle.std.specs.Prelude.{◌≡◌, IfOk};
+ghost use Rattle.std.specs.Prelude.{◌≡◌};
 
 use crate::Test;
-use fw_base::OutOfMemory;
+use std::alloc::AllocError;
 
 /// One option of a rule's body: a test or, negated, its contrary.
 #[derive(Debug, Drop)]
@@ -10,14 +10,13 @@ pub struct Opt {
     pub test: Test,
 }
 
-impl Opt {
-    /// The same option, a second time.
-    pub fn copy(&self) -> Result<Opt, OutOfMemory>
-        ensures { IfOk result (λ option. option ≡ self.now) }
-    {
+impl Clone for Opt {
+    ghost is_clone = { λ option copy. copy ≡ option };
+
+    fn clone(&self) -> Result<Opt, AllocError> {
         Ok(Opt {
             negated: self.negated,
-            test: self.test.copy()?,
+            test: self.test.clone()?,
         })
     }
 }

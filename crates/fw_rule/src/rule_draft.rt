@@ -26,7 +26,7 @@ impl RuleDraft {
         Ok(RuleDraft {
             number: self.number,
             set: self.set,
-            action: self.action.copy()?,
+            action: self.action.clone()?,
             log: self.log,
             body: copy_body(alloc, &self.body)?,
         })

@@ -1,9 +1,7 @@
-ghost use Rattle.std.specs.Prelude.{◌≡◌, IfOk};
-
-use fw_base::{Name, OutOfMemory};
+use fw_base::Name;
 
 /// How a rule makes dynamic states, and the flow name that they get (ipfw(8), "STATEFUL FIREWALL").
-#[derive(Debug, Drop)]
+#[derive(Clone, Debug, Drop)]
 pub enum StateOpt {
     /// `keep-state`
     Keep(Name),
@@ -18,16 +16,4 @@ pub enum LimitMask {
     SrcPort,
     DstAddr,
     DstPort,
-}
-
-impl StateOpt {
-    /// The same option, a second time.
-    pub fn copy(&self) -> Result<StateOpt, OutOfMemory>
-        ensures { IfOk result (λ state. state ≡ self.now) }
-    {
-        Ok(match self {
-            StateOpt::Keep(name) => StateOpt::Keep(name.copy()?),
-            StateOpt::Limit(mask, most, name) => StateOpt::Limit(*mask, *most, name.copy()?),
-        })
-    }
 }

@@ -1,10 +1,8 @@
-ghost use Rattle.std.specs.Prelude.{◌≡◌, IfOk};
-
 use crate::{Iface, TypeSet};
-use fw_base::{Name, OutOfMemory};
+use fw_base::Name;
 
 /// What an option of a rule's body asks of a packet (ipfw(8), "RULE OPTIONS").
-#[derive(Debug, Drop)]
+#[derive(Clone, Debug, Drop)]
 pub enum Test {
     /// `in`
     Inward,
@@ -43,33 +41,4 @@ pub enum Field {
     DstIp,
     SrcPort,
     DstPort,
-}
-
-impl Test {
-    /// The same test, a second time.
-    pub fn copy(&self) -> Result<Test, OutOfMemory>
-        ensures { IfOk result (λ test. test ≡ self.now) }
-    {
-        Ok(match self {
-            Test::Inward => Test::Inward,
-            Test::Outward => Test::Outward,
-            Test::Established => Test::Established,
-            Test::Setup => Test::Setup,
-            Test::Frag => Test::Frag,
-            Test::Recv(iface) => Test::Recv(iface.copy()?),
-            Test::Xmit(iface) => Test::Xmit(iface.copy()?),
-            Test::Via(iface) => Test::Via(iface.copy()?),
-            Test::TcpFlags { set, clear } => Test::TcpFlags {
-                set: *set,
-                clear: *clear,
-            },
-            Test::IcmpTypes(types) => Test::IcmpTypes(*types),
-            Test::Icmp6Types(types) => Test::Icmp6Types(*types),
-            Test::IpOptions { present, absent } => Test::IpOptions {
-                present: *present,
-                absent: *absent,
-            },
-            Test::Lookup(field, table) => Test::Lookup(*field, table.copy()?),
-        })
-    }
 }

@@ -83,7 +83,7 @@ impl Edition {
         let settings = config.settings();
         let facts = Facts {
             number,
-            rules: last.facts.rules.share()?,
+            rules: last.facts.rules.clone()?,
             settings,
         };
         let edition = Edition {

@@ -17,7 +17,7 @@ use std::marker::Model;
 ///
 /// Beside the entries it keeps all addresses in pieces, cut where another prefix decides, so that a
 /// lookup is a search by halves.
-#[derive(Debug, Drop)]
+#[derive(Clone, Debug, Drop)]
 pub struct AddrTable {
     entries: Vec<(Prefix, u32)>,
     pieces: Vec<Piece>,
@@ -106,15 +106,5 @@ impl AddrTable {
         ensures { ArePiecesOf self.now result.now }
     {
         &self.pieces
-    }
-
-    /// A second table with the same entries.
-    pub fn copy(&self) -> Result<AddrTable, OutOfMemory>
-        ensures { IfOk result (λ table. table ≡ self.now) }
-    {
-        Ok(AddrTable {
-            entries: self.entries.clone()?,
-            pieces: self.pieces.clone()?,
-        })
     }
 }

@@ -11,7 +11,7 @@ use std::marker::Model;
 
 /// A table of numbers, each with a value: the equal number answers. Contracts see it as its entries,
 /// the numbers ascending.
-#[derive(Debug, Drop)]
+#[derive(Clone, Debug, Drop)]
 pub struct NumberTable {
     entries: Vec<(u32, u32)>,
 }
@@ -74,14 +74,5 @@ impl NumberTable {
         ensures ordered { IsInOrder nat_cmp self.now }
     {
         &self.entries
-    }
-
-    /// A second table with the same entries.
-    pub fn copy(&self) -> Result<NumberTable, OutOfMemory>
-        ensures { IfOk result (λ table. table ≡ self.now) }
-    {
-        Ok(NumberTable {
-            entries: self.entries.clone()?,
-        })
     }
 }

@@ -8,7 +8,7 @@ use std::sync::Arc;
 
 /// A table that several `Tables` may have at once, in any threads, and that none of them changes.
 /// Contracts see it as the table itself.
-#[derive(Debug, Drop)]
+#[derive(Clone, Debug, Drop)]
 pub struct SharedTable {
     table: Arc<Table>,
 }
@@ -39,23 +39,11 @@ impl SharedTable {
         &self.table
     }
 
-    /// The same table for one more owner: no entry is copied. It fails past 2^63 owners.
-    pub fn share(&self) -> Result<SharedTable, OutOfMemory>
-        ensures { IfOk result (λ shared. shared ≡ self.now) }
-    {
-        Ok(SharedTable {
-            table: Arc::try_clone(&self.table)?,
-        })
-    }
-
     /// The table to change: itself where no one else has it, and else a copy. It fails where memory
     /// runs out.
     pub fn own(self) -> Result<Table, OutOfMemory>
         ensures { IfOk result (λ table. table ≡ self) }
     {
-        match Arc::try_unwrap(self.table) {
-            Ok(table) => Ok(table),
-            Err(shared) => shared.copy(),
-        }
+        Ok(Arc::unwrap_or_clone(self.table)?)
     }
 }

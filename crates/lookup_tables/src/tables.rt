@@ -12,7 +12,7 @@ use std::mem::replace;
 
 /// Tables under their names. Contracts see them as pairs of a name and its table, in the order of the
 /// names' bytes. Each table stands behind a shared value, so that a second `Tables` copies no entry.
-#[derive(Debug, Drop)]
+#[derive(Clone, Debug, Drop)]
 pub struct Tables {
     tables: Vec<(Name, SharedTable)>,
 }
@@ -98,17 +98,5 @@ impl Tables {
         ensures ordered { IsInOrder name_cmp self.now }
     {
         &self.tables
-    }
-
-    /// The same tables under the same names, a second time. Names are copied, and no table. It fails
-    /// where memory runs out.
-    pub fn copy(&self, alloc: Global) -> Result<Tables, OutOfMemory>
-        ensures { IfOk result (λ tables. tables ≡ self.now) }
-    {
-        let mut tables = Vec::with_capacity(alloc, self.tables.len())?;
-        for (name, table) in &self.tables {
-            tables.push((name.copy()?, table.share()?))?;
-        }
-        Ok(Tables { tables })
     }
 }

@@ -17,7 +17,7 @@ fn table_values_and_existing_entry(rt: HostRuntime) -> Result<(), Fail> {
     let mut nets = AddrTable::new(rt.alloc());
     assert_eq!(rt; nets.insert(sixteen, 2), Ok(()));
     assert_eq!(rt; nets.insert(eight, 1), Ok(()));
-    let before = nets.copy()?;
+    let before = nets.clone()?;
     assert_eq!(rt; nets.insert(eight, 5), Err(InsertFault::Exists));
     assert_eq!(rt; nets.entries(), [(eight, 1), (sixteen, 2)].as_slice());
     assert_eq!(rt; before.entries(), nets.entries());
@@ -86,7 +86,7 @@ fn lookup_of_a_port(rt: HostRuntime) -> Result<(), Fail> {
     assert_eq!(rt; ports.insert(443, 2), Ok(()));
     assert_eq!(rt; ports.insert(80, 1), Ok(()));
     assert_eq!(rt; ports.insert(80, 7), Err(InsertFault::Exists));
-    assert_eq!(rt; ports.copy()?.entries(), [(80, 1), (443, 2)].as_slice());
+    assert_eq!(rt; ports.clone()?.entries(), [(80, 1), (443, 2)].as_slice());
     assert_eq!(rt;
         (ports.find(80), ports.find(81), ports.find(443)),
         (Some(1), None, Some(2))
@@ -135,12 +135,12 @@ fn tables_stand_by_the_bytes_of_their_names(rt: HostRuntime) -> Result<(), Fail>
         Table::Numbers(NumberTable::new(rt.alloc())),
         &mut tables,
     )?;
-    let copy = tables.copy(rt.alloc())?;
+    let copy = tables.clone()?;
     let [(first, _), (second, _), (third, ports)] = copy.entries() else {
         return Err("three tables")?;
     };
     assert!(rt; matches!(ports.table(), Table::Numbers(_)));
-    assert!(rt; matches!(ports.share()?.own()?, Table::Numbers(_)));
+    assert!(rt; matches!(ports.clone()?.own()?, Table::Numbers(_)));
     assert_eq!(rt;
         (first.bytes(), second.bytes(), third.bytes()),
         (b"Nets".as_slice(), b"net".as_slice(), b"nets".as_slice())

@@ -37,7 +37,7 @@ fn open_capture<L: Library>(
         direction: capture.direction,
         interface: Name::new(alloc, capture.interface)?,
     };
-    match library.open(name.copy()?) {
+    match library.open(name.clone()?) {
         Ok(source) => Ok(CaptureOpening::Opened(OpenedCapture { port, source })),
         Err(_) => Ok(CaptureOpening::Refused(name)),
     }

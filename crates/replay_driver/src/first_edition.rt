@@ -72,7 +72,7 @@ fn list_table(config: &Config, line: u32, name: &Name) -> Result<Option<LineAnsw
     ensures { GivesView (λ a. a) result (spec.table_shown config.now line name.now) }
 {
     if config.table(name).is_some() {
-        Ok(listed(line, Some(name.copy()?)))
+        Ok(listed(line, Some(name.clone()?)))
     } else {
         Err(ScriptError::Refused(RefusedLine {
             line,

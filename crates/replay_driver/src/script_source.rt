@@ -26,7 +26,7 @@ pub(crate) fn read_script_source<L: Library>(
     ensures { IfOk result (FindsScript L.pairs L.faults L.refused L.Reader.left L.Reader.faults
         library.old library.new name.now) }
 {
-    let Ok(mut source) = library.open(name.copy()?) else {
+    let Ok(mut source) = library.open(name.clone()?) else {
         return Ok(ScriptSource::Refused);
     };
     match read_up_to(alloc, &mut source, SCRIPT_BYTES + 1) {

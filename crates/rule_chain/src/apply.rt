@@ -24,7 +24,7 @@ impl Config {
         requires changing { IsChanging command.now }
         ensures { Gives result (spec.apply self.now command.now) }
     {
-        self.share()?.apply_owned(alloc, command)
+        self.clone()?.apply_owned(alloc, command)
     }
 
     /// The same where this configuration isn't wanted any more: what no other configuration has isn't
@@ -61,7 +61,7 @@ impl Config {
     ) -> Result<Config, ApplyFault>
         ensures { Gives result (spec.change_table self name.now command.now) }
     {
-        let tables = own_tables(alloc, self.tables)?;
+        let tables = own_tables(self.tables)?;
         let changed = change_tables(alloc, tables, self.rules.rules(), name, command)?;
         self.tables = Arc::new(alloc, changed)?;
         Ok(self)

@@ -35,7 +35,7 @@ pub const MOST_COUNTERS: u32 = 16_777_216;
 ///
 /// Its rules, its tables together, each table, its addresses and its names stand behind shared values, so
 /// that one made from it by a command copies only those of them that the command changes.
-#[derive(Drop)]
+#[derive(Clone, Drop)]
 pub struct Config {
     pub(crate) rules: RuleList,
     pub(crate) disabled: u32,
@@ -156,22 +156,6 @@ impl Config {
         ensures { result.now ≡ self.now.tables }
     {
         &self.tables
-    }
-
-    /// The same configuration, a second time: nothing is copied.
-    pub(crate) fn share(&self) -> Result<Config, OutOfMemory>
-        ensures { IfOk result (λ config. config ≡ self.now) }
-    {
-        Ok(Config {
-            rules: self.rules.share()?,
-            disabled: self.disabled,
-            tables: Arc::try_clone(&self.tables)?,
-            locals: Arc::try_clone(&self.locals)?,
-            settings: self.settings,
-            names: Arc::try_clone(&self.names)?,
-            greatest_id: self.greatest_id,
-            greatest_counter: self.greatest_counter,
-        })
     }
 }
 

@@ -3,6 +3,7 @@ ghost use Rattle.std.specs.Arc.{arc_value};
 ghost use Rattle.rule_chain.specs.Apply as spec;
 
 use crate::address_list::AddressList;
+use crate::owned::own_addresses;
 use fw_base::{Addr, OutOfMemory};
 use std::alloc::Global;
 use std::sync::Arc;
@@ -45,16 +46,6 @@ fn add_many(alloc: Global, locals: Vec<Addr>, addresses: &[Addr]) -> Result<Vec<
     Ok(list.into_vec())
 }
 
-/// The list to change: itself where no other configuration has it, and else a copy.
-fn own_addresses(alloc: Global, locals: Arc<Vec<Addr>>) -> Result<Vec<Addr>, OutOfMemory>
-    ensures { IfOk result (λ owned. owned.items ≡ (arc_value locals).items) }
-{
-    match Arc::try_unwrap(locals) {
-        Ok(owned) => Ok(owned),
-        Err(shared) => Ok(Vec::from_slice(alloc, shared.as_slice())?),
-    }
-}
-
 /// The addresses, and behind them each new one that isn't there.
 pub(crate) fn with_addresses(
     alloc: Global,
@@ -64,7 +55,7 @@ pub(crate) fn with_addresses(
     ensures { IfOk result (λ after. (arc_value after).items
         ≡ spec.with_addresses (arc_value locals).items addresses.now) }
 {
-    let mut owned = own_addresses(alloc, locals)?;
+    let mut owned = own_addresses(locals)?;
     if addresses.len() <= FEW {
         add_few(&mut owned, addresses)?;
         Ok(Arc::new(alloc, owned)?)

@@ -6,6 +6,7 @@ ghost use Rattle.rule_chain.specs.Answers.{IsRefusal};
 ghost use Rattle.rule_chain.specs.Names as spec;
 
 use crate::ApplyFault;
+use crate::owned::own_names;
 use fw_base::{Name, OutOfMemory};
 use fw_rule::{Action, Body, DEFAULT_FLOW, StateOpt};
 use std::alloc::Global;
@@ -21,17 +22,6 @@ pub(crate) fn first_names(alloc: Global) -> Result<Vec<Name>, OutOfMemory>
     let mut names = Vec::new(alloc);
     names.push(Name::new(alloc, DEFAULT_FLOW)?)?;
     Ok(names)
-}
-
-/// The same flow names, a second time.
-pub(crate) fn copy_names(alloc: Global, names: &[Name]) -> Result<Vec<Name>, OutOfMemory>
-    ensures { IfOk result (λ copied. copied.items ≡ names.now) }
-{
-    let mut copied = Vec::with_capacity(alloc, names.len())?;
-    for name in names {
-        copied.push(name.copy()?)?;
-    }
-    Ok(copied)
 }
 
 fn action_name(action: &Action) -> Option<&Name>
@@ -88,16 +78,6 @@ fn has_number(names: &[Name], name: &Name) -> bool
     names.iter().any(|other| other == name)
 }
 
-/// The names to change: themselves where no other configuration has them, and else a copy.
-fn own_names(alloc: Global, names: Arc<Vec<Name>>) -> Result<Vec<Name>, OutOfMemory>
-    ensures { IfOk result (λ owned. owned.items ≡ (arc_value names).items) }
-{
-    match Arc::try_unwrap(names) {
-        Ok(owned) => Ok(owned),
-        Err(shared) => copy_names(alloc, shared.as_slice()),
-    }
-}
-
 /// The names, and behind them this one.
 fn with_new_name(
     alloc: Global,
@@ -107,8 +87,8 @@ fn with_new_name(
     ensures { IfOk result (λ after. (arc_value after).items
         ≡ (arc_value names).items ++ name.now ∷ []) }
 {
-    let mut owned = own_names(alloc, names)?;
-    owned.push(name.copy()?)?;
+    let mut owned = own_names(names)?;
+    owned.push(name.clone()?)?;
     Ok(Arc::new(alloc, owned)?)
 }
 

@@ -1,7 +1,7 @@
 ghost use Rattle.std.specs.Prelude.{◌≡◌, IfOk};
 ghost use Rattle.std.specs.Arc.{arc_value};
 
-use fw_base::OutOfMemory;
+use fw_base::{Addr, Name, OutOfMemory};
 use fw_rule::{Body, Rule};
 use lookup_tables::Tables;
 use std::alloc::Global;
@@ -24,7 +24,7 @@ fn copy_rule(alloc: Global, rule: &Rule) -> Result<Rule, OutOfMemory>
         set: rule.set,
         id: rule.id,
         counter: rule.counter,
-        action: rule.action.copy()?,
+        action: rule.action.clone()?,
         log: rule.log,
         body: copy_body(alloc, &rule.body)?,
     })
@@ -42,11 +42,22 @@ pub(crate) fn own_rule(alloc: Global, rule: Arc<Rule>) -> Result<Rule, OutOfMemo
 
 /// The tables to change: themselves where no other configuration has them, and else a second list of the
 /// same tables, not of copies.
-pub(crate) fn own_tables(alloc: Global, tables: Arc<Tables>) -> Result<Tables, OutOfMemory>
+pub(crate) fn own_tables(tables: Arc<Tables>) -> Result<Tables, OutOfMemory>
     ensures { IfOk result (λ owned. owned ≡ arc_value tables) }
 {
-    match Arc::try_unwrap(tables) {
-        Ok(owned) => Ok(owned),
-        Err(shared) => shared.copy(alloc),
-    }
+    Ok(Arc::unwrap_or_clone(tables)?)
+}
+
+/// The flow names to change: themselves where no other configuration has them, and else a copy.
+pub(crate) fn own_names(names: Arc<Vec<Name>>) -> Result<Vec<Name>, OutOfMemory>
+    ensures { IfOk result (λ owned. owned.items ≡ (arc_value names).items) }
+{
+    Ok(Arc::unwrap_or_clone(names)?)
+}
+
+/// The addresses to change: themselves where no other configuration has them, and else a copy.
+pub(crate) fn own_addresses(addresses: Arc<Vec<Addr>>) -> Result<Vec<Addr>, OutOfMemory>
+    ensures { IfOk result (λ owned. owned.items ≡ (arc_value addresses).items) }
+{
+    Ok(Arc::unwrap_or_clone(addresses)?)
 }

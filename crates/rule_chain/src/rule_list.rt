@@ -9,7 +9,7 @@ use std::sync::Arc;
 
 /// The rules of a configuration in their order. Several configurations may have one list at once, in any
 /// threads, and none of them changes it. Contracts see it as the rules themselves.
-#[derive(Drop)]
+#[derive(Clone, Drop)]
 pub(crate) struct RuleList {
     rules: Arc<Vec<Arc<Rule>>>,
 }
@@ -39,15 +39,6 @@ impl RuleList {
         ensures { map arc_value result.now ≡ self.now }
     {
         self.rules.as_slice()
-    }
-
-    /// The same list for one more configuration: nothing is copied.
-    pub(crate) fn share(&self) -> Result<RuleList, OutOfMemory>
-        ensures { IfOk result (λ list. list ≡ self.now) }
-    {
-        Ok(RuleList {
-            rules: Arc::try_clone(&self.rules)?,
-        })
     }
 
     /// The rules to change: the list itself where no other configuration has it, and else a second one of

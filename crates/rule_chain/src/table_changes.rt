@@ -147,7 +147,7 @@ fn found(table: Option<SharedTable>) -> Result<Table, ApplyFault>
 fn put(alloc: Global, tables: &mut Tables, name: &Name, table: Table) -> Result<(), OutOfMemory>
     ensures { OnOk result (tables.new ≡ spec.put_table tables.old name.now table) }
 {
-    tables.insert(name.copy()?, SharedTable::new(alloc, table)?)?;
+    tables.insert(name.clone()?, SharedTable::new(alloc, table)?)?;
     Ok(())
 }
 
@@ -159,7 +159,7 @@ fn take(alloc: Global, tables: &mut Tables, name: &Name) -> Result<Option<Shared
         ≡ spec.put_table tables.old name.now (spec.empty_table Addresses)) }
 {
     let empty = SharedTable::new(alloc, empty_table(alloc, TableType::Addresses))?;
-    tables.insert(name.copy()?, empty)
+    tables.insert(name.clone()?, empty)
 }
 
 #[tactic(auto, using(crate::proofs::Keys::put_twice), unfolding(crate::specs::Lookups::add_entry))]
@@ -231,7 +231,7 @@ fn share_of(tables: &Tables, name: &Name) -> Result<SharedTable, ApplyFault>
     ensures { Gives result (spec.existing_table (table_named tables.now name.now)) }
 {
     match tables.shared(name) {
-        Some(table) => Ok(table.share()?),
+        Some(table) => Ok(table.clone()?),
         None => Err(ApplyFault::NoSuchTable),
     }
 }
@@ -245,8 +245,8 @@ fn swap_tables(mut tables: Tables, name: &Name, other: &Name) -> Result<Tables, 
     if !are_alike(first.table(), second.table()) {
         return Err(ApplyFault::WrongType);
     }
-    tables.insert(name.copy()?, second)?;
-    tables.insert(other.copy()?, first)?;
+    tables.insert(name.clone()?, second)?;
+    tables.insert(other.clone()?, first)?;
     Ok(tables)
 }
 

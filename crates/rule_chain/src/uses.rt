@@ -97,7 +97,7 @@ fn make_table(
     match tables.get(name) {
         None => {
             let empty = SharedTable::new(alloc, empty_table(alloc, kind))?;
-            tables.insert(name.copy()?, empty)?;
+            tables.insert(name.clone()?, empty)?;
             Ok(())
         }
         Some(table) => {
@@ -164,7 +164,7 @@ fn with_body_tables(
     ensures err { IfErr result (λ fault.
         IsRefusal fault (lookups.with_uses (arc_value tables) (uses.body_uses body.now))) }
 {
-    let mut owned = own_tables(alloc, tables)?;
+    let mut owned = own_tables(tables)?;
     make_for_body(alloc, &mut owned, body)?;
     Ok(Arc::new(alloc, owned)?)
 }

@@ -8,7 +8,7 @@ ghost use Rattle.serial_replay.specs.Live.{AnswersLine, IsListed, Accepts, Refus
 ghost use Rattle.serial_replay.specs.Reading.{input_of};
 
 use crate::listing::{Listing, listing_of};
-use fw_base::{Link, OutOfMemory, Port};
+use fw_base::{Link, Name, OutOfMemory, Port};
 use fw_command::Line;
 use fw_report::{Answer, LineAnswer};
 use fw_world::{CommitFault, SerialDesk, SerialLane, SerialWorld, Skipped};
@@ -24,6 +24,13 @@ pub(crate) struct LiveWorld {
     pub(crate) desk: SerialDesk,
     pub(crate) lanes: Vec<SerialLane>,
     pub(crate) answers: Vec<LineAnswer>,
+}
+
+/// A second name with the same bytes.
+fn copy_name(name: &Name) -> Result<Name, OutOfMemory>
+    ensures { IfOk result (λ copy. copy ≡ name.now) }
+{
+    Ok(name.clone()?)
 }
 
 impl LiveWorld {
@@ -51,7 +58,7 @@ impl LiveWorld {
                 if config.table(name).is_some() {
                     Ok(Answer::Listed {
                         edition,
-                        table: Some(name.copy()?),
+                        table: Some(copy_name(name)?),
                     })
                 } else {
                     Ok(Answer::Refused(ApplyFault::NoSuchTable))

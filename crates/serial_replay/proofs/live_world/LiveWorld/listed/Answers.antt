@@ -11,11 +11,11 @@ returns-in-Rules c =
     let last = has-config c.args.self.now.world c.args.self.now.desk c.config-config.result.now c.requires c.config-config.ensures in
     subst (λ l. IsListed c.args.self.now (listing_in l) (Listed c.number-edition.result None)) (sym c.in-Rules.is) (listed-rules c.args.self.now c.config-config.result.now c.number-edition.result last (c.number-edition.ensures) c.requires)
 
-pub returns-in_ok-copy-in-Entries : goal.returns-in_ok-copy-in-Entries
-returns-in_ok-copy-in-Entries c =
+pub returns-in_ok-copy_name-in-Entries : goal.returns-in_ok-copy_name-in-Entries
+returns-in_ok-copy_name-in-Entries c =
     let last = has-config c.args.self.now.world c.args.self.now.desk c.config-config.result.now c.requires c.config-config.ensures in
-    subst (λ l. IsListed c.args.self.now (listing_in l) (Listed c.number-edition.result (Some c.in_ok-copy-in-Entries.field-0))) (sym c.in-Entries.is)
-    (listed-entries c.args.self.now c.config-config.result.now c.number-edition.result c.in-Entries.name.now c.in_ok-copy-in-Entries.field-0 c.table.result last c.number-edition.ensures c.requires c.table.ensures (sym c.is_some.ensures ∙ c.if-is_some.true) c.in_ok-copy-in-Entries.ensures)
+    subst (λ l. IsListed c.args.self.now (listing_in l) (Listed c.number-edition.result (Some c.in_ok-copy_name-in-Entries.field-0))) (sym c.in-Entries.is)
+    (listed-entries c.args.self.now c.config-config.result.now c.number-edition.result c.in-Entries.name.now c.in_ok-copy_name-in-Entries.field-0 c.table.result last c.number-edition.ensures c.requires c.table.ensures (sym c.is_some.ensures ∙ c.if-is_some.true) c.in_ok-copy_name-in-Entries.ensures)
 
 pub returns-else-is_some : goal.returns-else-is_some
 returns-else-is_some c =
