@@ -16,6 +16,8 @@ pub mod FlowNames
 -- tables and their uses
 pub mod Keys
 pub mod UsesInTurn
+-- what an `add` answers
+pub mod Added
 -- what a command keeps
 pub mod Kept
 pub mod Untouched

@@ -1,6 +1,0 @@
-use Rattle.std.specs.List.{AllByRecursion}
-use Rattle.fw_rule.specs.WellFormed.{IsNumber}
-use Rattle.rule_chain.proofs.tests.steps.repeated.Given as goal
-
-abbrev pub invariant-loop : goal.invariant-loop
-invariant-loop l = AllByRecursion IsNumber l.numbers.items
