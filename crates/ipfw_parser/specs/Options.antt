@@ -90,8 +90,8 @@ test_by end word words None =
     else fault_at word.column UnknownWord
 
 -- a test that begins with this word
-unfoldable pub test : ℕ → Word → List Word → WordReading Test
-test end word words = test_by end word words (plain_test word.text)
+unfoldable pub test_from : ℕ → Word → List Word → WordReading Test
+test_from end word words = test_by end word words (plain_test word.text)
 
 -- the word begins a state option
 unfoldable pub is_state : List ℕ → Bool
@@ -103,10 +103,10 @@ option end word words =
     if same word.text (codes "not") then (do
       next ← first end words
       if is_state next.0.text then fault_at word.column Misplaced else (do
-        found ← test end next.0 next.1
+        found ← test_from end next.0 next.1
         Ok (record { negated = true; test = found.0 }, found.1)))
     else (do
-      found ← test end word words
+      found ← test_from end word words
       Ok (record { negated = false; test = found.0 }, found.1))
 
 -- the flow that states are of, where a name follows: `default` where none does, and one flow alone

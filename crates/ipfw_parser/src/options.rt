@@ -133,15 +133,15 @@ fn has_argument(word: Word<'_>) -> bool
 }
 
 /// A test that begins with the word.
-#[tactic(auto, unfolding(crate::specs::Options::test))]
-fn test<'a>(
+#[tactic(auto, unfolding(crate::specs::Options::test_from))]
+fn test_from<'a>(
     alloc: Global,
     end: u32,
     word: Word<'a>,
     words: Words<'a>,
 ) -> Result<(Test, Words<'a>), ParseFault>
     ensures { ReadsAs (λ r. (r.0, list_of r.1)) result
-        (spec.test end (view word.entry) (list_of words.entry)) }
+        (spec.test_from end (view word.entry) (list_of words.entry)) }
 {
     if let Some(test) = plain_test(word) {
         return Ok((test, words));
@@ -179,11 +179,11 @@ pub(crate) fn option<'a>(
         if is_state(next) {
             return Err(word.fault(Kind::Misplaced));
         }
-        let (test, words) = test(alloc, end, next, words)?;
+        let (test, words) = test_from(alloc, end, next, words)?;
         let negated = true;
         return Ok((Opt { negated, test }, words));
     }
-    let (test, words) = test(alloc, end, word, words)?;
+    let (test, words) = test_from(alloc, end, word, words)?;
     let negated = false;
     Ok((Opt { negated, test }, words))
 }

@@ -10,7 +10,7 @@ use Rattle.ipfw_parser.specs.Lists.{elements, elements_outside, each_element, ty
 use Rattle.ipfw_parser.specs.Addresses.{octet_in, octet_and_dot, address_in, address, prefix, item, items, addr_spec}
 use Rattle.ipfw_parser.specs.Addresses6.{has_colon}
 use Rattle.ipfw_parser.specs.Ports.{port, range, ranges, port_list, source_ports, looks_like_ports, begin_with_ports, destination_ports}
-use Rattle.ipfw_parser.specs.Options.{plain_test, test_of, has_argument, test, is_state, option, made_flow, state, options}
+use Rattle.ipfw_parser.specs.Options.{plain_test, test_of, has_argument, test_from, is_state, option, made_flow, state, options}
 use Rattle.ipfw_parser.specs.Rules.{rule_number, rule_set, plain_action, action, log, family, names_version, protocol, body, rule, rule_in, end_column, check_state, check_end, looked_up_flow, matching_rule}
 use Rattle.fw_command.specs.Ends.{result_at_end}
 use Rattle.fw_command.specs.Lines.{lines_of}
@@ -68,5 +68,5 @@ pub rules_read : (others : List (List ℕ))
     (with_line (record { line = 4; command = Add (draft 400 Allow echo_body) })
     (with_line (record { line = 5; command = Add (draft 500 Deny any_body) })
     (script_from Serial (record { line = 7; live = Some 6; ran = 0 }) others >>= λ script. Ok script)))))
-unfolding rule_lines script_from statement_at says words_say statement live_statement result_at_end addition rule_in rule rule_number rule_set end_column check_state check_end looked_up_flow number decimal_of digits_value starts_with_digit first same before_comment first_bad tokens_from tokens_in tokens_of words_behind_word negation part_before part_behind place service_names service_ports service starts_with_colon elements elements_outside each_element type_mask types octet_in octet_and_dot address_in address prefix item items addr_spec has_colon port range ranges port_list source_ports looks_like_ports begin_with_ports destination_ports plain_test test_of has_argument test is_state option made_flow state options plain_action action log family names_version protocol body matching_rule
+unfolding rule_lines script_from statement_at says words_say statement live_statement result_at_end addition rule_in rule rule_number rule_set end_column check_state check_end looked_up_flow number decimal_of digits_value starts_with_digit first same before_comment first_bad tokens_from tokens_in tokens_of words_behind_word negation part_before part_behind place service_names service_ports service starts_with_colon elements elements_outside each_element type_mask types octet_in octet_and_dot address_in address prefix item items addr_spec has_colon port range ranges port_list source_ports looks_like_ports begin_with_ports destination_ports plain_test test_of has_argument test_from is_state option made_flow state options plain_action action log family names_version protocol body matching_rule
 rules_read others = refl

@@ -25,7 +25,7 @@ use Rattle.ipfw_parser.specs.Names.{is_name, starts_with_colon, is_any_flow, nam
 use Rattle.ipfw_parser.specs.Lists.{types, types6, signs}
 use Rattle.ipfw_parser.specs.Addresses.{addr_spec}
 use Rattle.ipfw_parser.specs.Ports.{source_ports, destination_ports}
-use Rattle.ipfw_parser.specs.Options.{field, limit_mask, plain_test, lookup, test_of, has_argument, test_by, test, is_state, option, made_flow, state, Placed, options}
+use Rattle.ipfw_parser.specs.Options.{field, limit_mask, plain_test, lookup, test_of, has_argument, test_by, test_from, is_state, option, made_flow, state, Placed, options}
 use Rattle.ipfw_parser.specs.Rules.{rule_number, set_behind, rule_set, plain_action, action_by, action, amount_behind, amount, log, family, names_version, protocol, body, looked_up_flow, check_end, check_state, matching_rule, rule, end_column, rule_in}
 use Rattle.fw_lex.specs.Words.{before_comment}
 use Rattle.ipfw_parser.specs.Forms.{IsItemForm, IsListForm, IsIfaceForm, IsTestForm, IsTypesForm, IsFlowForm, IsStateForm, IsPlacedForm, IsFamilyForm, IsBodyForm, HasBehind, HasForm, IsDraftForm, AreSigns}
@@ -79,8 +79,8 @@ test_by_on end word words None p =
     on_bind (test_of word.text next.0) _ IsTestForm (λ r. IsTestForm r.0) (test_of_on word.text next.0) (λ t form. form)))
     (λ _. tt))
 
-test_on : (end : ℕ) (word : Word) (words : List Word) → IfOk (test end word words) (λ r. IsTestForm r.0)
-unfolding test
+test_on : (end : ℕ) (word : Word) (words : List Word) → IfOk (test_from end word words) (λ r. IsTestForm r.0)
+unfolding test_from
 test_on end word words = test_by_on end word words (plain_test word.text) (plain_on word.text)
 
 option_on : (end : ℕ) (word : Word) (words : List Word) → IfOk (option end word words) (λ r. IsTestForm r.0.test)
@@ -89,8 +89,8 @@ option_on end word words =
     on_if (same word.text (codes "not")) _ _ (λ r. IsTestForm r.0.test)
     (λ _. on_bind (first end words) _ (λ _. ⊤) (λ r. IsTestForm r.0.test) (any_on (first end words)) (λ next _.
     on_if (is_state next.0.text) (fault_at word.column Misplaced) _ (λ r. IsTestForm r.0.test) (λ _. tt)
-    (λ _. on_bind (test end next.0 next.1) _ (λ r. IsTestForm r.0) (λ r. IsTestForm r.0.test) (test_on end next.0 next.1) (λ t form. form))))
-    (λ _. on_bind (test end word words) _ (λ r. IsTestForm r.0) (λ r. IsTestForm r.0.test) (test_on end word words) (λ t form. form))
+    (λ _. on_bind (test_from end next.0 next.1) _ (λ r. IsTestForm r.0) (λ r. IsTestForm r.0.test) (test_on end next.0 next.1) (λ t form. form))))
+    (λ _. on_bind (test_from end word words) _ (λ r. IsTestForm r.0) (λ r. IsTestForm r.0.test) (test_on end word words) (λ t form. form))
 
 -- the name of no flow that is given is `default`
 default_form : IsFlowForm default_flow

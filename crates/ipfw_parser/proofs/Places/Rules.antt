@@ -15,7 +15,7 @@ use Rattle.ipfw_parser.specs.Numbers.{number, set_number, starts_with_digit}
 use Rattle.ipfw_parser.specs.Names.{table_name, starts_with_colon, is_any_flow, named_flow, code}
 use Rattle.ipfw_parser.specs.Addresses.{items, addr_spec}
 use Rattle.ipfw_parser.specs.Ports.{ranges, port_list, some_ports, source_ports, begin_with_ports, destination_ports}
-use Rattle.ipfw_parser.specs.Options.{field, limit_mask, plain_test, lookup, test_of, has_argument, test_by, test, is_state, option, made_flow, state, options}
+use Rattle.ipfw_parser.specs.Options.{field, limit_mask, plain_test, lookup, test_of, has_argument, test_by, test_from, is_state, option, made_flow, state, options}
 use Rattle.ipfw_parser.specs.Rules.{rule_number, set_behind, rule_set, plain_action, action_by, action, amount_behind, amount, log, protocol, body, looked_up_flow, check_end, check_state, matching_rule, rule, end_column, rule_in}
 use Rattle.ipfw_parser.specs.Places.{IsColumn, FaultsStandAtWords}
 use Rattle.ipfw_parser.proofs.Places.Words.{Told, Within, Any, Rest, bind_told, if_told, bind_word, told_more, rest_more, all_words, one_less, after_first, first_told, bind_first, number_at, set_at, name_at, flow_at, code_at, items_at, ranges_at, field_at, limit_mask_at, test_of_at, protocol_at}
@@ -79,8 +79,8 @@ test_by_in end word words None =
     bind_word end words next.0.column (test_of word.text next.0) _ (Rest end words) here (test_of_at word.text next.0) (λ t. more))))
     (inl refl))
 
-test_in : (end : ℕ) (word : Word) (words : List Word) → Told end (word ∷ words) (Rest end (word ∷ words)) (test end word words)
-unfolding test
+test_in : (end : ℕ) (word : Word) (words : List Word) → Told end (word ∷ words) (Rest end (word ∷ words)) (test_from end word words)
+unfolding test_from
 test_in end word words = test_by_in end word words (plain_test word.text)
 
 -- a word that stands among the words, and what is read from it on
@@ -94,8 +94,8 @@ option_in end word words =
     if_told end (word ∷ words) (same word.text (codes "not")) _ _ (Rest end (word ∷ words))
     (bind_first end word words _ (Rest end (word ∷ words)) (λ next here more.
     if_told end (word ∷ words) (is_state next.0.text) (fault_at word.column Misplaced) _ (Rest end (word ∷ words)) (inl refl)
-    (bind_told end (word ∷ words) (test end next.0 next.1) _ (Rest end (word ∷ words)) (Rest end (word ∷ words)) (from_word end (word ∷ words) next.1 next.0 (test end next.0 next.1) here more (test_in end next.0 next.1)) (λ t less. less))))
-    (bind_told end (word ∷ words) (test end word words) _ (Rest end (word ∷ words)) (Rest end (word ∷ words)) (test_in end word words) (λ t less. less))
+    (bind_told end (word ∷ words) (test_from end next.0 next.1) _ (Rest end (word ∷ words)) (Rest end (word ∷ words)) (from_word end (word ∷ words) next.1 next.0 (test_from end next.0 next.1) here more (test_in end next.0 next.1)) (λ t less. less))))
+    (bind_told end (word ∷ words) (test_from end word words) _ (Rest end (word ∷ words)) (Rest end (word ∷ words)) (test_in end word words) (λ t less. less))
 
 made_flow_in : (end : ℕ) (words : List Word) → Told end words (Rest end words) (made_flow words)
 unfolding made_flow

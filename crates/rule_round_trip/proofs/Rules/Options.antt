@@ -28,7 +28,7 @@ use Rattle.ipfw_parser.specs.Numbers.{starts_with_digit}
 use Rattle.ipfw_parser.specs.Names.{is_name, starts_with_colon, ends_with_star, iface, service, place, service_names}
 use Rattle.ipfw_parser.specs.Parts.{part_before}
 use Rattle.ipfw_parser.specs.Ports.{looks_like_ports, begin_with_ports}
-use Rattle.ipfw_parser.specs.Options.{field, limit_mask, plain_test, lookup, test_of, has_argument, test, is_state, option, state, Placed, with_option, with_state, options}
+use Rattle.ipfw_parser.specs.Options.{field, limit_mask, plain_test, lookup, test_of, has_argument, test_from, is_state, option, state, Placed, with_option, with_state, options}
 use Rattle.ipfw_parser.specs.Forms.{IsIfaceForm, IsTestForm, IsStateForm, IsPlacedForm}
 use Rattle.rule_round_trip.proofs.Numbers.Decimal.{number_again}
 use Rattle.rule_round_trip.proofs.Addresses.Items.{name_again, name_bytes}
@@ -179,8 +179,8 @@ test_words_are (IpOptions present absent) = refl
 test_words_are (Lookup f name) = refl
 
 test_again : (t : Test) (c : List (List ℕ) → ℕ) (end column : ℕ) (rest : WordTexts) → IsTestForm t
-    → test end (record { column = column; text = test_head t }) (at_columns c (test_tail t ++ rest)) ≡ Ok (t, at_columns c rest)
-unfolding test plain_test same has_argument test_of first lookup
+    → test_from end (record { column = column; text = test_head t }) (at_columns c (test_tail t ++ rest)) ≡ Ok (t, at_columns c rest)
+unfolding test_from plain_test same has_argument test_of first lookup
 test_again Inward c end column rest form = refl
 test_again Outward c end column rest form = refl
 test_again Established c end column rest form = refl
