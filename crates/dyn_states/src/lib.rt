@@ -30,5 +30,3 @@ mod state_table;
 mod state_texts;
 mod table_asks;
 mod tallies;
-#[cfg(test)]
-mod tests;

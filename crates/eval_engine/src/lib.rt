@@ -27,6 +27,4 @@ mod resuming;
 mod search;
 mod searched;
 mod stage;
-#[cfg(test)]
-mod tests;
 mod walking;

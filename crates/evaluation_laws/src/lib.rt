@@ -17,5 +17,3 @@ mod places;
 mod question;
 mod running;
 mod story;
-#[cfg(test)]
-mod tests;

@@ -23,5 +23,3 @@ mod setting_commands;
 mod statement;
 mod statements;
 mod table_commands;
-#[cfg(test)]
-mod tests;

@@ -17,5 +17,3 @@ mod line;
 mod report;
 mod rule_lines;
 mod summary;
-#[cfg(test)]
-mod tests;

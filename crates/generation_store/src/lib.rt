@@ -12,5 +12,3 @@ mod index;
 mod jumps;
 mod placed;
 mod store;
-#[cfg(test)]
-mod tests;

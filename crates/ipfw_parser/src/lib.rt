@@ -29,7 +29,5 @@ mod parse_fault;
 mod placed;
 mod ports;
 mod rules;
-#[cfg(test)]
-mod tests;
 mod word;
 mod words;

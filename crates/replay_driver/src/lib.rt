@@ -16,6 +16,4 @@ mod run_result;
 mod script_error;
 mod script_replay;
 mod script_source;
-#[cfg(test)]
-mod tests;
 mod whole_source;

@@ -10,5 +10,3 @@ mod event;
 pub mod laws;
 mod lock_core;
 mod processor_state;
-#[cfg(test)]
-mod tests;

@@ -11,5 +11,3 @@ pub mod Givings
 -- the tokens as a lock opens and as it closes
 pub mod Splits
 pub mod Joins
--- what callers of a lock know of their tokens
-pub mod Callers

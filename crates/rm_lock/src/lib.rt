@@ -25,8 +25,6 @@ mod reader_calls;
 mod reading;
 mod receipt;
 mod slots;
-#[cfg(test)]
-mod tests;
 mod told_calls;
 mod waits;
 mod write_calls;

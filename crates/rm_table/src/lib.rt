@@ -25,7 +25,5 @@ mod rule;
 mod seat;
 mod seat_steps;
 mod table;
-#[cfg(test)]
-mod tests;
 mod view;
 mod writer_steps;

@@ -8,6 +8,4 @@ pub use told::{DeepEntry, Left, Told, TooDeep};
 
 mod deep;
 mod laws;
-#[cfg(test)]
-mod tests;
 mod told;

@@ -25,8 +25,6 @@ mod owned;
 mod rule_list;
 mod sets;
 mod table_changes;
-#[cfg(test)]
-mod tests;
 mod touching;
 mod uses;
 mod values;

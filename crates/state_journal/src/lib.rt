@@ -7,5 +7,3 @@ pub use entry::{Entry, Item};
 
 mod book;
 mod entry;
-#[cfg(test)]
-mod tests;

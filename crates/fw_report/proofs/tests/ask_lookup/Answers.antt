@@ -1,5 +1,0 @@
-use Rattle.state_journal.specs.Journal.{last_rules}
-use Rattle.fw_report.proofs.tests.ask_lookup.Goals as goal
-
-pub ask-requires-clause-rule : goal.ask-requires-clause-rule
-ask-requires-clause-rule g c = c.lookup.ensures (last_rules c.args.book.now.facts)

@@ -1,0 +1,15 @@
+use fw_base::MemorySink;
+use fw_command::ScriptFault;
+use std::alloc::Global;
+use std::test::Fail;
+
+mod commands;
+mod faults;
+mod limits;
+
+/// What is printed of the fault.
+fn printed(alloc: Global, fault: ScriptFault) -> Result<MemorySink, Fail> {
+    let mut out = MemorySink::new(alloc, 1000)?;
+    fault.write(&mut out)?;
+    Ok(out)
+}

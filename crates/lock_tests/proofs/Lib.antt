@@ -1,0 +1,2 @@
+-- what callers of a lock know of their tokens
+pub mod Callers

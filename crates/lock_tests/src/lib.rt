@@ -1,0 +1,16 @@
+//! Tests of the read-mostly lock: of its core, its table, its calls, and of readers that were told of
+//! publications. They stand over the public calls of those crates alone.
+#![tactic(auto)]
+
+#[cfg(test)]
+mod core_rows;
+#[cfg(test)]
+mod edition;
+#[cfg(test)]
+mod ledger;
+#[cfg(test)]
+mod lock_rows;
+#[cfg(test)]
+mod table_rows;
+#[cfg(test)]
+mod told_rows;

@@ -1,0 +1,7 @@
+mod ends;
+mod publication;
+mod publication_of_two;
+mod rows;
+mod threads;
+mod told;
+mod walks;

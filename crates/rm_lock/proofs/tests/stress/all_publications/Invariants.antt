@@ -1,5 +1,0 @@
-use Rattle.std.proofs.Common.{◌≡◌, ◌+◌, ◌≤◌}
-use Rattle.rm_lock.proofs.tests.stress.all_publications.Given as goal
-
-abbrev pub invariant-loop-next : goal.invariant-loop-next
-invariant-loop-next g l = (2 ≤ l.next) × (l.next ≤ 1002) × (l.operator.table_id ≡ l.lock) × (l.operator.view.number + 1 ≡ l.next) × (l.operator.view.count ≡ 8)

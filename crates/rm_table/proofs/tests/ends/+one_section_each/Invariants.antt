@@ -1,5 +1,0 @@
-use Rattle.std.proofs.Common.{◌+◌, ◌-◌}
-use Rattle.rm_table.proofs.tests.ends.+one_section_each.Given as goal
-
-abbrev pub decreases-one_section_each : goal.decreases-one_section_each
-decreases-one_section_each g l = l.processors + 1 - l.place

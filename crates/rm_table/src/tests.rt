@@ -1,9 +1,0 @@
-mod edition;
-mod ends;
-mod ledger;
-mod publication;
-mod publication_of_two;
-mod rows;
-mod threads;
-mod told;
-mod walks;

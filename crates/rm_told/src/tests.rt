@@ -1,3 +1,0 @@
-mod edition;
-mod ledger;
-mod told_reader;

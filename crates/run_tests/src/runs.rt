@@ -1,0 +1,174 @@
+use captures::{Packet, capture_of};
+use fw_base::{FreeGate, MemoryLibrary, MemorySink, MemorySource, Name};
+use replay_driver::{Outcome, run};
+use std::alloc::Global;
+use std::process::Abort;
+use std::sync::Wait;
+use std::test::Fail;
+use std::thread::Threads;
+
+mod bodies;
+mod captures;
+mod cuts;
+mod edits;
+mod ipv6;
+mod loads;
+mod rows;
+mod scripts;
+mod states;
+mod words;
+
+/// How much a sink takes unless a row says otherwise.
+const ROOM: u64 = 1_048_576;
+
+/// A packet and the second of its record.
+type Timed = (u32, Packet);
+
+/// A worked row: the words behind `serial`, in which `s` is the script and `c`, `d` are the captures of these
+/// packets; and the status and the whole text of its run.
+#[derive(Clone, Copy)]
+struct Row {
+    name: &'static str,
+    words: &'static [&'static str],
+    script: &'static str,
+    captures: &'static [&'static [Timed]],
+    status: u8,
+    text: &'static str,
+}
+
+/// What a run leaves.
+#[derive(Drop)]
+struct Seen {
+    status: u8,
+    text: Vec<u8>,
+    sources: usize,
+    records: usize,
+}
+
+/// These words, each as a text.
+fn texts(alloc: Global, words: &[&str]) -> Result<Vec<String>, Fail> {
+    let mut texts = Vec::new(alloc);
+    for word in words {
+        texts.push(String::from_str(alloc, word)?)?;
+    }
+    Ok(texts)
+}
+
+/// Adds a source of these bytes under a name.
+fn add(
+    alloc: Global,
+    library: &mut MemoryLibrary,
+    name: &[u8],
+    bytes: &[u8],
+    pieces: &[usize],
+    cut: Option<u64>,
+) -> Result<(), Fail> {
+    let bytes = Vec::from_slice(alloc, bytes)?;
+    let pieces = Vec::from_slice(alloc, pieces)?;
+    library.add(
+        Name::new(alloc, name)?,
+        MemorySource::new(bytes, pieces, cut),
+    )?;
+    Ok(())
+}
+
+/// What a run left, with the text that it wrote.
+fn seen_of<S: Drop>(alloc: Global, outcome: Outcome<S>, text: &[u8]) -> Result<Seen, Fail> {
+    let mut records = 0usize;
+    if let Some(kept) = &outcome.kept {
+        for docket in kept.dockets() {
+            records = records.saturating_add(docket.entries().len());
+        }
+    }
+    Ok(Seen {
+        status: outcome.status,
+        text: Vec::from_slice(alloc, text)?,
+        sources: outcome.sources.len(),
+        records,
+    })
+}
+
+/// Runs these words over a library, with a sink of that room.
+fn run_over<R: Threads + Wait>(
+    rt: &R,
+    alloc: Global,
+    words: &[&str],
+    library: &mut MemoryLibrary,
+    room: u64,
+) -> Result<Seen, Fail> {
+    let mut out = MemorySink::new(alloc, room)?;
+    let words = texts(alloc, words)?;
+    let outcome = run(rt, alloc, &words, library, &mut out, &FreeGate);
+    seen_of(alloc, outcome, out.written())
+}
+
+/// A library with a script `s` and a capture `c`, which comes in these pieces and fails behind so many bytes.
+fn library_of(
+    alloc: Global,
+    script: &[u8],
+    capture: &[u8],
+    pieces: &[usize],
+    cut: Option<u64>,
+) -> Result<MemoryLibrary, Fail> {
+    let mut library = MemoryLibrary::new(alloc);
+    add(alloc, &mut library, b"s", script, &[], None)?;
+    add(alloc, &mut library, b"c", capture, pieces, cut)?;
+    Ok(library)
+}
+
+/// Runs a script and a capture of incoming packets, which comes in these pieces.
+fn replay<R: Threads + Wait>(
+    rt: &R,
+    alloc: Global,
+    script: &[u8],
+    capture: &[u8],
+    pieces: &[usize],
+) -> Result<Seen, Fail> {
+    let mut library = library_of(alloc, script, capture, pieces, None)?;
+    let words = ["serial", "s", "in:em0:c"];
+    run_over(rt, alloc, &words, &mut library, ROOM)
+}
+
+/// Compares what a run left with the status and the text that the row of that name wants.
+fn assert_seen(rt: &impl Abort, seen: &Seen, name: &str, status: u8, text: &[u8]) {
+    assert_eq!(rt; seen.text.as_slice(), text, "{name}");
+    assert_eq!(rt; seen.status, status, "{name}");
+}
+
+/// Adds a capture of these packets under the name of its place.
+fn add_capture(
+    alloc: Global,
+    library: &mut MemoryLibrary,
+    place: usize,
+    packets: &[Timed],
+) -> Result<(), Fail> {
+    let capture = capture_of(alloc, packets)?;
+    let name: &[u8] = if place == 0 { b"c" } else { b"d" };
+    add(alloc, library, name, &capture, &[], None)
+}
+
+/// A library with the script and the captures of the row.
+fn library_of_row(alloc: Global, row: &Row) -> Result<MemoryLibrary, Fail> {
+    let mut library = MemoryLibrary::new(alloc);
+    add(alloc, &mut library, b"s", row.script.as_bytes(), &[], None)?;
+    for (place, packets) in row.captures.iter().enumerate() {
+        add_capture(alloc, &mut library, place, packets)?;
+    }
+    Ok(library)
+}
+
+/// Runs the row, and compares the status and the text.
+fn check_row<R: Threads + Wait + Abort>(rt: &R, alloc: Global, row: &Row) -> Result<(), Fail> {
+    let mut library = library_of_row(alloc, row)?;
+    let seen = run_over(rt, alloc, row.words, &mut library, ROOM)?;
+    assert_seen(rt, &seen, row.name, row.status, row.text.as_bytes());
+    Ok(())
+}
+
+/// Runs each row, and compares the status and the text.
+fn check<R: Threads + Wait + Abort>(rt: &R, alloc: Global, rows: &[Row]) -> Result<(), Fail> {
+    for row in rows {
+        check_row(rt, alloc, row)?;
+    }
+    Ok(())
+}

@@ -1,0 +1,301 @@
+use super::captures::{SYN, raw};
+use super::{ROOM, Seen, library_of, replay, run_over};
+use std::alloc::Global;
+use std::process::Abort;
+use std::sync::Wait;
+use std::test::Fail;
+use std::thread::Threads;
+
+/// 192.0.2.1, port 80, answers that SYN.
+const SYN_ACK: [u8; 40] = [
+    0x45, 0, 0, 0x28, 0, 0, 0, 0, 0x40, 6, 0, 0, 0xc0, 0, 2, 1, 10, 0, 0, 1, 0, 0x50, 4, 1, 0, 0,
+    0, 0, 0, 0, 0, 0, 0x50, 0x12, 0xff, 0xff, 0, 0, 0, 0,
+];
+
+/// A reset from 10.1.2.3, port 5000, to 10.2.2.3, port 443.
+const RESET: [u8; 40] = [
+    0x45, 0, 0, 0x28, 0, 0, 0, 0, 0x40, 6, 0, 0, 10, 1, 2, 3, 10, 2, 2, 3, 0x13, 0x88, 1, 0xbb, 0,
+    0, 0, 0, 0, 0, 0, 0, 0x50, 4, 0xff, 0xff, 0, 0, 0, 0,
+];
+
+/// UDP from 10.0.0.1, port 5, to 192.0.2.1, port 53.
+const DATAGRAM: [u8; 28] = [
+    0x45, 0, 0, 0x1c, 0, 0, 0, 0, 0x40, 17, 0, 0, 10, 0, 0, 1, 0xc0, 0, 2, 1, 0, 5, 0, 53, 0, 8, 0,
+    0,
+];
+
+/// An ICMP echo request from 10.0.0.1 to 192.0.2.1.
+pub const ECHO: [u8; 28] = [
+    0x45, 0, 0, 0x1c, 0, 0, 0, 0, 0x40, 1, 0, 0, 10, 0, 0, 1, 0xc0, 0, 2, 1, 8, 0, 0, 0, 0, 0, 0, 0,
+];
+
+/// A later fragment of UDP from 10.0.0.1 to 192.0.2.1: its bytes would be the ports 5 and 53.
+const FRAGMENT: [u8; 28] = [
+    0x45, 0, 0, 0x1c, 0, 0, 0, 0xb9, 0x40, 17, 0, 0, 10, 0, 0, 1, 0xc0, 0, 2, 1, 0, 5, 0, 53, 0, 8,
+    0, 0,
+];
+
+/// The SYN, of which 19 bytes of TCP's header were captured.
+const SHORT_SYN: [u8; 39] = [
+    0x45, 0, 0, 0x28, 0, 0, 0, 0, 0x40, 6, 0, 0, 10, 0, 0, 1, 0xc0, 0, 2, 1, 4, 1, 0, 0x50, 0, 0,
+    0, 0, 0, 0, 0, 0, 0x50, 2, 0xff, 0xff, 0, 0, 0,
+];
+
+/// GRE from 10.2.2.3 to 10.0.0.1, with a record route option of three bytes.
+const RECORDED: [u8; 24] = [
+    0x46, 0, 0, 0x18, 0, 0, 0, 0, 0x40, 47, 0, 0, 10, 2, 2, 3, 10, 0, 0, 1, 7, 3, 4, 0,
+];
+
+/// What stands before each rule.
+const BEFORE: &[u8] = b"local 10.0.0.1\n\
+    table nets add 10.0.0.0/8 1\n\
+    table nets add 10.1.0.0/16 2\n\
+    table ports create type number\n\
+    table ports add 80 1\n\
+    add 100 allow ";
+
+/// A rule's body, and of which of the packets it holds: `+` where it does.
+pub type Row = (&'static str, &'static str);
+
+/// For the SYN, its answer, the reset, the datagram, the echo request, the fragment, the short SYN and GRE,
+/// which come in by em0.
+const INCOMING: [Row; 57] = [
+    ("ip from any to any", "++++++++"),
+    ("all from any to any", "++++++++"),
+    ("tcp from any to any", "+++---+-"),
+    ("17 from any to any", "---+-+--"),
+    ("icmp from any to any", "----+---"),
+    ("47 from any to any", "-------+"),
+    ("ip from me to any", "+--++++-"),
+    ("ip from not me to any", "-++----+"),
+    ("ip from any to me", "-+-----+"),
+    ("ip from 10.1.0.0/16 to any", "--+-----"),
+    ("ip from not 10.0.0.0/8 to any", "-+------"),
+    ("ip from 192.0.2.1,10.2.0.0/15 to any", "-+-----+"),
+    ("ip from not 192.0.2.1,10.2.0.0/15 to any", "+-+++++-"),
+    ("ip from not any to any", "--------"),
+    ("ip from table(nets) to any", "+-++++++"),
+    ("ip from table(nets,2) to any", "--+-----"),
+    ("ip from table(nets,1) to any", "+--+++++"),
+    ("ip from table(none) to any", "--------"),
+    ("ip from any to table(nets)", "-++----+"),
+    ("ip from any to not table(nets,1)", "+--++++-"),
+    ("ip from any to any 80", "+-------"),
+    ("ip from any to any 53-80", "+--+----"),
+    ("ip from any to any not 53-80", "-++-++++"),
+    ("ip from any 80,5-6 to any", "-+-+----"),
+    ("ip from any not 80,5-6 to any", "+-+-++++"),
+    ("udp from any to any 53", "---+----"),
+    ("ip from 10.0.0.0/8 1025 to 192.0.2.0/24 80", "+-------"),
+    ("ip from any to any in", "++++++++"),
+    ("ip from any to any out", "--------"),
+    ("ip from any to any not out", "++++++++"),
+    ("ip from any to any recv em0", "++++++++"),
+    ("ip from any to any recv em1", "--------"),
+    ("ip from any to any recv em*", "++++++++"),
+    ("ip from any to any recv em0*", "++++++++"),
+    ("ip from any to any recv em01*", "--------"),
+    ("ip from any to any recv any", "++++++++"),
+    ("ip from any to any xmit any", "--------"),
+    ("ip from any to any not xmit any", "++++++++"),
+    ("ip from any to any via em0", "++++++++"),
+    ("ip from any to any not via e*", "--------"),
+    ("ip from any to any established", "-++-----"),
+    ("ip from any to any setup", "+-------"),
+    ("ip from any to any not setup", "-+++++++"),
+    ("ip from any to any frag", "-----+--"),
+    ("ip from any to any tcpflags syn", "++------"),
+    ("ip from any to any tcpflags syn,!ack", "+-------"),
+    ("ip from any to any tcpflags !syn", "--+-----"),
+    ("ip from any to any not tcpflags syn,ack", "+-++++++"),
+    ("ip from any to any icmptypes 3,8", "----+---"),
+    ("ip from any to any not icmptypes 0", "++++++++"),
+    ("ip from any to any ipoptions rr,!ts", "-------+"),
+    ("ip from any to any ipoptions !rr", "+++++++-"),
+    ("ip from any to any lookup src-ip nets", "+-++++++"),
+    ("ip from any to any lookup dst-ip nets", "-++----+"),
+    ("ip from any to any lookup src-port ports", "-+------"),
+    ("ip from any to any lookup dst-port ports", "+-------"),
+    (
+        "ip from any to any in not setup not frag recv em0",
+        "-++++-++",
+    ),
+];
+
+/// For the same packets, which go out by em0.
+const OUTGOING: [Row; 6] = [
+    ("ip from any to any out", "++++++++"),
+    ("ip from any to any in", "--------"),
+    ("ip from any to any xmit em0", "++++++++"),
+    ("ip from any to any recv any", "--------"),
+    ("ip from any to any via em0", "++++++++"),
+    ("tcp from any to any out setup", "+-------"),
+];
+
+/// How a report begins where rule 100 allows the packets with a `+` and rule 65535 denies the others.
+fn text_of(alloc: Global, holds: &str) -> Result<Vec<u8>, Fail> {
+    let mut text = Vec::new(alloc);
+    for (place, sign) in holds.bytes().enumerate() {
+        let record = place.saturating_add(1);
+        let line = if sign == b'+' {
+            format!(in alloc; "1.{record} allow 00100 at 1\n")?
+        } else {
+            format!(in alloc; "1.{record} deny 65535 at 1\n")?
+        };
+        text.extend_from_slice(line.as_bytes())?;
+    }
+    let end = format!(in alloc; "end 1 records {}\n", holds.len())?;
+    text.extend_from_slice(end.as_bytes())?;
+    Ok(text)
+}
+
+/// A capture of the eight packets.
+fn packets(alloc: Global) -> Result<Vec<u8>, Fail> {
+    raw(
+        alloc,
+        &[
+            &SYN, &SYN_ACK, &RESET, &DATAGRAM, &ECHO, &FRAGMENT, &SHORT_SYN, &RECORDED,
+        ],
+    )
+}
+
+/// The script with the rule of that body.
+fn script_of(alloc: Global, body: &str) -> Result<Vec<u8>, Fail> {
+    let mut script = Vec::from_slice(alloc, BEFORE)?;
+    script.extend_from_slice(body.as_bytes())?;
+    Ok(script)
+}
+
+/// Runs the rule of that body over the packets of a capture, with this word for it.
+fn run_body<R: Threads + Wait>(
+    rt: &R,
+    alloc: Global,
+    word: &str,
+    capture: &[u8],
+    body: &str,
+) -> Result<Seen, Fail> {
+    let script = script_of(alloc, body)?;
+    let mut library = library_of(alloc, &script, capture, &[], None)?;
+    run_over(rt, alloc, &["serial", "s", word], &mut library, ROOM)
+}
+
+fn check_body<R: Threads + Wait + Abort>(
+    rt: &R,
+    alloc: Global,
+    word: &str,
+    capture: &[u8],
+    (body, holds): Row,
+) -> Result<(), Fail> {
+    let seen = run_body(rt, alloc, word, capture, body)?;
+    let begins = text_of(alloc, holds)?;
+    assert!(rt; seen.text.starts_with(&begins), "{body}");
+    assert_eq!(rt; seen.status, 0, "{body}");
+    Ok(())
+}
+
+/// Runs each rule over the packets of a capture, with this word for it.
+pub fn check<R: Threads + Wait + Abort>(
+    rt: &R,
+    alloc: Global,
+    word: &str,
+    capture: &[u8],
+    rows: &[Row],
+) -> Result<(), Fail> {
+    for row in rows {
+        check_body(rt, alloc, word, capture, *row)?;
+    }
+    Ok(())
+}
+
+#[test]
+fn bodies_hold_of_incoming_packets(rt: HostRuntime) -> Result<(), Fail> {
+    check(
+        &rt,
+        rt.alloc(),
+        "in:em0:c",
+        &packets(rt.alloc())?,
+        &INCOMING,
+    )
+}
+
+#[test]
+fn bodies_hold_of_outgoing_packets(rt: HostRuntime) -> Result<(), Fail> {
+    check(
+        &rt,
+        rt.alloc(),
+        "out:em0:c",
+        &packets(rt.alloc())?,
+        &OUTGOING,
+    )
+}
+
+/// The SYN with another source.
+fn syn_from(source: [u8; 4]) -> [u8; 40] {
+    let mut packet = SYN;
+    let [first, second, third, fourth] = source;
+    packet[12] = first;
+    packet[13] = second;
+    packet[14] = third;
+    packet[15] = fourth;
+    packet
+}
+
+/// The SYN with other flags.
+fn syn_with(flags: u8) -> [u8; 40] {
+    let mut packet = SYN;
+    packet[33] = flags;
+    packet
+}
+
+/// Runs a script over a capture, and compares how the report begins.
+fn check_start<R: Threads + Wait + Abort>(
+    rt: &R,
+    alloc: Global,
+    script: &str,
+    capture: &[u8],
+    begins: &str,
+) -> Result<(), Fail> {
+    let seen = replay(rt, alloc, script.as_bytes(), capture, &[])?;
+    assert!(rt; seen.text.starts_with(begins.as_bytes()), "{begins}");
+    assert_eq!(rt; seen.status, 0, "{begins}");
+    Ok(())
+}
+
+#[test]
+fn longest_prefix_decides(rt: HostRuntime) -> Result<(), Fail> {
+    let script = "table nets add 10.0.0.0/8 1\ntable nets add 10.1.0.0/16 2\n\
+        add 100 allow ip from table(nets,2) to any\nadd 200 deny ip from table(nets,1) to any\n";
+    let begins =
+        "1.1 allow 00100 at 1\n1.2 deny 00200 at 1\n1.3 deny 65535 at 1\nend 1 records 3\n";
+    let within_both = syn_from([10, 1, 2, 3]);
+    let within_one = syn_from([10, 2, 2, 3]);
+    let without = syn_from([11, 0, 0, 1]);
+    let packets: [&[u8]; 3] = [&within_both, &within_one, &without];
+    let capture = raw(rt.alloc(), &packets)?;
+    check_start(&rt, rt.alloc(), script, &capture, begins)
+}
+
+#[test]
+fn established_needs_ack_or_rst(rt: HostRuntime) -> Result<(), Fail> {
+    let script = "add 100 allow tcp from any to any established\n";
+    let begins = "1.1 deny 65535 at 1\n1.2 allow 00100 at 1\nend 1 records 2\n";
+    let asks = SYN;
+    let answers = syn_with(0x12);
+    let packets: [&[u8]; 2] = [&asks, &answers];
+    let capture = raw(rt.alloc(), &packets)?;
+    check_start(&rt, rt.alloc(), script, &capture, begins)
+}
+
+#[test]
+fn lookup_of_a_port(rt: HostRuntime) -> Result<(), Fail> {
+    let script = "table ports create type number\ntable ports add 80 1\n\
+        add 100 allow tcp from any to any lookup dst-port ports\n";
+    let capture = raw(rt.alloc(), &[&SYN])?;
+    check_start(
+        &rt,
+        rt.alloc(),
+        script,
+        &capture,
+        "1.1 allow 00100 at 1\nend 1 records 1\n",
+    )
+}
