@@ -37,3 +37,16 @@ echo 'records allow deny editions entries states status' >"$work/wanted"
 awk '{ printf "%s%s", (NR > 1 ? " " : ""), $1 } END { print "" }' "$work/got" >"$work/lines"
 mv "$work/lines" "$work/got"
 same load_has_the_lines_of_a_summary
+
+# Editions of edits that touch no rule share what the rules come to: 4,096 of them beside 10,000 rules, each kept to
+# the report, have room in 160 MB of addresses. Twenty bytes for each rule of each would be 800 MB.
+bytes "$raw_capture" >no_records.pcap
+{
+    awk 'BEGIN { for (number = 1; number <= 10000; number++) print "add " number " count ip from any to any" }'
+    echo live
+    awk 'BEGIN { for (most = 1; most <= 4096; most++) print "sysctl dyn_max=" most }'
+} >script
+printf '%s\n' 'end 1 records 0' 'editions 4097' 'rules 10001' 'states 0' 'status 0' >"$work/wanted"
+(ulimit -v 160000 && replay_whole serial script in:em0:no_records.pcap) |
+    grep -E '^(end|editions|rules|states|status) ' >"$work/got"
+same settings_edits_share_the_rules
