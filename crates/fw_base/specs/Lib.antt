@@ -2,7 +2,6 @@
 pub mod Faults
 pub mod Memory
 pub mod Pairs
-pub mod Buffered
 pub mod Texts
 -- addresses, prefixes, ports, names
 pub mod Addr

@@ -59,11 +59,11 @@ pub record MemoryText : Type 0 where
   pub room : ℕ
   pub failures : ℕ
 
--- it took the first n of these bytes
+-- the sink took the first n of these bytes
 abbrev pub after_taken : MemoryText → ℕ → List ℕ → MemoryText
 after_taken m n bytes = record m { text = m.text ++ take n bytes; room = m.room - n }
 
--- it had no room
+-- the sink had no room for a byte
 abbrev pub after_refused : MemoryText → MemoryText
 after_refused m = record m { failures = one_more m.failures }
 

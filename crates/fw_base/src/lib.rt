@@ -4,7 +4,6 @@
 
 pub use address::Addr;
 pub use address6::Addr6;
-pub use buffered::{BUFFER_BYTES, Buffered};
 pub use failure::{Failed, OutOfMemory};
 pub use gate::{FreeGate, Gate};
 pub use kept::Kept;
@@ -24,7 +23,6 @@ pub use source::Source;
 
 mod address;
 mod address6;
-mod buffered;
 mod failure;
 mod gate;
 mod kept;

@@ -54,7 +54,7 @@ unreach_names =
     codes "net" ∷ codes "host" ∷ codes "protocol" ∷ codes "port" ∷ codes "needfrag" ∷ codes "srcfail" ∷ codes "net-unknown" ∷ codes "host-unknown"
     ∷ codes "isolated" ∷ codes "net-prohib" ∷ codes "host-prohib" ∷ codes "tosnet" ∷ codes "toshost" ∷ codes "filter-prohib" ∷ codes "host-precedence" ∷ codes "precedence-cutoff" ∷ []
 
--- the other codes by number
+-- a code of `unreach` by its name where it has one, else as a number
 unfoldable pub code_word : ℕ → List ℕ
 code_word code = unwrap_or (slice_get unreach_names code) (decimal code)
 

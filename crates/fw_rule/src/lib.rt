@@ -17,11 +17,9 @@ pub use options::{FLAG_NAMES, OPTION_NAMES, has_bit};
 pub use port_list::PortList;
 pub use rule::Rule;
 pub use rule_draft::RuleDraft;
-pub use rule_text::{
-    UNREACH_NAMES, WriteFault, write_protocol, write_rule, write_rule_rest, write_unreach_code,
-};
+pub use rule_text::{UNREACH_NAMES, WriteFault, write_protocol, write_rule, write_rule_rest};
 pub use setting::Setting;
-pub use settings::{LONGEST_LIFETIME, MOST_STATES, Settings, USUAL_MOST_STATES};
+pub use settings::{LONGEST_LIFETIME, MOST_STATES, Settings, USUAL_MOST_STATES, default_settings};
 pub use state_opt::{LimitMask, StateOpt};
 pub use table_command::{Key, TableCommand, TableType};
 pub use test::{Field, Test};

@@ -140,8 +140,8 @@ fn mask_word(mask: LimitMask) -> &'static [u8]
     }
 }
 
-#[tactic(auto, unfolding(crate::specs::Canonical::flag_names, crate::specs::Canonical::option_names))]
 /// Writes a test, each word behind a space.
+#[tactic(auto, unfolding(crate::specs::Canonical::flag_names, crate::specs::Canonical::option_names))]
 fn write_test<K: Sink>(out: &mut K, test: &Test) -> Result<(), Failed>
     ensures { WritesText (K.written out.old) (K.written out.new) (K.faults out.old)
         (K.faults out.new) (spaced_text (text.test_words test.now)) result }

@@ -282,12 +282,3 @@ pub fn write_rule_rest<K: Sink>(rule: &Rule, out: &mut K) -> Result<(), WriteFau
 {
     write_words(out, rule).map_err(|_| WriteFault)
 }
-
-/// Writes a code of `unreach`, by name where it has one, else as a number. It takes no memory. Where the
-/// sink fails, a front of that was written.
-pub fn write_unreach_code<K: Sink>(code: u8, out: &mut K) -> Result<(), WriteFault>
-    ensures { WritesText (K.written out.old) (K.written out.new) (K.faults out.old)
-        (K.faults out.new) (text.code_word code) result }
-{
-    write_piece(out, unreach_piece(code)).map_err(|_| WriteFault)
-}

@@ -12,6 +12,9 @@ use fw_base::{Failed, Sink};
 use std::marker::Model;
 use std::snapshot::Snapshot;
 
+/// How much text the sink is handed at a time: 64 KiB.
+pub(crate) const PIECE_BYTES: usize = 65_536;
+
 /// A sink before another one, which is given text in pieces as large as the buffer.
 #[derive(Drop)]
 pub(crate) struct PieceSink<K> {

@@ -10,13 +10,13 @@ ghost use Rattle.replay_driver.specs.RunResult as results;
 ghost use Rattle.replay_driver.specs.Served.{job_of};
 
 use crate::Outcome;
-use crate::piece_sink::write_pieced;
+use crate::piece_sink::{PIECE_BYTES, write_pieced};
 use crate::replay_files::replay_files;
 use crate::replay_load::replay_load;
 use crate::run_result::{Found, RunResult, no_ends};
 use command_words::{Invocation, Mode, read_words};
 use core::mem::replace_with;
-use fw_base::{BUFFER_BYTES, Failed, Gate, Library, OutOfMemory, Sink};
+use fw_base::{Failed, Gate, Library, OutOfMemory, Sink};
 use std::alloc::{AllocError, Global};
 use std::sync::Wait;
 use std::thread::Threads;
@@ -51,7 +51,7 @@ fn without_memory<S>(alloc: Global) -> Outcome<S>
 fn piece_buffer(alloc: Global) -> Result<Vec<u8>, AllocError>
     ensures { IfOk result (λ buffer. buffer.items ≡ []) }
 {
-    Vec::with_capacity(alloc, BUFFER_BYTES)
+    Vec::with_capacity(alloc, PIECE_BYTES)
 }
 
 /// Writes what was found, in pieces. All memory is taken before the first byte.

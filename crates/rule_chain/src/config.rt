@@ -10,9 +10,8 @@ ghost use Rattle.rule_chain.specs.Rules as lists;
 
 use crate::names::first_names;
 use crate::rule_list::RuleList;
-use crate::values::default_settings;
 use fw_base::{Addr, Name, OutOfMemory};
-use fw_rule::{Action, AddrItem, AddrSpec, Body, Family, Items, Rule, Settings};
+use fw_rule::{Action, AddrItem, AddrSpec, Body, Family, Items, Rule, Settings, default_settings};
 use lookup_tables::{Table, Tables};
 use std::alloc::Global;
 use std::marker::Model;

@@ -1,24 +1,8 @@
 ghost use Rattle.std.specs.Prelude.{◌≡◌};
 ghost use Rattle.fw_rule.specs.Settings.{IsInRange};
-ghost use Rattle.fw_rule.specs.Values.{values_of, default_values, with_value};
+ghost use Rattle.fw_rule.specs.Values.{values_of, with_value};
 
-use fw_rule::{Setting, Settings, USUAL_MOST_STATES};
-
-/// The settings that hold before any command.
-pub(crate) fn default_settings() -> Settings
-    ensures { values_of result ≡ default_values }
-{
-    Settings {
-        ack: 300,
-        syn: 20,
-        fin: 1,
-        rst: 1,
-        udp: 10,
-        short: 5,
-        max: USUAL_MOST_STATES,
-        keep: false,
-    }
-}
+use fw_rule::{Setting, Settings};
 
 /// The settings with one of them changed, to a value in its range.
 pub(crate) fn changed(settings: Settings, setting: Setting, value: u32) -> Settings
