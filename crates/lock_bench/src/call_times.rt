@@ -13,7 +13,7 @@ use std::thread;
 use std::thread::{Threads, join};
 use std::time::Clock;
 
-// The sections of all readers, each in a thread of its own. At the end it says that they are done.
+/// The sections of all readers, each in a thread of its own. At the end it says that they are done.
 fn all_sections<R: Threads + Wait + Clock + Sync>(
     rt: &R,
     lock: &Lock,

@@ -11,7 +11,7 @@ use std::sync::atomic::{AtomicBool, Ordering};
 use std::thread;
 use std::time::{Clock, Duration};
 
-// Between two publications, in milliseconds.
+/// Between two publications, in milliseconds.
 const PAUSE: u64 = 10;
 
 /// Publishes about 100 times a second until the readers are done. Answers how often.
@@ -37,8 +37,8 @@ pub fn publish_until<R: Clock + Wait>(
     Ok(u32::MAX)
 }
 
-// Publishes an edition of the next number for each processor, where there is a next number and the book has
-// room.
+/// Publishes an edition of the next number for each processor, where there is a next number and the book has
+/// room.
 fn publish_next<R: Wait>(
     rt: &R,
     alloc: Global,

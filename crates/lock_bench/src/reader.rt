@@ -43,8 +43,8 @@ pub fn open_lock(alloc: Global, processors: u32) -> Result<Opened<Edition, Book>
     Ok(RmLock::open(alloc, editions, Book::new())?)
 }
 
-// One section: enter, read the edition's number, leave. Where the processor is refused, it regains, and the
-// answer is 0.
+/// One section: enter, read the edition's number, leave. Where the processor is refused, it regains, and the
+/// answer is 0.
 fn section<R: Wait>(rt: &R, lock: &Lock, p: Reader) -> (Reader, u64)
     requires lock { p.table_id ≡ lock.now }
     ensures lock { result.0.table_id ≡ lock.now }

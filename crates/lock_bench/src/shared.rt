@@ -44,7 +44,7 @@ impl Shared {
         Ok(time.max(latest))
     }
 
-    // The edition's number, and 0 where the counted pointer has too many clones.
+    /// The edition's number, and 0 where the counted pointer has too many clones.
     fn number(&self, rt: &impl Wait, means: Means) -> u64 {
         match means {
             Means::RwLock => self.rwlock.read(rt).number,

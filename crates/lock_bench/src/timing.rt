@@ -33,7 +33,7 @@ pub fn print_mean<R: Print>(rt: &R, name: &str, times: &[Option<u64>], rounds: u
     Ok(())
 }
 
-// Two stores and a load on words of each thread's own.
+/// Two stores and a load on words of each thread's own.
 fn print_own_words<R: Threads + Clock + Print + Sync>(
     rt: &R,
     alloc: Global,
@@ -53,7 +53,7 @@ fn print_own_words<R: Threads + Clock + Print + Sync>(
     print_mean(rt, "two stores and a load", times.as_slice(), rounds)
 }
 
-// Sections on a table, of that kind.
+/// Sections on a table, of that kind.
 fn print_sections<R: Threads + Clock + Print + Sync>(
     rt: &R,
     alloc: Global,
@@ -75,7 +75,7 @@ fn print_sections<R: Threads + Clock + Print + Sync>(
     print_mean(rt, name, times.as_slice(), rounds)
 }
 
-// Reads an edition that all threads share by these means.
+/// Reads an edition that all threads share by these means.
 fn print_shared<R: Threads + Wait + Clock + Print + Sync>(
     rt: &R,
     alloc: Global,

@@ -93,7 +93,7 @@ pub fn open_table(alloc: Global, processors: u32) -> Result<OpenTable<Edition, B
     Ok(RmTable::open(alloc, editions, Book::new())?)
 }
 
-// One section of that kind. Answers what it read.
+/// One section of that kind. Answers what it read.
 fn section_of(table: &Table, seat: &mut Seat, place: u32, kind: Kind) -> u64
     requires table { seat.old.table_id ≡ table.now }
     requires idle { IsIdle seat.old.me.0 seat.old.me.1 }
@@ -115,7 +115,7 @@ fn section_of(table: &Table, seat: &mut Seat, place: u32, kind: Kind) -> u64
     }
 }
 
-// One section.
+/// One section.
 fn section(table: &Table, seat: &mut Seat) -> Heard
     requires table { seat.old.table_id ≡ table.now }
     requires idle { IsIdle seat.old.me.0 seat.old.me.1 }
@@ -130,7 +130,7 @@ fn section(table: &Table, seat: &mut Seat) -> Heard
     heard
 }
 
-// In a section: takes the edition out of its slot, reads its number, and puts it back.
+/// In a section: takes the edition out of its slot, reads its number, and puts it back.
 fn read_edition(table: &Table, seat: &mut Seat, place: u32) -> u64
     requires table { seat.old.table_id ≡ table.now }
     requires inside { IsInSection seat.old.me.0 seat.old.me.1 }
@@ -148,7 +148,7 @@ fn read_edition(table: &Table, seat: &mut Seat, place: u32) -> u64
     number
 }
 
-// One section in which the edition is read. Answers its number, and 0 where the processor was refused.
+/// One section in which the edition is read. Answers its number, and 0 where the processor was refused.
 fn section_with_edition(table: &Table, seat: &mut Seat, place: u32) -> u64
     requires table { seat.old.table_id ≡ table.now }
     requires idle { IsIdle seat.old.me.0 seat.old.me.1 }
@@ -167,7 +167,7 @@ fn section_with_edition(table: &Table, seat: &mut Seat, place: u32) -> u64
     number
 }
 
-// A processor in a section tries once for the book, and takes it out of its slot.
+/// A processor in a section tries once for the book, and takes it out of its slot.
 fn try_book(table: &Table, seat: &mut Seat) -> Option<Book>
     requires table { seat.old.table_id ≡ table.now }
     requires inside { IsInSection seat.old.me.0 seat.old.me.1 }
@@ -184,7 +184,7 @@ fn try_book(table: &Table, seat: &mut Seat) -> Option<Book>
     }
 }
 
-// In a section: where the book is free, one entry in the processor's own list. Answers whether it was free.
+/// In a section: where the book is free, one entry in the processor's own list. Answers whether it was free.
 fn enter_in_book(table: &Table, seat: &mut Seat, place: u32) -> bool
     requires table { seat.old.table_id ≡ table.now }
     requires inside { IsInSection seat.old.me.0 seat.old.me.1 }
@@ -207,7 +207,7 @@ fn enter_in_book(table: &Table, seat: &mut Seat, place: u32) -> bool
     true
 }
 
-// One section with an entry in the book. Answers whether the book was free.
+/// One section with an entry in the book. Answers whether the book was free.
 fn section_with_book(table: &Table, seat: &mut Seat, place: u32) -> bool
     requires table { seat.old.table_id ≡ table.now }
     requires idle { IsIdle seat.old.me.0 seat.old.me.1 }

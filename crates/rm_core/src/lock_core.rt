@@ -105,21 +105,21 @@ impl Core {
         }
     }
 
-    // the operator's number
+    /// The operator's number.
     fn operator(&self) -> u32
         ensures { result ≡ operator_of self.now }
     {
         self.processors.len() as u32 + 1
     }
 
-    // whether the number is a processor's or the operator's
+    /// Whether the number is a processor's or the operator's.
     fn is_seat(&self, number: u32) -> bool
         ensures { IsTrue result ↔ IsSeat self.now number }
     {
         0 < number && number <= self.operator()
     }
 
-    // whether this one holds the lock behind
+    /// Whether this one holds the lock behind.
     fn holds(&self, number: u32) -> bool
         ensures { IsTrue result ↔ (self.now.holder ≡ Some number) }
     {
@@ -136,7 +136,7 @@ impl Core {
         }
     }
 
-    // whether there is such a processor, and its tracker says this
+    /// Whether there is such a processor, and its tracker says this.
     fn is_at(&self, number: u32, phase: Phase) -> bool
         ensures { IsTrue result ↔ IsProcessor self.now number (λ p. p.phase ≡ phase) }
     {
@@ -159,7 +159,7 @@ fn all_drained(processors: &[ProcessorState]) -> bool
     processors.iter().all(|processor| processor.drained)
 }
 
-// Makes the step on the bare fields, which are a safe state again only when it is made.
+/// Makes the step on the bare fields, which are a safe state again only when it is made.
 fn advance(
     published: &mut u64,
     holder: &mut Option<u32>,
@@ -209,7 +209,7 @@ fn advance(
     }
 }
 
-// the writer's two sets are empty from now on
+/// The writer's two sets are empty from now on.
 fn end_write(processors: &mut [ProcessorState])
     ensures { processors.new ≡ map with_flags_cleared processors.old }
 {

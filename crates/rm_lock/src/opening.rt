@@ -10,7 +10,7 @@ use fw_base::{Kept, Numbered, OutOfMemory};
 use rm_table::{OpenTable, RmSeat, RmTable};
 use std::alloc::{AllocError, Global};
 
-// Splits the seats of all processors off the opening seat.
+/// Splits the seats of all processors off the opening seat.
 fn split_all<E: Numbered<Tag = B::Facts>, B: Kept>(
     alloc: Global,
     table: &RmTable<E, B>,

@@ -14,7 +14,7 @@ use rm_table::{RmSeat, RmTable};
 use std::mem;
 use std::sync::Wait;
 
-// Revokes the token of each processor.
+/// Revokes the token of each processor.
 pub(crate) fn revoke_all<E: Numbered<Tag = B::Facts>, B: Kept>(
     table: &RmTable<E, B>,
     seat: &mut RmSeat<E, B>,
@@ -40,7 +40,7 @@ pub(crate) fn revoke_all<E: Numbered<Tag = B::Facts>, B: Kept>(
     }
 }
 
-// Waits for each processor, the last first, so that their editions lie in order in the hand.
+/// Waits for each processor, the last first, so that their editions lie in order in the hand.
 pub(crate) fn drain_all<E: Numbered<Tag = B::Facts>, B: Kept, R: Wait>(
     table: &RmTable<E, B>,
     rt: &R,
@@ -65,8 +65,8 @@ pub(crate) fn drain_all<E: Numbered<Tag = B::Facts>, B: Kept, R: Wait>(
     }
 }
 
-// Puts an edition into the processor's slot, which lies on top of the hand, and the slot behind the others.
-// What the slot held stands in place of the new edition.
+/// Puts an edition into the processor's slot, which lies on top of the hand, and the slot behind the others.
+/// What the slot held stands in place of the new edition.
 fn exchange_one<E: Numbered<Tag = B::Facts>, B: Kept>(
     table: &RmTable<E, B>,
     seat: &mut RmSeat<E, B>,
@@ -86,7 +86,7 @@ fn exchange_one<E: Numbered<Tag = B::Facts>, B: Kept>(
     seat.turn();
 }
 
-// Exchanges the editions of all processors, which are in the hand in order.
+/// Exchanges the editions of all processors, which are in the hand in order.
 pub(crate) fn exchange_all<E: Numbered<Tag = B::Facts>, B: Kept>(
     table: &RmTable<E, B>,
     seat: &mut RmSeat<E, B>,
@@ -106,7 +106,7 @@ pub(crate) fn exchange_all<E: Numbered<Tag = B::Facts>, B: Kept>(
     }
 }
 
-// Takes the book, which is free, since all processors are drained, and takes it out of its slot.
+/// Takes the book, which is free, since all processors are drained, and takes it out of its slot.
 fn take_free_book<E: Numbered<Tag = B::Facts>, B: Kept>(
     table: &RmTable<E, B>,
     seat: &mut RmSeat<E, B>,
@@ -125,7 +125,7 @@ fn take_free_book<E: Numbered<Tag = B::Facts>, B: Kept>(
     take_out_book(table, seat)
 }
 
-// Takes the book, lets it take the facts in, publishes, and gives book and lock back.
+/// Takes the book, lets it take the facts in, publishes, and gives book and lock back.
 pub(crate) fn publish_book<E: Numbered<Tag = B::Facts>, B: Kept>(
     table: &RmTable<E, B>,
     seat: &mut RmSeat<E, B>,

@@ -5,7 +5,7 @@ ghost use Rattle.rm_table.specs.declared.padded_slot.Slot.TheVariants.{Edition, 
 use fw_base::{Kept, Numbered};
 use rm_table::{RmSeat, RmTable};
 
-// Takes the edition out of the processor's slot, which lies on top of the hand.
+/// Takes the edition out of the processor's slot, which lies on top of the hand.
 pub(crate) fn take_edition<E: Numbered<Tag = B::Facts>, B: Kept>(
     table: &RmTable<E, B>,
     seat: &mut RmSeat<E, B>,
@@ -23,7 +23,7 @@ pub(crate) fn take_edition<E: Numbered<Tag = B::Facts>, B: Kept>(
     }
 }
 
-// Puts an edition into the processor's slot, which lies empty on top of the hand.
+/// Puts an edition into the processor's slot, which lies empty on top of the hand.
 pub(crate) fn put_edition<E: Numbered<Tag = B::Facts>, B: Kept>(
     table: &RmTable<E, B>,
     seat: &mut RmSeat<E, B>,
@@ -39,7 +39,7 @@ pub(crate) fn put_edition<E: Numbered<Tag = B::Facts>, B: Kept>(
     let _ = table.exchange_edition(seat, place, Some(edition));
 }
 
-// Takes the book out of its slot, which lies on top of the hand.
+/// Takes the book out of its slot, which lies on top of the hand.
 pub(crate) fn take_out_book<E: Numbered<Tag = B::Facts>, B: Kept>(
     table: &RmTable<E, B>,
     seat: &mut RmSeat<E, B>,
@@ -56,7 +56,7 @@ pub(crate) fn take_out_book<E: Numbered<Tag = B::Facts>, B: Kept>(
     }
 }
 
-// Puts the book into its slot, which lies empty on top of the hand.
+/// Puts the book into its slot, which lies empty on top of the hand.
 pub(crate) fn put_book<E: Numbered<Tag = B::Facts>, B: Kept>(
     table: &RmTable<E, B>,
     seat: &mut RmSeat<E, B>,

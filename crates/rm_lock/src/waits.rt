@@ -8,7 +8,7 @@ use rm_core::{Heard, Phase};
 use rm_table::{RmSeat, RmTable, Role, Tried};
 use std::sync::Wait;
 
-// Tries for the lock behind until a try takes it.
+/// Tries for the lock behind until a try takes it.
 pub(crate) fn take_back<E: Numbered<Tag = B::Facts>, B: Kept, R: Wait>(
     table: &RmTable<E, B>,
     rt: &R,
@@ -28,7 +28,7 @@ pub(crate) fn take_back<E: Numbered<Tag = B::Facts>, B: Kept, R: Wait>(
     unreachable!()
 }
 
-// Tries for the book until a try takes it.
+/// Tries for the book until a try takes it.
 pub(crate) fn take_book<E: Numbered<Tag = B::Facts>, B: Kept, R: Wait>(
     table: &RmTable<E, B>,
     rt: &R,
@@ -51,7 +51,7 @@ pub(crate) fn take_book<E: Numbered<Tag = B::Facts>, B: Kept, R: Wait>(
     unreachable!()
 }
 
-// Looks at a processor until it is out.
+/// Looks at a processor until it is out.
 pub(crate) fn drain<E: Numbered<Tag = B::Facts>, B: Kept, R: Wait>(
     table: &RmTable<E, B>,
     rt: &R,

@@ -17,7 +17,7 @@ use rm_core::Phase;
 
 type SharedTable<E, B> = Shared<PaddedSlot<E, B>, LockView<E, B>, Opening<E, B>, LockRule>;
 
-// Puts an edition, or nothing, into that slot, which lies on top of the seat's hand.
+/// Puts an edition, or nothing, into that slot, which lies on top of the seat's hand.
 fn replace_edition_at<E: Numbered<Tag = B::Facts>, B: Kept>(
     table: &SharedTable<E, B>,
     seat: &mut Seat<PaddedSlot<E, B>, LockView<E, B>>,
@@ -34,7 +34,7 @@ fn replace_edition_at<E: Numbered<Tag = B::Facts>, B: Kept>(
     seat.slot_mut(table, slot).replace_edition(new)
 }
 
-// Puts the book, or nothing, into its slot, which lies on top of the seat's hand.
+/// Puts the book, or nothing, into its slot, which lies on top of the seat's hand.
 fn replace_book_at<E: Numbered<Tag = B::Facts>, B: Kept>(
     table: &SharedTable<E, B>,
     seat: &mut Seat<PaddedSlot<E, B>, LockView<E, B>>,

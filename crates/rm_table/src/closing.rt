@@ -43,7 +43,7 @@ fn book_in<E: Drop, B: Drop>(slot: PaddedSlot<E, B>) -> B
     }
 }
 
-// The trackers of all processors.
+/// The trackers of all processors.
 fn trackers_of<S>(
     closed: &atomic_table::Closed<S, Global>,
     processors: u32,
@@ -65,7 +65,7 @@ fn trackers_of<S>(
     trackers
 }
 
-// Takes the editions of all processors out of their slots.
+/// Takes the editions of all processors out of their slots.
 fn take_editions<E: Drop, B: Drop>(
     closed: &mut atomic_table::Closed<PaddedSlot<E, B>, Global>,
     processors: u32,

@@ -19,7 +19,7 @@ pub struct OpenTable<E: Numbered<Tag = B::Facts>, B: Kept> {
     pub seat: RmSeat<E, B>,
 }
 
-// The words at the opening.
+/// The words at the opening.
 fn words_at_opening(alloc: Global, processors: u32, number: u64) -> Result<Vec<u64>, AllocError>
     requires { processors ≤ 64 }
     ensures { IfOk result (λ words. words.items ≡ first_words processors number) }
@@ -29,7 +29,7 @@ fn words_at_opening(alloc: Global, processors: u32, number: u64) -> Result<Vec<u
     Ok(words)
 }
 
-// The slots at the opening: the book, and each edition.
+/// The slots at the opening: the book, and each edition.
 fn slots_at_opening<E: Drop, B: Drop>(
     alloc: Global,
     editions: Vec<E>,

@@ -6,7 +6,7 @@ use crate::rule::LockView;
 use atomic_table::Play;
 use fw_base::{Kept, Numbered};
 
-// What each kind of step tells.
+/// What each kind of step tells.
 pub(crate) struct Raise;
 
 impl<E: Numbered<Tag = B::Facts>, B: Kept> Play<PaddedSlot<E, B>, LockView<E, B>> for Raise {

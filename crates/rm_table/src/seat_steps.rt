@@ -9,7 +9,7 @@ use fw_base::{Kept, Numbered};
 use rm_core::Phase;
 use std::marker::{Brand, PhantomData};
 
-// The place whose seat is split off. Each call of a program picks it.
+/// The place whose seat is split off. Each call of a program picks it.
 pub(crate) trait Pick {
     ghost place: { ℕ };
 }
@@ -18,10 +18,10 @@ impl Pick for Brand {
     ghost place = { 0 };
 }
 
-// The tracker of a processor that is out and has begun no section.
+/// The tracker of a processor that is out and has begun no section.
 const NO_SECTION: u64 = 0;
 
-// How the opening seat is cut.
+/// How the opening seat is cut.
 pub(crate) struct Cut<P: Pick>(PhantomData<P>);
 
 impl<E: Numbered<Tag = B::Facts>, B: Kept, P: Pick> Split<LockView<E, B>> for Cut<P> {
@@ -30,7 +30,7 @@ impl<E: Numbered<Tag = B::Facts>, B: Kept, P: Pick> Split<LockView<E, B>> for Cu
     ghost right = { λ v. right_of v P.place (kept_at v P.place) };
 }
 
-// How a receipt's seat is cut off the operator's.
+/// How a receipt's seat is cut off the operator's.
 pub(crate) struct Copied;
 
 impl<E: Numbered<Tag = B::Facts>, B: Kept> Split<LockView<E, B>> for Copied {
@@ -39,7 +39,7 @@ impl<E: Numbered<Tag = B::Facts>, B: Kept> Split<LockView<E, B>> for Copied {
     ghost right = { λ v. receipt_view v };
 }
 
-// How a processor's seat is joined into the operator's, and a receipt's into a processor's.
+/// How a processor's seat is joined into the operator's, and a receipt's into a processor's.
 pub(crate) struct Glue;
 
 impl<E: Numbered<Tag = B::Facts>, B: Kept> Join<LockView<E, B>> for Glue {

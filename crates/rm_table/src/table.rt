@@ -13,7 +13,7 @@ use std::marker::Model;
 pub struct RmTable<E: Numbered<Tag = B::Facts>, B: Kept> {
     pub(crate) table: Table<PaddedSlot<E, B>, LockView<E, B>, Opening<E, B>, LockRule, Global>,
     pub(crate) processors: u32,
-    // the memory that `close` needs
+    /// The memory that `close` needs.
     pub(crate) trackers: Vec<u64>,
     pub(crate) editions: Vec<E>,
 }
@@ -34,7 +34,7 @@ impl<E: Numbered<Tag = B::Facts>, B: Kept> Model for RmTable<E, B> {
         (vec_capacity t.editions) };
 }
 
-// The index of the word that has this number: 64 bytes lie between two words.
+/// The index of the word that has this number: 64 bytes lie between two words.
 pub(crate) fn index_at(word: u32) -> usize
     ensures { result ≡ index_of_word word }
 {
