@@ -1,7 +1,7 @@
 # Each recipe of docs/RECIPES.md: its commands are run as they stand, and print what stands below them.
 # shellcheck shell=bash disable=SC2154
 
-mkdir -p recipes/bin && ln -sf "$top/examples" recipes/examples && ln -sf "$program" recipes/bin/ipfw_replay
+mkdir -p recipes/bin && ln -sf "$top/examples" recipes/examples && ln -sf "$tests" recipes/tests && ln -sf "$program" recipes/bin/ipfw_replay
 sed -n 's/^    //p' "$top/docs/RECIPES.md" >"$work/wanted"
 (
     cd recipes || exit 1
