@@ -1,0 +1,135 @@
+#!/usr/bin/env python3
+"""Counts over crates/ what docs/DECISIONS.md tells under "The house, counted": python3 docs/house.py [TOP].
+
+It knows of the language only how lines begin in this repository: a declaration is a line NAME : .., with words
+such as `pub` or `abbrev` before the name, and a comment stands on the line above."""
+
+import collections
+import os
+import re
+import sys
+
+TOP = os.path.join(sys.argv[1] if len(sys.argv) > 1 else os.path.join(os.path.dirname(__file__), ".."), "crates")
+DECLARED = re.compile(r"^( *)(?:(abbrev|unfoldable) )?(pub )?(record |data )?([^\s:(){}.\\]+)((?: [({].*?[)}])*) : ?(.*)$")
+CLAUSE = re.compile(r"\s*(requires|ensures|invariant|decreases)\b")
+WIDEST_CLAUSE = 100
+SMALL_FILE = 12
+WINDOW = 6
+
+
+def files(*parts):
+    """The paths below crates/ that have one of these endings, `out/` left out."""
+    for folder, folders, names in os.walk(TOP):
+        folders[:] = sorted(name for name in folders if name != "out")
+        for name in sorted(names):
+            if name.endswith(parts):
+                yield os.path.relpath(os.path.join(folder, name), TOP)
+
+
+def text_of(path):
+    with open(os.path.join(TOP, path), encoding="utf-8") as file:
+        return file.read()
+
+
+def lines_of(path):
+    return text_of(path).split("\n")
+
+
+def is_in(path, room):
+    return path.split("/")[1] == room
+
+
+def declarations(path):
+    """Each declaration: its column, whether it is a definition, whether it is public, its name, its type, its line."""
+    lines = lines_of(path)
+    for place, line in enumerate(lines):
+        found = DECLARED.match(line)
+        if not found or line.lstrip().startswith(("let ", "--", "use ")):
+            continue
+        column, kind, public, data, name, _, statement = found.groups()
+        for more in lines[place + 1:]:
+            if not more.startswith(column + " "):
+                break
+            statement += " " + more.strip()
+        yield len(column), bool(kind or data), bool(public), name, statement, place
+
+
+def is_told(path, place):
+    """Whether a comment stands above the line."""
+    return place > 0 and lines_of(path)[place - 1].lstrip().startswith("--")
+
+
+def lemmas():
+    stated = collections.Counter()
+    for path in files(".antt"):
+        if is_in(path, "proofs") and not path.endswith("Answers.antt"):
+            for column, definition, _, _, statement, _ in declarations(path):
+                if column == 0 and not definition:
+                    stated[statement] += 1
+    twice = sum(1 for times in stated.values() if times > 1)
+    print(f"statements of lemmas in two places or more: {twice} of {sum(stated.values())}")
+
+
+def definitions():
+    crates = collections.defaultdict(set)
+    untold, participles, count = [], [], 0
+    for path in files(".antt"):
+        if is_in(path, "specs"):
+            for _, definition, public, name, _, place in declarations(path):
+                if not (definition and public):
+                    continue
+                count += 1
+                crates[name].add(path.split("/")[0])
+                if not is_told(path, place):
+                    untold.append(f"{path}: {name}")
+                if re.fullmatch(r"[a-z]+(ed|en|ung|ept|eft|ent|ade|old|ought)", name):
+                    participles.append(name)
+    shared = sorted(name for name, of in crates.items() if len(of) > 1)
+    print(f"names of public definitions in two crates or more: {len(shared)} of {len(crates)}: {' '.join(shared)}")
+    print(f"public definitions without a line above: {len(untold)} of {count}", *untold)
+    print("names that may be bare participles, to be read:", *sorted(set(participles)))
+
+
+def sources():
+    small = [path for path in files(".rt") if is_in(path, "src") and text_of(path).count("\n") <= SMALL_FILE]
+    every = [path for path in files(".rt") if is_in(path, "src")]
+    print(f"source files of {SMALL_FILE} lines or fewer: {len(small)} of {len(every)}")
+    rooms = collections.defaultdict(set)
+    for path in files(".antt"):
+        if is_in(path, "specs"):
+            rooms[path.split("/")[0]].add(os.path.basename(path)[:-5].lower())
+    citing = [path for path in every if f"ghost use Rattle.{path.split('/')[0]}.specs." in text_of(path)]
+    named = [path for path in citing
+             if os.path.basename(path)[:-3].replace("_", "") in rooms[path.split("/")[0]]]
+    print(f"source files that cite their crate's definitions and share a name with a file of them: {len(named)} of {len(citing)}")
+
+
+def clauses():
+    every = [line for path in files(".rt") for line in lines_of(path) if CLAUSE.match(line)]
+    wide = [line for line in every if len(line) > WIDEST_CLAUSE]
+    print(f"clauses whose first line has more than {WIDEST_CLAUSE} columns: {len(wide)} of {len(every)}")
+
+
+def repeated():
+    places = collections.defaultdict(list)
+    for path in files(".rt", ".antt"):
+        lines = [line.strip() for line in lines_of(path)]
+        for place in range(len(lines) - WINDOW + 1):
+            window = lines[place:place + WINDOW]
+            if all(len(line) > 3 for line in window) and not all(line.startswith(("use ", "ghost use ")) for line in window):
+                places["\n".join(window)].append((path, place))
+    pairs = {(one[0], other[0], other[1] - one[1])
+             for met in places.values() for at, one in enumerate(met) for other in met[at + 1:]
+             if one[0] != other[0] or other[1] - one[1] >= WINDOW}
+    print(f"pairs of places that share {WINDOW} lines or more: {len(pairs)}")
+
+
+lemmas()
+definitions()
+sources()
+clauses()
+repeated()
+for crate in ("ipfw_parser", "rule_round_trip"):
+    entries = os.listdir(os.path.join(TOP, crate, "proofs"))
+    flat = sum(entry.endswith(".antt") for entry in entries)
+    print(f"flat files of lemmas in {crate}, Lib among them: {flat}, and rooms: {len(entries) - flat}")
