@@ -1,6 +1,4 @@
-ghost use Rattle.std.specs.Prelude.{◌≡◌};
 ghost use Rattle.fw_rule.specs.Settings.{IsLifetime, IsMostStates};
-ghost use Rattle.fw_rule.specs.Values.{values_of, default_values};
 
 /// The greatest `max` of `Settings`.
 pub const MOST_STATES: u32 = 65_536;
@@ -31,21 +29,4 @@ pub struct Settings {
     ghost udp_in_range: { IsLifetime udp },
     ghost short_in_range: { IsLifetime short },
     ghost max_in_range: { IsMostStates max },
-}
-
-/// The settings that hold before any command: lifetimes of 300 seconds, 20, 1, 1, 10 and 5, at most 16,384
-/// states, none of which outlives its rule.
-pub fn default_settings() -> Settings
-    ensures { values_of result ≡ default_values }
-{
-    Settings {
-        ack: 300,
-        syn: 20,
-        fin: 1,
-        rst: 1,
-        udp: 10,
-        short: 5,
-        max: USUAL_MOST_STATES,
-        keep: false,
-    }
 }
