@@ -63,9 +63,13 @@ prefix word = do
   bits ← prefix_length word.column (part_behind 47 word.text)
   Ok (network a bits)
 
+-- a comma or a closing parenthesis
+abbrev pub ends_part : ℕ → Bool
+ends_part byte = byte == 44 || byte == 41
+
 -- how long the part before the first comma or closing parenthesis is
 unfoldable pub part_len : List ℕ → ℕ
-part_len text = unwrap_or (position (λ b. b == 44 || b == 41) text) (length text)
+part_len text = unwrap_or (position ends_part text) (length text)
 
 -- the parenthesis closes, and nothing follows
 unfoldable pub closes : List ℕ → Bool

@@ -16,16 +16,20 @@ elements text = slice_split (λ byte. byte == 44) text
 abbrev pub inside_after : Bool → ℕ → Bool
 inside_after inside byte = if byte == 40 then true else if byte == 41 then false else inside
 
+-- a comma outside parentheses parts elements
+abbrev pub parts_elements : ℕ → Bool → Bool
+parts_elements byte inside = byte == 44 && not inside
+
 -- a comma in parentheses parts no elements
 unfoldable pub elements_outside : Bool → List ℕ → List (List ℕ)
 elements_outside inside [] = [] ∷ []
 elements_outside inside (byte ∷ bytes) =
-    if byte == 44 && not inside then [] ∷ elements_outside false bytes else onto_first byte (elements_outside (inside_after inside byte) bytes)
+    if parts_elements byte inside then [] ∷ elements_outside false bytes else onto_first byte (elements_outside (inside_after inside byte) bytes)
 
 -- where the first element ends
 unfoldable pub element_end : Bool → List ℕ → ℕ
 element_end inside [] = 0
-element_end inside (byte ∷ bytes) = if byte == 44 && not inside then 0 else suc (element_end (inside_after inside byte) bytes)
+element_end inside (byte ∷ bytes) = if parts_elements byte inside then 0 else suc (element_end (inside_after inside byte) bytes)
 
 -- the elements of what is left of a list
 abbrev pub elements_left : Option (List ℕ) → List (List ℕ)

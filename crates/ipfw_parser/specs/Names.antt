@@ -1,5 +1,5 @@
 -- Names of tables, flows and interfaces, and words that stand for numbers (services: RFC 6335).
-use Rattle.std.specs.Prelude.{ℕ, ◌-◌, Bool, false, ◌&&◌, ◌||◌, ◌==◌, nat_le, if◌then◌else◌, Option, Some, None, Result, Ok, List, [], ◌∷◌, length, position, slice_get, slice_index, take, drop, codes, option_and_then}
+use Rattle.std.specs.Prelude.{ℕ, ◌-◌, Bool, false, ◌&&◌, ◌==◌, nat_le, if◌then◌else◌, Option, Some, None, Result, Ok, List, [], ◌∷◌, length, position, slice_get, slice_index, take, drop, codes, option_and_then}
 use Rattle.std.specs.List.{list_all}
 use Rattle.fw_base.specs.Name.{is_name_byte}
 use Rattle.fw_rule.specs.Canonical.{unreach_names}

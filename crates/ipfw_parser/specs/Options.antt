@@ -62,16 +62,17 @@ tcp_flags word = signs flag_names word >>= λ masks. Ok (TcpFlags masks.set mask
 abbrev pub ip_options : Word → Result Test Fault
 ip_options word = signs option_names word >>= λ masks. Ok (IpOptions masks.set masks.clear)
 
--- the tests that have one word behind them
-unfoldable pub test_of : List ℕ → Word → Result Test Fault
+-- the tests that have one word behind their name
+unfoldable pub test_of : Word → Word → Result Test Fault
 test_of name word =
-    if same name (codes "recv") then (iface word >>= λ i. Ok (Recv i))
-    else if same name (codes "xmit") then (iface word >>= λ i. Ok (Xmit i))
-    else if same name (codes "via") then (iface word >>= λ i. Ok (Via i))
-    else if same name (codes "tcpflags") then tcp_flags word
-    else if same name (codes "icmptypes") then (types word >>= λ mask. Ok (IcmpTypes mask))
-    else if same name (codes "icmp6types") then (types6 word >>= λ set. Ok (Icmp6Types set))
-    else ip_options word
+    if same name.text (codes "recv") then (iface word >>= λ i. Ok (Recv i))
+    else if same name.text (codes "xmit") then (iface word >>= λ i. Ok (Xmit i))
+    else if same name.text (codes "via") then (iface word >>= λ i. Ok (Via i))
+    else if same name.text (codes "tcpflags") then tcp_flags word
+    else if same name.text (codes "icmptypes") then (types word >>= λ mask. Ok (IcmpTypes mask))
+    else if same name.text (codes "icmp6types") then (types6 word >>= λ set. Ok (Icmp6Types set))
+    else if same name.text (codes "ipoptions") then ip_options word
+    else fault_at name.column UnknownWord
 
 -- one word stands behind this one
 unfoldable pub has_argument : List ℕ → Bool
@@ -85,7 +86,7 @@ test_by end word words None =
     if same word.text (codes "lookup") then lookup end words
     else if has_argument word.text then (do
       next ← first end words
-      test ← test_of word.text next.0
+      test ← test_of word next.0
       Ok (test, next.1))
     else fault_at word.column UnknownWord
 
@@ -117,17 +118,22 @@ made_flow (word ∷ words) =
     (if is_any_flow word.text then fault_at word.column Misplaced else (named_flow word >>= λ name. Ok (name, words)))
     else Ok (default_flow, word ∷ words)
 
+-- behind `limit`: what is counted by, how many states there may be, and their flow
+unfoldable pub limit_behind : ℕ → List Word → WordReading StateOpt
+limit_behind end words = do
+  mask ← first end words
+  found ← limit_mask mask.0
+  most ← first end mask.1
+  n ← number 1 65535 most.0
+  flow ← made_flow most.1
+  Ok (Limit found n flow.0, flow.1)
+
 -- how states are made, beginning with this word
 unfoldable pub state : ℕ → Word → List Word → WordReading StateOpt
 state end word words =
     if same word.text (codes "keep-state") then (made_flow words >>= λ flow. Ok (Keep flow.0, flow.1))
-    else (do
-      mask ← first end words
-      found ← limit_mask mask.0
-      most ← first end mask.1
-      n ← number 1 65535 most.0
-      flow ← made_flow most.1
-      Ok (Limit found n flow.0, flow.1))
+    else if same word.text (codes "limit") then limit_behind end words
+    else fault_at word.column UnknownWord
 
 -- options, and the state with its place among them
 pub record Placed : Type 0 where

@@ -1,5 +1,5 @@
 -- The words of a rule (ipfw(8), "RULE FORMAT").
-use Rattle.std.specs.Prelude.{ℕ, ◌+◌, ◌-◌, Bool, false, ◌||◌, if◌then◌else◌, Option, Some, None, Result, Ok, List, [], ◌∷◌, length, codes, drop, map, slice_get}
+use Rattle.std.specs.Prelude.{ℕ, ◌+◌, ◌-◌, Bool, true, false, ◌||◌, if◌then◌else◌, Option, Some, None, Result, Ok, List, [], ◌∷◌, length, codes, drop, map, slice_get}
 use Rattle.fw_rule.specs.declared.action.Action.{Action}
 use Rattle.fw_rule.specs.declared.action.Action.TheVariants.{Allow, Deny, Reset, Unreach, Count, SkipTo, Call, Return, CheckState}
 use Rattle.fw_rule.specs.FlowName.{default_flow}
@@ -95,9 +95,15 @@ family text =
     else if same text (codes "ip6") || same text (codes "ipv6") then Six
     else AnyIp
 
+-- one version of IP
+abbrev pub is_version : Family → Bool
+is_version AnyIp = false
+is_version Four = true
+is_version Six = true
+
 -- the text names one version of IP
 unfoldable pub names_version : List ℕ → Bool
-names_version text = same text (codes "ip4") || (same text (codes "ipv4") || (same text (codes "ip6") || same text (codes "ipv6")))
+names_version text = is_version (family text)
 
 -- a protocol by name or by number; 0 is every protocol
 unfoldable pub protocol : Word → Result ℕ Fault

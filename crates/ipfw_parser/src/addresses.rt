@@ -154,11 +154,14 @@ fn table_item(alloc: Global, word: Word<'_>) -> Result<AddrItem, ParseFault>
     )
 }
 
+/// What an element begins with that is a table's name.
+const TABLE_START: &[u8] = b"table(";
+
 fn table_start(text: &[u8]) -> bool
     ensures value { result ≡ starts_with nat_eq text.now (codes "table(") }
     ensures long { OnTrue result (6 ≤ length text.now) }
 {
-    text.starts_with(b"table(")
+    text.starts_with(TABLE_START)
 }
 
 #[tactic(auto, unfolding(crate::specs::Addresses::item))]
@@ -170,7 +173,7 @@ fn item(alloc: Global, word: Word<'_>) -> Result<AddrItem, ParseFault>
     } else if word.is(b"me") {
         Ok(AddrItem::Me)
     } else if table_start(word.text) {
-        let text = &word.text[6..];
+        let text = &word.text[TABLE_START.len()..];
         table_item(
             alloc,
             Word {

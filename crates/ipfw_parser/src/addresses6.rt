@@ -241,9 +241,9 @@ pub fn prefix6(word: Word<'_>) -> Result<Prefix6, ParseFault>
     Ok(Prefix6::new(address, bits).unwrap())
 }
 
-/// Whether an element of a list of addresses is read as IPv6.
+/// Whether a colon stands in the text: an element of a list of addresses is then read as IPv6.
 #[tactic(auto, unfolding(crate::specs::Addresses6::has_colon))]
-pub(crate) fn has_colon(text: &[u8]) -> bool
+pub fn has_colon(text: &[u8]) -> bool
     ensures { result ≡ spec.has_colon text.now }
 {
     text.iter().any(|byte| *byte == b':')

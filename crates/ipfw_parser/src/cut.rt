@@ -26,7 +26,7 @@ pub fn cut(text: &[u8], at: u8) -> (&[u8], Option<&[u8]>)
 }
 
 fn find_part_end(text: &[u8]) -> Option<usize>
-    ensures found { result ≡ position (λ b. b == 44 || b == 41) text.now }
+    ensures found { result ≡ position spec.ends_part text.now }
     ensures within { IfSome result (λ k. k < length text.now) }
 {
     text.iter().position(|byte| *byte == b',' || *byte == b')')
@@ -45,7 +45,7 @@ pub(crate) fn part_len(text: &[u8]) -> usize
 }
 
 fn parts(byte: u8, inside: bool) -> bool
-    ensures { result ≡ (byte == 44 && not inside) }
+    ensures { result ≡ spec_lists.parts_elements byte inside }
 {
     byte == b',' && !inside
 }

@@ -2,7 +2,7 @@
 #![tactic(auto)]
 
 pub use addresses::{address, prefix};
-pub use addresses6::prefix6;
+pub use addresses6::{has_colon, prefix6};
 pub use cut::cut as cut_at;
 pub use kind::Kind;
 pub use laws::{drafts_are_in_form, drafts_are_well_formed, faults_stand_at_words};

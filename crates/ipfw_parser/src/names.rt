@@ -8,7 +8,7 @@ ghost use Rattle.ipfw_parser.specs.Names as spec;
 use crate::numbers::{number, starts_with_digit};
 use crate::{Kind, ParseFault, Word};
 use fw_base::{Name, are_name_bytes};
-use fw_rule::{Iface, UNREACH_NAMES};
+use fw_rule::{ANY_FLOW, Iface, UNREACH_NAMES};
 use std::alloc::Global;
 
 /// The services that are known by name, and their ports (RFC 6335).
@@ -71,7 +71,7 @@ fn behind_colon(word: Word<'_>) -> Word<'_>
 pub(crate) fn is_any_flow(word: Word<'_>) -> bool
     ensures { result ≡ spec.is_any_flow word.entry.text.now }
 {
-    behind_colon(word).is(b"any")
+    behind_colon(word).is(ANY_FLOW)
 }
 
 /// The name of a flow behind its colon, by the rules of table names.

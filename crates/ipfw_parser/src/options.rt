@@ -8,7 +8,9 @@ use crate::names::{iface, is_any_flow, named_flow, starts_with_colon};
 use crate::numbers::number;
 use crate::{Kind, ParseFault, Word, Words, table_name};
 use fw_base::Name;
-use fw_rule::{FLAG_NAMES, Field, Items, LimitMask, OPTION_NAMES, Opt, StateOpt, Test};
+use fw_rule::{
+    DEFAULT_FLOW, FLAG_NAMES, Field, Items, LimitMask, OPTION_NAMES, Opt, StateOpt, Test,
+};
 use std::alloc::Global;
 
 #[tactic(auto, unfolding(crate::specs::Options::field))]
@@ -78,7 +80,7 @@ fn lookup(alloc: Global, end: u32, words: Words<'_>) -> Result<(Test, Words<'_>)
 
 #[tactic(auto, unfolding(crate::specs::Options::test_of))]
 fn test_of<'a>(alloc: Global, name: Word<'a>, word: Word<'a>) -> Result<Test, ParseFault>
-    ensures { ReadsAs (λ t. t) result (spec.test_of name.entry.text.now (view word.entry)) }
+    ensures { ReadsAs (λ t. t) result (spec.test_of (view name.entry) (view word.entry)) }
 {
     if name.is(b"recv") {
         Ok(Test::Recv(iface(alloc, word)?))
@@ -92,8 +94,10 @@ fn test_of<'a>(alloc: Global, name: Word<'a>, word: Word<'a>) -> Result<Test, Pa
         Ok(Test::IcmpTypes(types(word)?))
     } else if name.is(b"icmp6types") {
         Ok(Test::Icmp6Types(types6(word)?))
-    } else {
+    } else if name.is(b"ipoptions") {
         ip_options(word)
+    } else {
+        Err(name.fault(Kind::UnknownWord))
     }
 }
 
@@ -194,16 +198,33 @@ fn made_flow(alloc: Global, words: Words<'_>) -> Result<(Name, Words<'_>), Parse
     ensures { ReadsAs (λ r. (r.0, list_of r.1)) result (spec.made_flow (list_of words.entry)) }
 {
     let Some((word, behind)) = words.next() else {
-        return Ok((Name::new(alloc, b"default")?, words));
+        return Ok((Name::new(alloc, DEFAULT_FLOW)?, words));
     };
     if !starts_with_colon(word.text) {
-        return Ok((Name::new(alloc, b"default")?, words));
+        return Ok((Name::new(alloc, DEFAULT_FLOW)?, words));
     }
     if is_any_flow(word) {
         Err(word.fault(Kind::Misplaced))
     } else {
         Ok((named_flow(alloc, word)?, behind))
     }
+}
+
+/// The words behind `limit`: what is counted by, how many states there may be, and their flow.
+#[tactic(auto, unfolding(crate::specs::Options::limit_behind))]
+fn limit_behind(
+    alloc: Global,
+    end: u32,
+    words: Words<'_>,
+) -> Result<(StateOpt, Words<'_>), ParseFault>
+    ensures { ReadsAs (λ r. (r.0, list_of r.1)) result (spec.limit_behind end (list_of words.entry)) }
+{
+    let (mask, words) = words.first(end)?;
+    let mask = limit_mask(mask)?;
+    let (most, words) = words.first(end)?;
+    let most = number(most, 1, 65535)? as u16;
+    let (flow, words) = made_flow(alloc, words)?;
+    Ok((StateOpt::Limit(mask, most, flow), words))
 }
 
 /// How states are made, beginning with the word.
@@ -219,12 +240,10 @@ pub(crate) fn state<'a>(
 {
     if word.is(b"keep-state") {
         let (flow, words) = made_flow(alloc, words)?;
-        return Ok((StateOpt::Keep(flow), words));
+        Ok((StateOpt::Keep(flow), words))
+    } else if word.is(b"limit") {
+        limit_behind(alloc, end, words)
+    } else {
+        Err(word.fault(Kind::UnknownWord))
     }
-    let (mask, words) = words.first(end)?;
-    let mask = limit_mask(mask)?;
-    let (most, words) = words.first(end)?;
-    let most = number(most, 1, 65535)? as u16;
-    let (flow, words) = made_flow(alloc, words)?;
-    Ok((StateOpt::Limit(mask, most, flow), words))
 }

@@ -11,7 +11,7 @@ use crate::placed::options;
 use crate::ports::{destination_ports, source_ports};
 use crate::{Kind, ParseFault, Word, Words};
 use fw_base::Name;
-use fw_rule::{Action, Body, Family, RuleDraft};
+use fw_rule::{Action, Body, DEFAULT_FLOW, Family, RuleDraft};
 use std::alloc::Global;
 
 /// The words behind the next one, which is this word.
@@ -166,7 +166,10 @@ fn family(word: Word<'_>) -> Family
 fn names_version(word: Word<'_>) -> bool
     ensures { result ≡ spec.names_version word.entry.text.now }
 {
-    word.is(b"ip4") || word.is(b"ipv4") || word.is(b"ip6") || word.is(b"ipv6")
+    match family(word) {
+        Family::AnyIp => false,
+        Family::Four | Family::Six => true,
+    }
 }
 
 /// A protocol by name or by number; 0 stands for every protocol.
@@ -225,10 +228,10 @@ fn looked_up_flow(alloc: Global, words: Words<'_>) -> Result<(Option<Name>, Word
     ensures { ReadsAs (λ r. (r.0, list_of r.1)) result (spec.looked_up_flow (list_of words.entry)) }
 {
     let Some((word, behind)) = words.next() else {
-        return Ok((Some(Name::new(alloc, b"default")?), words));
+        return Ok((Some(Name::new(alloc, DEFAULT_FLOW)?), words));
     };
     if !starts_with_colon(word.text) {
-        return Ok((Some(Name::new(alloc, b"default")?), words));
+        return Ok((Some(Name::new(alloc, DEFAULT_FLOW)?), words));
     }
     if is_any_flow(word) {
         return Ok((None, behind));

@@ -1,5 +1,5 @@
 -- What holds of a reading's value, step by step.
-use Rattle.std.proofs.Common.{◌≡◌, if◌then◌else◌, ◌&&◌, Bool, true, false, Some, None, Option, refl, Result, Ok, Err, subst}
+use Rattle.std.proofs.Common.{◌≡◌, if◌then◌else◌, Bool, true, false, Some, None, Option, refl, Result, Ok, Err, subst}
 use Rattle.ipfw_parser.specs.Reading.{Fault, ◌>>=◌}
 use Rattle.ipfw_parser.specs.Parts.{then_some}
 use Rattle.std.specs.Prelude.{IfOk, IfSome, ⊤}

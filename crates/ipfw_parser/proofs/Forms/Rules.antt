@@ -25,8 +25,8 @@ use Rattle.ipfw_parser.specs.Names.{is_name, starts_with_colon, is_any_flow, nam
 use Rattle.ipfw_parser.specs.Lists.{types, types6, signs}
 use Rattle.ipfw_parser.specs.Addresses.{addr_spec}
 use Rattle.ipfw_parser.specs.Ports.{source_ports, destination_ports}
-use Rattle.ipfw_parser.specs.Options.{field, limit_mask, plain_test, lookup, test_of, has_argument, test_by, test_from, is_state, option, made_flow, state, Placed, options}
-use Rattle.ipfw_parser.specs.Rules.{rule_number, set_behind, rule_set, plain_action, action_by, action, amount_behind, amount, log, family, names_version, protocol, body, looked_up_flow, check_end, check_state, matching_rule, rule, end_column, rule_in}
+use Rattle.ipfw_parser.specs.Options.{field, limit_mask, plain_test, lookup, test_of, has_argument, test_by, test_from, is_state, option, made_flow, limit_behind, state, Placed, options}
+use Rattle.ipfw_parser.specs.Rules.{rule_number, set_behind, rule_set, plain_action, action_by, action, amount_behind, amount, log, family, is_version, names_version, protocol, body, looked_up_flow, check_end, check_state, matching_rule, rule, end_column, rule_in}
 use Rattle.fw_lex.specs.Words.{before_comment}
 use Rattle.ipfw_parser.specs.Forms.{IsItemForm, IsListForm, IsIfaceForm, IsTestForm, IsTypesForm, IsFlowForm, IsStateForm, IsPlacedForm, IsFamilyForm, IsBodyForm, HasBehind, HasForm, IsDraftForm, AreSigns}
 use Rattle.ipfw_parser.proofs.Forms.Masks.{flags_on, ip_options_on, place_below}
@@ -59,16 +59,17 @@ lookup_on end words =
     on_bind (first end which.1) _ (λ _. ⊤) (λ r. IsTestForm r.0) (any_on (first end which.1)) (λ table _.
     on_bind (table_name table.0) _ (λ name. is_name 63 name ≡ true) (λ r. IsTestForm r.0) (table_name_on table.0) (λ name told. told))))
 
-test_of_on : (name : List ℕ) (word : Word) → IfOk (test_of name word) IsTestForm
+test_of_on : (name word : Word) → IfOk (test_of name word) IsTestForm
 unfolding test_of
 test_of_on name word =
-    on_if (same name (codes "recv")) _ _ IsTestForm (λ _. on_bind (iface word) (λ i. Ok (Recv i)) IsIfaceForm IsTestForm (iface_on word) (λ i form. form)) (λ _.
-    on_if (same name (codes "xmit")) _ _ IsTestForm (λ _. on_bind (iface word) (λ i. Ok (Xmit i)) IsIfaceForm IsTestForm (iface_on word) (λ i form. form)) (λ _.
-    on_if (same name (codes "via")) _ _ IsTestForm (λ _. on_bind (iface word) (λ i. Ok (Via i)) IsIfaceForm IsTestForm (iface_on word) (λ i form. form)) (λ _.
-    on_if (same name (codes "tcpflags")) _ _ IsTestForm (λ _. on_bind (signs flag_names word) (λ m. Ok (TcpFlags m.set m.clear)) (λ m. AreSigns 6 m.set m.clear) IsTestForm (flags_on word) (λ m form. form)) (λ _.
-    on_if (same name (codes "icmptypes")) _ _ IsTestForm (λ _. on_bind (types word) (λ m. Ok (IcmpTypes m)) (λ m. (0 < m) × (m < 2 ^ 32)) IsTestForm (types_on word) (λ m form. form)) (λ _.
-    on_if (same name (codes "icmp6types")) _ _ IsTestForm (λ _. on_bind (types6 word) (λ s. Ok (Icmp6Types s)) IsTypesForm IsTestForm (types6_on word) (λ s form. form)) (λ _.
-    on_bind (signs option_names word) (λ m. Ok (IpOptions m.set m.clear)) (λ m. AreSigns 4 m.set m.clear) IsTestForm (ip_options_on word) (λ m form. form)))))))
+    on_if (same name.text (codes "recv")) _ _ IsTestForm (λ _. on_bind (iface word) (λ i. Ok (Recv i)) IsIfaceForm IsTestForm (iface_on word) (λ i form. form)) (λ _.
+    on_if (same name.text (codes "xmit")) _ _ IsTestForm (λ _. on_bind (iface word) (λ i. Ok (Xmit i)) IsIfaceForm IsTestForm (iface_on word) (λ i form. form)) (λ _.
+    on_if (same name.text (codes "via")) _ _ IsTestForm (λ _. on_bind (iface word) (λ i. Ok (Via i)) IsIfaceForm IsTestForm (iface_on word) (λ i form. form)) (λ _.
+    on_if (same name.text (codes "tcpflags")) _ _ IsTestForm (λ _. on_bind (signs flag_names word) (λ m. Ok (TcpFlags m.set m.clear)) (λ m. AreSigns 6 m.set m.clear) IsTestForm (flags_on word) (λ m form. form)) (λ _.
+    on_if (same name.text (codes "icmptypes")) _ _ IsTestForm (λ _. on_bind (types word) (λ m. Ok (IcmpTypes m)) (λ m. (0 < m) × (m < 2 ^ 32)) IsTestForm (types_on word) (λ m form. form)) (λ _.
+    on_if (same name.text (codes "icmp6types")) _ _ IsTestForm (λ _. on_bind (types6 word) (λ s. Ok (Icmp6Types s)) IsTypesForm IsTestForm (types6_on word) (λ s form. form)) (λ _.
+    on_if (same name.text (codes "ipoptions")) _ (fault_at name.column UnknownWord) IsTestForm (λ _. on_bind (signs option_names word) (λ m. Ok (IpOptions m.set m.clear)) (λ m. AreSigns 4 m.set m.clear) IsTestForm (ip_options_on word) (λ m form. form))
+    (λ _. tt)))))))
 
 test_by_on : (end : ℕ) (word : Word) (words : List Word) (plain : Option Test) → IfSome plain IsTestForm → IfOk (test_by end word words plain) (λ r. IsTestForm r.0)
 test_by_on end word words (Some t) p = p
@@ -76,7 +77,7 @@ test_by_on end word words None p =
     on_if (same word.text (codes "lookup")) (lookup end words) _ (λ r. IsTestForm r.0) (λ _. lookup_on end words) (λ _.
     on_if (has_argument word.text) _ (fault_at word.column UnknownWord) (λ r. IsTestForm r.0)
     (λ _. on_bind (first end words) _ (λ _. ⊤) (λ r. IsTestForm r.0) (any_on (first end words)) (λ next _.
-    on_bind (test_of word.text next.0) _ IsTestForm (λ r. IsTestForm r.0) (test_of_on word.text next.0) (λ t form. form)))
+    on_bind (test_of word next.0) _ IsTestForm (λ r. IsTestForm r.0) (test_of_on word next.0) (λ t form. form)))
     (λ _. tt))
 
 test_on : (end : ℕ) (word : Word) (words : List Word) → IfOk (test_from end word words) (λ r. IsTestForm r.0)
@@ -115,16 +116,21 @@ made_flow_on (word ∷ words) =
     (λ other. on_bind (named_flow word) (λ name. Ok (name, words)) IsFlowForm (λ r. IsFlowForm r.0) (flow_on word other) (λ name form. form)))
     (λ _. default_form)
 
+limit_behind_on : (end : ℕ) (words : List Word) → IfOk (limit_behind end words) (λ r. IsStateForm r.0)
+unfolding limit_behind
+limit_behind_on end words =
+    on_bind (first end words) _ (λ _. ⊤) (λ r. IsStateForm r.0) (any_on (first end words)) (λ mask _.
+    on_bind (limit_mask mask.0) _ (λ _. ⊤) (λ r. IsStateForm r.0) (any_on (limit_mask mask.0)) (λ wanted _.
+    on_bind (first end mask.1) _ (λ _. ⊤) (λ r. IsStateForm r.0) (any_on (first end mask.1)) (λ most _.
+    on_bind (number 1 65535 most.0) _ (λ n. IsFromTo 1 65535 n) (λ r. IsStateForm r.0) (number_on 1 65535 most.0) (λ n small.
+    on_bind (made_flow most.1) (λ flow. Ok (Limit wanted n flow.0, flow.1)) (λ r. IsFlowForm r.0) (λ r. IsStateForm r.0) (made_flow_on most.1) (λ flow form. (small, form))))))
+
 state_on : (end : ℕ) (word : Word) (words : List Word) → IfOk (state end word words) (λ r. IsStateForm r.0)
 unfolding state
 state_on end word words =
     on_if (same word.text (codes "keep-state")) _ _ (λ r. IsStateForm r.0)
     (λ _. on_bind (made_flow words) (λ flow. Ok (Keep flow.0, flow.1)) (λ r. IsFlowForm r.0) (λ r. IsStateForm r.0) (made_flow_on words) (λ flow form. form))
-    (λ _. on_bind (first end words) _ (λ _. ⊤) (λ r. IsStateForm r.0) (any_on (first end words)) (λ mask _.
-    on_bind (limit_mask mask.0) _ (λ _. ⊤) (λ r. IsStateForm r.0) (any_on (limit_mask mask.0)) (λ wanted _.
-    on_bind (first end mask.1) _ (λ _. ⊤) (λ r. IsStateForm r.0) (any_on (first end mask.1)) (λ most _.
-    on_bind (number 1 65535 most.0) _ (λ n. IsFromTo 1 65535 n) (λ r. IsStateForm r.0) (number_on 1 65535 most.0) (λ n small.
-    on_bind (made_flow most.1) (λ flow. Ok (Limit wanted n flow.0, flow.1)) (λ r. IsFlowForm r.0) (λ r. IsStateForm r.0) (made_flow_on most.1) (λ flow form. (small, form)))))))
+    (λ _. on_if (same word.text (codes "limit")) (limit_behind end words) (fault_at word.column UnknownWord) (λ r. IsStateForm r.0) (λ _. limit_behind_on end words) (λ _. tt))
 
 no_options : IsPlacedForm [] None 0
 no_options = record { each = tt; state = tt; within = omega arith; nowhere = λ _. refl }
@@ -157,17 +163,15 @@ zero_form AnyIp = tt
 zero_form Four = refl
 zero_form Six = refl
 
-version_less : (a b c d : Bool) (n : ℕ) → (a || (b || (c || d))) ≡ false → IsFamilyForm (if a || b then Four else if c || d then Six else AnyIp) n
-version_less true b c d n none = clash true refl none
-version_less false true c d n none = clash true refl none
-version_less false false true d n none = clash true refl none
-version_less false false false true n none = clash true refl none
-version_less false false false false n none = tt
+version_less : (f : Family) (n : ℕ) → is_version f ≡ false → IsFamilyForm f n
+version_less AnyIp n none = tt
+version_less Four n none = clash true refl none
+version_less Six n none = clash true refl none
 
 -- a word that names no version of IP asks for none
 any_form : (text : List ℕ) (n : ℕ) → names_version text ≡ false → IsFamilyForm (family text) n
-unfolding family names_version
-any_form text n none = version_less (same text (codes "ip4")) (same text (codes "ipv4")) (same text (codes "ip6")) (same text (codes "ipv6")) n none
+unfolding names_version
+any_form text n none = version_less (family text) n none
 
 record IsProtocolForm (text : List ℕ) (n : ℕ) : Type 0 where
   byte : n ≤ 255

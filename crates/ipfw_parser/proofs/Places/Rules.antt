@@ -1,12 +1,10 @@
 -- The first fault of a rule stands where one of its words begins, or at the end.
-use Rattle.std.proofs.Common.{ℕ, ◌-◌, zero, suc, Bool, true, false, Option, Some, None, Result, Ok, Err, List, [], ◌∷◌, length, drop, map, codes, refl, sym, inl, inr, subst}
+use Rattle.std.proofs.Common.{ℕ, zero, suc, Bool, true, false, Option, Some, None, Result, Ok, Err, List, [], ◌∷◌, length, drop, map, codes, refl, sym, inl, inr, subst}
 use Rattle.std.specs.Prelude.{IfErr}
 use Rattle.fw_lex.specs.Words.{before_comment}
 use Rattle.fw_rule.specs.FlowName.{default_flow}
 use Rattle.fw_rule.specs.declared.action.Action.{Action}
 use Rattle.fw_rule.specs.declared.action.Action.TheVariants.{SkipTo, Call}
-use Rattle.fw_rule.specs.declared.state_opt.StateOpt.{StateOpt}
-use Rattle.fw_rule.specs.declared.state_opt.StateOpt.TheVariants.{Limit}
 use Rattle.fw_rule.specs.declared.test.Test.{Test}
 use Rattle.fw_rule.specs.declared.port_list.PortList.{PortList}
 use Rattle.ipfw_parser.specs.declared.kind.Kind.TheVariants.{UnknownWord, Misplaced, SecondState}
@@ -15,10 +13,10 @@ use Rattle.ipfw_parser.specs.Numbers.{number, set_number, starts_with_digit}
 use Rattle.ipfw_parser.specs.Names.{table_name, starts_with_colon, is_any_flow, named_flow, code}
 use Rattle.ipfw_parser.specs.Addresses.{items, addr_spec}
 use Rattle.ipfw_parser.specs.Ports.{ranges, port_list, some_ports, source_ports, begin_with_ports, destination_ports}
-use Rattle.ipfw_parser.specs.Options.{field, limit_mask, plain_test, lookup, test_of, has_argument, test_by, test_from, is_state, option, made_flow, state, options}
+use Rattle.ipfw_parser.specs.Options.{field, limit_mask, plain_test, lookup, test_of, has_argument, test_by, test_from, is_state, option, made_flow, limit_behind, state, options}
 use Rattle.ipfw_parser.specs.Rules.{rule_number, set_behind, rule_set, plain_action, action_by, action, amount_behind, amount, log, protocol, body, looked_up_flow, check_end, check_state, matching_rule, rule, end_column, rule_in}
 use Rattle.ipfw_parser.specs.Places.{IsColumn, FaultsStandAtWords}
-use Rattle.ipfw_parser.proofs.Places.Words.{Told, Within, Any, Rest, bind_told, if_told, bind_word, told_more, rest_more, all_words, one_less, after_first, first_told, bind_first, number_at, set_at, name_at, flow_at, code_at, items_at, ranges_at, field_at, limit_mask_at, test_of_at, protocol_at}
+use Rattle.ipfw_parser.proofs.Places.Words.{Told, Within, Any, Rest, bind_told, if_told, bind_word, told_more, rest_more, all_words, one_less, after_first, first_told, bind_first, number_at, set_at, name_at, flow_at, code_at, items_at, ranges_at, field_at, limit_mask_at, test_of_in, protocol_at}
 
 -- readings of words
 pub expected_in : (name : List ℕ) (end : ℕ) (words : List Word) → Told end words (λ rest. Within end rest words) (words_behind_word name end words)
@@ -75,8 +73,8 @@ test_by_in end word words (Some t) = one_less end word words
 test_by_in end word words None =
     if_told end (word ∷ words) (same word.text (codes "lookup")) (lookup end words) _ (Rest end (word ∷ words)) (rest_more end words (word ∷ words) (lookup end words) (one_less end word words) (lookup_in end words))
     (if_told end (word ∷ words) (has_argument word.text) _ (fault_at word.column UnknownWord) (Rest end (word ∷ words))
-    (rest_more end words (word ∷ words) _ (one_less end word words) (after_first end words _ (Rest end words) (λ next here more.
-    bind_word end words next.0.column (test_of word.text next.0) _ (Rest end words) here (test_of_at word.text next.0) (λ t. more))))
+    (bind_first end word words _ (Rest end (word ∷ words)) (λ next here more.
+    bind_told end (word ∷ words) (test_of word next.0) _ Any (Rest end (word ∷ words)) (test_of_in end (word ∷ words) word next.0 (inl refl) here) (λ t u. more)))
     (inl refl))
 
 test_in : (end : ℕ) (word : Word) (words : List Word) → Told end (word ∷ words) (Rest end (word ∷ words)) (test_from end word words)
@@ -106,16 +104,8 @@ made_flow_in end (word ∷ words) =
     (bind_word end (word ∷ words) word.column (named_flow word) _ (Rest end (word ∷ words)) (inl refl) (flow_at word) (λ name. one_less end word words)))
     (all_words end (word ∷ words))
 
-abbrev limit_behind : ℕ → List Word → WordReading StateOpt
-limit_behind end words = do
-  mask ← first end words
-  wanted ← limit_mask mask.0
-  most ← first end mask.1
-  n ← number 1 65535 most.0
-  flow ← made_flow most.1
-  Ok (Limit wanted n flow.0, flow.1)
-
 limit_in : (end : ℕ) (words : List Word) → Told end words (Rest end words) (limit_behind end words)
+unfolding limit_behind
 limit_in end words =
     after_first end words _ (Rest end words) (λ mask here more.
     bind_word end words mask.0.column (limit_mask mask.0) _ (Rest end words) here (limit_mask_at mask.0) (λ wanted.
@@ -126,10 +116,10 @@ limit_in end words =
 state_in : (end : ℕ) (word : Word) (words : List Word) → Told end (word ∷ words) (Rest end (word ∷ words)) (state end word words)
 unfolding state
 state_in end word words =
-    rest_more end words (word ∷ words) _ (one_less end word words)
-    (if_told end words (same word.text (codes "keep-state")) _ _ (Rest end words)
-    (bind_told end words (made_flow words) _ (Rest end words) (Rest end words) (made_flow_in end words) (λ flow behind. behind))
-    (limit_in end words))
+    if_told end (word ∷ words) (same word.text (codes "keep-state")) _ _ (Rest end (word ∷ words))
+    (rest_more end words (word ∷ words) _ (one_less end word words) (bind_told end words (made_flow words) _ (Rest end words) (Rest end words) (made_flow_in end words) (λ flow behind. behind)))
+    (if_told end (word ∷ words) (same word.text (codes "limit")) (limit_behind end words) _ (Rest end (word ∷ words))
+    (rest_more end words (word ∷ words) (limit_behind end words) (one_less end word words) (limit_in end words)) (inl refl))
 
 options_in : (limit end : ℕ) (seen : Bool) (words : List Word) → Told end words Any (options limit end seen words)
 unfolding options

@@ -310,17 +310,17 @@ limit_mask_at word =
     (if_at word.column (same word.text (codes "dst-addr")) _ _ tt
     (if_at word.column (same word.text (codes "dst-port")) _ _ tt refl)))
 
--- the fault of a test's argument stands where the argument begins
-pub test_of_at : (name : List ℕ) (word : Word) → At word.column (test_of name word)
+-- the fault of a test stands where its name or its argument begins
+pub test_of_in : (end : ℕ) (words : List Word) (name word : Word) → IsColumn end words name.column → IsColumn end words word.column → Told end words Any (test_of name word)
 unfolding test_of
-test_of_at name word =
-    if_at word.column (same name (codes "recv")) _ _ (bind_at word.column (iface word) _ (iface_at word) (λ i. tt))
-    (if_at word.column (same name (codes "xmit")) _ _ (bind_at word.column (iface word) _ (iface_at word) (λ i. tt))
-    (if_at word.column (same name (codes "via")) _ _ (bind_at word.column (iface word) _ (iface_at word) (λ i. tt))
-    (if_at word.column (same name (codes "tcpflags")) _ _ (bind_at word.column (signs flag_names word) _ (signs_at flag_names word) (λ m. tt))
-    (if_at word.column (same name (codes "icmptypes")) _ _ (bind_at word.column (types word) _ (types_at word) (λ m. tt))
-    (if_at word.column (same name (codes "icmp6types")) _ _ (bind_at word.column (types6 word) _ (types6_at word) (λ s. tt))
-    (bind_at word.column (signs option_names word) _ (signs_at option_names word) (λ m. tt)))))))
+test_of_in end words name word named here =
+    if_told end words (same name.text (codes "recv")) _ _ Any (bind_word end words word.column (iface word) _ Any here (iface_at word) (λ i. tt))
+    (if_told end words (same name.text (codes "xmit")) _ _ Any (bind_word end words word.column (iface word) _ Any here (iface_at word) (λ i. tt))
+    (if_told end words (same name.text (codes "via")) _ _ Any (bind_word end words word.column (iface word) _ Any here (iface_at word) (λ i. tt))
+    (if_told end words (same name.text (codes "tcpflags")) _ _ Any (bind_word end words word.column (signs flag_names word) _ Any here (signs_at flag_names word) (λ m. tt))
+    (if_told end words (same name.text (codes "icmptypes")) _ _ Any (bind_word end words word.column (types word) _ Any here (types_at word) (λ m. tt))
+    (if_told end words (same name.text (codes "icmp6types")) _ _ Any (bind_word end words word.column (types6 word) _ Any here (types6_at word) (λ s. tt))
+    (if_told end words (same name.text (codes "ipoptions")) _ _ Any (bind_word end words word.column (signs option_names word) _ Any here (signs_at option_names word) (λ m. tt)) named))))))
 
 -- the fault of a protocol stands where its word begins
 pub protocol_at : (word : Word) → At word.column (protocol word)

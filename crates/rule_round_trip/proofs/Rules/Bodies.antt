@@ -153,23 +153,23 @@ named column n k name other by_name by_other = elim (eqb_tells n k) [
 ]
 
 ip_read : (column : ℕ) → protocol (record { column = column; text = codes "ip" }) ≡ Ok 0
-unfolding protocol names_version same starts_with_digit
+unfolding protocol names_version family same starts_with_digit
 ip_read column = refl
 
 icmp_read : (column : ℕ) → protocol (record { column = column; text = codes "icmp" }) ≡ Ok 1
-unfolding protocol names_version same starts_with_digit
+unfolding protocol names_version family same starts_with_digit
 icmp_read column = refl
 
 tcp_read : (column : ℕ) → protocol (record { column = column; text = codes "tcp" }) ≡ Ok 6
-unfolding protocol names_version same starts_with_digit
+unfolding protocol names_version family same starts_with_digit
 tcp_read column = refl
 
 udp_read : (column : ℕ) → protocol (record { column = column; text = codes "udp" }) ≡ Ok 17
-unfolding protocol names_version same starts_with_digit
+unfolding protocol names_version family same starts_with_digit
 udp_read column = refl
 
 no_version : (text : List ℕ) → starts_with_digit text ≡ true → names_version text ≡ false
-unfolding names_version
+unfolding names_version family
 no_version text digit =
     rw (not_same text (codes "ip4") digit refl, not_same text (codes "ipv4") digit refl, not_same text (codes "ip6") digit refl, not_same text (codes "ipv6") digit refl) refl
 
@@ -200,11 +200,11 @@ protocol_other n name small ip icmp tcp udp plain =
     either (n == 17) (codes "udp") (decimal n) name udp (not_same (decimal n) name (decimal_starts n (omega arith)) plain))))
 
 four_read : (column : ℕ) → protocol (record { column = column; text = codes "ip4" }) ≡ Ok 0
-unfolding protocol names_version same
+unfolding protocol names_version family same
 four_read column = refl
 
 six_read : (column : ℕ) → protocol (record { column = column; text = codes "ip6" }) ≡ Ok 0
-unfolding protocol names_version same
+unfolding protocol names_version family same
 six_read column = refl
 
 -- the protocol of a version of IP

@@ -28,7 +28,7 @@ use Rattle.ipfw_parser.specs.Numbers.{starts_with_digit}
 use Rattle.ipfw_parser.specs.Names.{is_name, starts_with_colon, ends_with_star, iface, service, place, service_names}
 use Rattle.ipfw_parser.specs.Parts.{part_before}
 use Rattle.ipfw_parser.specs.Ports.{looks_like_ports, begin_with_ports}
-use Rattle.ipfw_parser.specs.Options.{field, limit_mask, plain_test, lookup, test_of, has_argument, test_from, is_state, option, state, Placed, with_option, with_state, options}
+use Rattle.ipfw_parser.specs.Options.{field, limit_mask, plain_test, lookup, test_of, has_argument, test_from, is_state, option, limit_behind, state, Placed, with_option, with_state, options}
 use Rattle.ipfw_parser.specs.Forms.{IsIfaceForm, IsTestForm, IsStateForm, IsPlacedForm}
 use Rattle.rule_round_trip.proofs.Numbers.Decimal.{number_again}
 use Rattle.rule_round_trip.proofs.Addresses.Items.{name_again, name_bytes}
@@ -303,7 +303,7 @@ options_plain (o ∷ os) = option_plain o.negated o.test (flat_map option_words 
 
 state_step : (limit end : ℕ) (c : List (List ℕ) → ℕ) (s : StateOpt) (rest : WordTexts) → IsStateForm s → BeginPlain rest
     → options (suc limit) end false (at_columns c (state_words (Some s) ++ rest)) ≡ (options limit end true (at_columns c rest) >>= λ p. Ok (with_state s p))
-unfolding options state is_state same first
+unfolding options state limit_behind is_state same first
 state_step limit end c (Keep name) rest form plain = rw (flow_again c name rest form plain) refl
 state_step limit end c (Limit m n name) rest form plain =
     let more : WordTexts = flow_words name ++ rest in
