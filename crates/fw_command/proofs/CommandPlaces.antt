@@ -1,6 +1,6 @@
 -- Each fault of a line stands at a byte that may not stand there, where a word begins, or at the end.
 use Rattle.std.proofs.Common.{◌≡◌, ℕ, zero, suc, Bool, true, false, Option, Some, None, Result, Ok, Err, List, [], ◌∷◌, length, map, drop, codes, refl, sym, subst, inl, inr}
-use Rattle.std.specs.Prelude.{IfErr, bit_or}
+use Rattle.std.specs.Prelude.{IfErr, bit_or, ◌&&◌}
 use Rattle.fw_lex.specs.Words.{before_comment, first_bad, tokens_of}
 use Rattle.fw_rule.specs.declared.setting.Setting.{Setting}
 use Rattle.fw_rule.specs.declared.command.Command.TheVariants.{MoveRule, MoveSet}
@@ -8,6 +8,7 @@ use Rattle.ipfw_parser.specs.Reading.{Word, Fault, ◌>>=◌, same, words_behind
 use Rattle.ipfw_parser.specs.Numbers.{number, set_number}
 use Rattle.ipfw_parser.specs.Names.{table_name}
 use Rattle.ipfw_parser.specs.Addresses.{prefix, address as address_number, part_before, part_behind}
+use Rattle.ipfw_parser.specs.Addresses6.{has_colon}
 use Rattle.ipfw_parser.specs.Rules.{set_behind, rule_in, end_column}
 use Rattle.ipfw_parser.specs.Places.{IsColumn}
 use Rattle.ipfw_parser.proofs.Places.Words.{At, Told, Within, Any, Rest, bind_at, if_at, bind_told, if_told, bind_word, told_more, rest_more, all_words, one_less, after_first, number_at, set_at, name_at, address_at, prefix_at}
@@ -148,8 +149,9 @@ set_command_in end words =
 key_at : (word : Word) → At word.column (key word)
 unfolding key
 key_at word =
-    if_at word.column (has_dot word.text) _ _ (bind_at word.column (prefix word) _ (prefix_at word) (λ n. tt))
-    (bind_at word.column (number 0 4294967295 word) _ (number_at 0 4294967295 word) (λ n. tt))
+    if_at word.column (has_dot word.text && has_colon word.text) _ _ refl
+    (if_at word.column (has_dot word.text) _ _ (bind_at word.column (prefix word) _ (prefix_at word) (λ n. tt))
+    (bind_at word.column (number 0 4294967295 word) _ (number_at 0 4294967295 word) (λ n. tt)))
 
 table_type_at : (word : Word) → At word.column (table_type word)
 unfolding table_type

@@ -1,6 +1,6 @@
 -- Each number of a command is in its range.
 use Rattle.std.proofs.Common.{◌<◌, ◌^◌, ℕ, Bool, true, false, Option, Some, None, List, [], ◌∷◌, Result, arith}
-use Rattle.std.specs.Prelude.{IfOk, bit_or, codes}
+use Rattle.std.specs.Prelude.{IfOk, bit_or, codes, ◌&&◌}
 use Rattle.std.specs.List.{AllByRecursion}
 use Rattle.std.proofs.lemmas.Nat.{or_of_32}
 use Rattle.std.proofs.Math.Pow.{pow_mono}
@@ -14,6 +14,7 @@ use Rattle.ipfw_parser.specs.Reading.{Word, Fault, ◌>>=◌, first, words_behin
 use Rattle.ipfw_parser.specs.Numbers.{number, set_number}
 use Rattle.ipfw_parser.specs.Names.{table_name}
 use Rattle.ipfw_parser.specs.Addresses.{prefix, part_before, part_behind}
+use Rattle.ipfw_parser.specs.Addresses6.{has_colon}
 use Rattle.ipfw_parser.specs.Rules.{set_behind}
 use Rattle.fw_command.specs.Ends.{first_number}
 use Rattle.fw_command.specs.SetCommands.{set_bit, ends_sets, more_sets, sets, enable, disable_end, disable, move_rule_command, move_set_command, move_words, swap_sets_command, set_command}
@@ -116,9 +117,10 @@ set_command_on end words =
 key_on : (word : Word) → IfOk (key word) IsKey
 unfolding key
 key_on word =
-    on_if (has_dot word.text) _ _ IsKey
+    on_if (has_dot word.text && has_colon word.text) _ _ IsKey tt
+    (on_if (has_dot word.text) _ _ IsKey
     (on_bind (prefix word) _ (λ n. IsNetwork n × (n.address < 2 ^ 32)) IsKey (prefix_on word) (λ n p. p.0.within))
-    (on_bind (number 0 4294967295 word) _ (IsFromTo 0 4294967295) IsKey (number_on 0 4294967295 word) (λ n p. p.most_ge))
+    (on_bind (number 0 4294967295 word) _ (IsFromTo 0 4294967295) IsKey (number_on 0 4294967295 word) (λ n p. p.most_ge)))
 
 -- a command on a table, before the words that are left
 abbrev IsMade : TableCommand × List Word → Type 0

@@ -1,5 +1,5 @@
 -- The commands on tables (ipfw(8), "LOOKUP TABLES"): their words behind `table`.
-use Rattle.std.specs.Prelude.{ℕ, Bool, ◌==◌, if◌then◌else◌, Result, Ok, List, [], ◌∷◌, codes}
+use Rattle.std.specs.Prelude.{ℕ, Bool, ◌&&◌, ◌==◌, if◌then◌else◌, Result, Ok, List, [], ◌∷◌, codes}
 use Rattle.std.specs.List.{list_any}
 use Rattle.fw_rule.specs.declared.command.Command.{Command}
 use Rattle.fw_rule.specs.declared.command.Command.TheVariants.{Table}
@@ -9,20 +9,25 @@ use Rattle.fw_rule.specs.declared.table_command.TableCommand.{TableCommand}
 use Rattle.fw_rule.specs.declared.table_command.TableCommand.TheVariants.{Create, Destroy, Add, Remove, Clear, SwapWith, ListEntries}
 use Rattle.fw_rule.specs.declared.table_command.TableType.{TableType}
 use Rattle.fw_rule.specs.declared.table_command.TableType.TheVariants.{Addresses, Numbers}
-use Rattle.ipfw_parser.specs.declared.kind.Kind.TheVariants.{UnknownWord}
+use Rattle.ipfw_parser.specs.declared.kind.Kind.TheVariants.{UnknownWord, BadAddress}
 use Rattle.ipfw_parser.specs.Reading.{Word, Fault, WordReading, fault_at, ◌>>=◌, same, first}
 use Rattle.ipfw_parser.specs.Numbers.{number}
 use Rattle.ipfw_parser.specs.Names.{table_name}
 use Rattle.ipfw_parser.specs.Addresses.{prefix}
+use Rattle.ipfw_parser.specs.Addresses6.{has_colon}
 use Rattle.fw_command.specs.Ends.{result_at_end}
 
 -- a dot stands in the text
 unfoldable pub has_dot : List ℕ → Bool
 has_dot text = list_any (λ byte. byte == 46) text
 
--- a prefix or an address where the word has a dot, else a number
+-- A prefix or an address where the word has a dot, else a number. Keys are IPv4: with a dot and a colon the
+-- word is neither.
 unfoldable pub key : Word → Result Key Fault
-key word = if has_dot word.text then (prefix word >>= λ n. Ok (Net n)) else (number 0 4294967295 word >>= λ n. Ok (Number n))
+key word =
+    if has_dot word.text && has_colon word.text then fault_at word.column BadAddress
+    else if has_dot word.text then (prefix word >>= λ n. Ok (Net n))
+    else (number 0 4294967295 word >>= λ n. Ok (Number n))
 
 -- the type that stands behind `type`
 unfoldable pub table_type : Word → Result TableType Fault

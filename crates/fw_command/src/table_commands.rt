@@ -6,7 +6,7 @@ ghost use Rattle.fw_command.specs.TableCommands as spec;
 
 use crate::ends::finished;
 use fw_rule::{Command, Key, TableCommand, TableType};
-use ipfw_parser::{Kind, ParseFault, Word, Words, number, prefix, table_name};
+use ipfw_parser::{Kind, ParseFault, Word, Words, has_colon, number, prefix, table_name};
 use std::alloc::Global;
 
 #[tactic(auto, unfolding(crate::specs::TableCommands::has_dot))]
@@ -16,12 +16,15 @@ fn has_dot(text: &[u8]) -> bool
     text.iter().any(|byte| *byte == b'.')
 }
 
-/// A key: a prefix or an address where the word has a dot, else a number.
+/// A key: a prefix or an address where the word has a dot, else a number. Keys are IPv4: a word with a dot
+/// and a colon is no address.
 #[tactic(auto, unfolding(crate::specs::TableCommands::key))]
 fn key(word: Word<'_>) -> Result<Key, ParseFault>
     ensures { ReadsAs (λ k. k) result (spec.key (view word.entry)) }
 {
-    if has_dot(word.text) {
+    if has_dot(word.text) && has_colon(word.text) {
+        Err(word.fault(Kind::BadAddress))
+    } else if has_dot(word.text) {
         Ok(Key::Net(prefix(word)?))
     } else {
         Ok(Key::Number(number(word, 0, 4_294_967_295)? as u32))
