@@ -12,4 +12,5 @@ pub mod ScriptInRange
 -- commands and faults stand on their lines
 pub mod Standing
 pub mod CommandPlaces
+pub mod FaultPlaces
 pub mod AddLines

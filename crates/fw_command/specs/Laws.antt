@@ -1,11 +1,11 @@
 -- What a script's lines and commands are, in other words.
-use Rattle.std.specs.Prelude.{◌≡◌, ℕ, ◌+◌, Bool, true, false, nat_lt, Option, Some, None, Ok, IfOk, IfErr, IfSome, ⊤, List, [], ◌∷◌, ◌==◌, length, map, slice_get}
+use Rattle.std.specs.Prelude.{◌≡◌, ℕ, ◌+◌, Bool, true, false, nat_lt, Option, Some, None, Ok, IfOk, IfErr, IfSome, ⊤, List, [], ◌∷◌, ◌==◌, length, map, slice_get, codes}
 use Rattle.std.specs.List.{slice_split, AllByRecursion}
 use Rattle.fw_rule.specs.declared.command.Command.TheVariants.{Add}
 use Rattle.fw_rule.specs.declared.rule.Rule.{Rule}
 use Rattle.fw_lex.specs.Words.{before_comment, first_bad, tokens_of}
 use Rattle.ipfw_parser.specs.declared.kind.Kind.TheVariants.{BadByte}
-use Rattle.ipfw_parser.specs.Reading.{Fault, word_at}
+use Rattle.ipfw_parser.specs.Reading.{Word, Fault, same, word_at}
 use Rattle.ipfw_parser.specs.Rules.{end_column}
 use Rattle.ipfw_parser.specs.Places.{IsColumn}
 use Rattle.ipfw_parser.specs.Forms.{IsRuleForm}
@@ -20,6 +20,8 @@ use Rattle.fw_command.specs.declared.statement.Statement.TheVariants.{Nothing, O
 use Rattle.fw_command.specs.declared.script.Step.{Step}
 use Rattle.fw_command.specs.declared.script.Step.TheVariants.{Run, After as Wait}
 use Rattle.fw_command.specs.declared.script.Script.{Script}
+use Rattle.fw_command.specs.declared.script_fault.ScriptFault.{ScriptFault}
+use Rattle.fw_command.specs.declared.script_fault.ScriptFault.TheVariants.{TooLong, TooManyLines, Parse, PaceInLive, TooManyLive, OutOfMemory}
 
 -- all pieces but a last one that is empty
 abbrev pub without_empty_end : List (List ℕ) → List (List ℕ)
@@ -105,6 +107,38 @@ IsFaultColumn line fault None = IsColumn (end_column (length (before_comment lin
 -- each fault of a line has its column
 abbrev pub FaultsHaveTheirColumns : Type 0
 FaultsHaveTheirColumns = (live : Bool) (line : List ℕ) → IfErr (says live line) (λ fault. IsFaultColumn line fault (first_bad (before_comment line)))
+
+-- the line of this number is there, and this holds of it; the first of the lines has the number `from`
+pub record IsOnLineOf (from : ℕ) (lines : List (List ℕ)) (number : ℕ) (P : List ℕ → Type 0) : Type 0 where
+  pub place : ℕ
+  pub text : List ℕ
+  pub number_is : number ≡ from + place
+  pub there : slice_get lines place ≡ Some text
+  pub holds : P text
+
+-- the first of the words is this one, and begins in this column
+abbrev pub IsFirstWord : List ℕ → ℕ → List Word → Type 0
+IsFirstWord name column [] = ⊥
+IsFirstWord name column (word ∷ words) = (same word.text name ≡ true) × (column ≡ word.column)
+
+-- the line begins with `after`, in this column
+abbrev pub IsAfterColumn : ℕ → List ℕ → Type 0
+IsAfterColumn column line = IsFirstWord (codes "after") column (map (word_at line) (tokens_of line))
+
+-- Where the fault of a script stands: the first fault of a line on that line, in a column of it; an `after` in a
+-- live run on its line, where the word begins. The other faults are the whole script's.
+abbrev pub IsFaultPlace : ℕ → List (List ℕ) → ScriptFault → Type 0
+IsFaultPlace from lines TooLong = ⊤
+IsFaultPlace from lines TooManyLines = ⊤
+IsFaultPlace from lines (Parse number column kind) =
+    IsOnLineOf from lines number (λ line. IsFaultColumn line (record { column = column; kind = kind }) (first_bad (before_comment line)))
+IsFaultPlace from lines (PaceInLive number column) = IsOnLineOf from lines number (IsAfterColumn column)
+IsFaultPlace from lines TooManyLive = ⊤
+IsFaultPlace from lines OutOfMemory = ⊤
+
+-- each fault of a script has its line and its column
+abbrev pub ScriptFaultsHaveTheirPlaces : Type 0
+ScriptFaultsHaveTheirPlaces = (pace : Pace) (bytes : List ℕ) → IfErr (script_of pace bytes) (IsFaultPlace 1 (lines_of bytes))
 
 -- wherever the line `add` with a rule's canonical text stands in a script, it is the command that adds this rule
 abbrev pub AddLinesAreReadAgain : Type 0

@@ -1,4 +1,4 @@
-ghost use Rattle.fw_command.specs.Laws.{AddLinesAreReadAgain, CommandsStandOnTheirLines, FaultsHaveTheirColumns, LinesArePieces};
+ghost use Rattle.fw_command.specs.Laws.{AddLinesAreReadAgain, CommandsStandOnTheirLines, FaultsHaveTheirColumns, LinesArePieces, ScriptFaultsHaveTheirPlaces};
 
 /// The lines of a script are the pieces between its bytes 10, the last one only where it isn't empty.
 pub fn lines_are_pieces()
@@ -12,9 +12,11 @@ pub fn commands_stand_on_their_lines()
 {}
 
 /// The fault of a line stands at its first byte that may not stand there; else where one of its words begins,
-/// or one past its last word.
+/// or one past its last word. The fault of a script names a line that is there and a column of it, and an
+/// `after` that can't stand in a live run names the column where this word begins.
 pub fn faults_have_their_columns()
-    ensures { FaultsHaveTheirColumns }
+    ensures lines { FaultsHaveTheirColumns }
+    ensures scripts { ScriptFaultsHaveTheirPlaces }
 {}
 
 /// The line `add` with the canonical text of a rule that the grammar yields, wherever it stands in a
