@@ -101,7 +101,7 @@ fn faults_of_lines(rt: HostRuntime) -> Result<(), Fail> {
         assert_fault_row(&rt, rt.alloc(), row)?;
         rows = rows.saturating_add(1);
     }
-    assert!(rt; rows >= 180);
+    assert_eq!(rt; rows, 206);
     Ok(())
 }
 
@@ -136,7 +136,7 @@ fn canonical_texts_of_rules(rt: HostRuntime) -> Result<(), Fail> {
         assert_rule_row(&rt, rt.alloc(), row)?;
         rows = rows.saturating_add(1);
     }
-    assert!(rt; rows >= 77);
+    assert_eq!(rt; rows, 80);
     Ok(())
 }
 
@@ -159,7 +159,7 @@ fn canonical_texts_of_ipv6_addresses(rt: HostRuntime) -> Result<(), Fail> {
         assert_address6_row(&rt, rt.alloc(), row)?;
         rows = rows.saturating_add(1);
     }
-    assert!(rt; rows >= 100);
+    assert_eq!(rt; rows, 108);
     Ok(())
 }
 

@@ -131,7 +131,6 @@ fn numbers_text(alloc: Global, name: &str, numbers: &[u16]) -> Result<String, Fa
     Ok(text)
 }
 
-/// A command in words of the tables.
 fn action_text(alloc: Global, action: &Action) -> Result<String, Fail> {
     match action {
         Action::CheckState(Some(name)) => named_text(alloc, "CheckState", name),
@@ -169,6 +168,7 @@ fn local_text(alloc: Global, addresses: &[Addr]) -> Result<String, Fail> {
     Ok(text)
 }
 
+/// A command in words of the tables.
 fn command_text(alloc: Global, command: &Command) -> Result<String, Fail> {
     match command {
         Command::Add(draft) => addition_text(alloc, draft),
@@ -229,7 +229,7 @@ fn commands_of_lines(rt: HostRuntime) -> Result<(), Fail> {
         assert_command_row(&rt, rt.alloc(), row)?;
         rows = rows.saturating_add(1);
     }
-    assert!(rt; rows >= 60);
+    assert_eq!(rt; rows, 69);
     Ok(())
 }
 

@@ -214,7 +214,7 @@ BadNumber 13 table t add ::1 5
 BadNumber 16 table t delete 2001:db8::/32
 BadAddress 13 table t add 10.0.0.1:80
 BadAddress 13 table t add ::ffff:10.0.0.1
-BadPrefix 13 table t add 10.0.0.0/8:8
+BadAddress 13 table t add 10.0.0.0/8:8
 BadAddress 16 local 10.0.0.1 ::1
 BadAddress 7 local ::1
 NumberRange 8 sysctl dyn_keep_states=2
@@ -303,7 +303,7 @@ fn faults_of_lines(rt: HostRuntime) -> Result<(), Fail> {
         assert_fault_row(&rt, rt.alloc(), row)?;
         rows = rows.saturating_add(1);
     }
-    assert!(rt; rows >= 190);
+    assert_eq!(rt; rows, 217);
     Ok(())
 }
 
