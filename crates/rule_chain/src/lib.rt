@@ -5,7 +5,7 @@ pub use apply_fault::ApplyFault;
 pub use changing::is_changing;
 pub use config::{Config, LAST_NUMBER, LAST_SET, MOST_COUNTERS, MOST_RULES};
 pub use laws::untouched_rules_stay;
-pub use names::MOST_NAMES;
+pub use names::{MOST_NAMES, flow_name_of};
 pub use touching::touches_rules;
 
 mod add;

@@ -61,8 +61,9 @@ fn body_name(body: &Option<Body>) -> Option<&Name>
     }
 }
 
-/// The flow name that a rule of this action and body names, if any.
-fn name_of<'x>(action: &'x Action, body: &'x Option<Body>) -> Option<&'x Name>
+/// The flow name that a rule of this action and body names, if any: that of its `check-state`, or of its
+/// `keep-state` or `limit` (ipfw(8), "STATEFUL FIREWALL"). `check-state :any` names none.
+pub fn flow_name_of<'x>(action: &'x Action, body: &'x Option<Body>) -> Option<&'x Name>
     ensures { option_copied result ≡ spec.name_of action.now body.now }
 {
     match action_name(action) {
@@ -127,7 +128,7 @@ pub(crate) fn with_name_of(
         IsRefusal fault
         (spec.with_name_of (arc_value names).items (spec.name_of action.now body.now))) }
 {
-    match name_of(action, body) {
+    match flow_name_of(action, body) {
         Some(name) => with_name(alloc, names, name),
         None => Ok(names),
     }
