@@ -7,7 +7,7 @@ pub const MOST_CALLS: usize = 16;
 /// The numbers of the rules whose calls are open.
 #[derive(Clone, Copy, Debug)]
 pub(crate) struct Callers {
-    pub(crate) numbers: [u16; 16],
+    pub(crate) numbers: [u16; MOST_CALLS],
     pub(crate) depth: usize,
     ghost bounded: { depth ≤ 16 },
 }
@@ -19,7 +19,7 @@ impl Callers {
         ensures { innermost_first result.numbers result.depth ≡ [] }
     {
         Callers {
-            numbers: [0; 16],
+            numbers: [0; MOST_CALLS],
             depth: 0,
         }
     }

@@ -1,8 +1,7 @@
 -- A tree over a list of addresses.
-use Rattle.std.proofs.Common.{◌≡◌, ℕ, Bool, true, false, cond, ◌||◌, List, [], ◌∷◌, ◌++◌, refl, sym, ap, ◌∙◌, arith, nat_cmp}
+use Rattle.std.proofs.Common.{ℕ, true, List, [], ◌∷◌, ◌++◌, arith, nat_cmp}
 use Rattle.std.specs.Prelude.{◌==◌}
-use Rattle.std.specs.BTreeSet.{BTreeSet, contains, Updates}
-use Rattle.std.specs.List.{list_any}
+use Rattle.std.specs.BTreeSet.{BTreeSet, Updates}
 use Rattle.std.proofs.lemmas.Grind.{common_steps}
 use Rattle.fw_base.specs.declared.address.Addr.{Addr}
 use Rattle.rule_chain.specs.Addresses.{AreListed}

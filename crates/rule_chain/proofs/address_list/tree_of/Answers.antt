@@ -1,4 +1,4 @@
-use Rattle.std.proofs.Common.{ℕ, get_or, take}
+use Rattle.std.proofs.Common.{get_or, take}
 use Rattle.std.proofs.lemmas.List.{take_more}
 use Rattle.fw_base.specs.declared.address.Addr.{Addr}
 use Rattle.rule_chain.proofs.Listed.{listed_more}
