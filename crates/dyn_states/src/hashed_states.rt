@@ -13,7 +13,9 @@ use std::alloc::Global;
 use std::marker::Model;
 
 /// The dynamic states in a table: a flow and a name lead to their state, the states that die are given up
-/// by expiry, and what a limit counts is tallied. An ask costs the same however many states there are.
+/// by expiry, and what a limit counts is tallied. An ask walks over no states but once for many installs,
+/// where the slots are compacted. It looks into a map, once for each flow name where it asks for any, and
+/// takes a logarithmic step in the queue of expiries for each state that dies and for each entry.
 #[derive(Drop)]
 pub struct HashedStates {
     table: StateTable,

@@ -26,6 +26,7 @@ mod op;
 mod reply;
 mod scanned_states;
 mod state;
+mod state_rules;
 mod state_table;
 mod state_texts;
 mod table_asks;

@@ -3,10 +3,7 @@ ghost use Rattle.fw_rule.specs.Values.{values_of};
 ghost use Rattle.dyn_states.specs.Lifetimes as lifetimes;
 
 use fw_rule::{Settings, has_bit};
-
-const TCP: u8 = 6;
-
-const UDP: u8 = 17;
+use packet_headers::{TCP, UDP};
 
 /// Of a TCP header's flags those that a state keeps: FIN, SYN and RST.
 pub(crate) fn kept_flags(flags: u8) -> u8

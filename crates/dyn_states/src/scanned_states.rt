@@ -1,4 +1,4 @@
-ghost use Rattle.std.specs.Prelude.{◌≡◌, ◌≤◌, ◌<◌, ◌++◌, ◌∷◌, [], ◌≢◌, IfOk, Some, length, slice_index_or, slice_set, vec_len, vec_capacity, position, filter, map, count_by};
+ghost use Rattle.std.specs.Prelude.{◌≡◌, ◌≤◌, ◌<◌, ◌++◌, ◌∷◌, [], ◌≢◌, IfOk, Some, length, slice_index_or, slice_set, vec_len, vec_capacity, position, filter, count_by};
 ghost use Rattle.std.specs.List.{list_any};
 ghost use Rattle.fw_rule.specs.Values.{values_of};
 ghost use Rattle.dyn_states.specs.StateObject as object;
@@ -7,9 +7,10 @@ ghost use Rattle.dyn_states.specs.declared.op.FlowName.TheVariants.{Named};
 ghost use Rattle.dyn_states.specs.declared.state.State.{State};
 ghost use Rattle.dyn_states.specs.StateObject.{StateObject, after_lookup, lookup_reply, object_at_second, install_reply, after_install, reply_of, after_ask, after_publication, first_object};
 
-use crate::flows::{is_matching, way_of};
-use crate::lifetimes::{kept_flags, lifetime};
-use crate::{Facts, FlowName, Op, Reply, RuleRef, State, Way};
+use crate::flows::way_of;
+use crate::lifetimes::kept_flags;
+use crate::state_rules::{is_considered, parameter, renewed, take_over, with_flags};
+use crate::{Facts, FlowName, Op, Reply, RuleRef, State};
 use fw_base::OutOfMemory;
 use fw_rule::{LimitMask, Settings};
 use packet_headers::Flow;
@@ -41,65 +42,11 @@ impl Model for ScannedStates {
         × (vec_len s.states < 2 ^ 32) };
 }
 
-/// Whether the flow name asked for is the state's.
-fn is_named(asked: FlowName, name: u8) -> bool
-    ensures { result ≡ object.is_name_asked asked name }
-{
-    match asked {
-        FlowName::Any => true,
-        FlowName::Named(number) => number == name,
-    }
-}
-
-/// Whether a lookup considers the state.
-pub(crate) fn is_considered(state: &State, flow: &Flow, name: FlowName) -> bool
-    ensures { result ≡ object.considers flow.now name state.now }
-{
-    is_named(name, state.name) && is_matching(&state.flow, flow)
-}
-
-pub(crate) fn parameter(mask: LimitMask, flow: &Flow) -> u32
-    ensures { result ≡ object.parameter mask flow.now }
-{
-    match mask {
-        LimitMask::SrcAddr => flow.source.0,
-        LimitMask::SrcPort => u32::from(flow.source_port),
-        LimitMask::DstAddr => flow.destination.0,
-        LimitMask::DstPort => u32::from(flow.destination_port),
-    }
-}
-
 /// Whether a limit of the rule counts the state.
 fn is_counted(state: &State, rule: RuleRef, mask: LimitMask, flow: &Flow) -> bool
     ensures { result ≡ object.counts_for rule mask flow.now state.now }
 {
     state.rule.id == rule.id && parameter(mask, &state.flow) == parameter(mask, flow)
-}
-
-/// The state as it lives from now on.
-pub(crate) fn renewed(settings: &Settings, clock: u32, state: State) -> State
-    ensures { result ≡ object.renewed_state (values_of settings.now) clock state }
-{
-    let seconds = lifetime(settings, state.flow.protocol, state.forward, state.reverse);
-    State {
-        expiry: u64::from(clock) + u64::from(seconds),
-        ..state
-    }
-}
-
-pub(crate) fn with_flags(way: Way, flags: u8, state: State) -> State
-    ensures { result ≡ object.with_flags way flags state }
-{
-    match way {
-        Way::Forward => State {
-            forward: state.forward | kept_flags(flags),
-            ..state
-        },
-        Way::Reverse => State {
-            reverse: state.reverse | kept_flags(flags),
-            ..state
-        },
-    }
 }
 
 impl ScannedStates {
@@ -385,60 +332,4 @@ fn keep_live(states: &mut Vec<State>, clock: u32)
     ensures capacity { vec_capacity states.new ≡ vec_capacity states.old }
 {
     states.retain(|state| u64::from(clock) < state.expiry);
-}
-
-/// Drops the states whose rule isn't one of these.
-fn keep_ruled(states: &mut Vec<State>, rules: &[u32])
-    ensures items { states.new.items ≡ filter (object.has_rule_among rules.now) states.old.items }
-    ensures bound { vec_len states.new ≤ vec_len states.old }
-    ensures capacity { vec_capacity states.new ≡ vec_capacity states.old }
-{
-    states.retain(|state| has_rule(rules, state));
-}
-
-/// Gives rule 65535 the states whose own rule isn't one of these.
-fn hand_over(states: &mut [State], rules: &[u32])
-    ensures { states.new ≡ map (object.handed_over rules.now) states.old }
-{
-    for place in 0..states.len() {
-        states[place] = handed_over(rules, states[place]);
-    }
-}
-
-/// Drops the states whose rule isn't in the publication or, where they are kept, gives them rule 65535.
-pub(crate) fn take_over(states: &mut Vec<State>, facts: &Facts)
-    ensures items { states.new.items
-        ≡ object.states_after facts.now.settings.keep facts.now.rules states.old.items }
-    ensures bound { vec_len states.new ≤ vec_len states.old }
-    ensures capacity { vec_capacity states.new ≡ vec_capacity states.old }
-{
-    if facts.settings.keep {
-        hand_over(states, facts.rules.as_slice());
-        return;
-    }
-    keep_ruled(states, facts.rules.as_slice());
-}
-
-/// Whether the state's rule is one of these.
-fn has_rule(rules: &[u32], state: &State) -> bool
-    ensures { result ≡ object.has_rule_among rules.now state.now }
-{
-    rules.iter().any(|id| *id == state.rule.id)
-}
-
-/// The state under rule 65535 where its own rule isn't one of these.
-fn handed_over(rules: &[u32], state: State) -> State
-    ensures { result ≡ object.handed_over rules.now state }
-{
-    if has_rule(rules, &state) {
-        state
-    } else {
-        State {
-            rule: RuleRef {
-                id: 0,
-                number: 65_535,
-            },
-            ..state
-        }
-    }
 }

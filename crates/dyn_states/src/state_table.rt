@@ -10,7 +10,7 @@ ghost use Rattle.dyn_states.specs.StateTable.{slots_of, states_of, HasRoom, HasR
 
 use crate::expiry_queue::ExpiryQueue;
 use crate::lines::{Lines, line_of};
-use crate::scanned_states::{is_considered, take_over};
+use crate::state_rules::{is_considered, take_over};
 use crate::tallies::Tallies;
 use crate::{Facts, FlowName, RuleRef, State};
 use fw_base::OutOfMemory;

@@ -1,4 +1,4 @@
-//! What the asks and a publication do to a table of states.
+//! What the asks do to a table of states.
 ghost use Rattle.std.specs.Prelude.{◌≡◌, ◌≢◌, ℕ, ◌+◌, ◌*◌, ◌<◌, ◌≤◌, ◌++◌, ◌∷◌, [], true, false, List, Some, length, slice_set};
 ghost use Rattle.std.specs.List.{list_any};
 ghost use Rattle.fw_rule.specs.Values.{values_of, default_values};
@@ -13,7 +13,7 @@ ghost use Rattle.dyn_states.specs.StateTable.{slots_of, states_of, object_of, Ha
 
 use crate::flows::way_of;
 use crate::lifetimes::kept_flags;
-use crate::scanned_states::{renewed, with_flags};
+use crate::state_rules::{renewed, with_flags};
 use crate::state_table::StateTable;
 use crate::{FlowName, Reply, RuleRef, State};
 use fw_rule::{LimitMask, Settings};

@@ -7,7 +7,7 @@ ghost use Rattle.dyn_states.specs.StateObject as object;
 
 use crate::State;
 use crate::limit_counts::LimitCounts;
-use crate::scanned_states::parameter;
+use crate::state_rules::parameter;
 use fw_base::OutOfMemory;
 use fw_rule::LimitMask;
 use packet_headers::Flow;
