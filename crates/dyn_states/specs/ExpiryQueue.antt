@@ -22,7 +22,7 @@ entries queue = heap_items queue.heap
 abbrev pub entry_count : ExpiryQueue → ℕ
 entry_count queue = heap_len queue.heap
 
--- for how many there is memory
+-- for how many pairs there is memory
 abbrev pub entry_room : ExpiryQueue → ℕ
 entry_room queue = heap_capacity queue.heap
 
@@ -51,7 +51,7 @@ pub record Serves (slots : List State) (queue : ExpiryQueue) : Type 0 where
   pub served : (k : ℕ) → k < length slots → is_held (slot slots k) ≡ true → list_any (serves k (slot slots k).expiry) (entries queue) ≡ true
   pub order : IsQueue queue
 
--- the same but for one place
+-- each held state but that of one place has an entry that doesn't come behind its expiry
 pub record ServesOthers (slots : List State) (queue : ExpiryQueue) (but : ℕ) : Type 0 where
   pub served : (k : ℕ) → k ≢ but → k < length slots → is_held (slot slots k) ≡ true → list_any (serves k (slot slots k).expiry) (entries queue) ≡ true
   pub order : IsQueue queue

@@ -1,7 +1,7 @@
 -- What a publication tells the states: the identities of its rules.
 use Rattle.std.specs.Prelude.{ℕ, Bool, true, false, nat_lt, ◌==◌, ◌&&◌, List, [], ◌∷◌}
 
--- each is above the one before
+-- each identity is above the one before, and the first is above the least
 abbrev pub rises_from : ℕ → List ℕ → Bool
 rises_from least [] = true
 rises_from least (id ∷ rest) = nat_lt least id && rises_from id rest

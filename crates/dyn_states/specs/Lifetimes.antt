@@ -32,14 +32,14 @@ is_open forward reverse = (has_syn forward && has_syn reverse) && not (has_rst f
 abbrev pub is_closing : ℕ → ℕ → Bool
 is_closing forward reverse = has_fin forward && has_fin reverse
 
--- by the flags seen forward and those seen in reverse
+-- the lifetime of a state of TCP, by the flags seen forward and those seen in reverse
 abbrev pub tcp_lifetime : Values → ℕ → ℕ → ℕ
 tcp_lifetime settings forward reverse =
     if is_opening forward reverse then settings.syn
     else if is_open forward reverse then (if is_closing forward reverse then settings.fin else settings.ack)
     else settings.rst
 
--- seconds, by the protocol and, for TCP, by the flags seen
+-- the lifetime of a state in seconds, by the protocol and, for TCP, by the flags seen
 abbrev pub lifetime : Values → ℕ → ℕ → ℕ → ℕ
 lifetime settings protocol forward reverse =
     if protocol == 6 then tcp_lifetime settings forward reverse

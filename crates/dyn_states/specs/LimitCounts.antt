@@ -11,11 +11,11 @@ use Rattle.dyn_states.specs.Slots.{is_held}
 abbrev pub pair_eq : ℕ × ℕ → ℕ × ℕ → Bool
 pair_eq a b = a.0 == b.0 && a.1 == b.1
 
--- whether two of them are one
+-- whether two pairs are one
 unfoldable pub same_pair : ℕ × ℕ → ℕ × ℕ → Bool
 same_pair a b = pair_eq a b
 
--- how many states are counted for it
+-- how many states are counted for the pair
 unfoldable pub amount_of : LimitCounts → ℕ × ℕ → ℕ
 amount_of counts pair = unwrap_or (get pair_eq counts.amounts pair) 0
 

@@ -93,22 +93,22 @@ counts_for rule mask flow s = s.rule.id == rule.id && parameter mask s.flow == p
 unfoldable pub limit_count : StateObject → RuleRef → LimitMask → Flow → ℕ
 limit_count o rule mask flow = count_by (counts_for rule mask flow) o.states
 
--- `LimitReached` where the limit isn't above the count, which it tells
+-- a limit answers `LimitReached` where it isn't above its count, which the answer tells
 abbrev pub limit_reply : StateObject → RuleRef → Option (LimitMask × ℕ) → Flow → Option Reply
 limit_reply o rule None flow = None
 limit_reply o rule (Some limit) flow =
     if nat_le limit.1 (limit_count o rule limit.0 flow) then Some (LimitReached (limit_count o rule limit.0 flow)) else None
 
--- `TableFull` where `dyn_max` isn't above the number of states, which it tells
+-- the table answers `TableFull` where `dyn_max` isn't above the number of states, which the answer tells
 abbrev pub full_reply : StateObject → Reply
 full_reply o = if nat_le o.settings.max (length o.states) then TableFull (length o.states) else Created
 
--- that answer, or the one by `dyn_max`
+-- the answer of the limit where it gives one, else that of the table
 abbrev pub or_full : StateObject → Option Reply → Reply
 or_full o None = full_reply o
 or_full o (Some reply) = reply
 
--- `Exists`, then `LimitReached`, then `TableFull`, else `Created`
+-- an install answers `Exists`, then `LimitReached`, then `TableFull`, else `Created`
 unfoldable pub install_reply : StateObject → Flow → RuleRef → Option (LimitMask × ℕ) → ℕ → Reply
 install_reply o flow rule limit name =
     if list_any (considers flow (Named name)) o.states then Exists else or_full o (limit_reply o rule limit flow)
@@ -135,7 +135,7 @@ is_created Exists = false
 is_created (LimitReached count) = false
 is_created (TableFull count) = false
 
--- where the answer is `Created`, one state more
+-- an install leaves one state more where its answer is `Created`
 unfoldable pub after_install : StateObject → Flow → ℕ → RuleRef → Option (LimitMask × ℕ) → ℕ → StateObject
 after_install o flow flags rule limit name =
     if is_created (install_reply o flow rule limit name)
@@ -178,7 +178,7 @@ after_publication o rules settings = record {
   settings = settings;
 }
 
--- no state yet, and the clock at 0
+-- the first object has no state, and its clock is at 0
 abbrev pub first_object : Values → StateObject
 first_object settings = record { states = []; clock = 0; settings = settings }
 

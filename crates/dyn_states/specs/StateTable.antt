@@ -15,7 +15,7 @@ use Rattle.dyn_states.specs.Tallies.{IsTallied, HasTallyRoom}
 abbrev pub slots_of : StateTable → List State
 slots_of t = t.slots.items
 
--- the states that it holds, in the order of making
+-- the states that the table holds, in the order of making
 abbrev pub states_of : StateTable → List State
 states_of t = held_states t.slots.items
 
@@ -43,7 +43,7 @@ pub record IsStateTable (t : StateTable) : Type 0 where
   pub tallied : IsTallied (slots_of t) t.tallies
   pub room : HasRoom t
 
--- the same where the expiry of one place isn't in the queue
+-- the table is as it has to be, but that the expiry of one place isn't in the queue
 pub record IsTableBut (t : StateTable) (but : ℕ) : Type 0 where
   pub leads : Leads (slots_of t) t.lines
   pub serves : ServesOthers (slots_of t) t.queue but

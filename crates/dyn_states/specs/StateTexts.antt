@@ -36,6 +36,6 @@ slot_text names s = if is_held s then state_line names s else []
 unfoldable pub states_heading : StateObject → List ℕ
 states_heading o = codes "clock " ++ (decimal o.clock ++ (codes "\nstates " ++ (decimal (length o.states) ++ codes "\n")))
 
--- behind it the states in order of making
+-- the heading, and behind it the states in order of making
 abbrev pub states_text : List (List ℕ) → StateObject → List ℕ
 states_text names o = states_heading o ++ flat_map (state_line names) o.states

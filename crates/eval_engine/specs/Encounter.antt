@@ -65,7 +65,7 @@ abbrev pub any_flow_of : AnyIp → Option Flow
 any_flow_of (Four packet) = flow_of packet
 any_flow_of (Six packet) = None
 
--- TCP's flags, 0 where it isn't TCP
+-- the flags of a packet of TCP, 0 where the packet isn't TCP
 abbrev pub flags_of : AnyIp → ℕ
 flags_of packet = unwrap_or (any_tcp_flags_of packet) 0
 
@@ -77,16 +77,16 @@ name_at q rule = flow_name q.edition.config.names rule
 abbrev pub rule_ref : Rule → RuleRef
 rule_ref rule = record { id = rule.id; number = rule.number }
 
--- is there a state of this rule's flow name
+-- the ask whether there is a state of this rule's flow name
 abbrev pub lookup_by : Question → Rule → Flow → Op
 lookup_by q rule flow = Lookup (flags_of q.packet) flow q.second (name_at q rule)
 
--- `limit` by its mask and its number
+-- the mask and the number of a `limit`
 abbrev pub state_limit_of : StateOpt → Option (LimitMask × ℕ)
 state_limit_of (Keep name) = None
 state_limit_of (Limit mask most name) = Some (mask, most)
 
--- make a state for this rule
+-- the ask that a state be made for this rule
 abbrev pub install_by : Question → Rule → StateOpt → Flow → Op
 install_by q rule state flow =
     Install (flags_of q.packet) flow q.second (rule_ref rule) (state_limit_of state) (number_of_name q.edition.config.names (state_name state))

@@ -33,17 +33,17 @@ pub record Progress : Type 0 where
   pub hits : List ℕ
   pub stop : Stop
 
--- the ask that it waits for, if any
+-- the ask that the evaluation waits for, if any
 abbrev pub asks_at_stop : Stop → List Op
 asks_at_stop (EndsWith judgement) = []
 asks_at_stop (WaitsFor op pause) = op ∷ []
 asks_at_stop Mismatch = []
 
--- behind those asks and hits it goes through this
+-- how far an evaluation is that goes through this trace behind these asks and hits
 abbrev pub progress_by : List Op → List ℕ → Trace → Progress
 progress_by asks hits trace = record { asks = asks ++ asks_at_stop (stop_of_trace trace); hits = hits ++ hits_of trace; stop = stop_of_trace trace }
 
--- a reply where none is due, and one that isn't one to the ask, leaves it neither open nor whole
+-- a reply where none is due, and one that isn't one to the ask, leaves the evaluation neither open nor whole
 abbrev pub progress_after_reply : Question → List Op → List ℕ → Reply → Stop → Progress
 progress_after_reply q asks hits reply (EndsWith judgement) = record { asks = asks; hits = hits; stop = Mismatch }
 progress_after_reply q asks hits reply (WaitsFor op pause) =
@@ -51,22 +51,22 @@ progress_after_reply q asks hits reply (WaitsFor op pause) =
     else record { asks = asks; hits = hits; stop = Mismatch }
 progress_after_reply q asks hits reply Mismatch = record { asks = asks; hits = hits; stop = Mismatch }
 
--- each reply moves it on
+-- each reply moves the evaluation on
 unfoldable pub progress_from : Question → Progress → List Reply → Progress
 progress_from q progress [] = progress
 progress_from q progress (reply ∷ replies) = progress_from q (progress_after_reply q progress.asks progress.hits reply progress.stop) replies
 
--- how far it is after these replies
+-- how far the evaluation is after these replies
 abbrev pub progress_of : Question → List Reply → Progress
 progress_of q replies = progress_from q (progress_by [] [] (first_trace q)) replies
 
--- how it ended
+-- how the evaluation ended, by how it stops
 abbrev pub outcome_of : Stop → Outcome
 outcome_of (EndsWith judgement) = Whole judgement
 outcome_of (WaitsFor op pause) = OpenAt op
 outcome_of Mismatch = Neither
 
--- what it comes to
+-- what an evaluation that is so far comes to
 abbrev pub progress_result : Progress → Evaluated
 progress_result progress = record { asks = progress.asks; hits = progress.hits; outcome = outcome_of progress.stop }
 

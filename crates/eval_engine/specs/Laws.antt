@@ -31,7 +31,7 @@ verdict_of (CheckState name) = None
 abbrev pub decides : Question → Rule → Bool
 decides q rule = not (is_disabled q rule) && (is_rule_met q rule && is_some (verdict_of rule.action))
 
--- by that rule; rule 65535 denies what no rule decides
+-- the judgement by that rule; rule 65535 denies what no rule decides
 abbrev pub judgement_by : Question → Option Rule → Judgement
 judgement_by q None = record { edition = q.edition.number; verdict = verdict.Deny; rule = record { id = 0; number = 65535 }; cause = cause.Rule }
 judgement_by q (Some rule) = record { edition = q.edition.number; verdict = unwrap_or (verdict_of rule.action) verdict.Deny; rule = rule_ref rule; cause = cause.Rule }

@@ -8,7 +8,7 @@ use Rattle.generation_store.specs.Published.{has_identity}
 use Rattle.eval_engine.specs.Encounter.{is_rule_met, looks_up, name_at}
 use Rattle.eval_engine.specs.Question.{Question}
 
--- there are 64 flow names
+-- the number of a flow name is one of the 64 that there are
 abbrev pub IsNumbered : FlowName → Type 0
 IsNumbered Any = ⊤
 IsNumbered (Named number) = number < 64

@@ -59,7 +59,7 @@ seen_by searched = if searched.found then Done else Names (is_searched searched)
 abbrev pub callers_of : Callers → List ℕ
 callers_of callers = innermost_first callers.numbers callers.depth
 
--- the pause that it stands for
+-- the pause that a paused evaluation stands for
 abbrev pub pause_of : Question → Paused → Pause
 pause_of q paused = pause_at (seen_by paused.searched) (callers_of paused.callers) (drop paused.place q.edition.config.rules)
 
@@ -73,7 +73,7 @@ abbrev pub kind_of : Op → AskKind
 kind_of (Lookup flags flow second name) = kind.Lookup
 kind_of (Install flags flow second rule limit name) = kind.Install
 
--- it waits for the reply to an ask of this kind
+-- the paused evaluation waits for the reply to an ask of this kind
 abbrev pub IsOpenAt : Question → Op → Paused → Type 0
 IsOpenAt q op paused = kind_of op ≡ paused.kind
 

@@ -30,7 +30,7 @@ question_of search = record { edition = search.edition.now; packet = search.pack
 abbrev pub walk_at : Question → Seen → Position → Trace
 walk_at q seen at = walk_from q seen (callers_of at.callers) (drop at.place q.edition.config.rules) 0
 
--- the rules between are passed over: nothing is counted, it stops alike, and no more rules are on the way
+-- the rules between are passed over: nothing is counted, the trace stops alike, and no more rules are on the way
 pub record PassesTo (trace next : Trace) : Type 0 where
   pub hits : hits_of trace ≡ hits_of next
   pub stop : stop_of_trace trace ≡ stop_of_trace next
@@ -72,7 +72,7 @@ pub record Remains (q : Question) (trace next : Trace) (before now : List Count)
   pub stop : stop_of_trace trace ≡ stop_of_trace next
   pub fitted : length now ≡ length before
 
--- and fewer rules are on its way
+-- the next trace is what remains of the evaluation, and has fewer rules on the way
 pub record Nears (q : Question) (trace next : Trace) (before now : List Count) : Type 0 where
   pub remains : Remains q trace next before now
   pub sooner : length_of next < length_of trace

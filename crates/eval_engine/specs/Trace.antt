@@ -51,7 +51,7 @@ pub data Trace : Type 0 where
   Counts : ℕ → Trace → Trace
   Stops : Stop → Trace
 
--- the counter numbers of its hits in order
+-- the counter numbers of the trace's hits in order
 unfoldable pub hits_of : Trace → List ℕ
 hits_of (PassesOver trace) = hits_of trace
 hits_of (Counts counter trace) = counter ∷ hits_of trace
@@ -63,7 +63,7 @@ stop_of_trace (PassesOver trace) = stop_of_trace trace
 stop_of_trace (Counts counter trace) = stop_of_trace trace
 stop_of_trace (Stops stop) = stop
 
--- how many rules are on the way before it stops
+-- how many rules are on the way before the trace stops
 unfoldable pub length_of : Trace → ℕ
 length_of (PassesOver trace) = suc (length_of trace)
 length_of (Counts counter trace) = suc (length_of trace)

@@ -71,7 +71,7 @@ tests q pause rule passed acted =
 abbrev pub lookup_flow : Question → Seen → Rule → Option Flow
 lookup_flow q seen rule = if looks_up rule && is_name_due seen (name_at q rule) then any_flow_of q.packet else None
 
--- it is looked up before all else
+-- a rule that has a flow to look up asks for a state before all else
 abbrev pub looks : Question → Pause → Rule → Trace → Trace → Option Flow → Trace
 looks q pause rule passed acted None = tests q pause rule passed acted
 looks q pause rule passed acted (Some flow) = Stops (WaitsFor (lookup_by q rule flow) pause)
@@ -120,7 +120,7 @@ abbrev pub follows_before : Question → Seen → List ℕ → Rule → List Rul
 follows_before q seen callers rule rest =
     follows q (deeper_walk (calls_left callers) q seen) rule (walk_from q seen callers rest) callers (way_back (calls_left callers) q seen callers) rule.action
 
--- `return`: to the innermost caller, or on with the rest
+-- `return` leads to the innermost caller, or on with the rest
 abbrev pub return_before : Question → Seen → List ℕ → List Rule → Trace
 return_before q seen callers rest = return_to (way_back (calls_left callers) q seen callers) (walk_from q seen callers rest)
 
@@ -166,7 +166,7 @@ leads_to q seen callers suffix Exists = acts_from q seen callers suffix
 leads_to q seen callers suffix (LimitReached count) = refuses_from q (cause.Limit count) suffix
 leads_to q seen callers suffix (TableFull count) = refuses_from q (cause.Full count) suffix
 
--- the name of the first rule of the suffix joins
+-- the name of the first rule of the suffix joins those that were looked up
 abbrev pub with_name_at : Question → Seen → List Rule → Seen
 with_name_at q seen [] = seen
 with_name_at q seen (rule ∷ rest) = with_seen seen (name_at q rule)
@@ -180,10 +180,10 @@ seen_after q seen suffix Exists = seen
 seen_after q seen suffix (LimitReached count) = seen
 seen_after q seen suffix (TableFull count) = seen
 
--- how it goes on with the reply
+-- how the evaluation goes on with the reply
 abbrev pub trace_after_reply : Question → Pause → Reply → Trace
 trace_after_reply q pause reply = leads_to q (seen_after q pause.seen pause.suffix reply) pause.callers pause.suffix reply
 
--- how it begins
+-- how the evaluation begins
 abbrev pub first_trace : Question → Trace
 first_trace q = walk_from q no_names [] q.edition.config.rules 0

@@ -31,7 +31,7 @@ target rules place (CheckState name) = place + 1
 abbrev pub jump_of : List Rule → ℕ → Rule → Jump
 jump_of rules place rule = record { target = target rules place rule.action; after = first_from (rule.number + 1) rules }
 
--- those of the rules from this place on
+-- the jumps of the rules from this place on
 unfoldable pub jumps_from : List Rule → ℕ → List Rule → List Jump
 jumps_from rules place [] = []
 jumps_from rules place (rule ∷ rest) = jump_of rules place rule ∷ jumps_from rules (place + 1) rest

@@ -10,7 +10,7 @@ use Rattle.dyn_states.specs.declared.facts.Facts.{Facts}
 use Rattle.dyn_states.specs.declared.op.FlowName.{FlowName}
 use Rattle.dyn_states.specs.declared.op.FlowName.TheVariants.{Any, Named}
 
--- its number, its configuration, and what its publication tells the states
+-- the number of an edition, its configuration, and what its publication tells the states
 pub record Published : Type 0 where
   pub number : ℕ
   pub config : Configuration

@@ -24,7 +24,7 @@ abbrev pub first_fault : (ℕ → Option ApplyFault) → List ℕ → Option App
 first_fault fault [] = None
 first_fault fault (number ∷ numbers) = option_or (fault number) (first_fault fault numbers)
 
--- a call refused with this fault: it is the answer's, unless memory ran out
+-- the fault of a refused call is that of the answer, unless memory ran out
 abbrev pub IsRefusal : {X : Type 0} → ApplyFault → Answer X → Type 0
 IsRefusal fault answer = fault ≢ OutOfMemory → answer ≡ Err fault
 

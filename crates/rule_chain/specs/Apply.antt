@@ -93,11 +93,11 @@ move_rule c number to =
     else if has_rule c.rules number then Ok (record c { rules = move_rules (set_of_number number to) c.rules })
     else Err NoSuchRule
 
--- the rules alone change their sets
+-- `set swap S S`: the rules alone change their sets
 unfoldable pub swap_sets : Configuration → ℕ → ℕ → Answer Configuration
 swap_sets c first second = if first == 31 || second == 31 then Err ReservedSet else Ok (record c { rules = move_rules (set_swapped first second) c.rules })
 
--- the addresses, and behind them each new one that isn't there
+-- the addresses, and behind them this one where it isn't there
 abbrev pub with_address : List Addr → Addr → List Addr
 with_address locals a = if list_any (λ b. b.0 == a.0) locals then locals else locals ++ a ∷ []
 

@@ -27,17 +27,17 @@ HaveOwnIds rules = DifferBy (λ rule. rule.id) rules
 abbrev pub DifferInCounters : List Rule → Type 0
 DifferInCounters rules = DifferBy (λ rule. rule.counter) rules
 
--- The same by places: of two rules of a list the one before hasn't the greater number ..
+-- of two rules of a list the one before hasn't the greater number
 abbrev pub StandInOrder : List Rule → Type 0
 StandInOrder rules = (i j : ℕ) (d : Rule) → i < j → j < length rules
     → (slice_index_or rules i d).number ≤ (slice_index_or rules j d).number
 
--- .. and they have two identities ..
+-- two rules in two places of a list have two identities
 abbrev pub HaveOwnIdentities : List Rule → Type 0
 HaveOwnIdentities rules = (i j : ℕ) (d : Rule) → i < j → j < length rules
     → (slice_index_or rules i d).id ≢ (slice_index_or rules j d).id
 
--- .. and two counter numbers
+-- two rules in two places of a list have two counter numbers
 abbrev pub HaveOwnCounters : List Rule → Type 0
 HaveOwnCounters rules = (i j : ℕ) (d : Rule) → i < j → j < length rules
     → (slice_index_or rules i d).counter ≢ (slice_index_or rules j d).counter

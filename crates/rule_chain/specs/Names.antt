@@ -9,13 +9,12 @@ use Rattle.fw_rule.specs.declared.action.Action.{Action}
 use Rattle.fw_rule.specs.declared.action.Action.TheVariants.{Allow, Deny, Reset, Unreach, Count, SkipTo, Call, Return, CheckState}
 use Rattle.fw_rule.specs.declared.body.Body.{Body}
 use Rattle.fw_rule.specs.declared.rule.Rule.{Rule}
-use Rattle.fw_rule.specs.declared.rule_draft.RuleDraft.{RuleDraft}
 use Rattle.fw_rule.specs.declared.state_opt.StateOpt.{StateOpt}
 use Rattle.fw_rule.specs.declared.state_opt.StateOpt.TheVariants.{Keep, Limit}
 use Rattle.rule_chain.specs.declared.apply_fault.ApplyFault.TheVariants.{TooManyNames}
 use Rattle.rule_chain.specs.Answers.{Answer}
 
--- `check-state :any` names none
+-- the flow name of an action, if any; `check-state :any` names none
 abbrev pub action_name : Action → Option (List ℕ)
 action_name Allow = None
 action_name Deny = None

@@ -52,7 +52,7 @@ abbrev pub greatest_number : List Rule → ℕ
 greatest_number [] = 0
 greatest_number (rule ∷ rules) = if nat_lt rule.number 65535 then max rule.number (greatest_number rules) else greatest_number rules
 
--- a hundred more than that, or that number again where this passes 65534
+-- the number a hundred above the greatest, or the greatest again where that passes 65534
 abbrev pub number_behind : ℕ → ℕ
 number_behind greatest = if nat_le (greatest + 100) 65534 then greatest + 100 else greatest
 
@@ -112,10 +112,10 @@ move_rules set_for rules = map (in_set_for set_for) rules
 abbrev pub set_moved : ℕ → ℕ → Rule → ℕ
 set_moved from to rule = if rule.set == from then to else rule.set
 
--- after the rules of a number were moved into a set
+-- the set of a rule after the rules of a number were moved into a set
 abbrev pub set_of_number : ℕ → ℕ → Rule → ℕ
 set_of_number number to rule = if rule.number == number then to else rule.set
 
--- after two sets were exchanged
+-- the set of a rule after two sets were exchanged
 abbrev pub set_swapped : ℕ → ℕ → Rule → ℕ
 set_swapped first second rule = if rule.set == first then second else if rule.set == second then first else rule.set

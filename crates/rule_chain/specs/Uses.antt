@@ -52,15 +52,15 @@ test_use (IcmpTypes types) = None
 test_use (Icmp6Types types) = None
 test_use (IpOptions present absent) = None
 
--- the same of an option that may be negated
+-- the table that an option, negated or not, looks up
 abbrev pub option_use : Opt → Option Use
 option_use option = test_use option.test
 
--- source, destination, options
+-- the uses of a body: those of its source, its destination and its options
 abbrev pub body_uses : Body → List Use
 body_uses body = filter_map item_use body.source.items ++ (filter_map item_use body.destination.items ++ filter_map option_use body.options)
 
--- all tables of a rule that may lack a body
+-- the uses of a rule, which may lack a body
 abbrev pub uses_of : Option Body → List Use
 uses_of None = []
 uses_of (Some body) = body_uses body

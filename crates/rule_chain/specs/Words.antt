@@ -3,7 +3,7 @@ use Rattle.std.specs.Prelude.{ℕ, List, codes}
 use Rattle.rule_chain.specs.declared.apply_fault.ApplyFault.{ApplyFault}
 use Rattle.rule_chain.specs.declared.apply_fault.ApplyFault.TheVariants.{NoSuchRule, ReservedRule, ReservedSet, NoSuchTable, EntryExists, NoSuchEntry, TableInUse, WrongType, TooManyRules, TooManyCounters, TooManyNames, OutOfMemory}
 
--- as the line about a refused command prints it
+-- the word for a refusal, as the line about a refused command prints it
 abbrev pub word_of : ApplyFault → List ℕ
 word_of NoSuchRule = codes "NoSuchRule"
 word_of ReservedRule = codes "ReservedRule"

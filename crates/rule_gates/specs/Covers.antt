@@ -42,22 +42,22 @@ is_six_address (V6 address) = true
 abbrev pub AdmitsAddress : AddressGate → Address → Type 0
 AdmitsAddress gate address = (admits_version gate.family (is_six_address address) ≡ true) × HasAddress gate.word (address_number address)
 
--- so for each address that the element has
+-- the gate admits each address that the element has
 abbrev pub CoversItem : AddrItem → AddressGate → Type 0
 CoversItem item gate = (tables : NamedTables) (locals : List Addr) (address : Address)
     → holds_item tables locals address item ≡ true → AdmitsAddress gate address
 
--- and for each that a rule asks for
+-- the gate admits each address that the rule asks for
 abbrev pub CoversAddresses : AddrSpec → AddressGate → Type 0
 CoversAddresses asked gate = (tables : NamedTables) (locals : List Addr) (address : Address)
     → holds_addresses tables locals address asked ≡ true → AdmitsAddress gate address
 
--- where the element is told exactly: it has each address that is admitted
+-- where the gate tells the element exactly, the element has each address that the gate admits
 abbrev pub IsExactItem : AddrItem → AddressGate → Type 0
 IsExactItem item gate = (tables : NamedTables) (locals : List Addr) (address : Address)
     → gate.is_exact ≡ true → IsAddress address → AdmitsAddress gate address → holds_item tables locals address item ≡ true
 
--- where the addresses are told exactly: the rule asks for each that is admitted
+-- where the gate tells the addresses exactly, the rule asks for each address that the gate admits
 abbrev pub IsExactAddresses : AddrSpec → AddressGate → Type 0
 IsExactAddresses asked gate = (tables : NamedTables) (locals : List Addr) (address : Address)
     → gate.is_exact ≡ true → IsAddress address → AdmitsAddress gate address → holds_addresses tables locals address asked ≡ true
@@ -67,24 +67,26 @@ abbrev pub CoversList : PortList → Interval → Type 0
 CoversList asked numbers = (port : Option ℕ) → port_number port ≤ 65536
     → as_signed asked.negated (is_in_ranges port asked.ranges) ≡ true → is_within numbers (port_number port) ≡ true
 
--- a port that the rule asks for is
+-- a port that the rule asks for is one of the numbers
 abbrev pub CoversPorts : Option PortList → Interval → Type 0
 CoversPorts asked numbers = (port : Option ℕ) → port_number port ≤ 65536
     → holds_ports port asked ≡ true → is_within numbers (port_number port) ≡ true
 
--- an IPv4 address whose chosen word is one of the numbers is one of the element, where that is a prefix
+-- an IPv4 address whose chosen word is one of the numbers is one of the element, where the element is a prefix
 abbrev pub TellsItem : AddrItem → ChosenWord → Type 0
 TellsItem item chosen = (net : Network) (address : ℕ) → item ≡ Net net → address < 2 ^ 32 → HasAddress chosen address → has_address net address ≡ true
 
--- and one of the list, where that is one prefix
+-- an IPv4 address whose chosen word is one of the numbers is one of the list, where the list is one prefix
 abbrev pub TellsAddresses : AddrSpec → ChosenWord → Type 0
 TellsAddresses asked chosen = (net : Network) (address : ℕ) → asked ≡ only_net net → address < 2 ^ 32 → HasAddress chosen address → has_address net address ≡ true
 
--- a port that is one of the numbers is one of the list, where that is one range; no port is none of them
+-- a port that is one of the numbers is one of the list, where the list is one range; the number of a packet
+-- without a port is none of them
 abbrev pub TellsPorts : Option PortList → Interval → Type 0
 TellsPorts asked numbers = (range : Ports) (port : Option ℕ) → asked ≡ only_range range → is_within numbers (port_number port) ≡ true → holds_ports port asked ≡ true
 
--- where the ports are told exactly: a port that is one of the numbers is one that the rule asks for; so is none
+-- where the gate tells the ports exactly, the rule asks for each port that is one of the numbers, and for a
+-- packet without a port where its number is one of them
 abbrev pub IsExactPorts : Option PortList → PortGate → Type 0
 IsExactPorts asked gate = (port : Option ℕ) → gate.is_exact ≡ true → is_within gate.numbers (port_number port) ≡ true → holds_ports port asked ≡ true
 
@@ -92,7 +94,7 @@ IsExactPorts asked gate = (port : Option ℕ) → gate.is_exact ≡ true → is_
 abbrev pub IsOpen : Gate → Type 0
 IsOpen gate = (packet : AnyIp) (key : Key) → IsKeyOf packet key → admits gate key ≡ true
 
--- the packets whose keys it admits are among those that the body may hold of
+-- the packets whose keys the gate admits are among those that the body may hold of
 abbrev pub TellsBody : Body → Gate → Type 0
 TellsBody body gate = (packet : AnyIp) (key : Key) → IsKeyOf packet key → admits gate key ≡ true → MayHold body packet
 
@@ -101,19 +103,19 @@ abbrev pub IsGateOfBody : Body → Gate → Type 0
 IsGateOfBody body gate = (tables : NamedTables) (locals : List Addr) (packet : AnyIp) (port : Port) (key : Key)
     → IsKeyOf packet key → holds body tables locals packet port ≡ true → admits gate key ≡ true
 
--- the second version is every one, or IPv4 where the first one has it
+-- the second version is every version, or IPv4 where the first version has IPv4
 abbrev pub is_beside : Family → Family → Bool
 is_beside asked family.AnyIp = true
 is_beside asked family.Four = has_four asked
 is_beside asked family.Six = false
 
--- the first version, but for where that is every one
+-- the first version, or the second where the first is every version
 abbrev pub narrower : Family → Family → Family
 narrower family.AnyIp other = other
 narrower family.Four other = family.Four
 narrower family.Six other = family.Six
 
--- where the gate tells all: the body holds of each packet whose key it admits
+-- where the gate tells all, the body holds of each packet whose key the gate admits
 abbrev pub IsExactGate : Body → Gate → Type 0
 IsExactGate body gate = (tables : NamedTables) (locals : List Addr) (packet : AnyIp) (port : Port) (key : Key)
     → is_exact gate ≡ true → IsKeyOf packet key → HasAddresses packet → admits gate key ≡ true → holds body tables locals packet port ≡ true

@@ -17,7 +17,7 @@ use Rattle.rule_gates.specs.Within.{is_within}
 use Rattle.rule_gates.specs.declared.gate.Gate.{Gate}
 use Rattle.rule_gates.specs.declared.key.Key.{Key}
 
--- the version that the rule asks for, if it asks for one
+-- the packet is of the version that the rule asks for, if it asks for one
 abbrev pub admits_version : Family → Bool → Bool
 admits_version family.AnyIp is_six = true
 admits_version family.Four is_six = not is_six

@@ -13,7 +13,7 @@ abbrev pub is_six : AnyIp → Bool
 is_six (Four packet) = false
 is_six (Six packet) = true
 
--- a port; a packet that has none has the first number that is none
+-- the number of a packet's port; a packet without one has the first number that is no port
 abbrev pub port_number : Option ℕ → ℕ
 port_number None = 65536
 port_number (Some port) = port
@@ -32,7 +32,7 @@ abbrev pub IsAddress : Address → Type 0
 IsAddress (V4 address) = address < 2 ^ 32
 IsAddress (V6 address) = ⊤
 
--- so of both addresses of the packet, as of every packet that was read
+-- both addresses of the packet are addresses of their version, as in every packet that was read
 pub record HasAddresses (packet : AnyIp) : Type 0 where
   pub source : IsAddress (source_address_of packet)
   pub destination : IsAddress (destination_address_of packet)

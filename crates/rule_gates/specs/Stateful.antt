@@ -23,7 +23,7 @@ abbrev pub body_state : Option Body → Option StateOpt
 body_state None = None
 body_state (Some body) = body.state
 
--- `keep-state` or `limit`
+-- the state option of a rule, `keep-state` or `limit`, where there is one
 abbrev pub state_of : Rule → Option StateOpt
 state_of rule = body_state rule.body
 

@@ -16,14 +16,14 @@ has_four family.AnyIp = true
 has_four family.Four = true
 has_four family.Six = false
 
--- a list of one element, of which this is so, that isn't negated
+-- the list isn't negated and has a single element, which passes the test
 abbrev pub is_only : {A : Type 0} → (A → Bool) → Bool → List A → Bool
 is_only test true items = false
 is_only test false [] = false
 is_only test false (item ∷ []) = test item
 is_only test false (item ∷ other ∷ items) = false
 
--- beside the version that the rule asks for: every address, or those of a prefix of IPv4
+-- a gate tells the element, beside the version that the rule asks for: every address, or a prefix of IPv4
 abbrev pub is_told_item : Family → AddrItem → Bool
 is_told_item asked Any = true
 is_told_item asked Me = false
@@ -32,16 +32,16 @@ is_told_item asked (Net6 net) = false
 is_told_item asked (InTable name) = false
 is_told_item asked (TableValue name value) = false
 
--- a single one of those
+-- a gate tells the addresses: the rule asks for a single element that a gate tells
 abbrev pub are_told_addresses : Family → AddrSpec → Bool
 are_told_addresses asked addresses = is_only (is_told_item asked) addresses.negated addresses.items
 
--- no list of ports, or a single range
+-- a gate tells the ports: the rule asks for none, or for a single range
 abbrev pub are_told_ports : Option PortList → Bool
 are_told_ports None = true
 are_told_ports (Some asked) = is_only (λ range. true) asked.negated asked.ranges
 
--- such addresses and ports, and no option
+-- a gate tells the body: its addresses, its ports, and no option
 abbrev pub is_told_body : Option Body → Bool
 is_told_body None = false
 is_told_body (Some body) =
@@ -51,6 +51,6 @@ is_told_body (Some body) =
     && (are_told_ports body.destination_ports
     && length body.options == 0)))
 
--- the rule looks nothing up, and has such a body
+-- the rule looks nothing up, and a gate tells its body
 abbrev pub is_told : Rule → Bool
 is_told rule = not (looks_up rule) && is_told_body rule.body

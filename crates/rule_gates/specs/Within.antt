@@ -2,6 +2,6 @@
 use Rattle.std.specs.Prelude.{ℕ, ◌+◌, Bool, ◌&&◌, nat_le}
 use Rattle.rule_gates.specs.declared.interval.Interval.{Interval}
 
--- the number is one of those
+-- the number is one of the interval
 abbrev pub is_within : Interval → ℕ → Bool
 is_within interval number = nat_le interval.low number && nat_le number (interval.low + interval.span)

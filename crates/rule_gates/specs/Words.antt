@@ -12,6 +12,6 @@ address_number (V6 address) = address
 abbrev pub word : ℕ → ℕ → ℕ
 word place number = number / 2 ^ (32 * place) % 2 ^ 32
 
--- the four words, word 0 first
+-- the four words of the number, word 0 first
 abbrev pub words_of : ℕ → List ℕ
 words_of number = word 0 number ∷ word 1 number ∷ word 2 number ∷ word 3 number ∷ []

@@ -28,7 +28,7 @@ use Rattle.rule_match.specs.Tests.{holds_test}
 abbrev pub as_signed : Bool → Bool → Bool
 as_signed negated holds = if negated then not holds else holds
 
--- the version that the rule asks for, if it asks for one
+-- the packet is of the version that the rule asks for, if it asks for one
 abbrev pub holds_family : Family → AnyIp → Bool
 holds_family family.AnyIp packet = true
 holds_family family.Four (Four packet) = true
@@ -44,7 +44,7 @@ holds_protocol asked protocol = asked == 0 || asked == protocol
 abbrev pub has_address : Network → ℕ → Bool
 has_address net address = address / size_of net.bits == net.address / size_of net.bits
 
--- the same of a prefix of IPv6
+-- the first bits of an address of IPv6 are the prefix's
 abbrev pub has_address6 : Network6 → ℕ → Bool
 has_address6 net address = address / prefix6.size_of net.bits == net.address / prefix6.size_of net.bits
 
@@ -53,7 +53,7 @@ abbrev pub is_value : ℕ → Option ℕ → Bool
 is_value value None = false
 is_value value (Some answer) = answer == value
 
--- an element of a list of addresses, and an address of IPv4
+-- an element of a list of addresses holds of an address of IPv4
 abbrev pub holds_item4 : NamedTables → List Addr → ℕ → AddrItem → Bool
 holds_item4 tables locals address Any = true
 holds_item4 tables locals address Me = list_any (λ local. local.0 == address) locals
@@ -62,7 +62,8 @@ holds_item4 tables locals address (Net6 net) = false
 holds_item4 tables locals address (InTable name) = is_some (address_value (table_named tables name) address)
 holds_item4 tables locals address (TableValue name value) = is_value value (address_value (table_named tables name) address)
 
--- the same of IPv6: neither the host's own addresses nor tables know one
+-- an element of a list of addresses holds of an address of IPv6, of which neither the host's own addresses
+-- nor tables know one
 abbrev pub holds_item6 : ℕ → AddrItem → Bool
 holds_item6 address Any = true
 holds_item6 address Me = false
@@ -71,7 +72,7 @@ holds_item6 address (Net6 net) = has_address6 net address
 holds_item6 address (InTable name) = false
 holds_item6 address (TableValue name value) = false
 
--- an element of an address list, by the packet's version
+-- an element of a list of addresses holds of an address, by the packet's version
 abbrev pub holds_item : NamedTables → List Addr → Address → AddrItem → Bool
 holds_item tables locals (V4 address) item = holds_item4 tables locals address item
 holds_item tables locals (V6 address) item = holds_item6 address item
@@ -80,16 +81,16 @@ holds_item tables locals (V6 address) item = holds_item6 address item
 abbrev pub holds_addresses : NamedTables → List Addr → Address → AddrSpec → Bool
 holds_addresses tables locals address asked = as_signed asked.negated (list_any (holds_item tables locals address) asked.items)
 
--- every port where the rule names none
+-- the port is one that the rule asks for; a rule that names none asks for every port
 abbrev pub holds_ports : Option ℕ → Option PortList → Bool
 holds_ports port None = true
 holds_ports port (Some asked) = as_signed asked.negated (is_in_ranges port asked.ranges)
 
--- an option, negated or not
+-- an option, negated or not, holds of the packet
 abbrev pub holds_option : NamedTables → AnyIp → Port → Opt → Bool
 holds_option tables packet port option = as_signed option.negated (holds_test tables packet port option.test)
 
--- how states are made is no test
+-- the body holds of the packet; its state option is no test
 unfoldable pub holds : Body → NamedTables → List Addr → AnyIp → Port → Bool
 holds body tables locals packet port =
     holds_family body.family packet

@@ -19,20 +19,20 @@ abbrev pub is_out : Direction → Bool
 is_out In = false
 is_out Out = true
 
--- `any`, the interface's name, or a start of it followed by `*`
+-- the interface is asked for by `any`, by its name, or by a start of its name followed by `*`
 abbrev pub is_asked_for : List ℕ → Iface → Bool
 is_asked_for interface AnyIface = true
 is_asked_for interface (Exact name) = pointwise nat_eq name interface
 is_asked_for interface (Begins start) = starts_with nat_eq interface start
 
--- the receive interface
+-- the packet's receive interface is asked for
 abbrev pub holds_recv : Port → Iface → Bool
 holds_recv port asked = is_in port.direction && is_asked_for port.interface asked
 
--- the transmit interface
+-- the packet's transmit interface is asked for
 abbrev pub holds_xmit : Port → Iface → Bool
 holds_xmit port asked = is_out port.direction && is_asked_for port.interface asked
 
--- either interface, of which one is there
+-- the packet's interface is asked for, whichever of the two it has
 abbrev pub holds_via : Port → Iface → Bool
 holds_via port asked = is_asked_for port.interface asked

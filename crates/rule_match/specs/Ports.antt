@@ -6,7 +6,7 @@ use Rattle.fw_base.specs.PortRange.{Ports}
 use Rattle.ip6_headers.specs.declared.any_ip.AnyIp.{AnyIp}
 use Rattle.ip6_headers.specs.Either.{any_ports_of}
 
--- those of TCP and UDP with their header; no other packet has one
+-- the source port of TCP or UDP with its header; no other packet has one
 abbrev pub source_port : AnyIp → Option ℕ
 source_port packet = option_map (λ ports. ports.0) (any_ports_of packet)
 

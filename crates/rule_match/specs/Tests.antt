@@ -15,7 +15,7 @@ use Rattle.rule_match.specs.Interfaces.{is_in, is_out, holds_recv, holds_xmit, h
 use Rattle.rule_match.specs.Packet.{icmp_type_of_packet, icmpv6_type_of}
 use Rattle.rule_match.specs.Tables.{field_value}
 
--- the bits of TCP's flags (RFC 9293 section 3.1)
+-- SYN, by its bit's number (RFC 9293 section 3.1)
 abbrev pub syn : ℕ
 syn = 1
 
@@ -52,19 +52,19 @@ abbrev pub has_icmpv6_type : TypeSet → Option ℕ → Bool
 has_icmpv6_type types None = false
 has_icmpv6_type types (Some type) = type_set.has_type types type
 
--- the types of the options that a rule can ask for (RFC 791 section 3.1)
+-- the type of the option `ssrr` (RFC 791 section 3.1)
 abbrev pub strict_source_route : ℕ
 strict_source_route = 137
 
--- `lsrr`
+-- the type of the option `lsrr`
 abbrev pub loose_source_route : ℕ
 loose_source_route = 131
 
--- `rr`
+-- the type of the option `rr`
 abbrev pub record_route : ℕ
 record_route = 7
 
--- `ts`
+-- the type of the option `ts`
 abbrev pub time_stamp : ℕ
 time_stamp = 68
 
@@ -72,7 +72,7 @@ time_stamp = 68
 abbrev pub agrees : Bool → Bool → Bool → Bool
 agrees present absent there = (not present || there) && (not absent || not there)
 
--- so with each of the four
+-- each of the four options agrees with what the rule asks of it
 abbrev pub has_options : ℕ → ℕ → List ℕ → Bool
 has_options present absent options =
     (agrees (has_bit present 0) (has_bit absent 0) (has_option strict_source_route options)
@@ -85,7 +85,7 @@ abbrev pub holds_ip_options : ℕ → ℕ → AnyIp → Bool
 holds_ip_options present absent (Four packet) = has_options present absent packet.options
 holds_ip_options present absent (Six packet) = false
 
--- what each option holds of
+-- the test of an option holds of a packet that passed this port
 abbrev pub holds_test : NamedTables → AnyIp → Port → Test → Bool
 holds_test tables packet port Inward = is_in port.direction
 holds_test tables packet port Outward = is_out port.direction

@@ -23,7 +23,7 @@ is_given None number = false
 is_given (Some last) number = last == number
 
 module _ {V : Type 0} where
-  -- at the start
+  -- the cache at the start
   abbrev pub empty_cache : ℕ → Kept V
   empty_cache capacity = record { capacity = capacity; number = None; pairs = [] }
 

@@ -11,7 +11,7 @@ use Rattle.rule_match.specs.Tests as tests
 use Rattle.verdict_cache.specs.declared.key.Key.{Key}
 use Rattle.verdict_cache.specs.declared.present_options.PresentOptions.{PresentOptions}
 
--- which of the four are among a header's options
+-- which of the four options that a rule can name are among a header's
 abbrev pub present_options : List ℕ → PresentOptions
 present_options options = record {
   strict_source_route = has_option tests.strict_source_route options;
@@ -33,7 +33,7 @@ key_of f = record {
   options = present_options f.options;
 }
 
--- two keys are one where every part is equal
+-- the same of the four options are there
 abbrev pub same_options : PresentOptions → PresentOptions → Bool
 same_options a b =
     beq a.strict_source_route b.strict_source_route
@@ -44,7 +44,7 @@ same_options a b =
 abbrev pub same_ports : ℕ × ℕ → ℕ × ℕ → Bool
 same_ports a b = a.0 == b.0 && a.1 == b.1
 
--- two keys are one
+-- two keys are one where every part is equal
 abbrev pub same_key : Key → Key → Bool
 same_key a b =
     a.source.0 == b.source.0 && (a.destination.0 == b.destination.0 && (a.protocol == b.protocol
