@@ -46,7 +46,7 @@ packet_of kind host port =
     else if kind == 2 then tcp_packet (strangers + host) 80 (clients + host) port 16
     else echo_packet (clients + host) server
 
--- a record of a capture (pcap 2.4): second, fraction 0, and twice the packet's length, the lowest byte first
+-- a record of a capture (pcap 2.4): second, fraction 0, and the packet's length, two times, the lowest byte first
 unfoldable pub load_record : ℕ → List ℕ → List ℕ
 load_record second packet =
     to_le_bytes w32 second ++ (to_le_bytes w32 0 ++ (to_le_bytes w32 (length packet) ++ (to_le_bytes w32 (length packet) ++ packet)))

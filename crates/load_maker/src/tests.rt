@@ -21,6 +21,23 @@ const CAPTURE: [u8; 224] = [
     0x00, 0x00, 0x00, 0x00, 0x00, 0x00, 0x00, 0x00, 0x50, 0x02, 0xff, 0xff, 0x00, 0x00, 0x00, 0x00,
 ];
 
+/// The capture of 1 record, drawn by another program: a stranger, 198.51.100.153, answers from port 80 to
+/// port 1220 of 10.0.0.153 at second 1000.
+const CAPTURE_OF_ONE: [u8; 80] = [
+    0xd4, 0xc3, 0xb2, 0xa1, 0x02, 0x00, 0x04, 0x00, 0x00, 0x00, 0x00, 0x00, 0x00, 0x00, 0x00, 0x00,
+    0x00, 0x00, 0x04, 0x00, 0x65, 0x00, 0x00, 0x00, 0xe8, 0x03, 0x00, 0x00, 0x00, 0x00, 0x00, 0x00,
+    0x28, 0x00, 0x00, 0x00, 0x28, 0x00, 0x00, 0x00, 0x45, 0x00, 0x00, 0x28, 0x00, 0x00, 0x00, 0x00,
+    0x40, 0x06, 0x00, 0x00, 0xc6, 0x33, 0x64, 0x99, 0x0a, 0x00, 0x00, 0x99, 0x00, 0x50, 0x04, 0xc4,
+    0x00, 0x00, 0x00, 0x00, 0x00, 0x00, 0x00, 0x00, 0x50, 0x10, 0xff, 0xff, 0x00, 0x00, 0x00, 0x00,
+];
+
+/// The script of 1 record: half of them, rounded down, are none.
+const SCRIPT_OF_ONE: &str = "add 100 check-state\n\
+    add 200 allow tcp from 10.0.0.0/24 to any 80 setup keep-state\n\
+    add 300 allow udp from 10.0.0.0/24 to any 53 keep-state\n\
+    add 400 allow icmp from any to any icmptypes 0,8\nadd 500 deny ip from any to any\n\
+    live\nafter 0\ndelete 300\n";
+
 /// What the capture gives in 1,000 reads, of at most so many bytes each, and no more than 64.
 fn bytes_of(alloc: Global, mut capture: MadeCapture, most: usize) -> Result<Vec<u8>, Fail> {
     let mut bytes = Vec::new(alloc);
@@ -47,13 +64,13 @@ fn load_of_4_records(rt: HostRuntime) -> Result<(), Fail> {
     Ok(())
 }
 
-/// The first draw from 1 is 908834774, which is 2 modulo 4: a stranger answers.
+/// The first draw from 1 is 908834774, which is 2 modulo 4: a stranger answers. The second is 1093944153, 153
+/// modulo 200, and the third 1392341196, 196 modulo 1000.
 #[test]
 fn load_of_one_record(rt: HostRuntime) -> Result<(), Fail> {
     let load = make(rt.alloc(), 1)?;
-    assert!(rt; load.script.ends_with(b"\nlive\nafter 0\ndelete 300\n"));
+    assert_eq!(rt; load.script.as_slice(), SCRIPT_OF_ONE.as_bytes());
     let bytes = bytes_of(rt.alloc(), load.capture, 64)?;
-    assert_eq!(rt; bytes.len(), 24 + 16 + 40);
-    assert!(rt; bytes.starts_with(b"\xd4\xc3\xb2\xa1\x02\x00\x04\x00"));
+    assert_eq!(rt; bytes.as_slice(), CAPTURE_OF_ONE.as_slice());
     Ok(())
 }
