@@ -1,5 +1,5 @@
 -- The record of a world and its lanes is legal.
-use Rattle.std.proofs.Common.{◌≡◌, ℕ, suc, ◌+◌, ◌-◌, ◌≤◌, List, [], ◌∷◌, ◌++◌, length, map, Option, Some, None, refl, sym, ap, ◌∙◌, subst, arith}
+use Rattle.std.proofs.Common.{◌≡◌, ℕ, suc, ◌+◌, ◌-◌, ◌≤◌, List, [], ◌∷◌, length, map, Option, Some, None, refl, sym, ap, ◌∙◌, subst, arith}
 use Rattle.std.specs.Prelude.{IfSome, unwrap_or}
 use Rattle.std.specs.List.{AllByRecursion}
 use Rattle.counter_book.specs.declared.tally.Count.{Count}
@@ -16,7 +16,6 @@ use Rattle.fw_world.specs.Lane.{LaneValue}
 use Rattle.fw_world.specs.LaneKept.{IsLane}
 use Rattle.fw_world.specs.Legal.{EachLane, LaneStands, LaneCounts, IsLegal, StandFor, lane_asks}
 use Rattle.fw_world.specs.Publications.{IsLawful, facts_of}
-use Rattle.fw_world.specs.RecordValue.{RecordValue}
 use Rattle.fw_world.specs.Sections.{AreSections, judged_editions, tracker_after}
 use Rattle.fw_world.specs.World.{WorldValue, published_count, IsLaneOf}
 use Rattle.fw_world.specs.WorldKept.{IsWorld}
@@ -66,6 +65,9 @@ module _ (world : WorldValue) (lanes : List LaneValue) (first : Configuration) (
     replied = subst (λ (facts : List Facts). journal.IsLawfulFrom journal.no_states facts world.journal.entries) (sym is.factual) book.lawful;
   }
 
+  object : world.journal.object ≡ journal.object_from journal.no_states (facts_of world.editions) world.journal.entries
+  object = book.object ∙ ap (λ (facts : List Facts). journal.object_from journal.no_states facts world.journal.entries) (sym is.factual)
+
   lane_stands : EachLane (LaneStands (record_of_world world lanes)) 1 inputs (record_of_world world lanes).dockets (record_of_world world lanes).tallies (record_of_world world lanes).trackers
   lane_stands = each_lane (LaneStands (record_of_world world lanes)) (IsLane 0) world 1 lanes inputs are stands (λ lane met of_world one stand. stand) kept
 
@@ -78,6 +80,7 @@ module _ (world : WorldValue) (lanes : List LaneValue) (first : Configuration) (
     editions = editions;
     published = is.published_once;
     lawful = lawful;
+    object = object;
     lanes = lane_stands;
     asked = of_lanes;
     sections = each_lane (LaneCounts (record_of_world world lanes)) (λ lane. IsLane 0 lane × (lane.loose ≡ 0)) world 1 lanes inputs are stands (λ lane met of_world one stand. AreSections-lane world lane of_world one.0 one.1)
@@ -90,6 +93,7 @@ module _ (world : WorldValue) (lanes : List LaneValue) (first : Configuration) (
     editions = editions;
     published = is.published_once;
     lawful = lawful;
+    object = object;
     lanes = lane_stands;
     asked = of_lanes;
     rising = each_lane LaneRises (IsLane 0) world 1 lanes inputs are stands (λ lane met of_world one stand. one.rising) kept;

@@ -5,12 +5,13 @@ use Rattle.counter_book.specs.declared.tally.Count.{Count}
 use Rattle.eval_engine.specs.Dockets.{DocketValue}
 use Rattle.fw_rule.specs.declared.command.Command.{Command}
 use Rattle.rule_chain.specs.Configuration.{Configuration}
+use Rattle.state_journal.specs.Journal.{no_states, object_from}
 use Rattle.fw_world.specs.Asks.{AreOfLanes}
 use Rattle.fw_world.specs.Editions.{AreEditions}
 use Rattle.fw_world.specs.Inputs.{Input}
 use Rattle.fw_world.specs.Lane.{LaneValue}
 use Rattle.fw_world.specs.Legal.{EachLane, LaneStands}
-use Rattle.fw_world.specs.Publications.{PublishesEach, IsLawful}
+use Rattle.fw_world.specs.Publications.{PublishesEach, IsLawful, facts_of}
 use Rattle.fw_world.specs.RecordValue.{RecordValue}
 use Rattle.fw_world.specs.Sections.{judged_editions}
 use Rattle.fw_world.specs.World.{WorldValue, IsLaneOf, LaneStandsFor}
@@ -56,6 +57,7 @@ pub record IsLegalButSections (first : Configuration) (commands : List Command) 
   pub editions : AreEditions first commands r.editions
   pub published : PublishesEach r.editions r.journal.entries
   pub lawful : IsLawful r.editions r.journal.entries
+  pub object : r.journal.object ≡ object_from no_states (facts_of r.editions) r.journal.entries
   pub lanes : EachLane (LaneStands r) 1 inputs r.dockets r.tallies r.trackers
   pub asked : AreOfLanes (length inputs) r.journal.entries
   pub rising : EachLane LaneRises 1 inputs r.dockets r.tallies r.trackers

@@ -7,12 +7,13 @@ use Rattle.fw_rule.specs.declared.command.Command.{Command}
 use Rattle.generation_store.specs.Published.{Published}
 use Rattle.rule_chain.specs.Configuration.{Configuration}
 use Rattle.state_journal.specs.Items.{asks_of}
+use Rattle.state_journal.specs.Journal.{no_states, object_from}
 use Rattle.state_journal.specs.declared.entry.Entry.{Entry}
 use Rattle.fw_world.specs.Asks.{LaneAsk, asks_in, AreAsksOf, AreOfLanes}
 use Rattle.fw_world.specs.Editions.{AreEditions}
 use Rattle.fw_world.specs.Entries.{EachRecord, IsEntryFor, IsEvaluated}
 use Rattle.fw_world.specs.Inputs.{Input}
-use Rattle.fw_world.specs.Publications.{PublishesEach, IsLawful}
+use Rattle.fw_world.specs.Publications.{PublishesEach, IsLawful, facts_of}
 use Rattle.fw_world.specs.RecordValue.{RecordValue}
 use Rattle.fw_world.specs.Sections.{AreSections}
 use Rattle.fw_world.specs.Tallies.{lane_hits, IsTallyOf}
@@ -52,6 +53,8 @@ pub record IsLegal (first : Configuration) (commands : List Command) (inputs : L
   pub published : PublishesEach r.editions r.journal.entries
   -- each reply is the one state object's
   pub lawful : IsLawful r.editions r.journal.entries
+  -- the clock and the live states are the object's after the whole journal
+  pub object : r.journal.object ≡ object_from no_states (facts_of r.editions) r.journal.entries
   -- each lane's entries, evaluations, counts and asks are those of its inputs
   pub lanes : EachLane (LaneStands r) 1 inputs r.dockets r.tallies r.trackers
   -- no ask is of another lane
