@@ -1,16 +1,12 @@
 -- A desk that stands for some commands stands for one more once that was published.
-use Rattle.std.proofs.Common.{◌≡◌, ℕ, ◌+◌, ◌-◌, List, [], ◌∷◌, ◌++◌, length, Some, Ok, sym, ap, ◌∙◌, subst, arith}
+use Rattle.std.proofs.Common.{◌≡◌, ℕ, ◌+◌, List, [], ◌∷◌, ◌++◌, length, Some, Ok, sym, ap, ◌∙◌, subst, arith}
 use Rattle.fw_rule.specs.declared.command.Command.{Command}
 use Rattle.generation_store.specs.Published.{Published, IsBuilt}
 use Rattle.rule_chain.specs.Apply.{apply}
 use Rattle.rule_chain.specs.Configuration.{Configuration}
-use Rattle.fw_world.specs.Committing.{IsCommitFault}
-use Rattle.fw_world.specs.CommitFaults.{IsCauseOf}
 use Rattle.fw_world.specs.Editions.{AreEditionsFrom, IsLastOf}
 use Rattle.fw_world.specs.Steps.{Publishes}
 use Rattle.fw_world.specs.World.{WorldValue, DeskStandsFor}
-use Rattle.fw_world.specs.declared.commit_fault.CommitFault.{CommitFault}
-use Rattle.fw_world.specs.declared.commit_fault.CommitFault.TheVariants.{Refused, OutOfMemory}
 use Rattle.fw_world.proofs.WorldSteps.{IsLastOf-tail}
 
 same_value : {X : Type 0} (x y : X) → Some x ≡ Some y → x ≡ y
@@ -39,8 +35,3 @@ accepts_one_more old new command first commands publishes stands =
     let count : length old.editions + 1 ≡ 1 + length old.editions = omega arith in
     subst (λ (editions : List Published). DeskStandsFor editions first (commands ++ command ∷ [])) (sym publishes.editions)
     (more_editions 1 first commands old.editions command next.before next.made publishes.edition stands next.last next.applied (rw count at next.built))
-
--- the cause of a commit that fails, as a refusal
-pub commit_fault_of : (world : WorldValue) (command : Command) (fault : CommitFault) → IsCauseOf world.editions command fault → IsCommitFault world command fault
-commit_fault_of world command (Refused fault) cause = record { edition = cause.0; last = cause.1; refused = cause.2 }
-commit_fault_of world command OutOfMemory cause = tt

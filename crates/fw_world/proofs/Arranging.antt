@@ -1,5 +1,5 @@
 -- Lanes in the order of their places.
-use Rattle.std.proofs.Common.{◌≡◌, ℕ, suc, ◌+◌, ◌<◌, ◌≤◌, Bool, true, false, cond, nat_le, nat_lt, ◌==◌, Option, Some, None, List, [], ◌∷◌, length, sum_by, unwrap_or, refl, sym, ap, ◌∙◌, subst, arith, IsPermutation, leb-false, leb-true, ltb-true, ltb-false, eq-eqb, ne_eqb}
+use Rattle.std.proofs.Common.{◌≡◌, ℕ, suc, ◌+◌, ◌<◌, ◌≤◌, Bool, true, false, cond, nat_le, nat_lt, ◌==◌, Option, Some, None, List, [], ◌∷◌, length, sum_by, unwrap_or, refl, sym, ap, ◌∙◌, arith, IsPermutation, leb-false, leb-true, ltb-true, ltb-false, eq-eqb, ne_eqb}
 use Rattle.std.specs.Prelude.{⊤}
 use Rattle.std.specs.List.{AllByRecursion}
 use Rattle.std.specs.List.Sorted.{IsNonDecreasingBy}

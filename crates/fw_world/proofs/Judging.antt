@@ -21,7 +21,7 @@ use Rattle.eval_engine.specs.declared.judgement.Judgement.{Judgement}
 use Rattle.fw_world.specs.AskRuns.{RisesBy, raised_by}
 use Rattle.fw_world.specs.Asks.{LaneAsk, asks_of_record, replies_of, ops_of, AreAsksOf, IsJudgedUnder}
 use Rattle.fw_world.specs.Editions.{edition_numbered, judging_edition}
-use Rattle.fw_world.specs.Entries.{EachRecord, IsEntryFor, IsEvaluated, IsEvaluatedTo, IsEvaluation, evaluation_under}
+use Rattle.fw_world.specs.Entries.{EachRecord, IsEntryFor, IsEvaluated, IsEvaluatedTo, IsEvaluation}
 use Rattle.fw_world.specs.Inputs.{Input, Other, Malformed, Packet}
 use Rattle.fw_world.specs.Legal.{StandFor}
 use Rattle.fw_world.specs.Steps.{question_under}

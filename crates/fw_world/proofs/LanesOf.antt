@@ -1,5 +1,5 @@
 -- Lanes of a world stay its lanes.
-use Rattle.std.proofs.Common.{◌≡◌, ℕ, ◌≤◌, true, List, [], ◌∷◌, ◌++◌, length, sym, ap, subst, arith}
+use Rattle.std.proofs.Common.{◌≡◌, ℕ, ◌≤◌, true, List, length, sym, ap, subst, arith}
 use Rattle.std.proofs.lemmas.List.Elements.{All-push}
 use Rattle.std.specs.Prelude.{All, IfSome, Result, Ok, Err, IfOk, OnErr, is_ok}
 use Rattle.counter_book.specs.declared.tally.Count.{Count}

@@ -1,17 +1,16 @@
 -- Lanes that pass over a record.
-use Rattle.std.proofs.Common.{◌≡◌, ℕ, ◌+◌, ◌≤◌, true, List, [], ◌∷◌, ◌++◌, length, refl, sym, ap, ◌∙◌, subst, arith}
+use Rattle.std.proofs.Common.{◌≡◌, ℕ, ◌≤◌, true, List, [], ◌∷◌, ◌++◌, refl, sym, ap, ◌∙◌, subst}
 use Rattle.std.proofs.lemmas.List.{append-nil}
 use Rattle.std.specs.Prelude.{All, Result, Ok, Err, OnOk, OnErr}
-use Rattle.counter_book.specs.declared.tally.Count.{Count}
 use Rattle.fw_base.specs.declared.failure.OutOfMemory.{OutOfMemory}
 use Rattle.fw_world.specs.Inputs.{Input}
 use Rattle.fw_world.specs.Lane.{LaneValue, with_docket_entry}
 use Rattle.fw_world.specs.LaneKept.{IsLane}
-use Rattle.fw_world.specs.Legal.{StandFor, lane_asks}
+use Rattle.fw_world.specs.Legal.{lane_asks}
 use Rattle.fw_world.specs.Sections.{judged_editions}
 use Rattle.fw_world.specs.Skips.{entry_for, skipped_input}
-use Rattle.fw_world.specs.declared.lane_work.Skipped.{Skipped}
-use Rattle.fw_world.specs.declared.lane_work.Skipped.TheVariants.{Other, Malformed}
+use Rattle.fw_world.specs.declared.skipped.Skipped.{Skipped}
+use Rattle.fw_world.specs.declared.skipped.Skipped.TheVariants.{Other, Malformed}
 use Rattle.fw_world.specs.World.{WorldValue, published_count, IsLaneOf, LaneStandsFor}
 use Rattle.fw_world.proofs.Judging.{StandFor-skipped}
 use Rattle.fw_world.proofs.LaneSteps.{judged_editions-append, IsLane-skipped}

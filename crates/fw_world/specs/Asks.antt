@@ -1,5 +1,5 @@
 -- The asks of a lane, each with the number of the last publication before it.
-use Rattle.std.specs.Prelude.{◌≡◌, ℕ, ◌-◌, ◌≤◌, Bool, false, ◌==◌, ⊤, IsSomeAnd, List, [], ◌∷◌, map, filter, filter_map, slice_get, Option, Some, None}
+use Rattle.std.specs.Prelude.{◌≡◌, ℕ, ◌-◌, ◌≤◌, ◌==◌, ⊤, IsSomeAnd, List, [], ◌∷◌, map, filter, slice_get}
 use Rattle.std.specs.List.Sorted.{IsNonDecreasing}
 use Rattle.std.specs.List.{AllByRecursion}
 use Rattle.dyn_states.specs.declared.op.Op.{Op}
@@ -18,7 +18,7 @@ pub record LaneAsk : Type 0 where
   pub op : Op
   pub reply : Reply
 
--- those of a list of items; other items are none
+-- the asks among a list of items; the other items hold none
 abbrev pub asks_in : List Item → List LaneAsk
 asks_in [] = []
 asks_in (Lanes count ∷ items) = asks_in items
@@ -26,7 +26,7 @@ asks_in (Published facts ∷ items) = asks_in items
 asks_in (Asked after (Publish number) ∷ items) = asks_in items
 asks_in (Asked after (Ask lane op reply at) ∷ items) = record { after = after; at = at; op = op; reply = reply } ∷ asks_in items
 
--- those of one record
+-- the asks of one record
 abbrev pub asks_of_record : ℕ → List LaneAsk → List LaneAsk
 asks_of_record at asks = filter (λ ask. ask.at == at) asks
 

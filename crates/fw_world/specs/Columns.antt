@@ -15,7 +15,7 @@ pub record ColumnsValue : Type 0 where
 abbrev pub no_columns : ℕ → ColumnsValue
 no_columns room = record { dockets = []; tallies = []; trackers = []; room = room }
 
--- those of one lane more
+-- the columns with one lane more, which takes up the room of one
 abbrev pub with_lane : LaneValue → ColumnsValue → ColumnsValue
 with_lane lane columns = record {
   dockets = columns.dockets ++ lane.docket ∷ [];

@@ -9,9 +9,15 @@ use Rattle.fw_world.specs.Editions.{IsLastOf}
 use Rattle.fw_world.specs.declared.commit_fault.CommitFault.{CommitFault}
 use Rattle.fw_world.specs.declared.commit_fault.CommitFault.TheVariants.{Refused, OutOfMemory}
 
--- the command is refused so by the configuration of the last edition; want of memory may come at any time
+-- the configuration of the last of these editions refuses the command with this fault
+pub record RefusesCommand (editions : List Published) (command : Command) (fault : ApplyFault) : Type 0 where
+  pub edition : Published
+  pub last : IsLastOf editions edition
+  pub refused : apply edition.config command ≡ Err fault
+
+-- why the command made no edition behind these: it is refused, or memory ran out, which may come at any time
 abbrev pub IsCauseOf : List Published → Command → CommitFault → Type 0
-IsCauseOf editions command (Refused fault) = (before : Published) × IsLastOf editions before × (apply before.config command ≡ Err fault)
+IsCauseOf editions command (Refused fault) = RefusesCommand editions command fault
 IsCauseOf editions command OutOfMemory = ⊤
 
 -- a refusal, or want of memory

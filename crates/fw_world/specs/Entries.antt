@@ -6,7 +6,6 @@ use Rattle.generation_store.specs.Published.{Published}
 use Rattle.eval_engine.specs.Dockets.{judgement_in}
 use Rattle.eval_engine.specs.Evaluated.{Evaluated, Whole}
 use Rattle.eval_engine.specs.Evaluation.{evaluate}
-use Rattle.eval_engine.specs.Question.{Question}
 use Rattle.eval_engine.specs.declared.docket_entry.DocketEntry.{DocketEntry}
 use Rattle.eval_engine.specs.declared.docket_entry.DocketEntry.TheVariants as entry
 use Rattle.eval_engine.specs.declared.judgement.Judgement.{Judgement}

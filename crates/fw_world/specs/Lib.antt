@@ -20,6 +20,5 @@ pub mod AskRuns
 pub mod Steps
 pub mod Skips
 pub mod CommitFaults
-pub mod Committing
 pub mod SerialEntries
 pub mod Closing

@@ -3,8 +3,8 @@ use Rattle.eval_engine.specs.declared.docket_entry.DocketEntry.{DocketEntry}
 use Rattle.eval_engine.specs.declared.docket_entry.DocketEntry.TheVariants as entry
 use Rattle.fw_world.specs.Inputs.{Input}
 use Rattle.fw_world.specs.Inputs as input
-use Rattle.fw_world.specs.declared.lane_work.Skipped.{Skipped}
-use Rattle.fw_world.specs.declared.lane_work.Skipped.TheVariants.{Other, Malformed}
+use Rattle.fw_world.specs.declared.skipped.Skipped.{Skipped}
+use Rattle.fw_world.specs.declared.skipped.Skipped.TheVariants.{Other, Malformed}
 
 -- what is entered for it
 abbrev pub entry_for : Skipped → DocketEntry

@@ -26,13 +26,13 @@ abbrev pub packet_hits : Option Published → AnyIp → Port → ℕ → List La
 packet_hits None packet port second asks = []
 packet_hits (Some edition) packet port second asks = hits_under (total_of packet) (evaluation_under edition packet port second asks).hits
 
--- those of a record, under the edition that its entry names
+-- the hits of a record, under the edition that its entry names
 abbrev pub record_hits : List Published → List LaneAsk → ℕ → Input → DocketEntry → List Hit
 record_hits editions asks at (Packet packet port second) entered = packet_hits (judging_edition editions entered) packet port second (asks_of_record at asks)
 record_hits editions asks at Other entered = []
 record_hits editions asks at (Malformed kind) entered = []
 
--- those of all records from this one on
+-- the hits of all records from this one on
 abbrev pub lane_hits : List Published → List LaneAsk → ℕ → List Input → List DocketEntry → List Hit
 lane_hits editions asks at [] entries = []
 lane_hits editions asks at (input ∷ inputs) [] = []

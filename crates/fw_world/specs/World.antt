@@ -1,5 +1,5 @@
 -- What contracts see of a world: its editions and its journal; and when a lane and a desk are those of it.
-use Rattle.std.specs.Prelude.{◌≡◌, ℕ, ◌≤◌, ◌<◌, IfSome, List, length, All}
+use Rattle.std.specs.Prelude.{ℕ, ◌≤◌, IfSome, List, length, All}
 use Rattle.fw_rule.specs.declared.command.Command.{Command}
 use Rattle.generation_store.specs.Published.{Published}
 use Rattle.rule_chain.specs.Configuration.{Configuration}

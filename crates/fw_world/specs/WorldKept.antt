@@ -1,5 +1,5 @@
 -- What holds of every world, and how one is opened.
-use Rattle.std.specs.Prelude.{◌≡◌, ℕ, ◌+◌, ◌≤◌, false, ⊤, List, [], ◌∷◌, length}
+use Rattle.std.specs.Prelude.{◌≡◌, ℕ, ◌+◌, ◌≤◌, false, ⊤, List, [], ◌∷◌}
 use Rattle.generation_store.specs.Published.{Published, IsEdition, IsBuilt}
 use Rattle.rule_chain.specs.Configuration.{Configuration}
 use Rattle.state_journal.specs.Journal.{first_journal}

@@ -39,6 +39,7 @@ pub(crate) fn evaluate_packet<B: AsksBook>(
         match stage {
             Stage::Judged(judgement) => return Ok(judgement),
             Stage::Asks(op, paused) => {
+                // This call's answer is a u64, and each ask raises it: so the loop ends.
                 let _entered = book.entered();
                 let reply = book.ask(lane, at, op)?;
                 stage = resume(paused, reply, edition, packet, port, second, tally);

@@ -136,6 +136,7 @@ impl LaneWork {
     {
         let at = self.docket.entries().len() as u64 + 1;
         let config = edition.config();
+        // This call's clause `lawful` says that it is a configuration, as the evaluation requires.
         let _rules = config.rules();
         self.tally.fit(config.counters())?;
         let tally = &mut self.tally;
@@ -143,13 +144,4 @@ impl LaneWork {
         self.docket.push(DocketEntry::judged(judgement))?;
         Ok(judgement)
     }
-}
-
-/// A record that isn't judged.
-#[derive(Clone, Copy, Debug, PartialEq, Eq, Hash)]
-pub enum Skipped {
-    /// It is neither IPv4 nor IPv6.
-    Other,
-    /// Its header can't be read; the kind is 1 to 5.
-    Malformed(u8),
 }

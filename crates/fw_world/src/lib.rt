@@ -2,13 +2,13 @@
 #![tactic(auto)]
 
 pub use commit_fault::CommitFault;
-pub use lane_work::Skipped;
 pub use open_serial::OpenSerial;
 pub use record::Record;
 pub use serial_desk::SerialDesk;
 pub use serial_inside::SerialInside;
 pub use serial_lane::{SerialEntry, SerialLane};
 pub use serial_world::{MOST_LANES, SerialWorld};
+pub use skipped::Skipped;
 
 mod asks_book;
 mod columns;
@@ -24,3 +24,4 @@ mod serial_desk;
 mod serial_inside;
 mod serial_lane;
 mod serial_world;
+mod skipped;

@@ -16,7 +16,6 @@ ghost use Rattle.fw_world.specs.Steps.{Judges, ChangesAsksOf, Publishes};
 ghost use Rattle.fw_world.specs.CommitFaults.{IsCauseOf};
 ghost use Rattle.fw_world.specs.LaneKept.{IsLane, pending_of};
 ghost use Rattle.fw_world.specs.SerialEntries.{entry_of};
-ghost use Rattle.fw_world.specs.Committing.{IsCommitFault};
 ghost use Rattle.fw_world.specs.World.{WorldValue, published_count, IsLaneOf, LaneStandsFor, DeskStandsFor};
 ghost use Rattle.fw_world.specs.WorldKept.{IsNewWorld};
 
@@ -267,8 +266,9 @@ impl SerialWorld {
         outcome
     }
 
-    /// Publishes what the command makes of the last edition as the next one, and answers its number. All
-    /// memory is taken before.
+    /// Publishes what the command makes of the last edition as the next one, and answers its number. Each
+    /// lane of the world is one of it still and stands for its inputs, and the desk stands for one command
+    /// more. All memory is taken before.
     pub fn commit(
         &mut self,
         alloc: Global,
@@ -281,7 +281,13 @@ impl SerialWorld {
         ensures published { OnOk result.1 (Publishes self.old self.new command.now) }
         ensures number { IfOk result.1 (λ number. number ≡ published_count self.new) }
         ensures desk { result.0 ≡ self.new.editions }
-        ensures cause { IfErr result.1 (IsCommitFault self.old command.now) }
+        ensures lanes { OnOk result.1 ((lane : LaneValue)
+            → IsLaneOf self.old lane → IsLaneOf self.new lane) }
+        ensures stands { OnOk result.1 ((lane : LaneValue) (inputs : List Input)
+            → LaneStandsFor self.old lane inputs → LaneStandsFor self.new lane inputs) }
+        ensures accepts { OnOk result.1 ((first : Configuration) (commands : List Command)
+            → DeskStandsFor desk first commands → DeskStandsFor result.0 first (commands ++ command.now ∷ [])) }
+        ensures cause { IfErr result.1 (IsCauseOf self.old.editions command.now) }
         ensures unchanged { OnErr result.1 (self.new ≡ self.old) }
     {
         let mut desk = desk;
@@ -289,8 +295,7 @@ impl SerialWorld {
         (desk, outcome)
     }
 
-    /// The same, where the desk stays in its place. Each lane of the world is one of it still and stands for
-    /// its inputs, and the desk stands for one command more.
+    /// The same, where the desk stays in its place.
     pub fn edit(
         &mut self,
         alloc: Global,
@@ -309,7 +314,7 @@ impl SerialWorld {
             → LaneStandsFor self.old lane inputs → LaneStandsFor self.new lane inputs) }
         ensures accepts { OnOk result ((first : Configuration) (commands : List Command)
             → DeskStandsFor desk.old first commands → DeskStandsFor desk.new first (commands ++ command.now ∷ [])) }
-        ensures cause { IfErr result (IsCommitFault self.old command.now) }
+        ensures cause { IfErr result (IsCauseOf self.old.editions command.now) }
         ensures unchanged { OnErr result (self.new ≡ self.old) }
     {
         self.publish(alloc, &mut desk.store, command)
@@ -397,6 +402,7 @@ impl SerialWorld {
         if any_failed(&lanes) {
             return Err(OutOfMemory);
         }
+        // This call's clause `lawful` says that the journal is lawful and leaves the states that there are.
         let _entries = self.book.entries();
         let SerialWorld {
             book,
@@ -432,15 +438,15 @@ fn any_failed(lanes: &[SerialLane]) -> bool
 }
 
 /// The columns of these lanes, for which there is room.
-fn filled(mut columns: Columns, mut lanes: Vec<SerialLane>) -> Columns
+fn filled(mut columns: Columns, lanes: Vec<SerialLane>) -> Columns
     requires { columns ≡ no_columns (length lanes.items) }
     ensures dockets { result.dockets ≡ map (λ lane. lane.docket) lanes.items }
     ensures tallies { result.tallies ≡ map (λ lane. lane.tally) lanes.items }
     ensures trackers { result.trackers ≡ map (λ lane. lane.tracker) lanes.items }
     ensures lanes { AllByRecursion (IsLane 0) lanes.items }
 {
-    while !lanes.is_empty() {
-        columns.add(lanes.remove(0));
+    for lane in lanes {
+        columns.add(lane);
     }
     columns
 }

@@ -7,7 +7,7 @@ use Rattle.eval_engine.specs.declared.docket_entry.DocketEntry.{DocketEntry}
 use Rattle.eval_engine.specs.declared.docket_entry.DocketEntry.TheVariants as entry
 use Rattle.eval_engine.specs.declared.judgement.Judgement.{Judgement}
 use Rattle.fw_rule.specs.declared.command.Command.{Command}
-use Rattle.fw_world.specs.Committing.{RefusesCommand}
+use Rattle.fw_world.specs.CommitFaults.{RefusesCommand}
 use Rattle.fw_world.specs.Inputs.{Input, Other, Malformed, Packet}
 use Rattle.fw_world.specs.Lane.{LaneValue, lane_after_admission, with_docket_entry}
 use Rattle.fw_world.specs.Steps.{Judges, Publishes}
@@ -55,7 +55,7 @@ ReplaysInput place old new (Packet packet port second) = JudgesAt place old new 
 
 -- the last edition's configuration refuses the command
 abbrev pub HasRefusalOf : WorldValue → Command → Type 0
-HasRefusalOf world command = (fault : ApplyFault) × RefusesCommand world command fault
+HasRefusalOf world command = (fault : ApplyFault) × RefusesCommand world.editions command fault
 
 -- a command was published, or refused, which changes nothing
 abbrev pub RunsCommand : RunState → RunState → Command → Type 0

@@ -7,7 +7,7 @@ use Rattle.fw_report.specs.declared.ends.Answer.TheVariants.{Refused}
 use Rattle.fw_report.specs.declared.ends.LineAnswer.{LineAnswer}
 use Rattle.fw_rule.specs.declared.command.Command.{Command}
 use Rattle.fw_world.specs.Closing.{AreLanesFrom, EachStandsFor}
-use Rattle.fw_world.specs.Committing.{RefusesCommand}
+use Rattle.fw_world.specs.CommitFaults.{RefusesCommand}
 use Rattle.fw_world.specs.Editions.{IsLastOf}
 use Rattle.fw_world.specs.Inputs.{Input}
 use Rattle.fw_world.specs.Lane.{LaneValue}
@@ -74,7 +74,7 @@ pub record Accepts (old new : LiveWorld) (command : Command) : Type 0 where
 -- the command was refused
 pub record RefusesLine (old new : LiveWorld) (line : Line) : Type 0 where
   pub fault : ApplyFault
-  pub refusal : RefusesCommand old.world line.command fault
+  pub refusal : RefusesCommand old.world.editions line.command fault
   pub answers : AnswersLine old new (line_answer line.line (Refused fault))
 
 -- a line ran

@@ -1,4 +1,4 @@
-use Rattle.std.proofs.Common.{◌≡◌, ℕ, ◌+◌, List, length, map, ◌∙◌, sym, ap, subst}
+use Rattle.std.proofs.Common.{ℕ, ◌+◌, List, map, ◌∙◌, sym, ap, subst}
 use Rattle.std.proofs.lemmas.List.{length-map}
 use Rattle.std.specs.Arc.{arc_value}
 use Rattle.fw_rule.specs.declared.command.Command.{Command}
@@ -14,17 +14,17 @@ use Rattle.fw_world.specs.Editions.{IsLastOf}
 use Rattle.fw_world.proofs.editions.next_edition.Goals as goal
 
 cause_of : (editions : List Published) (command : Command) (before : Published) (refused : ApplyFault) → IsLastOf editions before → IsRefusal refused (apply before.config command) → IsCauseOf editions command (commit_fault refused)
-cause_of editions command before fault.NoSuchRule last is = (before, last, is (λ e. cc))
-cause_of editions command before fault.ReservedRule last is = (before, last, is (λ e. cc))
-cause_of editions command before fault.ReservedSet last is = (before, last, is (λ e. cc))
-cause_of editions command before fault.NoSuchTable last is = (before, last, is (λ e. cc))
-cause_of editions command before fault.EntryExists last is = (before, last, is (λ e. cc))
-cause_of editions command before fault.NoSuchEntry last is = (before, last, is (λ e. cc))
-cause_of editions command before fault.TableInUse last is = (before, last, is (λ e. cc))
-cause_of editions command before fault.WrongType last is = (before, last, is (λ e. cc))
-cause_of editions command before fault.TooManyRules last is = (before, last, is (λ e. cc))
-cause_of editions command before fault.TooManyCounters last is = (before, last, is (λ e. cc))
-cause_of editions command before fault.TooManyNames last is = (before, last, is (λ e. cc))
+cause_of editions command before fault.NoSuchRule last is = record { edition = before; last = last; refused = is (λ e. cc) }
+cause_of editions command before fault.ReservedRule last is = record { edition = before; last = last; refused = is (λ e. cc) }
+cause_of editions command before fault.ReservedSet last is = record { edition = before; last = last; refused = is (λ e. cc) }
+cause_of editions command before fault.NoSuchTable last is = record { edition = before; last = last; refused = is (λ e. cc) }
+cause_of editions command before fault.EntryExists last is = record { edition = before; last = last; refused = is (λ e. cc) }
+cause_of editions command before fault.NoSuchEntry last is = record { edition = before; last = last; refused = is (λ e. cc) }
+cause_of editions command before fault.TableInUse last is = record { edition = before; last = last; refused = is (λ e. cc) }
+cause_of editions command before fault.WrongType last is = record { edition = before; last = last; refused = is (λ e. cc) }
+cause_of editions command before fault.TooManyRules last is = record { edition = before; last = last; refused = is (λ e. cc) }
+cause_of editions command before fault.TooManyCounters last is = record { edition = before; last = last; refused = is (λ e. cc) }
+cause_of editions command before fault.TooManyNames last is = record { edition = before; last = last; refused = is (λ e. cc) }
 cause_of editions command before fault.OutOfMemory last is = tt
 
 pub edition_after-requires : goal.edition_after-requires

@@ -1,36 +1,57 @@
-use Rattle.std.proofs.Common.{◌≡◌, ◌<◌, ◌+◌, ◌++◌, ◌∷◌, [], ℕ, List, length, map, drop, get_or, ap, sym, ◌∙◌, subst, arith, append_assoc}
+use Rattle.std.proofs.Common.{◌≡◌, ◌++◌, ◌∷◌, [], List, map, map-id, ap, sym, ◌∙◌, subst, arith}
+use Rattle.std.proofs.lemmas.List.{map-append, length-append}
+use Rattle.std.proofs.lemmas.Iterator.Adapters.{YieldsList-from_vec}
+use Rattle.std.proofs.lemmas.Iterator.Consumers.{YieldsList-end, YieldsList-turn}
 use Rattle.std.specs.List.{AllByRecursion}
-use Rattle.counter_book.specs.declared.tally.Count.{Count}
-use Rattle.eval_engine.specs.Dockets.{DocketValue}
+use Rattle.fw_base.proofs.Lists.{all_push}
 use Rattle.fw_world.specs.Columns.{ColumnsValue}
 use Rattle.fw_world.specs.Lane.{LaneValue}
 use Rattle.fw_world.specs.LaneKept.{IsLane}
 use Rattle.fw_world.proofs.serial_world.filled.Goals as goal
-
-first_of : (xs : List LaneValue) (x : LaneValue) → 0 < length xs → x ≡ get_or xs 0 x → xs ≡ x ∷ drop 1 xs
-first_of [] x some is = absurd (omega arith)
-first_of (y ∷ ys) x some is = ap (λ (z : LaneValue). z ∷ ys) (sym is)
+use Rattle.fw_world.proofs.serial_world.filled.Goals.{After-drop-lane-iterator}
 
 -- a column of one lane more
-moved : {X : Type 0} (f : LaneValue → X) (column : List X) (xs : List LaneValue) (x : LaneValue) (rest : List LaneValue) (all : List X) → xs ≡ x ∷ rest → column ++ map f xs ≡ all → (column ++ f x ∷ []) ++ map f rest ≡ all
-moved f column xs x rest all same is = append_assoc column (f x ∷ []) (map f rest) ∙ ap (λ (some : List LaneValue). column ++ map f some) (sym same) ∙ is
+pushed : {X : Type 0} (f : LaneValue → X) (column : List X) (lanes : List LaneValue) (lane : LaneValue) → column ≡ map f lanes → column ++ f lane ∷ [] ≡ map f (lanes ++ lane ∷ [])
+pushed f column lanes lane is = ap (λ some. some ++ f lane ∷ []) is ∙ sym (map-append f lanes (lane ∷ []))
 
-pub loop-columns-preserved : goal.loop-columns-preserved
-loop-columns-preserved c =
-    let old = c.loop-columns.columns in
-    let items = c.loop-columns.lanes.items in
-    let lane = c.remove.result in
-    let rest = c.remove.new.self.items in
-    let before = c.loop-columns.invariant in
-    let some : 0 < length items = omega (arith, c.remove.ensures.len, c.loop-columns.lanes.ok.0) in
-    let same : items ≡ lane ∷ rest = first_of items lane some c.remove.ensures.value ∙ ap (λ (others : List LaneValue). lane ∷ others) (sym c.remove.ensures.items) in
+pub add-requires : goal.add-requires
+add-requires c =
+    let gives = c.into_iter-lane-iterator.ensures.into_iter_gives in
+    let list = YieldsList-from_vec c.args.lanes.items gives.0 (gives.1 ∙ c.args.lanes.ok.0) in
+    let turn = YieldsList-turn list c.loop-lane.yielded c.loop-lane.lane-iterator c.loop-lane.yielded_by c.next.result c.next.new.self c.in-Some.lane c.in-Some.is c.next.ensures.steps in
+    omega (arith, turn.0, c.loop-lane.invariant.room)
+
+pub loop-lane-preserved : goal.loop-lane-preserved
+loop-lane-preserved c =
+    let gives = c.into_iter-lane-iterator.ensures.into_iter_gives in
+    let list = YieldsList-from_vec c.args.lanes.items gives.0 (gives.1 ∙ c.args.lanes.ok.0) in
+    let turn = YieldsList-turn list c.loop-lane.yielded c.loop-lane.lane-iterator c.loop-lane.yielded_by c.next.result c.next.new.self c.in-Some.lane c.in-Some.is c.next.ensures.steps in
+    let before = c.loop-lane.invariant in
+    let lane = c.in-Some.lane in
+    let added = sym c.add.ensures.added in
     record {
-      room = let count = ap length same in let room = ap (λ (columns : ColumnsValue). columns.room) c.add.ensures.added in omega (arith, count, room, before.room);
-      dockets = subst (λ (columns : ColumnsValue). columns.dockets ++ map (λ (lane : LaneValue). lane.docket) rest ≡ map (λ (lane : LaneValue). lane.docket) c.args.lanes.items) (sym c.add.ensures.added)
-          (moved (λ (lane : LaneValue). lane.docket) old.dockets items lane rest _ same before.dockets);
-      tallies = subst (λ (columns : ColumnsValue). columns.tallies ++ map (λ (lane : LaneValue). lane.tally) rest ≡ map (λ (lane : LaneValue). lane.tally) c.args.lanes.items) (sym c.add.ensures.added)
-          (moved (λ (lane : LaneValue). lane.tally) old.tallies items lane rest _ same before.tallies);
-      trackers = subst (λ (columns : ColumnsValue). columns.trackers ++ map (λ (lane : LaneValue). lane.tracker) rest ≡ map (λ (lane : LaneValue). lane.tracker) c.args.lanes.items) (sym c.add.ensures.added)
-          (moved (λ (lane : LaneValue). lane.tracker) old.trackers items lane rest _ same before.trackers);
-      kept = λ all. before.kept (subst (λ (some : List LaneValue). AllByRecursion (IsLane 0) some) (sym same) (c.add.ensures.lane, all));
+      room = let room = ap (λ (columns : ColumnsValue). columns.room) c.add.ensures.added in omega (arith, room, before.room, turn.0, length-append c.loop-lane.yielded (lane ∷ []));
+      dockets = subst (λ (columns : ColumnsValue). columns.dockets ≡ map (λ (lane : LaneValue). lane.docket) (c.loop-lane.yielded ++ lane ∷ [])) added (pushed (λ lane. lane.docket) c.loop-lane.columns.dockets c.loop-lane.yielded lane before.dockets);
+      tallies = subst (λ (columns : ColumnsValue). columns.tallies ≡ map (λ (lane : LaneValue). lane.tally) (c.loop-lane.yielded ++ lane ∷ [])) added (pushed (λ lane. lane.tally) c.loop-lane.columns.tallies c.loop-lane.yielded lane before.tallies);
+      trackers = subst (λ (columns : ColumnsValue). columns.trackers ≡ map (λ (lane : LaneValue). lane.tracker) (c.loop-lane.yielded ++ lane ∷ [])) added (pushed (λ lane. lane.tracker) c.loop-lane.columns.trackers c.loop-lane.yielded lane before.trackers);
+      kept = all_push (IsLane 0) c.loop-lane.yielded lane before.kept c.add.ensures.lane;
     }
+
+-- behind the loop all were yielded
+whole : (c : After-drop-lane-iterator) → c.loop-lane.yielded ≡ c.args.lanes.items
+whole c =
+    let gives = c.into_iter-lane-iterator.ensures.into_iter_gives in
+    let list = YieldsList-from_vec c.args.lanes.items gives.0 (gives.1 ∙ c.args.lanes.ok.0) in
+    sym (map-id c.loop-lane.yielded) ∙ (YieldsList-end list c.loop-lane.yielded c.loop-lane.lane-iterator c.loop-lane.yielded_by c.next.result c.next.new.self c.in-None.is c.next.ensures.steps).0
+
+pub returns-clause-dockets : goal.returns-clause-dockets
+returns-clause-dockets c = c.loop-lane.invariant.dockets ∙ ap (map (λ (lane : LaneValue). lane.docket)) (whole c)
+
+pub returns-clause-tallies : goal.returns-clause-tallies
+returns-clause-tallies c = c.loop-lane.invariant.tallies ∙ ap (map (λ (lane : LaneValue). lane.tally)) (whole c)
+
+pub returns-clause-trackers : goal.returns-clause-trackers
+returns-clause-trackers c = c.loop-lane.invariant.trackers ∙ ap (map (λ (lane : LaneValue). lane.tracker)) (whole c)
+
+pub returns-clause-lanes : goal.returns-clause-lanes
+returns-clause-lanes c = subst (AllByRecursion (IsLane 0)) (whole c) c.loop-lane.invariant.kept

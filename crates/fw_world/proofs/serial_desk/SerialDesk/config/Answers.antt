@@ -1,4 +1,4 @@
-use Rattle.std.proofs.Common.{◌≡◌, ◌∙◌, sym, subst, List}
+use Rattle.std.proofs.Common.{◌∙◌, subst, List}
 use Rattle.generation_store.specs.Published.{Published}
 use Rattle.fw_world.specs.Editions.{IsLastOf}
 use Rattle.fw_world.proofs.serial_desk.SerialDesk.config.Goals as goal

@@ -1,7 +1,7 @@
-use Rattle.std.proofs.Common.{◌≡◌, List, map, ap, ◌∙◌, sym, subst}
+use Rattle.std.proofs.Common.{◌≡◌, List, ◌∙◌, subst}
 use Rattle.std.specs.List.{AllByRecursion}
 use Rattle.generation_store.specs.Published.{Published}
-use Rattle.state_journal.specs.Journal.{Journal, IsJournal}
+use Rattle.state_journal.specs.Journal.{IsJournal}
 use Rattle.fw_world.specs.Closing.{by_place}
 use Rattle.fw_world.specs.Editions.{AreEditions}
 use Rattle.fw_world.specs.Lane.{LaneValue}
