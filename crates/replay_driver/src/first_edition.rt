@@ -4,7 +4,7 @@ ghost use Rattle.fw_command.specs.WellFormed.{IsLine, IsScript, IsStepInRange};
 ghost use Rattle.fw_command.specs.declared.script.Pace.TheVariants.{Serial};
 ghost use Rattle.fw_command.specs.Scripts.{script_of};
 ghost use Rattle.rule_chain.specs.First.{first_configuration};
-ghost use Rattle.serial_replay.specs.Commands.{listing_of, listing_of_table};
+ghost use Rattle.serial_replay.specs.Commands as commands;
 ghost use Rattle.replay_driver.specs.FirstEdition as spec;
 ghost use Rattle.replay_driver.specs.FirstEdition.{GivesView};
 
@@ -12,8 +12,9 @@ use crate::{RefusedLine, ScriptError};
 use fw_base::Name;
 use fw_command::{Line, Pace, Script, ScriptFault, Step, parse_script};
 use fw_report::{Answer, LineAnswer};
-use fw_rule::{Command, Items, TableCommand};
+use fw_rule::Items;
 use rule_chain::{ApplyFault, Config, is_changing};
+use serial_replay::{Listing, listing_of};
 use std::alloc::Global;
 
 /// What a script gives before a packet is read.
@@ -81,46 +82,15 @@ fn list_table(config: &Config, line: u32, name: &Name) -> Result<Option<LineAnsw
     }
 }
 
-/// The answer to a command on that table, if it is a listing.
-fn list_entries(
-    config: &Config,
-    line: u32,
-    name: &Name,
-    command: &TableCommand,
-) -> Result<Option<LineAnswer>, ScriptError>
-    ensures { GivesView (λ a. a) result
-        (spec.listed_first config.now line (listing_of_table name.now command.now)) }
-{
-    match command {
-        TableCommand::ListEntries => list_table(config, line, name),
-        TableCommand::Create(_)
-        | TableCommand::Destroy
-        | TableCommand::Add(_, _)
-        | TableCommand::Remove(_)
-        | TableCommand::Clear
-        | TableCommand::SwapWith(_) => Ok(None),
-    }
-}
-
 /// The answer to a command on this line, if it is a listing.
-fn listing(config: &Config, line: &Line) -> Result<Option<LineAnswer>, ScriptError>
+fn list_line(config: &Config, line: &Line) -> Result<Option<LineAnswer>, ScriptError>
     ensures { GivesView (λ a. a) result
-        (spec.listed_first config.now line.now.line (listing_of line.now.command)) }
+        (spec.listed_first config.now line.now.line (commands.listing_of line.now.command)) }
 {
-    match &line.command {
-        Command::ListRules => Ok(listed(line.line, None)),
-        Command::Table(name, command) => list_entries(config, line.line, name, command),
-        Command::Add(_)
-        | Command::Delete(_)
-        | Command::DeleteSet(_)
-        | Command::Flush
-        | Command::Zero(_)
-        | Command::SetMask { .. }
-        | Command::MoveSet { .. }
-        | Command::MoveRule { .. }
-        | Command::SwapSets { .. }
-        | Command::Sysctl { .. }
-        | Command::Local(_) => Ok(None),
+    match listing_of(&line.command) {
+        Some(Listing::Rules) => Ok(listed(line.line, None)),
+        Some(Listing::Entries(name)) => list_table(config, line.line, name),
+        None => Ok(None),
     }
 }
 
@@ -145,7 +115,7 @@ fn answer_listings(
 {
     let mut answers = Vec::new(alloc);
     for line in lines {
-        add_answer(&mut answers, listing(config, line)?)?;
+        add_answer(&mut answers, list_line(config, line)?)?;
     }
     Ok(answers)
 }

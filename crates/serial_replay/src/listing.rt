@@ -6,9 +6,10 @@ ghost use Rattle.serial_replay.specs.Listings.{listing_in};
 use fw_base::Name;
 use fw_rule::{Command, TableCommand};
 
-/// What a listing asks for.
+/// What a listing asks for (ipfw(8), `list` and `table NAME list`).
 #[derive(Drop)]
-pub(crate) enum Listing<'a> {
+pub enum Listing<'a> {
+    /// The rules.
     Rules,
     /// The entries of this table.
     Entries(&'a Name),
@@ -30,7 +31,7 @@ fn table_listing<'a>(name: &'a Name, command: &TableCommand) -> Option<Listing<'
 }
 
 /// The listing that a command is, if it is one; all others change the configuration.
-pub(crate) fn listing_of(command: &Command) -> Option<Listing<'_>>
+pub fn listing_of(command: &Command) -> Option<Listing<'_>>
     ensures { option_map listing_in result ≡ commands.listing_of command.now }
 {
     match command {
@@ -41,20 +42,11 @@ pub(crate) fn listing_of(command: &Command) -> Option<Listing<'_>>
         | Command::DeleteSet(_)
         | Command::Flush
         | Command::Zero(_)
-        | Command::SetMask {
-            disable: _,
-            enable: _,
-        }
-        | Command::MoveSet { from: _, to: _ }
-        | Command::MoveRule { number: _, to: _ }
-        | Command::SwapSets {
-            first: _,
-            second: _,
-        }
-        | Command::Sysctl {
-            setting: _,
-            value: _,
-        }
+        | Command::SetMask { .. }
+        | Command::MoveSet { .. }
+        | Command::MoveRule { .. }
+        | Command::SwapSets { .. }
+        | Command::Sysctl { .. }
         | Command::Local(_) => None,
     }
 }

@@ -74,9 +74,8 @@ impl<S: Source> OpenTrack<S> {
     pub(crate) fn advance_open(&mut self)
         ensures { StepsOnOrEnded S.left S.faults self.old self.new }
     {
-        match self.end {
-            None => self.advance(),
-            Some(_) => {}
+        if self.end.is_none() {
+            self.advance();
         }
     }
 
