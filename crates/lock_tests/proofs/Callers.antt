@@ -6,7 +6,7 @@ use Rattle.rm_table.specs.Meanings.{values_from}
 use Rattle.rm_table.proofs.Base.{all_values}
 use Rattle.rm_lock.specs.Tokens.{TokenState}
 use Rattle.rm_lock.specs.Ends.{EachOnce}
-use Rattle.lock_tests.specs.Opened.{AreInOrder}
+use Rattle.lock_tests.specs.Opened.{TokensStandInOrder}
 
 module _ {A : Type 0} where
   -- the only one of a list
@@ -29,21 +29,21 @@ module _ {A : Type 0} where
 
 module _ {E B T L I : Type 0} where
   -- tokens by their places, each of them this lock's, are in order
-  pub in_order : (table : TableId) (f : ℕ → TokenState E B T L I) (n count : ℕ) (tokens : List (TokenState E B T L I)) → ((k : ℕ) → (f k).table_id ≡ table) → ((k : ℕ) → (f k).view.place ≡ k) → tokens ≡ values_from f 1 n → n ≡ count → AreInOrder count table tokens
+  pub in_order : (table : TableId) (f : ℕ → TokenState E B T L I) (n count : ℕ) (tokens : List (TokenState E B T L I)) → ((k : ℕ) → (f k).table_id ≡ table) → ((k : ℕ) → (f k).view.place ≡ k) → tokens ≡ values_from f 1 n → n ≡ count → TokensStandInOrder count table tokens
   in_order table f n count tokens lock place are is = record { token = f; lock = lock; place = place; all = are ∙ ap (λ (k : ℕ). values_from f 1 k) is }
 
   -- the tokens of a new lock are all this lock's
-  pub all_of_lock : (table : TableId) (count : ℕ) (tokens : List (TokenState E B T L I)) → AreInOrder count table tokens → All (λ p. p.table_id ≡ table) tokens
+  pub all_of_lock : (table : TableId) (count : ℕ) (tokens : List (TokenState E B T L I)) → TokensStandInOrder count table tokens → All (λ p. p.table_id ≡ table) tokens
   all_of_lock table count tokens o = subst (λ (ts : List (TokenState E B T L I)). All (λ p. p.table_id ≡ table) ts) (sym o.all) (all_values (λ (p : TokenState E B T L I). p.table_id ≡ table) o.token 1 count (λ k low high. o.lock k))
 
   -- the token that is popped off a list of one is of place 1
-  pub only_token : (table : TableId) (tokens others : List (TokenState E B T L I)) (p : TokenState E B T L I) → AreInOrder 1 table tokens → tokens ≡ others ++ p ∷ [] → (p.table_id ≡ table) × (p.view.place ≡ 1)
+  pub only_token : (table : TableId) (tokens others : List (TokenState E B T L I)) (p : TokenState E B T L I) → TokensStandInOrder 1 table tokens → tokens ≡ others ++ p ∷ [] → (p.table_id ≡ table) × (p.view.place ≡ 1)
   only_token table tokens others p o popped =
       let is : p ≡ o.token 1 = popped_one o.token 1 tokens others p refl o.all popped in
       (ap (λ (t : TokenState E B T L I). t.table_id) is ∙ o.lock 1, ap (λ (t : TokenState E B T L I). t.view.place) is ∙ o.place 1)
 
   -- the tokens that are popped off a list of two are of place 2 and then of place 1
-  pub both_tokens : (table : TableId) (tokens left others : List (TokenState E B T L I)) (p q : TokenState E B T L I) → AreInOrder 2 table tokens → tokens ≡ left ++ q ∷ [] → left ≡ others ++ p ∷ []
+  pub both_tokens : (table : TableId) (tokens left others : List (TokenState E B T L I)) (p q : TokenState E B T L I) → TokensStandInOrder 2 table tokens → tokens ≡ left ++ q ∷ [] → left ≡ others ++ p ∷ []
       → ((p.table_id ≡ table) × (p.view.place ≡ 1)) × ((q.table_id ≡ table) × (q.view.place ≡ 2))
   both_tokens table tokens left others p q o popped again =
       let are = popped_two o.token 2 tokens left others p q refl o.all popped again in

@@ -5,7 +5,7 @@ use Rattle.rm_table.specs.Meanings.{values_from}
 use Rattle.rm_lock.specs.Tokens.{TokenState}
 
 -- these are the tokens of that lock's places from 1 to the count, in order
-pub record AreInOrder {E B T L I : Type 0} (count : ℕ) (table : TableId) (tokens : List (TokenState E B T L I)) : Type 0 where
+pub record TokensStandInOrder {E B T L I : Type 0} (count : ℕ) (table : TableId) (tokens : List (TokenState E B T L I)) : Type 0 where
   pub token : ℕ → TokenState E B T L I
   pub lock : (k : ℕ) → (token k).table_id ≡ table
   pub place : (k : ℕ) → (token k).view.place ≡ k

@@ -2,7 +2,7 @@ use rm_core::{Core, Event, Heard};
 use std::process::Abort;
 use std::test::Fail;
 
-// each step has to be allowed where it comes, and to hear this
+/// Each step has to be allowed where it comes, and to hear this.
 fn make_steps(rt: &impl Abort, core: &mut Core, steps: &[(Event, Heard)]) {
     for (event, heard) in steps {
         assert!(rt; core.allows(*event), "{event:?} is allowed");

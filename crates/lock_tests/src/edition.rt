@@ -1,6 +1,6 @@
 use fw_base::Numbered;
 
-// An edition that is its number.
+/// An edition that is its number.
 #[derive(Clone, Copy, Debug)]
 pub(crate) struct Edition {
     pub(crate) number: u64,

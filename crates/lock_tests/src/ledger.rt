@@ -2,8 +2,8 @@ ghost use Rattle.std.specs.Prelude.{◌≡◌, ℕ, ◌==◌, ◌^◌, ◌-◌, 
 
 use fw_base::Kept;
 
-// A book that counts: its publications, and the entries of processor 1. Its lists are as long as the
-// counts.
+/// A book that counts: its publications, and the entries of processor 1. Its lists are as long as the
+/// counts.
 #[derive(Debug, Drop)]
 pub(crate) struct Ledger {
     pub(crate) number: u64,

@@ -1,5 +1,5 @@
+pub(crate) mod calls;
 pub(crate) mod one_processor;
 mod stress;
 mod tries;
 mod two_processors;
-pub(crate) mod walks;

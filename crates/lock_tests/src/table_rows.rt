@@ -1,7 +1,7 @@
 mod ends;
 mod publication;
 mod publication_of_two;
-mod rows;
+mod seats;
+mod steps_of_two;
 mod threads;
 mod told;
-mod walks;

@@ -1,9 +1,10 @@
 ghost use Rattle.std.specs.Prelude.{◌≡◌, IsSome, IfOk};
 
+use crate::closed::check_closed;
 use crate::edition::Edition;
 use crate::ledger::Ledger;
-use crate::lock_rows::one_processor::{Single, open_single};
-use crate::lock_rows::walks::{Lock, Reader, Writer, made_ready};
+use crate::lock_rows::calls::{Lock, Reader, Writer, made_ready};
+use crate::lock_rows::one_processor::{Single, close_single, open_single};
 use fw_base::Numbered;
 use rm_lock::Receipt;
 use rm_told::{Deep, DeepEntry, Left, Told};
@@ -12,7 +13,7 @@ use std::process::Abort;
 use std::sync::Wait;
 use std::test::Fail;
 
-// The operator publishes edition 2, and makes a receipt of it.
+/// The operator publishes edition 2, and makes a receipt of it.
 fn publish_second<R: Abort + Wait>(
     rt: &R,
     alloc: Global,
@@ -34,7 +35,7 @@ fn publish_second<R: Abort + Wait>(
     Ok((o, receipt))
 }
 
-// The processor hears the receipt, is refused with 2, and has its token again by one try.
+/// The processor hears the receipt, is refused with 2, and has its token again by one try.
 fn come_to_second(
     rt: &impl Abort,
     told: &Told<Edition, Ledger>,
@@ -63,7 +64,7 @@ fn come_to_second(
     }
 }
 
-// One section deeper, where edition 2 is read as before.
+/// One section deeper, where edition 2 is read as before.
 fn deeper(
     rt: &impl Abort,
     told: &Told<Edition, Ledger>,
@@ -83,7 +84,7 @@ fn deeper(
     }
 }
 
-// One section ends in another.
+/// One section ends in another.
 fn still(
     rt: &impl Abort,
     told: &Told<Edition, Ledger>,
@@ -103,7 +104,7 @@ fn still(
     }
 }
 
-// Three sections in one another.
+/// Three sections in one another.
 fn three_deep(rt: &impl Abort, told: &Told<Edition, Ledger>, p: Reader) -> Reader
     requires lock { p.table_id ≡ told.now }
     ensures lock { result.table_id ≡ told.now }
@@ -137,10 +138,7 @@ fn told_reader_meets_the_edition(rt: HostRuntime) -> Result<(), Fail> {
     let (operator, receipt) = publish_second(&rt, rt.alloc(), told.lock(), operator)?;
     let processor = come_to_second(&rt, &told, processor, receipt);
     let processor = three_deep(&rt, &told, processor);
-    let mut processors = Vec::with_capacity(rt.alloc(), 1)?;
-    processors.push_reserved(processor);
-    let closed = told.into_lock().close(processors, operator);
-    assert_eq!(rt; closed.trackers, vec![in rt.alloc(); 4; 1]?);
-    assert_eq!(rt; (closed.book.number, closed.book.publications), (2, 2));
+    let closed = close_single(rt.alloc(), told.into_lock(), processor, operator)?;
+    check_closed(&rt, &closed, &[4], 2);
     Ok(())
 }

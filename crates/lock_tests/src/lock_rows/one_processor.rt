@@ -1,16 +1,18 @@
 ghost use Rattle.std.specs.Prelude.{◌≡◌, IfOk};
 
-use super::walks::{
+use super::calls::{
     Lock, Reader, Writer, made_ready, open_lock, publish_next, refused, regained, section,
     section_with_entry,
 };
+use crate::closed::check_closed;
 use crate::edition::Edition;
-use rm_lock::Opened;
+use crate::ledger::Ledger;
+use rm_lock::{Closed, Opened};
 use std::alloc::Global;
 use std::process::Abort;
 use std::test::Fail;
 
-// A lock of one processor at number 1, and its tokens.
+/// A lock of one processor at number 1, and its tokens.
 pub(crate) struct Single {
     pub(crate) lock: Lock,
     pub(crate) processor: Reader,
@@ -38,6 +40,21 @@ pub(crate) fn open_single(rt: &impl Abort, alloc: Global) -> Result<Single, Fail
     }
 }
 
+/// Ends a lock of one processor.
+pub(crate) fn close_single(
+    alloc: Global,
+    lock: Lock,
+    processor: Reader,
+    operator: Writer,
+) -> Result<Closed<Edition, Ledger>, Fail>
+    requires processor { (processor.table_id ≡ lock) × (processor.view.place ≡ 1) }
+    requires operator { (operator.table_id ≡ lock) × (operator.view.count ≡ 1) }
+{
+    let mut processors = Vec::with_capacity(alloc, 1)?;
+    processors.push_reserved(processor);
+    Ok(lock.close(processors, operator))
+}
+
 #[test]
 fn lock_of_one_processor(rt: HostRuntime) -> Result<(), Fail> {
     let Single {
@@ -52,12 +69,8 @@ fn lock_of_one_processor(rt: HostRuntime) -> Result<(), Fail> {
     let processor = refused(&rt, &lock, processor, 2);
     let processor = regained(&rt, &lock, processor, 2);
     let processor = section(&rt, &lock, processor, 2);
-    let mut processors = Vec::with_capacity(rt.alloc(), 1)?;
-    processors.push_reserved(processor);
-    let closed = lock.close(processors, operator);
-    assert_eq!(rt; closed.trackers, vec![in rt.alloc(); 6; 1]?);
-    assert_eq!(rt; closed.editions.len(), 1);
-    assert_eq!(rt; (closed.book.number, closed.book.publications), (2, 2));
+    let closed = close_single(rt.alloc(), lock, processor, operator)?;
+    check_closed(&rt, &closed, &[6], 2);
     Ok(())
 }
 
@@ -69,10 +82,8 @@ fn book_has_the_entry_of_a_section(rt: HostRuntime) -> Result<(), Fail> {
         operator,
     } = open_single(&rt, rt.alloc())?;
     let processor = section_with_entry(&rt, &lock, processor);
-    let mut processors = Vec::with_capacity(rt.alloc(), 1)?;
-    processors.push_reserved(processor);
-    let closed = lock.close(processors, operator);
-    assert_eq!(rt; closed.trackers, vec![in rt.alloc(); 2; 1]?);
-    assert_eq!(rt; (closed.book.number, closed.book.entries), (1, 1));
+    let closed = close_single(rt.alloc(), lock, processor, operator)?;
+    check_closed(&rt, &closed, &[2], 1);
+    assert_eq!(rt; closed.book.entries, 1);
     Ok(())
 }

@@ -1,7 +1,7 @@
 ghost use Rattle.std.specs.Prelude.{◌≡◌, ◌+◌, All, IfOk, vec_len};
 ghost use Rattle.std.specs.Thread.{IsSync};
 
-use super::walks::{Lock, Reader, Writer, made_ready, open_lock, publish_next};
+use super::calls::{Lock, Reader, Writer, made_ready, open_lock, publish_next};
 use crate::edition::Edition;
 use crate::ledger::Ledger;
 use fw_base::Numbered;
@@ -14,14 +14,14 @@ use std::thread::{Threads, join};
 
 const READERS: usize = 8;
 
-// A reader's turns end by themselves, since in none of them it waits.
+/// A reader's turns end by themselves, since in none of them it waits.
 const TURNS: u32 = 200_000;
 
 const LOOKS: u32 = 4;
 
 const PUBLICATIONS: u64 = 1000;
 
-// A section: its edition is no earlier than the last one, and stays. Answers its number.
+/// A section: its edition is no earlier than the last one, and stays. Answers its number.
 fn met(rt: &impl Abort, lock: &Lock, r: Reading<Edition, Ledger>, last: u64) -> (Reader, u64)
     requires lock { r.table_id ≡ lock.now }
     ensures lock { result.0.table_id ≡ lock.now }
@@ -34,7 +34,7 @@ fn met(rt: &impl Abort, lock: &Lock, r: Reading<Edition, Ledger>, last: u64) -> 
     (lock.leave(r), number)
 }
 
-// A section, or where it is refused one try to regain. Answers the number that it knows then.
+/// A section, or where it is refused one try to regain. Answers the number that it knows then.
 fn turn(rt: &impl Abort, lock: &Lock, p: Reader, last: u64) -> (Reader, u64)
     requires lock { p.table_id ≡ lock.now }
     ensures lock { result.0.table_id ≡ lock.now }
@@ -66,7 +66,7 @@ fn all_turns(rt: &impl Abort, lock: &Lock, p: Reader) -> Reader
     reader
 }
 
-// Each reader makes its turns in a thread of its own.
+/// Each reader makes its turns in a thread of its own.
 fn readers_in_threads<R: Threads + Abort + Sync>(rt: &R, lock: &Lock, mut readers: Vec<Reader>)
     requires locks { All (λ p. p.table_id ≡ lock.now) readers.items }
 {

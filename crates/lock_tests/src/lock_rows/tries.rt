@@ -1,14 +1,15 @@
 ghost use Rattle.std.specs.Prelude.{◌≡◌, Some, IsSome};
 
-use super::two_processors::{Pair, entered, open_pair};
-use super::walks::{Lock, Reader, made_ready, refused, regained_at_once};
+use super::calls::{Lock, Reader, made_ready, refused, regained_at_once};
+use super::two_processors::{Pair, close_pair, entered, open_pair};
+use crate::closed::check_closed;
 use crate::edition::Edition;
 use crate::ledger::Ledger;
 use rm_lock::{Holding, Reading};
 use std::process::Abort;
 use std::test::Fail;
 
-// One try takes the book.
+/// One try takes the book.
 fn book_taken(rt: &impl Abort, lock: &Lock, r: Reading<Edition, Ledger>) -> Holding<Edition, Ledger>
     requires lock { r.table_id ≡ lock.now }
     ensures lock { result.table_id ≡ lock.now }
@@ -21,7 +22,7 @@ fn book_taken(rt: &impl Abort, lock: &Lock, r: Reading<Edition, Ledger>) -> Hold
     }
 }
 
-// One try finds that this one has the book.
+/// One try finds that this one has the book.
 fn book_busy(
     rt: &impl Abort,
     lock: &Lock,
@@ -41,7 +42,7 @@ fn book_busy(
     }
 }
 
-// One try finds that this one holds the lock behind.
+/// One try finds that this one holds the lock behind.
 fn behind_busy(rt: &impl Abort, lock: &Lock, p: Reader, holder: u64) -> Reader
     requires lock { p.table_id ≡ lock.now }
     requires refused { IsSome p.view.part.refusal }
@@ -80,10 +81,7 @@ fn busy_names_its_holder(rt: HostRuntime) -> Result<(), Fail> {
     let editions = vec![in rt.alloc(); Edition { number: 2 }; 2]?;
     let (operator, _) = lock.publish(writing, editions, 2);
     let first = regained_at_once(&rt, &lock, first, 2);
-    let mut processors = Vec::with_capacity(rt.alloc(), 2)?;
-    processors.push_reserved(first);
-    processors.push_reserved(second);
-    let closed = lock.close(processors, operator);
-    assert_eq!(rt; closed.trackers.as_slice(), [4, 2].as_slice());
+    let closed = close_pair(rt.alloc(), lock, first, second, operator)?;
+    check_closed(&rt, &closed, &[4, 2], 2);
     Ok(())
 }

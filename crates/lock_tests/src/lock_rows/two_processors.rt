@@ -1,17 +1,18 @@
 ghost use Rattle.std.specs.Prelude.{◌≡◌, true, All, IfOk, vec_len};
 
-use super::walks::{Lock, Reader, Writer, made_ready, open_lock, publish_next, section};
+use super::calls::{Lock, Reader, Writer, made_ready, open_lock, publish_next, section};
+use crate::closed::check_closed;
 use crate::edition::Edition;
 use crate::ledger::Ledger;
 use fw_base::Numbered;
-use rm_lock::{Entry, Opened, Reading};
+use rm_lock::{Closed, Entry, Opened, Reading};
 use std::alloc::Global;
 use std::process::Abort;
 use std::sync::Wait;
 use std::test::Fail;
 use std::thread::{Threads, join};
 
-// A lock of two processors at number 1, and its tokens.
+/// A lock of two processors at number 1, and its tokens.
 pub(super) struct Pair {
     pub(super) lock: Lock,
     pub(super) first: Reader,
@@ -41,6 +42,24 @@ pub(super) fn open_pair(rt: &impl Abort, alloc: Global) -> Result<Pair, Fail>
     }
 }
 
+/// Ends a lock of two processors.
+pub(super) fn close_pair(
+    alloc: Global,
+    lock: Lock,
+    first: Reader,
+    second: Reader,
+    operator: Writer,
+) -> Result<Closed<Edition, Ledger>, Fail>
+    requires first { (first.table_id ≡ lock) × (first.view.place ≡ 1) }
+    requires second { (second.table_id ≡ lock) × (second.view.place ≡ 2) }
+    requires operator { (operator.table_id ≡ lock) × (operator.view.count ≡ 2) }
+{
+    let mut processors = Vec::with_capacity(alloc, 2)?;
+    processors.push_reserved(first);
+    processors.push_reserved(second);
+    Ok(lock.close(processors, operator))
+}
+
 fn three_sections(rt: &impl Abort, lock: &Lock, p: Reader) -> Reader
     requires lock { p.table_id ≡ lock.now }
     ensures lock { result.table_id ≡ lock.now }
@@ -51,7 +70,7 @@ fn three_sections(rt: &impl Abort, lock: &Lock, p: Reader) -> Reader
     section(rt, lock, p, 1)
 }
 
-// Each processor makes its sections in a thread of its own.
+/// Each processor makes its sections in a thread of its own.
 fn sections_beside_each_other<R: Threads + Abort + Sync>(
     rt: &R,
     lock: &Lock,
@@ -85,11 +104,8 @@ fn readers_count_their_sections(rt: HostRuntime) -> Result<(), Fail> {
         operator,
     } = open_pair(&rt, rt.alloc())?;
     let (first, second) = sections_beside_each_other(&rt, &lock, first, second);
-    let mut processors = Vec::with_capacity(rt.alloc(), 2)?;
-    processors.push_reserved(first);
-    processors.push_reserved(second);
-    let closed = lock.close(processors, operator);
-    assert_eq!(rt; closed.trackers, vec![in rt.alloc(); 6; 2]?);
+    let closed = close_pair(rt.alloc(), lock, first, second, operator)?;
+    check_closed(&rt, &closed, &[6, 6], 1);
     Ok(())
 }
 
@@ -104,7 +120,7 @@ pub(super) fn entered(rt: &impl Abort, lock: &Lock, p: Reader) -> Reading<Editio
     }
 }
 
-// In its section the processor reads edition 1 again and again.
+/// In its section the processor reads edition 1 again and again.
 fn read_on(rt: &impl Abort, lock: &Lock, r: Reading<Edition, Ledger>) -> Reader
     requires lock { r.table_id ≡ lock.now }
     ensures lock { result.table_id ≡ lock.now }
@@ -116,7 +132,7 @@ fn read_on(rt: &impl Abort, lock: &Lock, r: Reading<Edition, Ledger>) -> Reader
     lock.leave(r)
 }
 
-// A publication begins while the processor reads, and ends once it has left.
+/// A publication begins while the processor reads, and ends once it has left.
 fn publish_beside_the_reader<R: Threads + Wait + Abort + Sync>(
     rt: &R,
     lock: &Lock,
@@ -157,14 +173,7 @@ fn drain_waits_for_the_reader(rt: HostRuntime) -> Result<(), Fail> {
     let operator = made_ready(&rt, &lock, operator);
     let editions = vec![in rt.alloc(); Edition { number: 2 }; 2]?;
     let (first, operator) = publish_beside_the_reader(&rt, &lock, reading, operator, editions);
-    let mut processors = Vec::with_capacity(rt.alloc(), 2)?;
-    processors.push_reserved(first);
-    processors.push_reserved(second);
-    let closed = lock.close(processors, operator);
-    assert_eq!(rt; closed.trackers.as_slice(), [2, 0].as_slice());
-    assert_eq!(rt; closed.editions.len(), 2);
-    for edition in &closed.editions {
-        assert_eq!(rt; edition.number, 2);
-    }
+    let closed = close_pair(rt.alloc(), lock, first, second, operator)?;
+    check_closed(&rt, &closed, &[2, 0], 2);
     Ok(())
 }

@@ -1,14 +1,15 @@
 ghost use Rattle.std.specs.Prelude.{◌≡◌, ℕ, ◌+◌, ◌-◌, ◌<◌, ◌≤◌};
 ghost use Rattle.rm_table.specs.Rests.{OpensFrom, IsRejoinedFrom};
 
-use super::walks::{LockTable, Seat, open_lock, section};
-use crate::ledger::Ledger;
+use super::seats::{LockTable, Seat, open_table, section};
+use crate::closed::check_closed;
 use rm_core::Heard;
 use rm_table::OpenTable;
+use std::alloc::Global;
 use std::process::Abort;
 use std::test::Fail;
 
-// Splits off the seats of the places from `place` on, makes a section in each, and joins them again.
+/// Splits off the seats of the places from `place` on, makes a section in each, and joins them again.
 #[tactic(auto, using(rm_table::proofs::Resting::after_split, rm_table::proofs::Resting::after_all_splits, rm_table::proofs::Resting::may_join, rm_table::proofs::Resting::after_join))]
 fn one_section_each(
     rt: &impl Abort,
@@ -36,21 +37,19 @@ fn one_section_each(
     table.join_seat(operator, seat);
 }
 
+/// Opens a table of so many processors, makes a section in each, and closes it.
+fn check_ends(rt: &impl Abort, alloc: Global, processors: u32, trackers: &[u64]) -> Result<(), Fail>
+    requires some { 0 < processors }
+    requires few { processors ≤ 64 }
+{
+    let OpenTable { table, mut seat } = open_table(alloc, processors)?;
+    one_section_each(rt, &table, &mut seat, 1, processors);
+    check_closed(rt, &table.close(seat), trackers, 1);
+    Ok(())
+}
+
 #[test]
 fn opens_and_closes_for_one_processor_and_for_64(rt: HostRuntime) -> Result<(), Fail> {
-    for processors in [1, 64] {
-        let OpenTable { table, mut seat } = open_lock(rt.alloc(), processors)?;
-        one_section_each(&rt, &table, &mut seat, 1, processors);
-        let closed = table.close(seat);
-        assert_eq!(rt;
-            closed.trackers,
-            vec![in rt.alloc(); 2; processors as usize]?
-        );
-        assert_eq!(rt; closed.editions.len(), processors as usize);
-        for edition in &closed.editions {
-            assert_eq!(rt; edition.number, 1);
-        }
-        assert_eq!(rt; closed.book.publications, 1);
-    }
-    Ok(())
+    check_ends(&rt, rt.alloc(), 1, &[2])?;
+    check_ends(&rt, rt.alloc(), 64, &[2; 64])
 }

@@ -4,7 +4,8 @@ ghost use Rattle.rm_table.specs.Moves.{IsOperator, is_revoked, is_drained, with_
 ghost use Rattle.rm_table.specs.declared.padded_slot.Slot.TheVariants.{Edition as Home, Book as Held};
 ghost use Rattle.rm_table.specs.Rests.{IsIdle, IsAtRest};
 
-use super::walks::{LockTable, Seat, open_lock, regain_token, section};
+use super::seats::{LockTable, Seat, open_table, regain_after_refusal, section};
+use crate::closed::check_closed;
 use crate::edition::Edition;
 use crate::ledger::Ledger;
 use fw_base::Kept;
@@ -14,7 +15,7 @@ use std::alloc::Global;
 use std::process::Abort;
 use std::test::Fail;
 
-// A table of one processor at number 1, and its two seats.
+/// A table of one processor at number 1, and its two seats.
 pub(crate) struct Single {
     pub(crate) table: LockTable,
     pub(crate) operator: Seat,
@@ -32,7 +33,7 @@ pub(crate) fn open_single(alloc: Global) -> Result<Single, Fail>
     let OpenTable {
         table,
         seat: mut operator,
-    } = open_lock(alloc, 1)?;
+    } = open_table(alloc, 1)?;
     let processor = table.split_seat(&mut operator, 1);
     Ok(Single {
         table,
@@ -41,7 +42,7 @@ pub(crate) fn open_single(alloc: Global) -> Result<Single, Fail>
     })
 }
 
-// The operator takes the lock behind and the token.
+/// The operator takes the lock behind and the token.
 pub(crate) fn take_token(rt: &impl Abort, table: &LockTable, operator: &mut Seat)
     requires table { operator.old.table_id ≡ table.now }
     requires at_rest { IsAtRest operator.old.me.0 operator.old.me.1 }
@@ -62,7 +63,7 @@ pub(crate) fn take_token(rt: &impl Abort, table: &LockTable, operator: &mut Seat
     table.revoke(operator, 1);
 }
 
-// The operator finds the processor out, and puts the next edition into its slot.
+/// The operator finds the processor out, and puts the next edition into its slot.
 pub(crate) fn renew(rt: &impl Abort, table: &LockTable, operator: &mut Seat, next: u64)
     requires table { operator.old.table_id ≡ table.now }
     requires operator { IsOperator operator.old.me.0 }
@@ -89,7 +90,7 @@ pub(crate) fn renew(rt: &impl Abort, table: &LockTable, operator: &mut Seat, nex
     assert!(rt; old.is_some());
 }
 
-// The operator takes the book, and the book out of its slot.
+/// The operator takes the book, and the book out of its slot.
 pub(crate) fn take_ledger(rt: &impl Abort, table: &LockTable, operator: &mut Seat) -> Ledger
     requires table { operator.old.table_id ≡ table.now }
     requires operator { IsOperator operator.old.me.0 }
@@ -109,7 +110,7 @@ pub(crate) fn take_ledger(rt: &impl Abort, table: &LockTable, operator: &mut Sea
     }
 }
 
-// The operator, with the processor's next edition in hand, publishes it, and gives book and lock back.
+/// The operator, with the processor's next edition in hand, publishes it, and gives book and lock back.
 pub(crate) fn publish_next(rt: &impl Abort, table: &LockTable, operator: &mut Seat, next: u64)
     requires table { operator.old.table_id ≡ table.now }
     requires operator { IsOperator operator.old.me.0 }
@@ -135,7 +136,7 @@ pub(crate) fn publish_next(rt: &impl Abort, table: &LockTable, operator: &mut Se
     table.give_back(operator);
 }
 
-// A publication refuses the processor, and reaches it: it regains its token at the new number.
+/// A publication refuses the processor, and reaches it: it regains its token at the new number.
 #[test]
 fn refused_processor_regains_the_published_number(rt: HostRuntime) -> Result<(), Fail> {
     let Single {
@@ -148,16 +149,8 @@ fn refused_processor_regains_the_published_number(rt: HostRuntime) -> Result<(),
     assert_eq!(rt; section(&table, &mut processor), Heard::Revoked(2));
     renew(&rt, &table, &mut operator, 2);
     publish_next(&rt, &table, &mut operator, 2);
-    assert_eq!(rt; section(&table, &mut processor), Heard::Revoked(2));
-    assert_eq!(rt; regain_token(&rt, &table, &mut processor), 2);
-    assert_eq!(rt; section(&table, &mut processor), Heard::Held);
+    regain_after_refusal(&rt, &table, &mut processor, 2);
     table.join_seat(&mut operator, processor);
-    let closed = table.close(operator);
-    assert_eq!(rt; closed.trackers, vec![in rt.alloc(); 8; 1]?);
-    assert_eq!(rt; closed.editions.len(), 1);
-    for edition in &closed.editions {
-        assert_eq!(rt; edition.number, 2);
-    }
-    assert_eq!(rt; (closed.book.number, closed.book.publications), (2, 2));
+    check_closed(&rt, &table.close(operator), &[8], 2);
     Ok(())
 }

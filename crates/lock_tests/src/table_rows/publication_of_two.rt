@@ -4,14 +4,15 @@ ghost use Rattle.rm_table.specs.declared.padded_slot.Slot.TheVariants.{Edition a
 ghost use Rattle.rm_table.specs.Rests.{IsAtRest};
 
 use super::publication::take_ledger;
-use super::walks::{LockTable, Pair, Seat, open_pair, regain_token, section, take_tokens};
+use super::seats::{LockTable, Pair, Seat, open_pair, regain_after_refusal, section, take_tokens};
+use crate::closed::check_closed;
 use crate::edition::Edition;
 use fw_base::Kept;
 use rm_core::Heard;
 use std::process::Abort;
 use std::test::Fail;
 
-// The operator finds the processor at that place out, and puts the next edition into its slot.
+/// The operator finds the processor at that place out, and puts the next edition into its slot.
 fn renew_edition(rt: &impl Abort, table: &LockTable, operator: &mut Seat, place: u32, next: u64)
     requires table { operator.old.table_id ≡ table.now }
     requires operator { IsOperator operator.old.me.0 }
@@ -38,7 +39,7 @@ fn renew_edition(rt: &impl Abort, table: &LockTable, operator: &mut Seat, place:
     assert!(rt; old.is_some());
 }
 
-// The operator, which has both tokens, puts the next edition into both slots.
+/// The operator, which has both tokens, puts the next edition into both slots.
 fn renew_both(rt: &impl Abort, table: &LockTable, operator: &mut Seat, next: u64)
     requires table { operator.old.table_id ≡ table.now }
     requires operator { IsOperator operator.old.me.0 }
@@ -69,7 +70,7 @@ fn renew_both(rt: &impl Abort, table: &LockTable, operator: &mut Seat, next: u64
     renew_edition(rt, table, operator, 1, next);
 }
 
-// The operator, with the next edition of both in hand, publishes it, and gives book and lock back.
+/// The operator, with the next edition of both in hand, publishes it, and gives book and lock back.
 fn publish_both(rt: &impl Abort, table: &LockTable, operator: &mut Seat, next: u64)
     requires table { operator.old.table_id ≡ table.now }
     requires operator { IsOperator operator.old.me.0 }
@@ -97,7 +98,7 @@ fn publish_both(rt: &impl Abort, table: &LockTable, operator: &mut Seat, next: u
     table.give_back(operator);
 }
 
-// A publication refuses both processors, and reaches both: each regains its token at the new number.
+/// A publication refuses both processors, and reaches both: each regains its token at the new number.
 #[test]
 fn both_processors_regain_the_published_number(rt: HostRuntime) -> Result<(), Fail> {
     let Pair {
@@ -112,20 +113,10 @@ fn both_processors_regain_the_published_number(rt: HostRuntime) -> Result<(), Fa
     renew_both(&rt, &table, &mut operator, 2);
     assert_eq!(rt; section(&table, &mut second), Heard::Revoked(2));
     publish_both(&rt, &table, &mut operator, 2);
-    assert_eq!(rt; section(&table, &mut first), Heard::Revoked(2));
-    assert_eq!(rt; regain_token(&rt, &table, &mut first), 2);
-    assert_eq!(rt; section(&table, &mut first), Heard::Held);
-    assert_eq!(rt; section(&table, &mut second), Heard::Revoked(2));
-    assert_eq!(rt; regain_token(&rt, &table, &mut second), 2);
-    assert_eq!(rt; section(&table, &mut second), Heard::Held);
+    regain_after_refusal(&rt, &table, &mut first, 2);
+    regain_after_refusal(&rt, &table, &mut second, 2);
     table.join_seat(&mut operator, second);
     table.join_seat(&mut operator, first);
-    let closed = table.close(operator);
-    assert_eq!(rt; closed.trackers, vec![in rt.alloc(); 8, 6]?);
-    assert_eq!(rt; closed.editions.len(), 2);
-    for edition in &closed.editions {
-        assert_eq!(rt; edition.number, 2);
-    }
-    assert_eq!(rt; (closed.book.number, closed.book.publications), (2, 2));
+    check_closed(&rt, &table.close(operator), &[8, 6], 2);
     Ok(())
 }

@@ -2,7 +2,8 @@ ghost use Rattle.std.specs.Prelude.{◌≡◌, ℕ, ◌+◌, ◌-◌, ◌<◌, �
 ghost use Rattle.std.specs.Thread.{IsSync};
 ghost use Rattle.rm_table.specs.Rests.{IsIdle, IsInSection, OpensFrom, IsRejoinedFrom};
 
-use super::walks::{LockTable, Seat, open_lock};
+use super::seats::{LockTable, Seat, open_table};
+use crate::closed::check_closed;
 use rm_core::Heard;
 use rm_table::{OpenTable, Tried};
 use std::test::Fail;
@@ -10,7 +11,7 @@ use std::thread::{Threads, join};
 
 const SECTIONS: u32 = 1000;
 
-// In a section: takes the book where it is free, and gives it back as it was. Answers whether it had it.
+/// In a section: takes the book where it is free, and gives it back as it was. Answers whether it had it.
 fn look_into_book(table: &LockTable, seat: &mut Seat) -> bool
     requires table { seat.old.table_id ≡ table.now }
     requires inside { IsInSection seat.old.me.0 seat.old.me.1 }
@@ -27,7 +28,7 @@ fn look_into_book(table: &LockTable, seat: &mut Seat) -> bool
     }
 }
 
-// A section with a look into the book. Answers whether it had the book.
+/// A section with a look into the book. Answers whether it had the book.
 fn section_with_book(table: &LockTable, seat: &mut Seat) -> bool
     requires table { seat.old.table_id ≡ table.now }
     requires idle { IsIdle seat.old.me.0 seat.old.me.1 }
@@ -44,7 +45,7 @@ fn section_with_book(table: &LockTable, seat: &mut Seat) -> bool
     had
 }
 
-// The sections of the processor at that place, each with a look into the book.
+/// The sections of the processor at that place, each with a look into the book.
 fn sections_with_book(table: &LockTable, mut seat: Seat, place: u32) -> Seat
     requires table { seat.table_id ≡ table.now }
     requires place { seat.me.0.place ≡ place }
@@ -59,8 +60,8 @@ fn sections_with_book(table: &LockTable, mut seat: Seat, place: u32) -> Seat
     seat
 }
 
-// Splits off the seats of the places from `place` on, makes sections in a thread for each, and joins them
-// again.
+/// Splits off the seats of the places from `place` on, makes sections in a thread for each, and joins them
+/// again.
 fn sections_in_threads<R: Threads + Sync>(
     rt: &R,
     table: &LockTable,
@@ -105,11 +106,11 @@ fn sections_in_threads<R: Threads + Sync>(
 
 #[test]
 fn eight_threads_on_one_table(rt: HostRuntime) -> Result<(), Fail> {
-    let OpenTable { table, seat } = open_lock(rt.alloc(), 8)?;
+    let OpenTable { table, seat } = open_table(rt.alloc(), 8)?;
     let operator = sections_in_threads(&rt, &table, seat, 1, 8);
     let closed = table.close(operator);
     let twice = 2 * u64::from(SECTIONS);
-    assert_eq!(rt; closed.trackers, vec![in rt.alloc(); twice; 8]?);
-    assert_eq!(rt; (closed.book.number, closed.book.entries), (1, 0));
+    check_closed(&rt, &closed, &[twice; 8], 1);
+    assert_eq!(rt; closed.book.entries, 0);
     Ok(())
 }

@@ -3,11 +3,12 @@ ghost use Rattle.rm_table.specs.Moves.{informed_view, receipt_view};
 ghost use Rattle.rm_table.specs.Rests.{IsIdle, IsAtRest};
 
 use super::publication::{Single, open_single, publish_next, renew, take_token};
-use super::walks::{LockTable, Seat, regain_token, section};
+use super::seats::{LockTable, Seat, regain_after_refusal, section};
+use crate::closed::check_closed;
 use rm_core::Heard;
 use std::test::Fail;
 
-// The processor hears what the operator has published.
+/// The processor hears what the operator has published.
 fn tell(table: &LockTable, operator: &mut Seat, processor: &mut Seat)
     requires table { operator.old.table_id ≡ table.now }
     requires same { processor.old.table_id ≡ table.now }
@@ -26,7 +27,7 @@ fn tell(table: &LockTable, operator: &mut Seat, processor: &mut Seat)
     table.join_seat(processor, receipt);
 }
 
-// A processor that was told of a publication is refused, and comes in at that publication.
+/// A processor that was told of a publication is refused, and comes in at that publication.
 #[test]
 fn told_seat_meets_the_edition(rt: HostRuntime) -> Result<(), Fail> {
     let Single {
@@ -40,11 +41,8 @@ fn told_seat_meets_the_edition(rt: HostRuntime) -> Result<(), Fail> {
     renew(&rt, &table, &mut operator, 2);
     publish_next(&rt, &table, &mut operator, 2);
     tell(&table, &mut operator, &mut processor);
-    assert_eq!(rt; section(&table, &mut processor), Heard::Revoked(2));
-    assert_eq!(rt; regain_token(&rt, &table, &mut processor), 2);
-    assert_eq!(rt; section(&table, &mut processor), Heard::Held);
+    regain_after_refusal(&rt, &table, &mut processor, 2);
     table.join_seat(&mut operator, processor);
-    let closed = table.close(operator);
-    assert_eq!(rt; closed.trackers, vec![in rt.alloc(); 6; 1]?);
+    check_closed(&rt, &table.close(operator), &[6], 2);
     Ok(())
 }

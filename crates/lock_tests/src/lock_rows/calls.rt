@@ -1,5 +1,5 @@
 ghost use Rattle.std.specs.Prelude.{◌≡◌, ◌+◌, ◌-◌, ◌^◌, ◌<◌, ◌≤◌, true, IsSome, All, IfOk, vec_len};
-ghost use Rattle.lock_tests.specs.Opened.{AreInOrder};
+ghost use Rattle.lock_tests.specs.Opened.{TokensStandInOrder};
 
 use crate::edition::Edition;
 use crate::ledger::Ledger;
@@ -16,11 +16,11 @@ pub(crate) type Reader = Processor<Edition, Ledger>;
 
 pub(crate) type Writer = Operator<Edition, Ledger>;
 
-// Opens a lock at number 1, of so many processors.
+/// Opens a lock at number 1, of so many processors.
 pub(crate) fn open_lock(alloc: Global, processors: usize) -> Result<Opened<Edition, Ledger>, Fail>
     requires some { 0 < processors }
     requires few { processors ≤ 64 }
-    ensures tokens { IfOk result (λ o. AreInOrder processors o.lock o.processors.items) }
+    ensures tokens { IfOk result (λ o. TokensStandInOrder processors o.lock o.processors.items) }
     ensures locks { IfOk result (λ o. All (λ p. p.table_id ≡ o.lock) o.processors.items) }
     ensures operator { IfOk result (λ o. (o.operator.table_id ≡ o.lock)
         × (o.operator.view.count ≡ processors) × (o.operator.view.number ≡ 1)) }
@@ -35,7 +35,7 @@ pub(crate) fn open_lock(alloc: Global, processors: usize) -> Result<Opened<Editi
     Ok(opened)
 }
 
-// One section, in which the edition has that number.
+/// One section, in which the edition has that number.
 pub(crate) fn section(rt: &impl Abort, lock: &Lock, p: Reader, number: u64) -> Reader
     requires lock { p.table_id ≡ lock.now }
     ensures lock { result.table_id ≡ lock.now }
@@ -51,7 +51,7 @@ pub(crate) fn section(rt: &impl Abort, lock: &Lock, p: Reader, number: u64) -> R
     }
 }
 
-// The processor is refused, with that number.
+/// The processor is refused, with that number.
 pub(crate) fn refused(rt: &impl Abort, lock: &Lock, p: Reader, number: u64) -> Reader
     requires lock { p.table_id ≡ lock.now }
     ensures lock { result.table_id ≡ lock.now }
@@ -67,7 +67,7 @@ pub(crate) fn refused(rt: &impl Abort, lock: &Lock, p: Reader, number: u64) -> R
     }
 }
 
-// The processor takes its token again, and knows that number.
+/// The processor takes its token again, and knows that number.
 pub(crate) fn regained<R: Abort + Wait>(rt: &R, lock: &Lock, p: Reader, number: u64) -> Reader
     requires lock { p.table_id ≡ lock.now }
     requires refused { IsSome p.view.part.refusal }
@@ -79,7 +79,7 @@ pub(crate) fn regained<R: Abort + Wait>(rt: &R, lock: &Lock, p: Reader, number: 
     p
 }
 
-// The processor takes its token again by one try, and knows that number.
+/// The processor takes its token again by one try, and knows that number.
 pub(crate) fn regained_at_once(rt: &impl Abort, lock: &Lock, p: Reader, number: u64) -> Reader
     requires lock { p.table_id ≡ lock.now }
     requires refused { IsSome p.view.part.refusal }
@@ -95,7 +95,7 @@ pub(crate) fn regained_at_once(rt: &impl Abort, lock: &Lock, p: Reader, number: 
     }
 }
 
-// The operator looks into the book, and knows that it is ready.
+/// The operator looks into the book, and knows that it is ready.
 pub(crate) fn made_ready<R: Abort + Wait>(rt: &R, lock: &Lock, o: Writer) -> Writer
     requires lock { o.table_id ≡ lock.now }
     ensures lock { result.table_id ≡ lock.now }
@@ -108,7 +108,7 @@ pub(crate) fn made_ready<R: Abort + Wait>(rt: &R, lock: &Lock, o: Writer) -> Wri
     lock.shut_book(k)
 }
 
-// The operator publishes these editions of the next number, and has the old ones back.
+/// The operator publishes these editions of the next number, and has the old ones back.
 pub(crate) fn publish_next<R: Abort + Wait>(
     rt: &R,
     lock: &Lock,
@@ -134,7 +134,7 @@ pub(crate) fn publish_next<R: Abort + Wait>(
     o
 }
 
-// One section, in which the processor at place 1 takes the book and adds an entry to its own list.
+/// One section, in which the processor at place 1 takes the book and adds an entry to its own list.
 pub(crate) fn section_with_entry<R: Abort + Wait>(rt: &R, lock: &Lock, p: Reader) -> Reader
     requires lock { p.table_id ≡ lock.now }
     requires place { p.view.place ≡ 1 }

@@ -14,8 +14,8 @@ pub(crate) type LockTable = RmTable<Edition, Ledger>;
 
 pub(crate) type Seat = RmSeat<Edition, Ledger>;
 
-// Opens a table at number 1, of so many processors.
-pub(crate) fn open_lock(alloc: Global, processors: u32) -> Result<OpenTable<Edition, Ledger>, Fail>
+/// Opens a table at number 1, of so many processors.
+pub(crate) fn open_table(alloc: Global, processors: u32) -> Result<OpenTable<Edition, Ledger>, Fail>
     requires some { 0 < processors }
     requires few { processors ≤ 64 }
     ensures table { IfOk result (λ o. o.seat.table_id ≡ o.table) }
@@ -31,7 +31,7 @@ pub(crate) fn open_lock(alloc: Global, processors: u32) -> Result<OpenTable<Edit
     Ok(RmTable::open(alloc, editions, book)?)
 }
 
-// A table of two processors at number 1, and its three seats.
+/// A table of two processors at number 1, and its three seats.
 pub(crate) struct Pair {
     pub(crate) table: LockTable,
     pub(crate) operator: Seat,
@@ -39,7 +39,7 @@ pub(crate) struct Pair {
     pub(crate) second: Seat,
 }
 
-// Opens a table of two processors at number 1, and splits their seats off.
+/// Opens a table of two processors at number 1, and splits their seats off.
 pub(crate) fn open_pair(alloc: Global) -> Result<Pair, Fail>
     ensures tables { IfOk result (λ p. (p.operator.table_id ≡ p.table)
         × (p.first.table_id ≡ p.table) × (p.second.table_id ≡ p.table)) }
@@ -52,7 +52,7 @@ pub(crate) fn open_pair(alloc: Global) -> Result<Pair, Fail>
     let OpenTable {
         table,
         seat: mut operator,
-    } = open_lock(alloc, 2)?;
+    } = open_table(alloc, 2)?;
     let first = table.split_seat(&mut operator, 1);
     let second = table.split_seat(&mut operator, 2);
     Ok(Pair {
@@ -63,7 +63,7 @@ pub(crate) fn open_pair(alloc: Global) -> Result<Pair, Fail>
     })
 }
 
-// A whole section. Answers what its check heard.
+/// A whole section. Answers what its check heard.
 pub(crate) fn section(table: &LockTable, seat: &mut Seat) -> Heard
     requires table { seat.old.table_id ≡ table.now }
     requires idle { IsIdle seat.old.me.0 seat.old.me.1 }
@@ -77,7 +77,7 @@ pub(crate) fn section(table: &LockTable, seat: &mut Seat) -> Heard
     heard
 }
 
-// The operator of a table of two processors takes the lock behind and both tokens.
+/// The operator of a table of two processors takes the lock behind and both tokens.
 pub(crate) fn take_tokens(rt: &impl Abort, table: &LockTable, operator: &mut Seat)
     requires table { operator.old.table_id ≡ table.now }
     requires at_rest { IsAtRest operator.old.me.0 operator.old.me.1 }
@@ -102,7 +102,7 @@ pub(crate) fn take_tokens(rt: &impl Abort, table: &LockTable, operator: &mut Sea
     table.revoke(operator, 2);
 }
 
-// A processor takes its token again, under the lock behind. Answers the number that it read there.
+/// A processor takes its token again, under the lock behind. Answers the number that it read there.
 pub(crate) fn regain_token(rt: &impl Abort, table: &LockTable, seat: &mut Seat) -> u64
     requires table { seat.old.table_id ≡ table.now }
     requires idle { IsIdle seat.old.me.0 seat.old.me.1 }
@@ -115,4 +115,17 @@ pub(crate) fn regain_token(rt: &impl Abort, table: &LockTable, seat: &mut Seat) 
     table.regain(seat);
     table.give_back(seat);
     number
+}
+
+/// The processor is refused with that number, takes its token again there, and is let in.
+pub(crate) fn regain_after_refusal(rt: &impl Abort, table: &LockTable, seat: &mut Seat, number: u64)
+    requires table { seat.old.table_id ≡ table.now }
+    requires idle { IsIdle seat.old.me.0 seat.old.me.1 }
+    ensures table { seat.new.table_id ≡ seat.old.table_id }
+    ensures place { seat.new.me.0.place ≡ seat.old.me.0.place }
+    ensures idle { IsIdle seat.new.me.0 seat.new.me.1 }
+{
+    assert_eq!(rt; section(table, seat), Heard::Revoked(number));
+    assert_eq!(rt; regain_token(rt, table, seat), number);
+    assert_eq!(rt; section(table, seat), Heard::Held);
 }

@@ -1,9 +1,9 @@
-use super::walks::{Pair, open_pair, regain_token, section, take_tokens};
+use super::seats::{Pair, open_pair, regain_token, section, take_tokens};
 use rm_core::Heard;
 use rm_table::Tried;
 use std::test::Fail;
 
-// A reader that is in keeps a write waiting; one that begins behind the revocation is refused.
+/// A reader that is in keeps a write waiting; one that begins behind the revocation is refused.
 #[test]
 fn drain_waits_for_the_reader(rt: HostRuntime) -> Result<(), Fail> {
     let Pair {
@@ -23,7 +23,7 @@ fn drain_waits_for_the_reader(rt: HostRuntime) -> Result<(), Fail> {
     Ok(())
 }
 
-// The lock behind and the tokens between two processors and the operator.
+/// The lock behind and the tokens between two processors and the operator.
 #[test]
 fn token_is_regained_under_the_lock_behind(rt: HostRuntime) -> Result<(), Fail> {
     let Pair {

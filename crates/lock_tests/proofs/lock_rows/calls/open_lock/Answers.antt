@@ -3,7 +3,7 @@ use Rattle.std.specs.Prelude.{replicate}
 use Rattle.rm_table.proofs.Resting.{opens_copies, first_of-replicate}
 use Rattle.lock_tests.specs.declared.edition.Edition.{Edition}
 use Rattle.lock_tests.proofs.Callers.{in_order, all_of_lock}
-use Rattle.lock_tests.proofs.lock_rows.walks.open_lock.Goals as goal
+use Rattle.lock_tests.proofs.lock_rows.calls.open_lock.Goals as goal
 
 pub open-requires-clause-opens : goal.open-requires-clause-opens
 open-requires-clause-opens c =

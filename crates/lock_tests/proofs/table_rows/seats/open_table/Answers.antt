@@ -5,7 +5,7 @@ use Rattle.lock_tests.specs.contracts.ledger.LedgerKept.TheImpl as ledger
 use Rattle.rm_table.specs.Meanings.{meanings}
 use Rattle.rm_table.proofs.Resting.{opens_copies, first_of-replicate, opens_me}
 use Rattle.lock_tests.specs.declared.edition.Edition.{Edition}
-use Rattle.lock_tests.proofs.table_rows.walks.open_lock.Goals as goal
+use Rattle.lock_tests.proofs.table_rows.seats.open_table.Goals as goal
 
 pub open-requires-clause-opens : goal.open-requires-clause-opens
 open-requires-clause-opens c =

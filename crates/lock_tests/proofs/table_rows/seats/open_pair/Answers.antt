@@ -1,6 +1,6 @@
 use Rattle.std.proofs.Common.{rules, arith}
 use Rattle.rm_table.proofs.Resting.{after_split, may_split, opening_ends}
-use Rattle.lock_tests.proofs.table_rows.walks.open_pair.Goals as goal
+use Rattle.lock_tests.proofs.table_rows.seats.open_pair.Goals as goal
 
 pub split_seat-second-requires-clause-kept : goal.split_seat-second-requires-clause-kept
 split_seat-second-requires-clause-kept c =
