@@ -2,8 +2,12 @@
 #![tactic(auto)]
 
 #[cfg(test)]
+mod drafts;
+#[cfg(test)]
 mod editions;
 #[cfg(test)]
 mod evaluations;
+#[cfg(test)]
+mod frames;
 #[cfg(test)]
 mod traces;

@@ -1,22 +1,20 @@
-ghost use Rattle.std.specs.Prelude.{◌≡◌, ◌≤◌, ◌<◌, length, IfOk, IfSome, IsSomeAnd, Some, None, [], ◌∷◌};
-ghost use Rattle.fw_rule.specs.FlowName.{IsFlowName};
+ghost use Rattle.std.specs.Prelude.{◌≤◌, ◌<◌, length, IfOk, IfSome, IsSomeAnd};
 ghost use Rattle.fw_rule.specs.WellFormed.{IsBody, IsState, IsWellFormed};
-ghost use Rattle.fw_rule.specs.declared.addr_item.AddrItem.TheVariants as items;
 
 mod numbers;
 
+use crate::drafts::{applied, body, checking, name, rule};
+use crate::frames::{SYN, incoming, packet_of};
 use counter_book::Tally;
 use dyn_states::{Op, Reply, RuleRef, Way};
 use eval_engine::{Stage, begin, is_reply_to, resume};
 use evaluation_laws::{Evaluation, Outcome, evaluate};
-use fw_base::{Direction, Link, Name, Port};
-use fw_rule::{
-    Action, AddrItem, AddrSpec, Body, Command, Family, Items, LimitMask, RuleDraft, StateOpt,
-};
+use fw_base::Port;
+use fw_rule::{Action, Body, Command, LimitMask, StateOpt};
 use generation_store::Edition;
-use ip6_headers::{AnyIp, AnyPacket, read_any};
+use ip6_headers::AnyIp;
 use numbers::Numbers;
-use rule_chain::{Config, is_changing};
+use rule_chain::Config;
 use std::alloc::Global;
 use std::collections::LinkedList;
 use std::process::Abort;
@@ -26,139 +24,123 @@ use std::test::Fail;
 /// How many lists of rules are tried.
 const LISTS: u32 = 3_000;
 
-/// A SYN from 10.0.0.1, port 1025, to 192.0.2.1, port 80.
-const SYN: &[u8] = &[
-    0x45, 0, 0, 0x28, 0, 0, 0, 0, 0x40, 6, 0, 0, 10, 0, 0, 1, 0xc0, 0, 2, 1, 4, 1, 0, 0x50, 0, 0,
-    0, 0, 0, 0, 0, 0, 0x50, 2, 0xff, 0xff, 0, 0, 0, 0,
-];
-
-/// One of three flow names.
-fn name(alloc: Global, numbers: &mut Numbers) -> Result<Name, Fail>
-    ensures { IfOk result (λ name. IsFlowName name) }
-{
-    Ok(match numbers.below(3) {
-        0 => Name::new(alloc, b"n0")?,
-        1 => Name::new(alloc, b"n1")?,
-        _ => Name::new(alloc, b"n2")?,
-    })
+/// The numbers that a rule is made of: its own number and another one, its set, one for the state and the digit of
+/// its name, the digit of the name that `check-state` has, one for the protocol and one for what the rule does.
+#[derive(Clone, Copy)]
+struct Drawn {
+    number: u16,
+    other: u16,
+    set: u8,
+    state: u32,
+    state_name: u8,
+    checked_name: u8,
+    protocol: u32,
+    deed: u32,
 }
 
-fn any(alloc: Global) -> Result<AddrSpec, Fail>
-    ensures { IfOk result (λ spec. spec.items ≡ items.Any ∷ []) }
-{
-    let mut every = Vec::new(alloc);
-    every.push(AddrItem::Any)?;
-    Ok(AddrSpec {
-        negated: false,
-        items: Items::from_vec(every),
-    })
+/// The digit of one of three flow names.
+fn digit(numbers: &mut Numbers) -> u8 {
+    b'0' + numbers.below(3) as u8
 }
 
-/// From any to any; of every fourth UDP, which doesn't hold of the packet.
-fn body(alloc: Global, numbers: &mut Numbers, state: Option<StateOpt>) -> Result<Option<Body>, Fail>
-    requires { IfSome state IsState }
-    ensures { IfOk result (λ body. IsSomeAnd body IsBody) }
+/// The next rule: of a small number, of a set below 3.
+fn draw(numbers: &mut Numbers) -> Drawn
+    ensures other { 1 ≤ result.other }
+    ensures set { result.set ≤ 31 }
 {
-    Ok(Some(Body {
-        family: Family::AnyIp,
-        protocol: if numbers.below(4) == 0 { 17 } else { 0 },
-        source: any(alloc)?,
-        source_ports: None,
-        destination: any(alloc)?,
-        destination_ports: None,
-        options: Items::from_vec(Vec::new(alloc)),
-        state,
-        state_at: 0,
-    }))
+    Drawn {
+        number: 1 + numbers.below(9) as u16,
+        other: 1 + numbers.below(9) as u16,
+        set: numbers.below(3) as u8,
+        state: numbers.below(8),
+        state_name: digit(numbers),
+        checked_name: digit(numbers),
+        protocol: numbers.below(4),
+        deed: numbers.below(14),
+    }
+}
+
+/// A list with many calls would take long, so not each rule may be one.
+fn is_call(drawn: &Drawn) -> bool {
+    matches!(drawn.deed, 8 | 9)
 }
 
 /// Every fourth rule has `keep-state`, and every eighth `limit`.
-fn state(alloc: Global, numbers: &mut Numbers) -> Result<Option<StateOpt>, Fail>
+fn state(alloc: Global, drawn: &Drawn) -> Result<Option<StateOpt>, Fail>
     ensures { IfOk result (λ state. IfSome state IsState) }
 {
-    let kind = numbers.below(8);
-    let name = name(alloc, numbers)?;
-    Ok(match kind {
+    let name = name(alloc, drawn.state_name)?;
+    Ok(match drawn.state {
         0 | 1 => Some(StateOpt::Keep(name)),
         2 => Some(StateOpt::Limit(LimitMask::SrcAddr, 2, name)),
         _ => None,
     })
 }
 
-fn draft(number: u16, set: u8, action: Action, body: Option<Body>) -> RuleDraft
-    ensures number { result.number ≡ Some number }
-    ensures set { result.set ≡ set }
-    ensures action { result.action ≡ action }
-    ensures body { result.body ≡ body }
-    ensures log { result.log ≡ None }
+/// From any to any; of every fourth UDP, which doesn't hold of the packet.
+fn body_of(alloc: Global, drawn: &Drawn) -> Result<Option<Body>, Fail>
+    ensures { IfOk result (λ body. IsSomeAnd body IsBody) }
 {
-    RuleDraft {
-        number: Some(number),
-        set,
-        action,
-        log: None,
-        body,
-    }
+    let protocol = if drawn.protocol == 0 { 17 } else { 0 };
+    body(alloc, protocol, state(alloc, drawn)?)
 }
 
-/// A rule of a small number, of a set below 3. A list with many calls would take long, so not each may have one.
-fn add(alloc: Global, numbers: &mut Numbers, may_call: bool) -> Result<Command, Fail>
+/// The rule of these numbers.
+fn rule_of(alloc: Global, drawn: &Drawn, may_call: bool) -> Result<Command, Fail>
+    requires other { 1 ≤ drawn.now.other }
+    requires set { drawn.now.set ≤ 31 }
     ensures { IfOk result (λ command. IsWellFormed command) }
 {
-    let number = 1 + numbers.below(9) as u16;
-    let other = 1 + numbers.below(9) as u16;
-    let set = numbers.below(3) as u8;
-    let state = state(alloc, numbers)?;
-    let name = name(alloc, numbers)?;
-    let body = body(alloc, numbers, state)?;
-    let draft = match numbers.below(14) {
-        0 => draft(number, set, Action::CheckState(None), None),
-        1 | 2 => draft(number, set, Action::CheckState(Some(name)), None),
-        3 => draft(number, set, Action::Allow, body),
-        4 => draft(number, set, Action::Deny, body),
-        5 => draft(number, set, Action::Unreach(3), body),
-        6 | 7 => draft(number, set, Action::SkipTo(other), body),
-        8 | 9 if may_call => draft(number, set, Action::Call(other), body),
-        10 | 11 => draft(number, set, Action::Return, body),
-        _ => draft(number, set, Action::Count, body),
-    };
-    Ok(Command::Add(draft))
+    let Drawn {
+        number,
+        other,
+        set,
+        ..
+    } = *drawn;
+    match drawn.deed {
+        0 => Ok(rule(number, set, None, Action::CheckState(None))),
+        1 | 2 => checking(alloc, number, set, drawn.checked_name),
+        3 => Ok(rule(number, set, body_of(alloc, drawn)?, Action::Allow)),
+        4 => Ok(rule(number, set, body_of(alloc, drawn)?, Action::Deny)),
+        5 => Ok(rule(number, set, body_of(alloc, drawn)?, Action::Unreach(3))),
+        6 | 7 => Ok(rule(number, set, body_of(alloc, drawn)?, Action::SkipTo(other))),
+        8 | 9 if may_call => Ok(rule(number, set, body_of(alloc, drawn)?, Action::Call(other))),
+        10 | 11 => Ok(rule(number, set, body_of(alloc, drawn)?, Action::Return)),
+        _ => Ok(rule(number, set, body_of(alloc, drawn)?, Action::Count)),
+    }
 }
 
-/// The configuration after the command.
-fn applied(alloc: Global, config: Config, command: &Command) -> Result<Config, Fail>
-    requires { IsWellFormed command.now }
+/// The configuration with that rule more.
+fn with_rule(alloc: Global, config: Config, drawn: &Drawn, may_call: bool) -> Result<Config, Fail>
+    requires other { 1 ≤ drawn.now.other }
+    requires set { drawn.now.set ≤ 31 }
 {
-    if is_changing(command) {
-        Ok(config.apply_owned(alloc, command)?)
-    } else {
-        Err("a listing")?
-    }
+    let command = rule_of(alloc, drawn, may_call)?;
+    applied(alloc, config, &command)
 }
 
-fn is_call(command: &Command) -> bool {
-    match command {
-        Command::Add(draft) => matches!(draft.action, Action::Call(_)),
-        _ => false,
-    }
-}
-
-/// An edition of up to twelve such rules; of sets 0 to 2 some are disabled.
-fn edition(alloc: Global, numbers: &mut Numbers) -> Result<Arc<Edition>, Fail> {
+/// A configuration of up to twelve such rules.
+fn configured(alloc: Global, numbers: &mut Numbers) -> Result<Config, Fail> {
     let mut config = Config::new(alloc)?;
     let mut calls = 1 + numbers.below(64) / 63;
     for _ in 0..numbers.below(13) {
-        let command = add(alloc, numbers, calls > 0)?;
-        if is_call(&command) && calls > 0 {
+        let drawn = draw(numbers);
+        config = with_rule(alloc, config, &drawn, calls > 0)?;
+        if is_call(&drawn) && calls > 0 {
             calls -= 1;
         }
-        config = applied(alloc, config, &command)?;
     }
+    Ok(config)
+}
+
+/// An edition of such rules; of sets 0 to 2 some are disabled.
+fn edition(alloc: Global, numbers: &mut Numbers) -> Result<Arc<Edition>, Fail> {
+    let config = configured(alloc, numbers)?;
     let disabled = Command::SetMask {
         disable: numbers.below(8),
         enable: 0,
     };
-    config = applied(alloc, config, &disabled)?;
+    let config = applied(alloc, config, &disabled)?;
     Ok(Edition::build(alloc, 7, config)?)
 }
 
@@ -195,6 +177,29 @@ struct Shipped {
     outcome: Outcome,
 }
 
+/// Adds an ask and its reply.
+fn note(asks: &mut Vec<Op>, replies: &mut Vec<Reply>, op: Op, reply: Reply) -> Result<(), Fail> {
+    asks.push(op)?;
+    replies.push(reply)?;
+    Ok(())
+}
+
+/// What was asked and replied, and the end, which may be an ask more.
+fn ended(mut asks: Vec<Op>, replies: Vec<Reply>, stage: Stage) -> Result<Shipped, Fail> {
+    let outcome = match stage {
+        Stage::Judged(judgement) => Outcome::Whole(judgement),
+        Stage::Asks(op, _) => {
+            asks.push(op)?;
+            Outcome::OpenAt(op)
+        }
+    };
+    Ok(Shipped {
+        asks,
+        replies,
+        outcome,
+    })
+}
+
 /// With such replies, up to so many of them.
 fn in_steps(
     alloc: Global,
@@ -217,22 +222,10 @@ fn in_steps(
         if !is_reply_to(edition, &op, &answer) {
             break;
         }
-        asks.push(op)?;
-        replies.push(answer)?;
+        note(&mut asks, &mut replies, op, answer)?;
         stage = resume(paused, answer, edition, packet, port, 9, tally);
     }
-    let outcome = match stage {
-        Stage::Judged(judgement) => Outcome::Whole(judgement),
-        Stage::Asks(op, _) => {
-            asks.push(op)?;
-            Outcome::OpenAt(op)
-        }
-    };
-    Ok(Shipped {
-        asks,
-        replies,
-        outcome,
-    })
+    ended(asks, replies, stage)
 }
 
 /// How often the list has this number.
@@ -262,29 +255,47 @@ fn compare(
 }
 
 /// One reply more leaves it neither whole nor open, where it was whole.
+fn compare_with_more(
+    rt: &impl Abort,
+    alloc: Global,
+    edition: &Edition,
+    packet: &AnyIp<'_>,
+    port: &Port,
+    run: Shipped,
+) -> Result<(), Fail> {
+    if let Outcome::Whole(_) = run.outcome {
+        let mut replies = run.replies;
+        replies.push(Reply::NotFound)?;
+        let more = evaluate(alloc, edition, packet, port, 9, &replies)?;
+        assert_eq!(rt; more.outcome, Outcome::Neither);
+    }
+    Ok(())
+}
+
+/// Both evaluations of a packet by the next edition.
+fn check_next(
+    rt: &impl Abort,
+    alloc: Global,
+    numbers: &mut Numbers,
+    packet: &AnyIp<'_>,
+    port: &Port,
+) -> Result<(), Fail> {
+    let edition = edition(alloc, numbers)?;
+    let mut tally = Tally::new(alloc);
+    tally.fit(edition.config().counters())?;
+    let run = in_steps(alloc, numbers, &edition, packet, port, &mut tally)?;
+    let plain = evaluate(alloc, &edition, packet, port, 9, &run.replies)?;
+    compare(rt, &edition, &tally, &run, &plain);
+    compare_with_more(rt, alloc, &edition, packet, port, run)
+}
+
 #[test]
 fn plain_and_shipped_agree(rt: HostRuntime) -> Result<(), Fail> {
-    let alloc = rt.alloc();
+    let packet = packet_of(&rt, SYN)?;
+    let port = incoming(rt.alloc())?;
     let mut numbers = Numbers::new(1);
-    let AnyPacket::Ip(packet) = read_any(Link::Raw, SYN) else {
-        return Err(Fail::from("no packet"));
-    };
-    let port = Port {
-        direction: Direction::In,
-        interface: Name::new(alloc, b"em0")?,
-    };
     for _list in 0..LISTS {
-        let edition = edition(alloc, &mut numbers)?;
-        let mut tally = Tally::new(alloc);
-        tally.fit(edition.config().counters())?;
-        let mut run = in_steps(alloc, &mut numbers, &edition, &packet, &port, &mut tally)?;
-        let plain = evaluate(alloc, &edition, &packet, &port, 9, &run.replies)?;
-        compare(&rt, &edition, &tally, &run, &plain);
-        if let Outcome::Whole(_) = run.outcome {
-            run.replies.push(Reply::NotFound)?;
-            let more = evaluate(alloc, &edition, &packet, &port, 9, &run.replies)?;
-            assert_eq!(rt; more.outcome, Outcome::Neither);
-        }
+        check_next(&rt, rt.alloc(), &mut numbers, &packet, &port)?;
     }
     Ok(())
 }

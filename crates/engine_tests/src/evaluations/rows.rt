@@ -1,4 +1,6 @@
-use super::{Deed, Parts, Turn};
+use super::Turn;
+use crate::drafts::{Deed, Parts};
+use crate::frames::{DATAGRAM, FRAGMENT, SIX, SYN};
 use dyn_states::{FlowName, Op, Reply, RuleRef, Way};
 use eval_engine::{Cause, Verdict};
 use fw_base::Addr;
@@ -17,30 +19,6 @@ pub struct Row {
     pub cause: Cause,
     pub packets: &'static [u64],
 }
-
-/// A SYN from 10.0.0.1, port 1025, to 192.0.2.1, port 80.
-const SYN: &[u8] = &[
-    0x45, 0, 0, 0x28, 0, 0, 0, 0, 0x40, 6, 0, 0, 10, 0, 0, 1, 0xc0, 0, 2, 1, 4, 1, 0, 0x50, 0, 0,
-    0, 0, 0, 0, 0, 0, 0x50, 2, 0xff, 0xff, 0, 0, 0, 0,
-];
-
-/// UDP from 10.0.0.1, port 5, to 192.0.2.1, port 6.
-const DATAGRAM: &[u8] = &[
-    0x45, 0, 0, 0x1c, 0, 0, 0, 0, 0x40, 17, 0, 0, 10, 0, 0, 1, 0xc0, 0, 2, 1, 0, 5, 0, 6, 0, 8, 0,
-    0,
-];
-
-/// A later fragment of UDP from 10.0.0.1 to 192.0.2.1.
-const FRAGMENT: &[u8] = &[
-    0x45, 0, 0, 0x1c, 0, 0, 0, 0xb9, 0x40, 17, 0, 0, 10, 0, 0, 1, 0xc0, 0, 2, 1, 0, 5, 0, 53, 0, 8,
-    0, 0,
-];
-
-/// IPv6 without a payload.
-const SIX: &[u8] = &[
-    0x60, 0, 0, 0, 0, 0, 59, 64, 0x20, 1, 0xd, 0xb8, 0, 0, 0, 0, 0, 0, 0, 0, 0, 0, 0, 1, 0x20, 1,
-    0xd, 0xb8, 0, 0, 0, 0, 0, 0, 0, 0, 0, 0, 0, 2,
-];
 
 const SYN_FLOW: Flow = Flow {
     source: Addr(0x0a00_0001),

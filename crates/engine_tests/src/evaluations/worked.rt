@@ -1,67 +1,33 @@
 ghost use Rattle.std.specs.Prelude.{◌<◌, length};
 
-use super::{Deed, Parts, edition};
+use super::edition;
+use crate::drafts::{Deed, Parts};
+use crate::frames::{
+    ACK, DATAGRAM6, FIN_ACK, FIN_ACK_BACK, FIRST_FRAGMENT6, OPTIONS6, SYN, SYN_ACK, incoming,
+    packet_of,
+};
 use counter_book::Tally;
 use dyn_states::{RuleRef, States};
 use eval_engine::{Cause, Judgement, Stage, Verdict, begin, is_reply_to, resume};
-use fw_base::{Direction, Link, Name, Port};
+use fw_base::Port;
 use generation_store::Edition;
-use ip6_headers::{AnyIp, AnyPacket, read_any};
+use ip6_headers::AnyIp;
 use std::alloc::Global;
 use std::process::Abort;
 use std::test::Fail;
+
+/// A packet by its second, with its verdict.
+type Timed = (u32, &'static [u8], Verdict, RuleRef);
 
 /// A row: the rules by number, set and deed; the packets by their seconds, each with its verdict; then number,
 /// packets and bytes of each rule in list order, and the clock of the states, of which none is left.
 pub struct Worked {
     name: &'static str,
     rules: &'static [(u16, u8, Deed)],
-    packets: &'static [(u32, &'static [u8], Verdict, RuleRef)],
+    packets: &'static [Timed],
     counts: &'static [(u16, u64, u64)],
     clock: u32,
 }
-
-/// From 10.0.0.1, port 1025, to 192.0.2.1, port 80.
-const SYN: &[u8] = &[
-    0x45, 0, 0, 0x28, 0, 0, 0, 0, 0x40, 6, 0, 0, 10, 0, 0, 1, 0xc0, 0, 2, 1, 4, 1, 0, 0x50, 0, 0,
-    0, 0, 0, 0, 0, 0, 0x50, 2, 0xff, 0xff, 0, 0, 0, 0,
-];
-
-/// Its answer, with ACK.
-const SYN_ACK: &[u8] = &[
-    0x45, 0, 0, 0x28, 0, 0, 0, 0, 0x40, 6, 0, 0, 0xc0, 0, 2, 1, 10, 0, 0, 1, 0, 0x50, 4, 1, 0, 0,
-    0, 0, 0, 0, 0, 0, 0x50, 18, 0xff, 0xff, 0, 0, 0, 0,
-];
-
-/// As the first one.
-const FIN_ACK: &[u8] = &[
-    0x45, 0, 0, 0x28, 0, 0, 0, 0, 0x40, 6, 0, 0, 10, 0, 0, 1, 0xc0, 0, 2, 1, 4, 1, 0, 0x50, 0, 0,
-    0, 0, 0, 0, 0, 0, 0x50, 17, 0xff, 0xff, 0, 0, 0, 0,
-];
-
-/// As the answer.
-const FIN_ACK_BACK: &[u8] = &[
-    0x45, 0, 0, 0x28, 0, 0, 0, 0, 0x40, 6, 0, 0, 0xc0, 0, 2, 1, 10, 0, 0, 1, 0, 0x50, 4, 1, 0, 0,
-    0, 0, 0, 0, 0, 0, 0x50, 17, 0xff, 0xff, 0, 0, 0, 0,
-];
-
-/// As the first one.
-const ACK: &[u8] = &[
-    0x45, 0, 0, 0x28, 0, 0, 0, 0, 0x40, 6, 0, 0, 10, 0, 0, 1, 0xc0, 0, 2, 1, 4, 1, 0, 0x50, 0, 0,
-    0, 0, 0, 0, 0, 0, 0x50, 16, 0xff, 0xff, 0, 0, 0, 0,
-];
-
-/// UDP from 2001:db8::1, port 5, to 2001:db8::2, port 6.
-const DATAGRAM6: &[u8] =
-    b"\x60\x00\x00\x00\x00\x08\x11\x40\x20\x01\x0d\xb8\x00\x00\x00\x00\x00\x00\x00\x00\x00\x00\x00\x01\x20\x01\x0d\xb8\x00\x00\x00\x00\x00\x00\x00\x00\x00\x00\x00\x02\x00\x05\x00\x06\x00\x08\x00\x00";
-
-/// The datagram behind hop-by-hop options.
-const OPTIONS6: &[u8] =
-    b"\x60\x00\x00\x00\x00\x10\x00\x40\x20\x01\x0d\xb8\x00\x00\x00\x00\x00\x00\x00\x00\x00\x00\x00\x01\x20\x01\x0d\xb8\x00\x00\x00\x00\x00\x00\x00\x00\x00\x00\x00\x02\x11\x00\x01\x04\x00\x00\x00\x00\x00\x05\x00\x06\x00\x08\x00\x00";
-
-/// The first fragment of such a datagram.
-const FIRST_FRAGMENT6: &[u8] =
-    b"\x60\x00\x00\x00\x00\x10\x2c\x40\x20\x01\x0d\xb8\x00\x00\x00\x00\x00\x00\x00\x00\x00\x00\x00\x01\x20\x01\x0d\xb8\x00\x00\x00\x00\x00\x00\x00\x00\x00\x00\x00\x02\x11\x00\x00\x01\x00\x00\x00\x07\x00\x05\x00\x06\x00\x08\x00\x00";
 
 const FIRST: RuleRef = RuleRef { id: 1, number: 100 };
 
@@ -148,6 +114,29 @@ fn judged_over(
     }
 }
 
+/// A packet of the row comes to its judgement.
+fn check_packet(
+    rt: &impl Abort,
+    row: &Worked,
+    edition: &Edition,
+    port: &Port,
+    states: &mut States,
+    tally: &mut Tally,
+    (second, frame, verdict, rule): Timed,
+) -> Result<(), Fail> {
+    let packet = packet_of(rt, frame)?;
+    tally.fit(edition.config().counters())?;
+    let judgement = judged_over(edition, &packet, port, second, states, tally);
+    let wanted = Judgement {
+        edition: 7,
+        verdict,
+        rule,
+        cause: Cause::Rule,
+    };
+    assert_eq!(rt; judgement, Some(wanted), "{} at {second}", row.name);
+    Ok(())
+}
+
 /// Each packet of the row comes to its judgement.
 fn check_packets(
     rt: &impl Abort,
@@ -157,26 +146,23 @@ fn check_packets(
     states: &mut States,
     tally: &mut Tally,
 ) -> Result<(), Fail> {
-    let port = Port {
-        direction: Direction::In,
-        interface: Name::new(alloc, b"em0")?,
-    };
-    for (second, bytes, verdict, rule) in row.packets {
-        assert!(rt; bytes.len() < 65_536);
-        let AnyPacket::Ip(packet) = read_any(Link::Raw, bytes) else {
-            return Err(Fail::from("no packet"));
-        };
-        tally.fit(edition.config().counters())?;
-        let judgement = judged_over(edition, &packet, &port, *second, states, tally);
-        let wanted = Judgement {
-            edition: 7,
-            verdict: *verdict,
-            rule: *rule,
-            cause: Cause::Rule,
-        };
-        assert_eq!(rt; judgement, Some(wanted), "{} at {second}", row.name);
+    let port = incoming(alloc)?;
+    for packet in row.packets {
+        check_packet(rt, row, edition, &port, states, tally, *packet)?;
     }
     Ok(())
+}
+
+/// Each rule counted what the row says.
+fn check_counts(rt: &impl Abort, row: &Worked, edition: &Edition, tally: &Tally) {
+    let rules = edition.config().rules();
+    assert_eq!(rt; rules.len(), row.counts.len(), "{}", row.name);
+    for (rule, (number, packets, bytes)) in rules.iter().zip(row.counts) {
+        let count = tally.count(rule.counter);
+        assert_eq!(rt; rule.number, *number, "{}", row.name);
+        assert_eq!(rt; count.packets, *packets, "{}", row.name);
+        assert_eq!(rt; count.bytes, *bytes, "{}", row.name);
+    }
 }
 
 /// A row of the table: its packets, its counts and its states.
@@ -187,14 +173,7 @@ pub fn check_worked(rt: &impl Abort, alloc: Global, row: &Worked) -> Result<(), 
     let mut tally = Tally::new(alloc);
     check_packets(rt, alloc, row, &edition, &mut states, &mut tally)?;
     tally.fit(edition.config().counters())?;
-    let rules = edition.config().rules();
-    assert_eq!(rt; rules.len(), row.counts.len(), "{}", row.name);
-    for (rule, (number, packets, bytes)) in rules.iter().zip(row.counts) {
-        let count = tally.count(rule.counter);
-        assert_eq!(rt; rule.number, *number, "{}", row.name);
-        assert_eq!(rt; count.packets, *packets, "{}", row.name);
-        assert_eq!(rt; count.bytes, *bytes, "{}", row.name);
-    }
+    check_counts(rt, row, &edition, &tally);
     assert_eq!(rt; states.clock(), row.clock, "{}", row.name);
     assert_eq!(rt; states.count(), 0, "{}", row.name);
     Ok(())
