@@ -1,19 +1,21 @@
+use super::names::named;
 use super::steps::Step;
 use super::{after_each, after_one, assert_faults};
 use rule_chain::{ApplyFault, Config};
 use std::alloc::Global;
 use std::test::Fail;
 
-/// A configuration whose counter numbers all were given out.
+/// A configuration of 64 flow names, by 63 rules, whose counter numbers all were given out.
 fn full(alloc: Global) -> Result<Config, Fail> {
-    let added = after_each(alloc, Config::new(alloc)?, Step::Add(7, 0), 4095)?;
+    let added = after_each(alloc, named(alloc, 64)?, Step::Add(7, 0), 4095 - 63)?;
     after_each(alloc, added, Step::ZeroAll, 4095)
 }
 
-const OF_THE_FULL: [(Step, Option<ApplyFault>); 4] = [
+const OF_THE_FULL: [(Step, Option<ApplyFault>); 5] = [
     (Step::Zero(65535, 65535), Some(ApplyFault::TooManyCounters)),
     (Step::Zero(8, 7), Some(ApplyFault::NoSuchRule)),
     (Step::Add(0, 0), Some(ApplyFault::TooManyCounters)),
+    (Step::Keep(64), Some(ApplyFault::TooManyCounters)),
     (Step::Add(65535, 0), Some(ApplyFault::ReservedRule)),
 ];
 

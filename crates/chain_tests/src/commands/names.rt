@@ -1,13 +1,14 @@
 use super::steps::Step;
 use super::{after, after_one, assert_faults};
 use fw_base::Name;
+use fw_rule::TableType;
 use rule_chain::{ApplyFault, Config};
 use std::alloc::Global;
 use std::process::Abort;
 use std::test::Fail;
 
 /// A configuration of that many flow names.
-fn named(alloc: Global, count: u8) -> Result<Config, Fail> {
+pub(super) fn named(alloc: Global, count: u8) -> Result<Config, Fail> {
     let mut config = Config::new(alloc)?;
     for name in 1..count {
         config = after_one(alloc, config, Step::Check(name))?;
@@ -15,9 +16,12 @@ fn named(alloc: Global, count: u8) -> Result<Config, Fail> {
     Ok(config)
 }
 
-const WITH_64_NAMES: [(Step, Option<ApplyFault>); 5] = [
+/// `a` is a table of addresses, in which no port can be looked up.
+const WITH_64_NAMES: [(Step, Option<ApplyFault>); 7] = [
     (Step::Check(64), Some(ApplyFault::TooManyNames)),
     (Step::Keep(64), Some(ApplyFault::TooManyNames)),
+    (Step::KeepLookup(64, b'a'), Some(ApplyFault::TooManyNames)),
+    (Step::KeepLookup(63, b'a'), Some(ApplyFault::WrongType)),
     (Step::Check(63), None),
     (Step::Keep(1), None),
     (Step::Add(65535, 0), Some(ApplyFault::ReservedRule)),
@@ -26,8 +30,9 @@ const WITH_64_NAMES: [(Step, Option<ApplyFault>); 5] = [
 #[test]
 fn too_many_names(rt: HostRuntime) -> Result<(), Fail> {
     let alloc = rt.alloc();
-    let config = named(alloc, 64)?;
-    assert_eq!(rt; config.names().len(), 64);
+    let names = named(alloc, 64)?;
+    assert_eq!(rt; names.names().len(), 64);
+    let config = after_one(alloc, names, Step::Create(b'a', TableType::Addresses))?;
     assert_faults(&rt, alloc, &config, WITH_64_NAMES.as_slice())?;
     assert_eq!(rt; ApplyFault::TooManyNames.word(), "TooManyNames");
     Ok(())

@@ -49,6 +49,8 @@ pub enum Step {
     Check(u8),
     /// `add count ip from any to any keep-state :nNAME`
     Keep(u8),
+    /// `add count ip from any to any lookup dst-port TABLE keep-state :nNAME`
+    KeepLookup(u8, u8),
 }
 
 fn one<T: Drop>(alloc: Global, item: T) -> Result<Items<T>, AllocError>
@@ -111,15 +113,22 @@ fn add(alloc: Global, number: u16, set: u8) -> Result<Command, Fail>
     }))
 }
 
+/// `lookup dst-port TABLE`
+fn lookup_port(alloc: Global, table: u8) -> Result<Items<Opt>, Fail>
+    ensures { IfOk result (λ options. AllByRecursion (λ option. IsTest option.test) options) }
+{
+    let option = Opt {
+        negated: false,
+        test: Test::Lookup(Field::DstPort, letter(alloc, table)?),
+    };
+    Ok(one(alloc, option)?)
+}
+
 fn lookup(alloc: Global, number: u16, first: u8, second: u8) -> Result<Command, Fail>
     ensures formed { IfOk result (λ command. IsWellFormed command) }
     ensures changing { IfOk result (λ command. IsChanging command) }
 {
-    let option = Opt {
-        negated: false,
-        test: Test::Lookup(Field::DstPort, letter(alloc, second)?),
-    };
-    let options = one(alloc, option)?;
+    let options = lookup_port(alloc, second)?;
     let body = body(
         alloc,
         AddrItem::InTable(letter(alloc, first)?),
@@ -155,13 +164,14 @@ fn check_state(alloc: Global, name: u8) -> Result<Command, Fail>
     }))
 }
 
-fn keep_state(alloc: Global, name: u8) -> Result<Command, Fail>
+/// `add count ip from any to any OPTIONS keep-state :nNAME`
+fn keep_state(alloc: Global, name: u8, options: Items<Opt>) -> Result<Command, Fail>
+    requires { AllByRecursion (λ option. IsTest option.test) options }
     ensures formed { IfOk result (λ command. IsWellFormed command) }
     ensures changing { IfOk result (λ command. IsChanging command) }
 {
     let state = StateOpt::Keep(flow(alloc, name)?);
-    let none = Items::from_vec(Vec::new(alloc));
-    let kept = body(alloc, AddrItem::Any, none, Some(state))?;
+    let kept = body(alloc, AddrItem::Any, options, Some(state))?;
     Ok(Command::Add(RuleDraft {
         number: None,
         set: 0,
@@ -219,35 +229,70 @@ fn net(length: u8) -> Result<Key, Fail>
     }
 }
 
-/// The command of a step on rules.
-fn rule_command(alloc: Global, step: Step) -> Result<Command, Fail>
+fn move_set(from: u8, to: u8) -> Command
+    ensures formed { IsWellFormed result }
+    ensures changing { IsChanging result }
+{
+    Command::MoveSet {
+        from: from.min(31),
+        to: to.min(31),
+    }
+}
+
+fn move_rule(number: u16, to: u8) -> Command
+    ensures formed { IsWellFormed result }
+    ensures changing { IsChanging result }
+{
+    Command::MoveRule {
+        number: number.max(1),
+        to: to.min(31),
+    }
+}
+
+fn swap_sets(first: u8, second: u8) -> Command
+    ensures formed { IsWellFormed result }
+    ensures changing { IsChanging result }
+{
+    Command::SwapSets {
+        first: first.min(31),
+        second: second.min(31),
+    }
+}
+
+fn set_most(value: u32) -> Command
+    ensures formed { IsWellFormed result }
+    ensures changing { IsChanging result }
+{
+    Command::Sysctl {
+        setting: Setting::Max,
+        value: value.max(1).min(16384),
+    }
+}
+
+fn set_keep(keep: bool) -> Command
+    ensures formed { IsWellFormed result }
+    ensures changing { IsChanging result }
+{
+    Command::Sysctl {
+        setting: Setting::Keep,
+        value: u32::from(keep),
+    }
+}
+
+fn local(alloc: Global, first: u32, second: u32) -> Result<Command, Fail>
     ensures formed { IfOk result (λ command. IsWellFormed command) }
     ensures changing { IfOk result (λ command. IsChanging command) }
 {
-    match step {
-        Step::Add(number, set) => add(alloc, number, set),
-        Step::Lookup(number, first, second) => lookup(alloc, number, first, second),
-        Step::Delete(first, second) => Ok(Command::Delete(two(alloc, first, second)?)),
-        Step::DeleteSet(set) => Ok(Command::DeleteSet(set.min(31))),
-        Step::Zero(first, second) => Ok(Command::Zero(two(alloc, first, second)?)),
-        Step::ZeroAll => Ok(Command::Zero(Items::from_vec(Vec::new(alloc)))),
-        Step::DeleteTimes(number, count) => Ok(Command::Delete(repeated(alloc, number, count)?)),
-        Step::ZeroTimes(number, count) => Ok(Command::Zero(repeated(alloc, number, count)?)),
-        Step::Mask(disable, enable) => Ok(Command::SetMask { disable, enable }),
-        Step::MoveSet(from, to) => Ok(Command::MoveSet {
-            from: from.min(31),
-            to: to.min(31),
-        }),
-        Step::MoveRule(number, to) => Ok(Command::MoveRule {
-            number: number.max(1),
-            to: to.min(31),
-        }),
-        Step::Swap(first, second) => Ok(Command::SwapSets {
-            first: first.min(31),
-            second: second.min(31),
-        }),
-        _ => Ok(Command::Flush),
-    }
+    let addresses = [Addr(first), Addr(second)];
+    let addresses = Vec::from_slice(alloc, addresses.as_slice())?;
+    Ok(Command::Local(Items::from_vec(addresses)))
+}
+
+fn add_net(length: u8) -> Result<TableCommand, Fail>
+    ensures formed { IfOk result (λ command. IsTableCommand command) }
+    ensures changing { IfOk result (λ command. IsTrue (changes_table command)) }
+{
+    Ok(TableCommand::Add(net(length)?, u32::from(length)))
 }
 
 /// The command of the step.
@@ -256,15 +301,25 @@ pub fn command_of(alloc: Global, step: Step) -> Result<Command, Fail>
     ensures changing { IfOk result (λ command. IsChanging command) }
 {
     match step {
+        Step::Add(number, set) => add(alloc, number, set),
+        Step::Lookup(number, first, second) => lookup(alloc, number, first, second),
+        Step::Check(name) => check_state(alloc, name),
+        Step::Keep(name) => keep_state(alloc, name, Items::from_vec(Vec::new(alloc))),
+        Step::KeepLookup(name, table) => keep_state(alloc, name, lookup_port(alloc, table)?),
+        Step::Delete(first, second) => Ok(Command::Delete(two(alloc, first, second)?)),
+        Step::DeleteTimes(number, count) => Ok(Command::Delete(repeated(alloc, number, count)?)),
+        Step::DeleteSet(set) => Ok(Command::DeleteSet(set.min(31))),
+        Step::Flush => Ok(Command::Flush),
+        Step::Zero(first, second) => Ok(Command::Zero(two(alloc, first, second)?)),
+        Step::ZeroTimes(number, count) => Ok(Command::Zero(repeated(alloc, number, count)?)),
+        Step::ZeroAll => Ok(Command::Zero(Items::from_vec(Vec::new(alloc)))),
+        Step::Mask(disable, enable) => Ok(Command::SetMask { disable, enable }),
+        Step::MoveSet(from, to) => Ok(move_set(from, to)),
+        Step::MoveRule(number, to) => Ok(move_rule(number, to)),
+        Step::Swap(first, second) => Ok(swap_sets(first, second)),
         Step::Create(name, kind) => on_table(alloc, name, TableCommand::Create(kind)),
         Step::Destroy(name) => on_table(alloc, name, TableCommand::Destroy),
-        Step::AddNet(name, length) => {
-            on_table(
-                alloc,
-                name,
-                TableCommand::Add(net(length)?, u32::from(length)),
-            )
-        }
+        Step::AddNet(name, length) => on_table(alloc, name, add_net(length)?),
         Step::AddNumber(name, number) => {
             on_table(alloc, name, TableCommand::Add(Key::Number(number), 7))
         }
@@ -273,22 +328,9 @@ pub fn command_of(alloc: Global, step: Step) -> Result<Command, Fail>
         Step::SwapTables(name, other) => {
             on_table(alloc, name, TableCommand::SwapWith(letter(alloc, other)?))
         }
-        Step::Local(first, second) => {
-            let addresses = [Addr(first), Addr(second)];
-            let addresses = Vec::from_slice(alloc, addresses.as_slice())?;
-            Ok(Command::Local(Items::from_vec(addresses)))
-        }
+        Step::Local(first, second) => local(alloc, first, second),
         Step::LocalTwice(count) => Ok(Command::Local(pairs(alloc, count)?)),
-        Step::Most(value) => Ok(Command::Sysctl {
-            setting: Setting::Max,
-            value: value.max(1).min(16384),
-        }),
-        Step::KeepStates(keep) => Ok(Command::Sysctl {
-            setting: Setting::Keep,
-            value: u32::from(keep),
-        }),
-        Step::Check(name) => check_state(alloc, name),
-        Step::Keep(name) => keep_state(alloc, name),
-        _ => rule_command(alloc, step),
+        Step::Most(value) => Ok(set_most(value)),
+        Step::KeepStates(keep) => Ok(set_keep(keep)),
     }
 }
