@@ -13,21 +13,21 @@ use Rattle.eval_engine.specs.declared.judgement.Verdict.TheVariants.{Allow, Deny
 use Rattle.fw_report.specs.declared.capture_end.CaptureEnd.{CaptureEnd}
 use Rattle.fw_report.specs.declared.capture_end.CaptureEnd.TheVariants.{Read, Stopped}
 
--- what happened to the packet (ipfw(8), "RULE ACTIONS"), and the code of `unreach`
+-- the word for what happened to the packet (ipfw(8), "RULE ACTIONS")
 abbrev pub verdict_word : Verdict → List ℕ
 verdict_word Allow = codes "allow"
 verdict_word Deny = codes "deny"
 verdict_word Reset = codes "reset"
 verdict_word (Unreach code) = codes "unreach "
 
--- the code of `unreach`; nothing behind other verdicts
+-- the code behind `unreach`; nothing stands behind other verdicts
 abbrev pub verdict_code : Verdict → List ℕ
 verdict_code Allow = []
 verdict_code Deny = []
 verdict_code Reset = []
 verdict_code (Unreach code) = code_word code
 
--- how many states there were, where that decided
+-- the word before a count of states, where that count decided
 abbrev pub cause_word : Cause → List ℕ
 cause_word Rule = []
 cause_word (Limit count) = codes " limit "
@@ -72,7 +72,7 @@ end_line capture (Stopped at fault count) = codes "fault " ++ (decimal capture +
 abbrev pub capture_text : ℕ → List DocketEntry → CaptureEnd → List ℕ
 capture_text capture entries end = record_lines capture 1 entries ++ end_line capture end
 
--- those of the captures from this number on
+-- the lines of the captures from this number on
 unfoldable pub captures_text : ℕ → List DocketValue → List CaptureEnd → List ℕ
 captures_text capture [] ends = []
 captures_text capture (docket ∷ dockets) [] = []

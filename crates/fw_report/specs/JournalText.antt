@@ -22,7 +22,7 @@ use Rattle.state_journal.specs.declared.entry.Entry.TheVariants.{Publish, Ask}
 unfoldable pub hits_line : ℕ → ℕ → List ℕ
 hits_line lane hits = codes "cache " ++ (decimal lane ++ (codes " hits " ++ (decimal hits ++ codes "\n")))
 
--- those of the lanes from this number on
+-- the lines of hits of the lanes from this number on
 unfoldable pub hits_text : ℕ → List ℕ → List ℕ
 hits_text lane [] = []
 hits_text lane (hits ∷ rest) = hits_line lane hits ++ hits_text (lane + 1) rest
@@ -36,11 +36,11 @@ abbrev pub name_word : List (List ℕ) → FlowName → List ℕ
 name_word names Any = codes "any"
 name_word names (Named name) = name_numbered names name
 
--- What is asked: whether there is a state of this name, or that a rule makes one.
+-- what a lookup asks for: a state of this name
 unfoldable pub lookup_text : List (List ℕ) → FlowName → List ℕ
 lookup_text names name = codes " lookup :" ++ name_word names name
 
--- what an install asks for
+-- what an install asks for: a state of this name, made by the rule of this identity
 unfoldable pub install_text : List (List ℕ) → ℕ → Option (LimitMask × ℕ) → ℕ → List ℕ
 install_text names id None name = codes " install " ++ (decimal id ++ (codes " keep :" ++ name_numbered names name))
 install_text names id (Some limit) name =
@@ -120,7 +120,7 @@ entry_line names (Ask lane op reply at) = ask_line names lane at op reply
 unfoldable pub lane_line : ℕ → ℕ → ℕ → List ℕ
 lane_line lane refused tracker = codes "lane " ++ (decimal lane ++ (codes " refused " ++ (decimal refused ++ (codes " tracker " ++ (decimal tracker ++ codes "\n")))))
 
--- those of the lanes from this number on
+-- the lines of the lanes from this number on
 unfoldable pub lanes_text : ℕ → List DocketValue → List ℕ → List ℕ
 lanes_text lane [] trackers = []
 lanes_text lane (docket ∷ dockets) [] = []

@@ -8,7 +8,7 @@ pub mod RulesText
 pub mod JournalText
 -- the summary
 pub mod Summary
--- what an ask's line has before its flow
+-- what an ask's line has before the name of its flow, and what behind it
 pub mod AskText
 -- how many lines a text has
 pub mod Lines

@@ -28,7 +28,7 @@ is_judged is (Judged verdict rule edition) = is verdict
 is_judged is (Limited verdict rule states edition) = is verdict
 is_judged is (Full verdict rule states edition) = is verdict
 
--- how many records there are, and how many were judged so
+-- how many records there are
 abbrev pub records_in : List DocketValue → ℕ
 records_in dockets = sum_by (λ docket. length docket.entries) dockets
 

@@ -153,7 +153,8 @@ fn write_sections<K: Sink>(
 
 /// Writes the report of a run: of each capture its records' lines, the answers to lines of the script,
 /// the last edition's rules with their counts, the live states, the hits of the caches, and the journal
-/// where it is asked for. There is an edition. It takes no memory. Where the sink fails, a front of the text was written.
+/// where it is asked for. There is an edition. It takes no memory. Where the sink fails, a front of the text
+/// was written.
 pub fn write_report<K: Sink>(
     editions: &[Arc<Edition>],
     book: &Book,
