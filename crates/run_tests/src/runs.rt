@@ -21,6 +21,23 @@ mod words;
 /// How much a sink takes unless a row says otherwise.
 const ROOM: u64 = 1_048_576;
 
+/// The words of a run over a script and one capture of incoming packets.
+const SERIAL: &[&str] = &["serial", "s", "in:em0:c"];
+
+/// The report of an empty script over one SYN.
+const DENIED: &str =
+    "1.1 deny 65535 at 1\nend 1 records 1\neditions 1\nrules 1\n65535 1 40 set 31 deny ip from any to any\nclock 0\nstates 0\n";
+
+const A: [u8; 4] = [10, 0, 0, 1];
+
+const B: [u8; 4] = [192, 0, 2, 1];
+
+/// A SYN from A, port 1025, to B, port 80.
+const T: Packet = Packet::Tcp((A, 1025), (B, 80), 2);
+
+/// UDP from A, port 5, to B, port 6.
+const U: Packet = Packet::Udp((A, 5), (B, 6));
+
 /// A packet and the second of its record.
 type Timed = (u32, Packet);
 
@@ -125,8 +142,7 @@ fn replay<R: Threads + Wait>(
     pieces: &[usize],
 ) -> Result<Seen, Fail> {
     let mut library = library_of(alloc, script, capture, pieces, None)?;
-    let words = ["serial", "s", "in:em0:c"];
-    run_over(rt, alloc, &words, &mut library, ROOM)
+    run_over(rt, alloc, SERIAL, &mut library, ROOM)
 }
 
 /// Compares what a run left with the status and the text that the row of that name wants.

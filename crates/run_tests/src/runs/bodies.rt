@@ -1,5 +1,5 @@
-use super::captures::{SYN, raw};
-use super::{ROOM, Seen, library_of, replay, run_over};
+use super::captures::{Packet, SYN, raw};
+use super::{A, B, ROOM, Row, SERIAL, Seen, T, check as check_rows, library_of, run_over};
 use std::alloc::Global;
 use std::process::Abort;
 use std::sync::Wait;
@@ -55,11 +55,11 @@ const BEFORE: &[u8] = b"local 10.0.0.1\n\
     add 100 allow ";
 
 /// A rule's body, and of which of the packets it holds: `+` where it does.
-pub type Row = (&'static str, &'static str);
+pub type Held = (&'static str, &'static str);
 
 /// For the SYN, its answer, the reset, the datagram, the echo request, the fragment, the short SYN and GRE,
 /// which come in by em0.
-const INCOMING: [Row; 57] = [
+const INCOMING: [Held; 57] = [
     ("ip from any to any", "++++++++"),
     ("all from any to any", "++++++++"),
     ("tcp from any to any", "+++---+-"),
@@ -123,7 +123,7 @@ const INCOMING: [Row; 57] = [
 ];
 
 /// For the same packets, which go out by em0.
-const OUTGOING: [Row; 6] = [
+const OUTGOING: [Held; 6] = [
     ("ip from any to any out", "++++++++"),
     ("ip from any to any in", "--------"),
     ("ip from any to any xmit em0", "++++++++"),
@@ -184,7 +184,7 @@ fn check_body<R: Threads + Wait + Abort>(
     alloc: Global,
     word: &str,
     capture: &[u8],
-    (body, holds): Row,
+    (body, holds): Held,
 ) -> Result<(), Fail> {
     let seen = run_body(rt, alloc, word, capture, body)?;
     let begins = text_of(alloc, holds)?;
@@ -199,7 +199,7 @@ pub fn check<R: Threads + Wait + Abort>(
     alloc: Global,
     word: &str,
     capture: &[u8],
-    rows: &[Row],
+    rows: &[Held],
 ) -> Result<(), Fail> {
     for row in rows {
         check_body(rt, alloc, word, capture, *row)?;
@@ -229,73 +229,39 @@ fn bodies_hold_of_outgoing_packets(rt: HostRuntime) -> Result<(), Fail> {
     )
 }
 
-/// The SYN with another source.
-fn syn_from(source: [u8; 4]) -> [u8; 40] {
-    let mut packet = SYN;
-    let [first, second, third, fourth] = source;
-    packet[12] = first;
-    packet[13] = second;
-    packet[14] = third;
-    packet[15] = fourth;
-    packet
-}
-
-/// The SYN with other flags.
-fn syn_with(flags: u8) -> [u8; 40] {
-    let mut packet = SYN;
-    packet[33] = flags;
-    packet
-}
-
-/// Runs a script over a capture, and compares how the report begins.
-fn check_start<R: Threads + Wait + Abort>(
-    rt: &R,
-    alloc: Global,
-    script: &str,
-    capture: &[u8],
-    begins: &str,
-) -> Result<(), Fail> {
-    let seen = replay(rt, alloc, script.as_bytes(), capture, &[])?;
-    assert!(rt; seen.text.starts_with(begins.as_bytes()), "{begins}");
-    assert_eq!(rt; seen.status, 0, "{begins}");
-    Ok(())
-}
-
-#[test]
-fn longest_prefix_decides(rt: HostRuntime) -> Result<(), Fail> {
-    let script = "table nets add 10.0.0.0/8 1\ntable nets add 10.1.0.0/16 2\n\
-        add 100 allow ip from table(nets,2) to any\nadd 200 deny ip from table(nets,1) to any\n";
-    let begins =
-        "1.1 allow 00100 at 1\n1.2 deny 00200 at 1\n1.3 deny 65535 at 1\nend 1 records 3\n";
-    let within_both = syn_from([10, 1, 2, 3]);
-    let within_one = syn_from([10, 2, 2, 3]);
-    let without = syn_from([11, 0, 0, 1]);
-    let packets: [&[u8]; 3] = [&within_both, &within_one, &without];
-    let capture = raw(rt.alloc(), &packets)?;
-    check_start(&rt, rt.alloc(), script, &capture, begins)
-}
+/// Worked rows of tables, flags and lookups.
+const WORKED: [Row; 3] = [
+    Row {
+        name: "longest_prefix_decides",
+        words: SERIAL,
+        script: "table nets add 10.0.0.0/8 1\ntable nets add 10.1.0.0/16 2\nadd 100 allow ip from table(nets,2) to any\nadd 200 deny ip from table(nets,1) to any\n",
+        captures: &[&[
+            (100, Packet::Tcp(([10, 1, 2, 3], 1025), (B, 80), 2)),
+            (100, Packet::Tcp(([10, 2, 2, 3], 1025), (B, 80), 2)),
+            (100, Packet::Tcp(([11, 0, 0, 1], 1025), (B, 80), 2)),
+        ]],
+        status: 0,
+        text: "1.1 allow 00100 at 1\n1.2 deny 00200 at 1\n1.3 deny 65535 at 1\nend 1 records 3\neditions 1\nrules 3\n00100 1 40 allow ip from table(nets,2) to any\n00200 1 40 deny ip from table(nets,1) to any\n65535 1 40 set 31 deny ip from any to any\nclock 0\nstates 0\n",
+    },
+    Row {
+        name: "established_needs_ack_or_rst",
+        words: SERIAL,
+        script: "add 100 allow tcp from any to any established\n",
+        captures: &[&[(100, T), (100, Packet::Tcp((A, 1025), (B, 80), 18))]],
+        status: 0,
+        text: "1.1 deny 65535 at 1\n1.2 allow 00100 at 1\nend 1 records 2\neditions 1\nrules 2\n00100 1 40 allow tcp from any to any established\n65535 1 40 set 31 deny ip from any to any\nclock 0\nstates 0\n",
+    },
+    Row {
+        name: "lookup_of_a_port",
+        words: SERIAL,
+        script: "table ports create type number\ntable ports add 80 1\nadd 100 allow tcp from any to any lookup dst-port ports\n",
+        captures: &[&[(100, T)]],
+        status: 0,
+        text: "1.1 allow 00100 at 1\nend 1 records 1\neditions 1\nrules 2\n00100 1 40 allow tcp from any to any lookup dst-port ports\n65535 0 0 set 31 deny ip from any to any\nclock 0\nstates 0\n",
+    },
+];
 
 #[test]
-fn established_needs_ack_or_rst(rt: HostRuntime) -> Result<(), Fail> {
-    let script = "add 100 allow tcp from any to any established\n";
-    let begins = "1.1 deny 65535 at 1\n1.2 allow 00100 at 1\nend 1 records 2\n";
-    let asks = SYN;
-    let answers = syn_with(0x12);
-    let packets: [&[u8]; 2] = [&asks, &answers];
-    let capture = raw(rt.alloc(), &packets)?;
-    check_start(&rt, rt.alloc(), script, &capture, begins)
-}
-
-#[test]
-fn lookup_of_a_port(rt: HostRuntime) -> Result<(), Fail> {
-    let script = "table ports create type number\ntable ports add 80 1\n\
-        add 100 allow tcp from any to any lookup dst-port ports\n";
-    let capture = raw(rt.alloc(), &[&SYN])?;
-    check_start(
-        &rt,
-        rt.alloc(),
-        script,
-        &capture,
-        "1.1 allow 00100 at 1\nend 1 records 1\n",
-    )
+fn tables_flags_and_lookups(rt: HostRuntime) -> Result<(), Fail> {
+    check_rows(&rt, rt.alloc(), &WORKED)
 }

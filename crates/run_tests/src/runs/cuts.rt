@@ -1,5 +1,5 @@
 use super::captures::syns;
-use super::{ROOM, assert_seen, library_of, replay, run_over};
+use super::{ROOM, SERIAL, assert_seen, library_of, replay, run_over};
 use std::alloc::Global;
 use std::process::Abort;
 use std::sync::Wait;
@@ -86,8 +86,6 @@ fn capture_truncated_at_each_byte(rt: HostRuntime) -> Result<(), Fail> {
     Ok(())
 }
 
-const WORDS: [&str; 3] = ["serial", "s", "in:em0:c"];
-
 /// Runs an empty script over that capture, whose source fails after so many bytes.
 fn check_failing_source<R: Threads + Wait + Abort>(
     rt: &R,
@@ -97,7 +95,7 @@ fn check_failing_source<R: Threads + Wait + Abort>(
 ) -> Result<(), Fail> {
     let text = report_of(alloc, bytes, failed_end(bytes))?;
     let mut library = library_of(alloc, b"", capture, &[], Some(bytes as u64))?;
-    let seen = run_over(rt, alloc, &WORDS, &mut library, ROOM)?;
+    let seen = run_over(rt, alloc, SERIAL, &mut library, ROOM)?;
     assert_seen(rt, &seen, "a source that fails", 4, &text);
     Ok(())
 }
@@ -122,7 +120,7 @@ fn check_room<R: Threads + Wait + Abort>(
     let status = if room < text.len() { 5 } else { 0 };
     let front = &text[..room.min(text.len())];
     let mut library = library_of(alloc, b"", capture, &[], None)?;
-    let seen = run_over(rt, alloc, &WORDS, &mut library, room as u64)?;
+    let seen = run_over(rt, alloc, SERIAL, &mut library, room as u64)?;
     assert_seen(rt, &seen, "a sink of little room", status, front);
     Ok(())
 }

@@ -1,16 +1,6 @@
 use super::captures::Packet;
-use super::{Row, Timed, check};
+use super::{B, Row, SERIAL, T, Timed, U, check};
 use std::test::Fail;
-
-const A: [u8; 4] = [10, 0, 0, 1];
-
-const B: [u8; 4] = [192, 0, 2, 1];
-
-const T: Packet = Packet::Tcp((A, 1025), (B, 80), 2);
-
-const U: Packet = Packet::Udp((A, 5), (B, 6));
-
-const ONE: &[&str] = &["serial", "s", "in:em0:c"];
 
 const FIVE: &[Timed] = &[(100, T), (101, T), (102, T), (103, T), (104, T)];
 
@@ -22,7 +12,7 @@ const FROM_TWO: &[Timed] = &[
 const ROWS: [Row; 8] = [
     Row {
         name: "publication_drops_states",
-        words: ONE,
+        words: SERIAL,
         script: "add 100 check-state\nadd 200 allow udp from any to any keep-state\nlive\nafter 1\ndelete 200\n",
         captures: &[&[(100, U), (101, U)]],
         status: 0,
@@ -30,7 +20,7 @@ const ROWS: [Row; 8] = [
     },
     Row {
         name: "kept_state_gets_the_last_rule",
-        words: ONE,
+        words: SERIAL,
         script: "sysctl dyn_keep_states=1\nadd 100 check-state\nadd 200 allow udp from any to any keep-state\nlive\nafter 1\ndelete 200\n",
         captures: &[&[(100, U), (101, U)]],
         status: 0,
@@ -38,7 +28,7 @@ const ROWS: [Row; 8] = [
     },
     Row {
         name: "set_swap_is_one_edition",
-        words: ONE,
+        words: SERIAL,
         script: "set disable 2\nadd 100 set 1 allow tcp from any to any\nadd 100 set 2 deny tcp from any to any\nlive\nafter 3\nset swap 1 2\nset disable 31\n",
         captures: &[FIVE],
         status: 2,
@@ -46,7 +36,7 @@ const ROWS: [Row; 8] = [
     },
     Row {
         name: "table_values_and_existing_entry",
-        words: ONE,
+        words: SERIAL,
         script: "table nets add 10.0.0.0/8 1\ntable nets add 10.1.0.0/16 2\nadd 100 allow ip from table(nets,2) to any\nadd 200 deny ip from table(nets,1) to any\nlive\ntable nets add 10.0.0.0/8 5\n",
         captures: &[FROM_TWO],
         status: 2,
@@ -54,7 +44,7 @@ const ROWS: [Row; 8] = [
     },
     Row {
         name: "skipto_own_number_skips_nothing",
-        words: ONE,
+        words: SERIAL,
         script: "add 100 count tcp from any to any\nadd 100 skipto 100 tcp from any to any\nadd 100 allow tcp from any to any\n",
         captures: &[&[(100, T)]],
         status: 0,
@@ -62,7 +52,7 @@ const ROWS: [Row; 8] = [
     },
     Row {
         name: "return_goes_past_the_call",
-        words: ONE,
+        words: SERIAL,
         script: "add 100 call 300 ip from any to any\nadd 100 count ip from any to any\nadd 200 allow ip from any to any\nadd 300 return ip from any to any\n",
         captures: &[&[(100, T)]],
         status: 0,
@@ -70,7 +60,7 @@ const ROWS: [Row; 8] = [
     },
     Row {
         name: "automatic_number_stops_at_65534",
-        words: ONE,
+        words: SERIAL,
         script: "add 65434 count ip from any to any\nadd count ip from any to any\nadd count ip from any to any\n",
         captures: &[&[]],
         status: 0,

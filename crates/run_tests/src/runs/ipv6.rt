@@ -1,4 +1,4 @@
-use super::bodies::{ECHO, Row, check};
+use super::bodies::{ECHO, Held, check};
 use super::captures::{SYN, raw};
 use super::{assert_seen, replay};
 use std::alloc::Global;
@@ -35,9 +35,19 @@ const OPTIONS6: &[u8] =
 const FIRST_FRAGMENT6: &[u8] =
     b"\x60\x00\x00\x00\x00\x10\x2c\x40\x20\x01\x0d\xb8\x00\x00\x00\x00\x00\x00\x00\x00\x00\x00\x00\x01\x20\x01\x0d\xb8\x00\x00\x00\x00\x00\x00\x00\x00\x00\x00\x00\x02\x11\x00\x00\x01\x00\x00\x00\x07\x00\x05\x00\x06\x00\x08\x00\x00";
 
+/// ICMPv6's protocol and its type 128 in IPv4, from 10.0.0.1 to 192.0.2.1.
+const ECHO6_IN_4: &[u8] = &[
+    0x45, 0, 0, 0x1c, 0, 0, 0, 0, 0x40, 58, 0, 0, 10, 0, 0, 1, 0xc0, 0, 2, 1, 0x80, 0, 0, 0, 0, 0,
+    0, 0,
+];
+
+/// ICMP's protocol and its type 8 in IPv6, from 2001:db8::1 to 2001:db8::2.
+const ECHO_IN_6: &[u8] =
+    b"\x60\x00\x00\x00\x00\x08\x01\x40\x20\x01\x0d\xb8\x00\x00\x00\x00\x00\x00\x00\x00\x00\x00\x00\x01\x20\x01\x0d\xb8\x00\x00\x00\x00\x00\x00\x00\x00\x00\x00\x00\x02\x08\x00\x00\x00\x00\x01\x00\x01";
+
 /// For the datagram, the SYN, the echo request, the later fragment, the destination options, and a SYN and
 /// an echo request of IPv4.
-const ROWS: [Row; 47] = [
+const ROWS: [Held; 47] = [
     ("ip from any to any", "+++++++"),
     ("ip4 from any to any", "-----++"),
     ("ipv4 from any to any", "-----++"),
@@ -95,31 +105,53 @@ fn bodies_hold_of_either_version(rt: HostRuntime) -> Result<(), Fail> {
 }
 
 /// A row's name, its script, its frame on a raw link, and the whole text of its run, whose status is 0.
-const FRAMES: [(&str, &str, &[u8], &str); 3] = [
+type Framed = (&'static str, &'static str, &'static [u8], &'static str);
+
+const FRAMES: [Framed; 6] = [
     (
         "ipv6_prefix",
         "add 100 allow ip6 from 2001:db8::/32 to any\n",
         DATAGRAM6,
         "1.1 allow 00100 at 1\nend 1 records 1\neditions 1\nrules 2\n00100 1 48 allow ip6 from 2001:db8::/32 to any\n65535 0 0 set 31 deny ip from any to any\nclock 0\nstates 0\n",
     ),
+    // This worked row is about any header that extends IPv6's: its frame has hop-by-hop options and no fragment
+    // header.
     (
-        "ports behind hop-by-hop options",
+        "ipv6_fragment_header",
         "add 100 deny udp from any to any 6\n",
         OPTIONS6,
         "1.1 deny 00100 at 1\nend 1 records 1\neditions 1\nrules 2\n00100 1 56 deny udp from any to any 6\n65535 0 0 set 31 deny ip from any to any\nclock 0\nstates 0\n",
     ),
     (
-        "ipv6_fragment_header",
+        "ports behind a fragment header",
         "add 100 deny udp from any to any 6\n",
         FIRST_FRAGMENT6,
         "1.1 deny 00100 at 1\nend 1 records 1\neditions 1\nrules 2\n00100 1 56 deny udp from any to any 6\n65535 0 0 set 31 deny ip from any to any\nclock 0\nstates 0\n",
+    ),
+    (
+        "icmp6types never holds of IPv4",
+        "add 100 deny ip from any to any icmp6types 128\nadd 200 count 58 from any to any\nadd 300 allow ip from any to any not icmp6types 128\n",
+        ECHO6_IN_4,
+        "1.1 allow 00300 at 1\nend 1 records 1\neditions 1\nrules 4\n00100 0 0 deny ip from any to any icmp6types 128\n00200 1 28 count 58 from any to any\n00300 1 28 allow ip from any to any not icmp6types 128\n65535 0 0 set 31 deny ip from any to any\nclock 0\nstates 0\n",
+    ),
+    (
+        "icmptypes never holds of IPv6",
+        "add 100 deny ip from any to any icmptypes 8\nadd 200 count icmp from any to any\nadd 300 allow ip from any to any not icmptypes 8\n",
+        ECHO_IN_6,
+        "1.1 allow 00300 at 1\nend 1 records 1\neditions 1\nrules 4\n00100 0 0 deny ip from any to any icmptypes 8\n00200 1 48 count icmp from any to any\n00300 1 48 allow ip from any to any not icmptypes 8\n65535 0 0 set 31 deny ip from any to any\nclock 0\nstates 0\n",
+    ),
+    (
+        "keep-state never holds of IPv6",
+        "add 100 check-state\nadd 200 allow udp from any to any keep-state\n",
+        DATAGRAM6,
+        "1.1 deny 65535 at 1\nend 1 records 1\neditions 1\nrules 3\n00100 0 0 check-state\n00200 0 0 allow udp from any to any keep-state\n65535 1 48 set 31 deny ip from any to any\nclock 0\nstates 0\n",
     ),
 ];
 
 fn check_frame<R: Threads + Wait + Abort>(
     rt: &R,
     alloc: Global,
-    (name, script, frame, text): (&str, &str, &[u8], &str),
+    (name, script, frame, text): Framed,
 ) -> Result<(), Fail> {
     let capture = raw(alloc, &[frame])?;
     let seen = replay(rt, alloc, script.as_bytes(), &capture, &[])?;
@@ -127,7 +159,6 @@ fn check_frame<R: Threads + Wait + Abort>(
     Ok(())
 }
 
-/// `ipv6_prefix` and `ipv6_fragment_header`.
 #[test]
 fn ipv6_rows(rt: HostRuntime) -> Result<(), Fail> {
     for frame in FRAMES {

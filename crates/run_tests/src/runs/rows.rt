@@ -1,5 +1,5 @@
 use super::captures::{COOKED, ETHERNET, ETHERNET_HEADER, SYN, push_record, raw, syns};
-use super::{ROOM, assert_seen, library_of, replay, run_over};
+use super::{ROOM, SERIAL, assert_seen, library_of, replay, run_over};
 use std::alloc::Global;
 use std::process::Abort;
 use std::sync::Wait;
@@ -63,14 +63,14 @@ fn cooked(alloc: Global) -> Result<Vec<u8>, Fail> {
 }
 
 fn unreadable(alloc: Global) -> Result<Vec<u8>, Fail> {
-    let mut starts = [[0u8; 20]; 6];
+    let mut starts = [[0u8; 20]; 5];
     starts[0][0] = 0x55;
     starts[1][0] = 0x44;
     starts[2][0] = 0x46;
     starts[3][0] = 0x45;
     starts[3][3] = 0x13;
     starts[4][0] = 0x60;
-    let [version, words, short, total, six, _] = &starts;
+    let [version, words, short, total, six] = &starts;
     let mut unsized_syn = SYN;
     unsized_syn[3] = 0;
     let packets: [&[u8]; 7] = [&[], version, words, short, total, six, &unsized_syn];
@@ -197,8 +197,6 @@ fn malformed_kinds(rt: HostRuntime) -> Result<(), Fail> {
     check(&rt, rt.alloc(), &MALFORMED)
 }
 
-const WORDS: [&str; 3] = ["serial", "s", "in:em0:c"];
-
 /// Runs an empty script over two SYNs, whose source fails behind the first.
 fn check_failing_source<R: Threads + Wait + Abort>(
     rt: &R,
@@ -206,7 +204,7 @@ fn check_failing_source<R: Threads + Wait + Abort>(
     pieces: &[usize],
 ) -> Result<(), Fail> {
     let mut library = library_of(alloc, b"", &syns(alloc, 2)?, pieces, Some(94))?;
-    let seen = run_over(rt, alloc, &WORDS, &mut library, ROOM)?;
+    let seen = run_over(rt, alloc, SERIAL, &mut library, ROOM)?;
     let text =
         b"1.1 deny 65535 at 1\nfault 1 record 2 ReadFault\neditions 1\nrules 1\n65535 1 40 set 31 deny ip from any to any\nclock 0\nstates 0\n";
     assert_seen(rt, &seen, "read_fault_between_records", 4, text);
@@ -225,7 +223,7 @@ fn read_fault_between_records(rt: HostRuntime) -> Result<(), Fail> {
 fn sink_of_ten_bytes(rt: HostRuntime) -> Result<(), Fail> {
     let alloc = rt.alloc();
     let mut library = library_of(alloc, b"", &syns(alloc, 1)?, &[], None)?;
-    let seen = run_over(&rt, alloc, &WORDS, &mut library, 10)?;
+    let seen = run_over(&rt, alloc, SERIAL, &mut library, 10)?;
     assert_seen(&rt, &seen, "sink_of_ten_bytes", 5, b"1.1 deny 6");
     assert_eq!(rt; seen.records, 1);
     Ok(())

@@ -1,14 +1,15 @@
 use super::captures::{ETHERNET_HEADER, syns};
-use super::{assert_seen, replay};
+use super::{DENIED, assert_seen, replay};
 use std::alloc::Global;
 use std::process::Abort;
 use std::sync::Wait;
 use std::test::Fail;
 use std::thread::Threads;
 
-/// A script with the status that its run over one SYN has, and its whole text.
+/// A named script with the status that its run over one SYN has, and its whole text.
 #[derive(Clone, Copy)]
 struct Row {
+    name: &'static str,
     script: &'static str,
     status: u8,
     text: &'static str,
@@ -22,7 +23,7 @@ fn check_over<R: Threads + Wait + Abort>(
     capture: &[u8],
 ) -> Result<(), Fail> {
     let seen = replay(rt, alloc, row.script.as_bytes(), capture, &[])?;
-    assert_seen(rt, &seen, row.script, row.status, row.text.as_bytes());
+    assert_seen(rt, &seen, row.name, row.status, row.text.as_bytes());
     assert_eq!(rt; seen.sources, 2);
     Ok(())
 }
@@ -35,109 +36,127 @@ fn check<R: Threads + Wait + Abort>(rt: &R, alloc: Global, rows: &[Row]) -> Resu
     Ok(())
 }
 
-/// `misspelt_action_in_script`, `last_rule_is_reserved`, `delete_of_no_rule` and `not_before_keep_state`
-/// among them.
+/// Scripts with a fault, or with a command that is refused.
 const REFUSED: [Row; 9] = [
     Row {
+        name: "misspelt_action_in_script",
         script: "add 100 alow ip from any to any\n",
         status: 2,
         text: "script line 1 column 9 UnknownWord\n",
     },
     Row {
+        name: "not_before_keep_state",
         script: "add allow ip from any to any in not keep-state",
         status: 2,
         text: "script line 1 column 33 Misplaced\n",
     },
     Row {
+        name: "last_rule_is_reserved",
         script: "delete 65535",
         status: 2,
         text: "script line 1 ReservedRule\n",
     },
     Row {
+        name: "delete_of_no_rule",
         script: "delete 7",
         status: 2,
         text: "script line 1 NoSuchRule\n",
     },
     Row {
+        name: "a refused command is told before a listing of no table",
         script: "table none list\ndelete 7",
         status: 2,
         text: "script line 2 NoSuchRule\n",
     },
     Row {
+        name: "a listing of no table",
         script: "list\ntable none list",
         status: 2,
         text: "script line 2 NoSuchTable\n",
     },
     Row {
+        name: "a fault on a later line is told before a refusal",
         script: "delete 7\nadd allow ip from any to",
         status: 2,
         text: "script line 2 column 25 MissingWord\n",
     },
     Row {
+        name: "after before live",
         script: "after 1\nlive",
         status: 2,
         text: "script line 1 column 1 Misplaced\n",
     },
     Row {
+        name: "live commands that are refused",
         script: "live\ndelete 7\ntable none list\nlist",
         status: 2,
         text: "1.1 deny 65535 at 1\nend 1 records 1\nrefused line 2 NoSuchRule\nrefused line 3 NoSuchTable\nlist line 4 edition 1\nrules 1\n65535 set 31 deny ip from any to any\neditions 1\nrules 1\n65535 1 40 set 31 deny ip from any to any\nclock 0\nstates 0\n",
     },
 ];
 
-/// `canonical_text_of_a_rule` and `pace_in_live_script` among them; pace may stand in a serial run.
 const ACCEPTED: [Row; 11] = [
     Row {
+        name: "canonical_text_of_a_rule",
         script: "add 5 set 3 pass log logamount 10 6 from not 10.1.2.3/8,me 80,1000-2000 to any not domain in recv em* tcpflags syn,!ack\n",
         status: 0,
         text: "1.1 deny 65535 at 1\nend 1 records 1\neditions 1\nrules 2\n00005 0 0 set 3 allow log logamount 10 tcp from not 10.0.0.0/8,me 80,1000-2000 to any not 53 in recv em* tcpflags syn,!ack\n65535 1 40 set 31 deny ip from any to any\nclock 0\nstates 0\n",
     },
     Row {
+        name: "pace_in_live_script, which a serial run accepts",
         script: "live\nafter 1\n",
         status: 0,
         text: "1.1 deny 65535 at 1\nend 1 records 1\neditions 1\nrules 1\n65535 1 40 set 31 deny ip from any to any\nclock 0\nstates 0\n",
     },
     Row {
+        name: "reset",
         script: "add 100 reset tcp from any to any",
         status: 0,
         text: "1.1 reset 00100 at 1\nend 1 records 1\neditions 1\nrules 2\n00100 1 40 reset tcp from any to any\n65535 0 0 set 31 deny ip from any to any\nclock 0\nstates 0\n",
     },
     Row {
+        name: "reject is unreach host",
         script: "add 100 reject ip from any to any",
         status: 0,
         text: "1.1 unreach host 00100 at 1\nend 1 records 1\neditions 1\nrules 2\n00100 1 40 unreach host ip from any to any\n65535 0 0 set 31 deny ip from any to any\nclock 0\nstates 0\n",
     },
     Row {
+        name: "unreach with log",
         script: "add 100 unreach 16 log ip from 10.0.0.0/8 to 192.0.2.1",
         status: 0,
         text: "1.1 unreach 16 00100 at 1\nend 1 records 1\neditions 1\nrules 2\n00100 1 40 unreach 16 log ip from 10.0.0.0/8 to 192.0.2.1\n65535 0 0 set 31 deny ip from any to any\nclock 0\nstates 0\n",
     },
     Row {
+        name: "a rule of a disabled set",
         script: "add 100 set 2 allow ip from any to any\nset disable 2",
         status: 0,
         text: "1.1 deny 65535 at 1\nend 1 records 1\neditions 1\ndisabled 2\nrules 2\n00100 0 0 set 2 allow ip from any to any\n65535 1 40 set 31 deny ip from any to any\nclock 0\nstates 0\n",
     },
     Row {
+        name: "sets that are swapped, of which one is disabled",
         script: "set disable 2\nadd 100 set 1 allow tcp from any to any\nset swap 1 2\nadd 100 deny ip from any to any",
         status: 0,
         text: "1.1 deny 00100 at 1\nend 1 records 1\neditions 1\ndisabled 2\nrules 3\n00100 0 0 set 2 allow tcp from any to any\n00100 1 40 deny ip from any to any\n65535 0 0 set 31 deny ip from any to any\nclock 0\nstates 0\n",
     },
     Row {
+        name: "numbers in steps of 100, and a rule that is deleted",
         script: "add allow ip from any to any\nadd 50 deny udp from any to any\ndelete 100\nadd pass ip from 10.0.0.1 to any",
         status: 0,
         text: "1.1 allow 00150 at 1\nend 1 records 1\neditions 1\nrules 3\n00050 0 0 deny udp from any to any\n00150 1 40 allow ip from 10.0.0.1 to any\n65535 0 0 set 31 deny ip from any to any\nclock 0\nstates 0\n",
     },
     Row {
+        name: "flush",
         script: "add allow ip from any to any\nflush",
         status: 0,
         text: "1.1 deny 65535 at 1\nend 1 records 1\neditions 1\nrules 1\n65535 1 40 set 31 deny ip from any to any\nclock 0\nstates 0\n",
     },
     Row {
+        name: "a table that a later line makes is listed",
         script: "table nets list\n# a later line makes it\ntable nets add 10.1.0.0/16 2\ntable nets add 10.0.0.0/8\ntable nets add 10.1.0.0 7\n",
         status: 0,
         text: "1.1 deny 65535 at 1\nend 1 records 1\ntable nets addr 3 line 1 edition 1\n10.0.0.0/8 0\n10.1.0.0/16 2\n10.1.0.0/32 7\neditions 1\nrules 1\n65535 1 40 set 31 deny ip from any to any\nclock 0\nstates 0\n",
     },
     Row {
+        name: "a table of numbers is listed",
         script: "table n create type number\ntable n add 80 1\ntable n add 9 4294967295\ntable n list\nlist",
         status: 0,
         text: "1.1 deny 65535 at 1\nend 1 records 1\ntable n number 2 line 4 edition 1\n9 4294967295\n80 1\nlist line 5 edition 1\nrules 1\n65535 set 31 deny ip from any to any\neditions 1\nrules 1\n65535 1 40 set 31 deny ip from any to any\nclock 0\nstates 0\n",
@@ -151,6 +170,7 @@ fn scripts_by_their_status(rt: HostRuntime) -> Result<(), Fail> {
 }
 
 const NUMBERED: Row = Row {
+    name: "automatic_numbers_and_list",
     script: "add 65434 deny ip from any to any\nadd deny ip from any to any\nadd deny ip from any to any\nlist\n",
     status: 0,
     text: "end 1 records 0\nlist line 4 edition 1\nrules 4\n65434 deny ip from any to any\n65534 deny ip from any to any\n65534 deny ip from any to any\n65535 set 31 deny ip from any to any\neditions 1\nrules 4\n65434 0 0 deny ip from any to any\n65534 0 0 deny ip from any to any\n65534 0 0 deny ip from any to any\n65535 0 0 set 31 deny ip from any to any\nclock 0\nstates 0\n",
@@ -174,18 +194,53 @@ enum Made {
     Listings,
 }
 
-/// The script, the status of its run and the whole text.
-const LIMITS: [(Made, u8, &[u8]); 6] = [
-    (Made::Names, 2, b"script line 64 TooManyNames\n"),
-    (Made::Comment(1_048_576), 0, DENIED),
-    (Made::Comment(1_048_577), 2, b"script TooLong\n"),
-    (Made::Lines(65_536), 0, DENIED),
-    (Made::Lines(65_537), 2, b"script TooManyLines\n"),
-    (Made::Listings, 2, b"script TooManyLive\n"),
-];
+/// A named script at a limit or past it, with the status that its run over one SYN has, and its whole text.
+#[derive(Clone, Copy)]
+struct Limit {
+    name: &'static str,
+    script: Made,
+    status: u8,
+    text: &'static str,
+}
 
-const DENIED: &[u8] =
-    b"1.1 deny 65535 at 1\nend 1 records 1\neditions 1\nrules 1\n65535 1 40 set 31 deny ip from any to any\nclock 0\nstates 0\n";
+const LIMITS: [Limit; 6] = [
+    Limit {
+        name: "too_many_names",
+        script: Made::Names,
+        status: 2,
+        text: "script line 64 TooManyNames\n",
+    },
+    Limit {
+        name: "the longest script",
+        script: Made::Comment(1_048_576),
+        status: 0,
+        text: DENIED,
+    },
+    Limit {
+        name: "a script that is too long by a byte",
+        script: Made::Comment(1_048_577),
+        status: 2,
+        text: "script TooLong\n",
+    },
+    Limit {
+        name: "the most lines",
+        script: Made::Lines(65_536),
+        status: 0,
+        text: DENIED,
+    },
+    Limit {
+        name: "a line too many",
+        script: Made::Lines(65_537),
+        status: 2,
+        text: "script TooManyLines\n",
+    },
+    Limit {
+        name: "a live command too many",
+        script: Made::Listings,
+        status: 2,
+        text: "script TooManyLive\n",
+    },
+];
 
 /// Appends a rule with the flow name of that number.
 fn push_named(alloc: Global, script: &mut Vec<u8>, name: usize) -> Result<(), Fail> {
@@ -223,19 +278,18 @@ fn check_limit<R: Threads + Wait + Abort>(
     rt: &R,
     alloc: Global,
     capture: &[u8],
-    (made, status, text): (Made, u8, &[u8]),
+    limit: &Limit,
 ) -> Result<(), Fail> {
-    let script = script_of(alloc, made)?;
+    let script = script_of(alloc, limit.script)?;
     let seen = replay(rt, alloc, &script, capture, &[])?;
-    assert_seen(rt, &seen, "a script at its limit", status, text);
+    assert_seen(rt, &seen, limit.name, limit.status, limit.text.as_bytes());
     Ok(())
 }
 
-/// `too_many_names` among them.
 #[test]
 fn scripts_at_their_limits(rt: HostRuntime) -> Result<(), Fail> {
     let capture = syns(rt.alloc(), 1)?;
-    for limit in LIMITS {
+    for limit in &LIMITS {
         check_limit(&rt, rt.alloc(), &capture, limit)?;
     }
     Ok(())

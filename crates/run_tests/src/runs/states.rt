@@ -1,10 +1,6 @@
 use super::captures::{End, Packet};
-use super::{Row, Timed, check};
+use super::{A, B, Row, SERIAL, T, Timed, U, check};
 use std::test::Fail;
-
-const A: [u8; 4] = [10, 0, 0, 1];
-
-const B: [u8; 4] = [192, 0, 2, 1];
 
 const SYN: u8 = 2;
 
@@ -15,12 +11,6 @@ const FIN_ACK: u8 = 17;
 const ACK: u8 = 16;
 
 const RST: u8 = 4;
-
-const T: Packet = Packet::Tcp((A, 1025), (B, 80), SYN);
-
-const U: Packet = Packet::Udp((A, 5), (B, 6));
-
-const ONE: &[&str] = &["serial", "s", "in:em0:c"];
 
 const JOURNAL: &[&str] = &["serial", "--journal", "s", "in:em0:c"];
 
@@ -51,7 +41,7 @@ const ROWS: [Row; 8] = [
     },
     Row {
         name: "limit_by_source_address",
-        words: ONE,
+        words: SERIAL,
         script: "add 100 allow tcp from any to any setup limit src-addr 2\n",
         captures: &[LIMITED],
         status: 0,
@@ -59,7 +49,7 @@ const ROWS: [Row; 8] = [
     },
     Row {
         name: "clock_never_goes_back",
-        words: ONE,
+        words: SERIAL,
         script: "add 100 allow udp from any to any keep-state\n",
         captures: &[&[(100, U), (109, U), (50, U)]],
         status: 0,
@@ -67,7 +57,7 @@ const ROWS: [Row; 8] = [
     },
     Row {
         name: "state_table_full",
-        words: ONE,
+        words: SERIAL,
         script: "sysctl dyn_max=1\nadd 100 allow udp from any to any keep-state\n",
         captures: &[&[(100, U), (101, Packet::Udp((A, 7), (B, 8)))]],
         status: 0,
@@ -91,7 +81,7 @@ const ROWS: [Row; 8] = [
     },
     Row {
         name: "call_stack_full_and_empty",
-        words: ONE,
+        words: SERIAL,
         script: "add 100 count ip from any to any\nadd 200 call 100 ip from any to any\nadd 300 return ip from any to any\n",
         captures: &[&[(100, T)]],
         status: 0,
@@ -99,7 +89,7 @@ const ROWS: [Row; 8] = [
     },
     Row {
         name: "rules_that_call_each_other",
-        words: ONE,
+        words: SERIAL,
         script: "add 100 call 200 ip from any to any\nadd 200 call 100 ip from any to any\n",
         captures: &[&[(100, T)]],
         status: 0,

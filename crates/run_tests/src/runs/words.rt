@@ -1,5 +1,5 @@
 use super::captures::syns;
-use super::{ROOM, add, assert_seen, library_of, run_over};
+use super::{DENIED, ROOM, add, assert_seen, library_of, run_over};
 use fw_base::{MemoryLibrary, Name};
 use std::alloc::Global;
 use std::process::Abort;
@@ -9,9 +9,6 @@ use std::thread::Threads;
 
 const USAGE: &[u8] =
     b"usage: ipfw_replay serial|live [--journal] SCRIPT in|out:IF:CAPTURE .. | load N\n";
-
-const DENIED: &[u8] =
-    b"1.1 deny 65535 at 1\nend 1 records 1\neditions 1\nrules 1\n65535 1 40 set 31 deny ip from any to any\nclock 0\nstates 0\n";
 
 /// Words that are no command.
 const NO_COMMANDS: [&[&str]; 17] = [
@@ -88,7 +85,7 @@ fn check_command<R: Threads + Wait + Abort>(
 ) -> Result<(), Fail> {
     let mut library = library_of_names(alloc)?;
     let seen = run_over(rt, alloc, words, &mut library, ROOM)?;
-    assert_seen(rt, &seen, "a command", 0, DENIED);
+    assert_seen(rt, &seen, "a command", 0, DENIED.as_bytes());
     Ok(())
 }
 
