@@ -49,20 +49,20 @@ judged_record editions asks at (Packet packet port second) entered = judged_unde
 judged_record editions asks at Other entered = []
 judged_record editions asks at (Malformed kind) entered = []
 
--- those of a lane, from this record on
+-- the judged packets of a lane, from this record on
 abbrev pub judged_records : List Published → List LaneAsk → ℕ → List Input → List DocketEntry → List JudgedPacket
 judged_records editions asks at [] entries = []
 judged_records editions asks at (input ∷ inputs) [] = []
 judged_records editions asks at (input ∷ inputs) (entered ∷ entries) = judged_record editions asks at input entered ++ judged_records editions asks (at + 1) inputs entries
 
--- those of all lanes, from this lane on
+-- the judged packets of all lanes, from this lane on
 abbrev pub judged_lanes : RecordValue → ℕ → List (List Input) → List DocketValue → List JudgedPacket
 judged_lanes r lane [] dockets = []
 judged_lanes r lane (inputs ∷ others) [] = []
 judged_lanes r lane (inputs ∷ others) (docket ∷ dockets) =
     judged_records r.editions (lane_asks lane r.journal.entries) 1 inputs docket.entries ++ judged_lanes r (lane + 1) others dockets
 
--- those of a record of these inputs
+-- the judged packets of a run that these inputs had and that left this record
 abbrev pub judged_packets : List (List Input) → RecordValue → List JudgedPacket
 judged_packets inputs r = judged_lanes r 1 inputs r.dockets
 

@@ -49,6 +49,23 @@ const ACK: &[u8] = &[
 
 pub const ROWS: &[Row] = &[
     Row {
+        name: "empty_script_denies_one_syn",
+        script: "",
+        first: &[(100, SYN)],
+        behind: &[],
+        text: "1.1 deny 65535 at 1\nend 1 records 1\neditions 1\nrules 1\n\
+            65535 1 40 set 31 deny ip from any to any\nclock 0\nstates 0\n\
+            journal 2 1\npublish 1\nlane 1 refused 0 tracker 2\n",
+    },
+    Row {
+        name: "capture_of_no_records",
+        script: "",
+        first: &[],
+        behind: &[],
+        text: "end 1 records 0\neditions 1\nrules 1\n65535 0 0 set 31 deny ip from any to any\n\
+            clock 0\nstates 0\njournal 2 1\npublish 1\nlane 1 refused 0 tracker 0\n",
+    },
+    Row {
         name: "tcp_state_lives_and_dies",
         script: "add 100 check-state\nadd 200 allow tcp from any to any setup keep-state\n",
         first: &[
