@@ -7,6 +7,13 @@ pub mod ListedEditions
 pub mod PrintedLines
 -- turns of captures
 pub mod KeptOrder
+-- one record of a script and captures
+pub mod OneFacts
+pub mod OneEvaluation
+pub mod LawfulRun
+pub mod OneRun
+pub mod OneReport
+pub mod OneReplay
 -- what the tests go through
 pub mod OneLane
 pub mod TwoLanes

@@ -8,6 +8,8 @@ pub mod Listings
 pub mod Dockets
 -- the order of the records
 pub mod CaptureOrder
+-- one record of a script and captures
+pub mod OneReplay
 -- what the tests go through
 pub mod OneLane
 pub mod TwoLanes

@@ -3,6 +3,7 @@ ghost use Rattle.record_laws.specs.CaptureOrder.{CapturesKeepTheirOrder};
 ghost use Rattle.record_laws.specs.Counters.{CountersAddUp};
 ghost use Rattle.record_laws.specs.Dockets.{EditionsNeverFall};
 ghost use Rattle.record_laws.specs.Listings.{ListingsNamePublishedEditions};
+ghost use Rattle.record_laws.specs.OneReplay.{RecordsAreDetermined, ReplaysAreDetermined};
 ghost use Rattle.record_laws.specs.VerdictLines.{VerdictLinesAreRecords, ReplaysPrintEachRecord};
 
 use fw_base::Source;
@@ -36,4 +37,16 @@ pub fn editions_never_fall()
 /// In the order of a replay each capture gives all its records, in their order.
 pub fn captures_keep_their_order()
     ensures { CapturesKeepTheirOrder }
+{}
+
+/// There is one record of a first configuration, a script and the records of captures: the one that comes of them
+/// in the order of the schedule, with the one state object's replies. It has one report.
+pub fn records_are_determined()
+    ensures { RecordsAreDetermined }
+{}
+
+/// Two replays of one first configuration and one script, that read the same bytes of captures which were taken at
+/// the same ports, leave the same record and give the same answers, whatever the captures were read from.
+pub fn replays_are_determined<S: Source, T: Source>()
+    ensures { ReplaysAreDetermined S.left S.faults T.left T.faults }
 {}
