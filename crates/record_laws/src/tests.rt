@@ -5,7 +5,9 @@ ghost use Rattle.fw_world.specs.Steps.{ChangesAsksOf};
 ghost use Rattle.fw_world.specs.World.{IsLaneOf};
 ghost use Rattle.record_laws.specs.OneLane.{IsOneLane};
 
-use crate::laws::{listings_name_published_editions, replays_print_each_record};
+use crate::laws::{
+    listings_name_published_editions, replays_are_determined, replays_print_each_record,
+};
 use fw_base::{Direction, Link, MemorySink, MemorySource, Name, Port};
 use fw_command::{Line, Pace, Script, Step, parse_script};
 use fw_report::{Answer, CaptureEnd, Ends, LineAnswer, write_report};
@@ -345,4 +347,5 @@ fn a_workstation_has_two_lanes(rt: HostRuntime) -> Result<(), Fail> {
 fn laws_of_replays() {
     replays_print_each_record::<MemorySource>();
     listings_name_published_editions::<MemorySource>();
+    replays_are_determined::<MemorySource, MemorySource>();
 }
