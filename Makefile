@@ -1,6 +1,7 @@
 # Builds, checks and installs ipfw_replay. 'make help' lists what can be made.
 
 RT = rt
+JOBS = $(shell nproc 2>/dev/null || echo 2)
 PREFIX = /usr/local
 DESTDIR =
 
@@ -16,12 +17,12 @@ need_rt = @command -v $(RT) >/dev/null || { \
 
 all: $(PROGRAM)
 
-# rt proves every crate below the program, links it and runs it once, on the capture of one packet that lies
-# beside it. It prints each function as it is proved.
+# rt proves the crates below the program, as many at once as JOBS says. Then it links the program and runs it once, on
+# the capture of one packet that lies beside it. A crate that is proved has its lines printed.
 $(PROGRAM): bin/sources
 	$(need_rt)
-	@echo "proving the crates and linking $@: a first build takes minutes, and each proved function has its line"
-	cd crates/ipfw_cli && $(RT) run -- serial data/s in:em0:data/c >/dev/null
+	@echo "proving the crates and linking $@: a first build takes minutes, and each proved crate has its lines"
+	cd crates/ipfw_cli && $(RT) all check --jobs $(JOBS) && $(RT) run -- serial data/s in:em0:data/c >/dev/null
 	@cp crates/ipfw_cli/out/ipfw_cli $@.new && mv $@.new $@
 	@echo "built $@"
 
@@ -72,6 +73,7 @@ help:
 	@echo "make install    builds, and copies the program and its manual page below DESTDIR/PREFIX ($(PREFIX))"
 	@echo "make clean      removes all that was built and what the proofs keep"
 	@echo
-	@echo "RT=COMMAND names another command than rt for the Rattle toolchain."
+	@echo "RT=COMMAND names another command than rt for the Rattle toolchain. JOBS=N proves N crates at a time: as many as"
+	@echo "there are processors, where nothing is said, each with up to 4 GB of memory."
 
 .PHONY: all example test bench install clean help FORCE

@@ -1,10 +1,11 @@
-ghost use Rattle.std.specs.Prelude.{None, ◌≡◌};
+ghost use Rattle.std.specs.Prelude.{◌≡◌};
 
 use fw_base::{Failed, Source};
 use std::io::Read;
 use std::marker::Model;
 
-/// A file as a source. It tells no bytes; contracts see it as its count of faults.
+/// A file as a source. Contracts see the file, whose told bytes are the source's, and a count of faults; a file of
+/// the system tells no bytes.
 #[derive(Drop)]
 pub struct FileSource<F> {
     file: F,
@@ -14,23 +15,23 @@ pub struct FileSource<F> {
 impl<F> Model for FileSource<F> {
     ghost use Rattle.std.specs.Prelude.{ℕ};
 
-    ghost Value = { ℕ };
+    ghost Value = { F × ℕ };
 
-    ghost view = { λ s. s.faults };
+    ghost view = { λ s. (s.file, s.faults) };
 }
 
 impl<F: Read + Drop> FileSource<F> {
     pub fn new(file: F) -> FileSource<F>
-        ensures { result ≡ 0 }
+        ensures { result ≡ (file, 0) }
     {
         FileSource { file, faults: 0 }
     }
 }
 
 impl<F: Read + Drop> Source for FileSource<F> {
-    ghost left = { λ _. None };
+    ghost left = { λ s. F.remaining s.0 };
 
-    ghost faults = { λ s. s };
+    ghost faults = { λ s. s.1 };
 
     fn read(&mut self, buf: &mut [u8]) -> Result<usize, Failed> {
         match self.file.read(buf) {
