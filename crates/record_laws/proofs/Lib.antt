@@ -7,12 +7,14 @@ pub mod ListedEditions
 pub mod PrintedLines
 -- turns of captures
 pub mod KeptOrder
--- one record of a script and captures
+-- one record and one report of a script and captures
 pub mod OneFacts
 pub mod OneEvaluation
 pub mod LawfulRun
 pub mod OneRun
 pub mod OneReport
+pub mod SameEnds
+pub mod ReadCaptures
 pub mod OneReplay
 -- what the tests go through
 pub mod OneLane

@@ -1,27 +1,27 @@
 -- What a run leaves is determined by its first configuration, its script and its captures.
-use Rattle.std.proofs.Common.{◌≡◌, ℕ, suc, Option, List, [], ◌∷◌, length, map, take, refl, sym, ap, ◌∙◌, subst}
+use Rattle.std.proofs.Common.{◌≡◌, ℕ, Option, List, length, map, sym, ap, ◌∙◌, subst}
 use Rattle.std.proofs.lemmas.List.{length-map}
-use Rattle.std.specs.List.{AllByRecursion}
 use Rattle.counter_book.specs.Counts.{counted_under}
 use Rattle.counter_book.specs.declared.tally.Count.{Count}
 use Rattle.fw_command.specs.declared.script.Step.{Step}
-use Rattle.fw_report.specs.declared.capture_end.CaptureEnd.{CaptureEnd}
 use Rattle.fw_world.specs.Lane.{LaneValue}
 use Rattle.fw_world.specs.Publications.{IsLawful}
 use Rattle.fw_world.specs.RecordValue.{RecordValue}
 use Rattle.generation_store.specs.Published.{Published}
-use Rattle.pcap_read.specs.Reading.{Captured, Place, HasFront, header_of}
-use Rattle.pcap_read.proofs.OneFront.{front_unique}
 use Rattle.rule_chain.specs.Configuration.{Configuration}
 use Rattle.serial_replay.specs.Events.{ReplaysAll}
-use Rattle.serial_replay.specs.Reading.{Track, Origin, origin_of, link_in, AllRead}
-use Rattle.serial_replay.specs.Replay.{ComesOf, IsFirstState, limit_for}
+use Rattle.serial_replay.specs.Reading.{Track, Origin, origin_of, AllRead}
+use Rattle.serial_replay.specs.Replay.{ComesOf, IsFirstState, IsReplay, limit_for}
 use Rattle.serial_replay.specs.declared.replay.OpenedCapture.{OpenedCapture}
+use Rattle.serial_replay.specs.declared.replay.Replayed.{Replayed}
 use Rattle.serial_schedule.specs.Schedule.{Event, schedule}
 use Rattle.state_journal.specs.declared.entry.Entry.{Entry}
-use Rattle.record_laws.specs.OneReplay.{HaveSameRecords, HaveSameBytes, RecordsAreDetermined, ReplaysAreDetermined}
+use Rattle.record_laws.specs.OneReplay.{IsSameRecord, RecordsAreDetermined, IsSameReplay, IsSameReport, ReplaysAreDetermined, ContentsDetermineReports}
+use Rattle.record_laws.specs.SameCaptures.{HaveSameRecords, HaveSameBytes, HaveSameContents, HaveNoFailedRead, HaveSameFailedReads, printed_end}
 use Rattle.record_laws.proofs.LawfulRun.{LeadsTo, grows_all, leads_first}
 use Rattle.record_laws.proofs.OneReport.{same_record}
+use Rattle.record_laws.proofs.SameEnds.{same_report, same_ends, none_alike}
+use Rattle.record_laws.proofs.ReadCaptures.{track_count, end_count, all_ended, same_records, with_contents, are_told}
 use Rattle.record_laws.proofs.OneRun.{IsSameState, alike_all, first_alike, same_parts, same_counts}
 
 -- a lawful run is so from its first state on
@@ -56,57 +56,73 @@ records_are_determined config steps tracks others r s same c lawful d legal =
 
 -- ---- from bytes to records
 
--- a capture's records are the front of its bytes
-abbrev HasItsFront : ℕ → Track → Type 0
-HasItsFront limit track = (place : Place) × HasFront limit track.bytes track.records place
-
-module _ {R : Type 0} (left : R → Option (List ℕ)) (faults : R → ℕ) where
-  -- there are as many captures as tracks
-  track_count : (limit : ℕ) (captures : List (OpenedCapture R)) (sources : List R) (tracks : List Track) (ends : List CaptureEnd) → AllRead left faults limit captures sources tracks ends → length captures ≡ length tracks
-  track_count limit [] [] [] [] all = refl
-  track_count limit (opened ∷ captures) (source ∷ sources) (track ∷ tracks) (end ∷ ends) all = ap (λ n. suc n) (track_count limit captures sources tracks ends all.2)
-  track_count limit captures sources tracks ends all = absurd all
-
-  fronts_of : (limit : ℕ) (captures : List (OpenedCapture R)) (sources : List R) (tracks : List Track) (ends : List CaptureEnd) → AllRead left faults limit captures sources tracks ends → AllByRecursion (HasItsFront limit) tracks
-  fronts_of limit [] [] [] [] all = tt
-  fronts_of limit (opened ∷ captures) (source ∷ sources) (track ∷ tracks) (end ∷ ends) all =
-      let stops = all.1.stopped.behind in ((stops.0, stops.1), fronts_of limit captures sources tracks ends all.2)
-  fronts_of limit captures sources tracks ends all = absurd all
-
--- of the same bytes the same records are read
-same_records : (limit : ℕ) (tracks others : List Track) → AllByRecursion (HasItsFront limit) tracks → AllByRecursion (HasItsFront limit) others → HaveSameBytes tracks others → HaveSameRecords tracks others
-same_records limit [] [] fronts also same = record { origins = refl; records = refl }
-same_records limit [] (other ∷ others) fronts also same = let no = same.bytes in absurd (cc)
-same_records limit (track ∷ tracks) [] fronts also same = let no = same.bytes in absurd (cc)
-same_records limit (track ∷ tracks) (other ∷ others) fronts also same =
-    let all_ports = same.ports in
-    let all_bytes = same.bytes in
-    let port : track.port ≡ other.port = cc in
-    let bytes : track.bytes ≡ other.bytes = cc in
-    let rest = same_records limit tracks others fronts.1 also.1 (record { ports = cc; bytes = cc }) in
-    let front : HasFront limit track.bytes other.records also.0.0 = subst (λ (l : List ℕ). HasFront limit l other.records also.0.0) (sym bytes) also.0.1 in
-    let records = (front_unique limit track.bytes track.records other.records fronts.0.0 also.0.0 fronts.0.1 front).0 in
-    let origin : origin_of track ≡ origin_of other = λ i. record { link = link_in (header_of (take 24 (bytes i))); port = port i } in
-    record {
-      origins = ap (λ (o : Origin). o ∷ map origin_of tracks) origin ∙ ap (λ (l : List Origin). origin_of other ∷ l) rest.origins;
-      records = ap (λ (l : List Captured). l ∷ map (λ (t : Track). t.records) tracks) records ∙ ap (λ (ls : List (List Captured)). other.records ∷ ls) rest.records;
-    }
+-- records that say the same, of captures whose ends are printed alike, have one report
+one_report : {S T : Type 0} (r : Replayed S) (s : Replayed T) → IsSameRecord r.record s.record → map printed_end r.ends.captures ≡ map printed_end s.ends.captures → IsSameReport r s
+one_report r s same ends = record {
+  ends = ends;
+  text = λ hits answers journal. same_report r.record hits r.ends.captures s.ends.captures answers journal ends ∙ same.report hits s.ends.captures answers journal;
+}
 
 module _ {S T : Type 0} (left : S → Option (List ℕ)) (faults : S → ℕ) (otherLeft : T → Option (List ℕ)) (otherFaults : T → ℕ) where
+  module _ (config : Configuration) (steps : List Step) (captures : List (OpenedCapture S)) (others : List (OpenedCapture T)) (r : Replayed S) (s : Replayed T)
+      (replay : IsReplay left faults config steps captures r) (other : IsReplay otherLeft otherFaults config steps others s) where
+    -- of the same records the same replay
+    same_replay : HaveSameRecords replay.tracks other.tracks → IsSameReplay r s
+    same_replay same = record {
+      recorded = records_are_determined config steps replay.tracks other.tracks r.record s.record same replay.ordered replay.legal.lawful other.ordered other.legal.lawful;
+      answers = replay.answered ∙ sym other.answered;
+    }
+
+    -- the limit of a replay's captures
+    abbrev limit : ℕ
+    limit = limit_for (length captures)
+
+    read : AllRead left faults limit captures r.sources.items replay.tracks r.ends.captures
+    read = replay.read
+
+    -- the other replay's captures were read to the same limit, where they are as many
+    other_read : length captures ≡ length others → AllRead otherLeft otherFaults limit others s.sources.items other.tracks s.ends.captures
+    other_read count = subst (λ (n : ℕ). AllRead otherLeft otherFaults (limit_for n) others s.sources.items other.tracks s.ends.captures) (sym count) other.read
+
+    by_bytes : HaveSameBytes replay.tracks other.tracks → IsSameReplay r s × (HaveSameFailedReads r.ends.captures s.ends.captures → IsSameReport r s)
+    by_bytes same =
+        let tracks : length replay.tracks ≡ length other.tracks =
+        sym (length-map replay.tracks (λ (t : Track). t.bytes)) ∙ ap length same.bytes ∙ length-map other.tracks (λ (t : Track). t.bytes) in
+        let count : length captures ≡ length others =
+        track_count left faults limit captures r.sources.items replay.tracks r.ends.captures read
+        ∙ tracks ∙ sym (track_count otherLeft otherFaults (limit_for (length others)) others s.sources.items other.tracks s.ends.captures other.read) in
+        let all = all_ended left faults limit captures r.sources.items replay.tracks r.ends.captures read in
+        let also = all_ended otherLeft otherFaults limit others s.sources.items other.tracks s.ends.captures (other_read count) in
+        let replayed = same_replay (same_records limit replay.tracks other.tracks r.ends.captures s.ends.captures all also same) in
+        (replayed, λ alike. one_report r s replayed.recorded (same_ends limit replay.tracks other.tracks r.ends.captures s.ends.captures all also same alike))
+
+    by_contents : HaveSameContents left otherLeft captures others → HaveNoFailedRead r.ends.captures → HaveNoFailedRead s.ends.captures → IsSameReplay r s × IsSameReport r s
+    by_contents same none also =
+        let count : length captures ≡ length others =
+        sym (length-map captures (λ (c : OpenedCapture S). c.port)) ∙ ap length same.ports ∙ length-map others (λ (c : OpenedCapture T). c.port) in
+        let told = are_told left faults limit captures r.sources.items replay.tracks r.ends.captures same.contents read same.told none in
+        let other_told = are_told otherLeft otherFaults limit others s.sources.items other.tracks s.ends.captures same.contents (other_read count) same.other_told also in
+        let first = with_contents replay.tracks same.contents in
+        let second = with_contents other.tracks same.contents in
+        let bytes : HaveSameBytes first second = record {
+          ports = told.ports ∙ same.ports ∙ sym other_told.ports;
+          bytes = told.bytes ∙ sym other_told.bytes;
+        } in
+        let between = same_records limit first second r.ends.captures s.ends.captures told.ended other_told.ended bytes in
+        let records : HaveSameRecords replay.tracks other.tracks = record {
+          origins = told.same.origins ∙ between.origins ∙ sym other_told.same.origins;
+          records = told.same.records ∙ between.records ∙ sym other_told.same.records;
+        } in
+        let ends : length r.ends.captures ≡ length s.ends.captures =
+        sym (end_count left faults limit captures r.sources.items replay.tracks r.ends.captures read)
+        ∙ count ∙ end_count otherLeft otherFaults limit others s.sources.items other.tracks s.ends.captures (other_read count) in
+        let replayed = same_replay records in
+        (replayed, one_report r s replayed.recorded (same_ends limit first second r.ends.captures s.ends.captures told.ended other_told.ended bytes (none_alike r.ends.captures s.ends.captures ends none also)))
+
   -- there is one replay of the captures' bytes
   pub replays_are_determined : ReplaysAreDetermined left faults otherLeft otherFaults
-  replays_are_determined config steps captures others r s replay other same =
-      let tracks : length replay.tracks ≡ length other.tracks =
-      sym (length-map replay.tracks (λ (t : Track). t.bytes)) ∙ ap length same.bytes ∙ length-map other.tracks (λ (t : Track). t.bytes) in
-      let count : length captures ≡ length others =
-      track_count left faults (limit_for (length captures)) captures r.sources.items replay.tracks r.ends.captures replay.read
-      ∙ tracks ∙ sym (track_count otherLeft otherFaults (limit_for (length others)) others s.sources.items other.tracks s.ends.captures other.read) in
-      let fronts = fronts_of left faults (limit_for (length captures)) captures r.sources.items replay.tracks r.ends.captures replay.read in
-      let also : AllByRecursion (HasItsFront (limit_for (length captures))) other.tracks =
-      subst (λ (n : ℕ). AllByRecursion (HasItsFront (limit_for n)) other.tracks) (sym count)
-      (fronts_of otherLeft otherFaults (limit_for (length others)) others s.sources.items other.tracks s.ends.captures other.read) in
-      record {
-        recorded = records_are_determined config steps replay.tracks other.tracks r.record s.record (same_records (limit_for (length captures)) replay.tracks other.tracks fronts also same)
-            replay.ordered replay.legal.lawful other.ordered other.legal.lawful;
-        answers = replay.answered ∙ sym other.answered;
-      }
+  replays_are_determined config steps captures others r s replay other same = by_bytes config steps captures others r s replay other same
+
+  -- and one report of what their sources tell
+  pub contents_determine_reports : ContentsDetermineReports left faults otherLeft otherFaults
+  contents_determine_reports config steps captures others r s replay other same none also = by_contents config steps captures others r s replay other same none also

@@ -8,7 +8,8 @@ pub mod Listings
 pub mod Dockets
 -- the order of the records
 pub mod CaptureOrder
--- one record of a script and captures
+-- one record and one report of a script and captures
+pub mod SameCaptures
 pub mod OneReplay
 -- what the tests go through
 pub mod OneLane

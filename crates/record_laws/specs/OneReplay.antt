@@ -9,21 +9,12 @@ use Rattle.fw_report.specs.declared.ends.LineAnswer.{LineAnswer}
 use Rattle.fw_world.specs.Publications.{IsLawful}
 use Rattle.fw_world.specs.RecordValue.{RecordValue}
 use Rattle.rule_chain.specs.Configuration.{Configuration}
-use Rattle.serial_replay.specs.Reading.{Track, origin_of}
+use Rattle.serial_replay.specs.Reading.{Track}
 use Rattle.serial_replay.specs.Replay.{ComesOf, IsReplay}
 use Rattle.serial_replay.specs.declared.replay.OpenedCapture.{OpenedCapture}
 use Rattle.serial_replay.specs.declared.replay.Replayed.{Replayed}
+use Rattle.record_laws.specs.SameCaptures.{HaveSameRecords, HaveSameBytes, HaveSameContents, HaveNoFailedRead, HaveSameFailedReads, printed_end}
 use Rattle.record_laws.specs.VerdictLines.{recorded_with}
-
--- The captures are as many, of the same link types, taken at the same ports, and have the same records.
-pub record HaveSameRecords (tracks others : List Track) : Type 0 where
-  pub origins : map origin_of tracks ≡ map origin_of others
-  pub records : map (λ track. track.records) tracks ≡ map (λ track. track.records) others
-
--- The captures were taken at the same ports, and the same bytes were read of them.
-pub record HaveSameBytes (tracks others : List Track) : Type 0 where
-  pub ports : map (λ track. track.port) tracks ≡ map (λ track. track.port) others
-  pub bytes : map (λ track. track.bytes) tracks ≡ map (λ track. track.bytes) others
 
 -- what each lane counted under a counter number
 abbrev pub lane_counts : ℕ → RecordValue → List Count
@@ -43,8 +34,8 @@ pub record IsSameRecord (r s : RecordValue) : Type 0 where
   pub report : (hits : List ℕ) (ends : List CaptureEnd) (answers : List LineAnswer) (journal : Bool)
       → report_text (recorded_with hits r) ends answers journal ≡ report_text (recorded_with hits s) ends answers journal
 
--- There is one record that comes of a first configuration, a script and the records of captures in the order of
--- the schedule, with a journal in which each reply is the one state object's.
+-- At most one record comes of a first configuration, a script and the records of captures in the order of the
+-- schedule, with a journal in which each reply is the one state object's.
 abbrev pub RecordsAreDetermined : Type 0
 RecordsAreDetermined = (config : Configuration) (steps : List Step) (tracks others : List Track) (r s : RecordValue) → HaveSameRecords tracks others
     → ComesOf config steps tracks r → IsLawful r.editions r.journal.entries → ComesOf config steps others s → IsLawful s.editions s.journal.entries
@@ -55,10 +46,27 @@ pub record IsSameReplay {S T : Type 0} (r : Replayed S) (s : Replayed T) : Type 
   pub recorded : IsSameRecord r.record s.record
   pub answers : r.ends.answers ≡ s.ends.answers
 
+-- Both replays have one report: their captures' ends are printed alike, and so is the whole text, with whatever
+-- answers to lines of the script.
+pub record IsSameReport {S T : Type 0} (r : Replayed S) (s : Replayed T) : Type 0 where
+  pub ends : map printed_end r.ends.captures ≡ map printed_end s.ends.captures
+  pub text : (hits : List ℕ) (answers : List LineAnswer) (journal : Bool)
+      → report_text (recorded_with hits r.record) r.ends.captures answers journal ≡ report_text (recorded_with hits s.record) s.ends.captures answers journal
+
 module _ {S T : Type 0} (left : S → Option (List ℕ)) (faults : S → ℕ) (otherLeft : T → Option (List ℕ)) (otherFaults : T → ℕ) where
   -- Two replays of one first configuration and one script, that read the same bytes of captures which were taken
-  -- at the same ports, leave the same, whatever the sources are and however they end.
+  -- at the same ports, leave the same record and answers, whatever the sources are. Where the same captures were
+  -- ended by a failing read, they have one report.
   abbrev pub ReplaysAreDetermined : Type 0
   ReplaysAreDetermined = (config : Configuration) (steps : List Step) (captures : List (OpenedCapture S)) (others : List (OpenedCapture T)) (r : Replayed S) (s : Replayed T)
       → (replay : IsReplay left faults config steps captures r) → (other : IsReplay otherLeft otherFaults config steps others s)
-      → HaveSameBytes replay.tracks other.tracks → IsSameReplay r s
+      → HaveSameBytes replay.tracks other.tracks → IsSameReplay r s × (HaveSameFailedReads r.ends.captures s.ends.captures → IsSameReport r s)
+
+  -- Two replays of one first configuration and one script, over captures which were taken at the same ports and
+  -- whose sources tell the same bytes, none of which was ended by a failing read, leave the same record and
+  -- answers, and have one report.
+  abbrev pub ContentsDetermineReports : Type 0
+  ContentsDetermineReports = (config : Configuration) (steps : List Step) (captures : List (OpenedCapture S)) (others : List (OpenedCapture T)) (r : Replayed S) (s : Replayed T)
+      → IsReplay left faults config steps captures r → IsReplay otherLeft otherFaults config steps others s
+      → HaveSameContents left otherLeft captures others → HaveNoFailedRead r.ends.captures → HaveNoFailedRead s.ends.captures
+      → IsSameReplay r s × IsSameReport r s

@@ -54,8 +54,8 @@ VerdictLinesAreRecords = (first : Configuration) (commands : List Command) (inpu
     → PrintsEachRecord inputs (captures_text 1 r.dockets ends) (report_text (recorded_with hits r) ends answers journal)
 
 module _ {S : Type 0} (left : S → Option (List ℕ)) (faults : S → ℕ) where
-  -- the report of a replay has a verdict line for each record that was read of its captures
+  -- the report of a replay has a verdict line for each record that was read of its captures, whatever the answers
   abbrev pub ReplaysPrintEachRecord : Type 0
-  ReplaysPrintEachRecord = (config : Configuration) (steps : List Step) (captures : List (OpenedCapture S)) (r : Replayed S) (hits : List ℕ) (journal : Bool)
+  ReplaysPrintEachRecord = (config : Configuration) (steps : List Step) (captures : List (OpenedCapture S)) (r : Replayed S) (hits : List ℕ) (answers : List LineAnswer) (journal : Bool)
       → (replay : IsReplay left faults config steps captures r)
-      → PrintsEachRecord (map track_inputs replay.tracks) (captures_text 1 r.record.dockets r.ends.captures) (report_text (recorded_with hits r.record) r.ends.captures r.ends.answers journal)
+      → PrintsEachRecord (map track_inputs replay.tracks) (captures_text 1 r.record.dockets r.ends.captures) (report_text (recorded_with hits r.record) r.ends.captures answers journal)

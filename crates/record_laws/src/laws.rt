@@ -3,7 +3,7 @@ ghost use Rattle.record_laws.specs.CaptureOrder.{CapturesKeepTheirOrder};
 ghost use Rattle.record_laws.specs.Counters.{CountersAddUp};
 ghost use Rattle.record_laws.specs.Dockets.{EditionsNeverFall};
 ghost use Rattle.record_laws.specs.Listings.{ListingsNamePublishedEditions};
-ghost use Rattle.record_laws.specs.OneReplay.{RecordsAreDetermined, ReplaysAreDetermined};
+ghost use Rattle.record_laws.specs.OneReplay.{RecordsAreDetermined, ReplaysAreDetermined, ContentsDetermineReports};
 ghost use Rattle.record_laws.specs.VerdictLines.{VerdictLinesAreRecords, ReplaysPrintEachRecord};
 
 use fw_base::Source;
@@ -19,12 +19,13 @@ pub fn verdict_lines_are_records()
     ensures { VerdictLinesAreRecords }
 {}
 
-/// The report of a replay has as many verdict lines as records were read of its captures.
+/// The report of a replay has as many verdict lines as records were read of its captures, whatever the answers to
+/// lines of the script.
 pub fn replays_print_each_record<S: Source>()
     ensures { ReplaysPrintEachRecord S.left S.faults }
 {}
 
-/// Each listing of a replay names an edition that the journal publishes, and that the report shows.
+/// Each listing behind `live` names an edition that the journal publishes, and that the report shows.
 pub fn listings_name_published_editions<S: Source>()
     ensures { ListingsNamePublishedEditions S.left S.faults }
 {}
@@ -39,14 +40,22 @@ pub fn captures_keep_their_order()
     ensures { CapturesKeepTheirOrder }
 {}
 
-/// There is one record of a first configuration, a script and the records of captures: the one that comes of them
-/// in the order of the schedule, with the one state object's replies. It has one report.
+/// At most one record comes of a first configuration, a script and the records of captures, in the order of the
+/// schedule and with the one state object's replies.
 pub fn records_are_determined()
     ensures { RecordsAreDetermined }
 {}
 
 /// Two replays of one first configuration and one script, that read the same bytes of captures which were taken at
-/// the same ports, leave the same record and give the same answers, whatever the captures were read from.
+/// the same ports, leave the same record and give the same answers, whatever the captures were read from. Where the
+/// same captures were ended by a failing read, they have one report.
 pub fn replays_are_determined<S: Source, T: Source>()
     ensures { ReplaysAreDetermined S.left S.faults T.left T.faults }
+{}
+
+/// Two replays of one first configuration and one script, over captures that were taken at the same ports and whose
+/// sources tell the same bytes, leave the same record, give the same answers and have one report, where no capture
+/// was ended by a failing read.
+pub fn contents_determine_reports<S: Source, T: Source>()
+    ensures { ContentsDetermineReports S.left S.faults T.left T.faults }
 {}

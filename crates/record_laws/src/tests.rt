@@ -6,7 +6,8 @@ ghost use Rattle.fw_world.specs.World.{IsLaneOf};
 ghost use Rattle.record_laws.specs.OneLane.{IsOneLane};
 
 use crate::laws::{
-    listings_name_published_editions, replays_are_determined, replays_print_each_record,
+    contents_determine_reports, listings_name_published_editions, replays_are_determined,
+    replays_print_each_record,
 };
 use fw_base::{Direction, Link, MemorySink, MemorySource, Name, Port};
 use fw_command::{Line, Pace, Script, Step, parse_script};
@@ -348,4 +349,5 @@ fn laws_of_replays() {
     replays_print_each_record::<MemorySource>();
     listings_name_published_editions::<MemorySource>();
     replays_are_determined::<MemorySource, MemorySource>();
+    contents_determine_reports::<MemorySource, MemorySource>();
 }

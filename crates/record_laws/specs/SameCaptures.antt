@@ -1,0 +1,46 @@
+-- What the captures of two replays have in common: where they were taken, what they hold, and how they ended.
+use Rattle.std.specs.Prelude.{◌≡◌, ℕ, ⊤, Option, Some, List, [], ◌∷◌, map}
+use Rattle.fw_report.specs.declared.capture_end.CaptureEnd.{CaptureEnd}
+use Rattle.fw_report.specs.declared.capture_end.CaptureEnd.TheVariants.{Read, Stopped}
+use Rattle.pcap_read.specs.declared.capture_fault.CaptureFault.TheVariants.{ReadFault}
+use Rattle.serial_replay.specs.Reading.{Track, origin_of}
+use Rattle.serial_replay.specs.declared.replay.OpenedCapture.{OpenedCapture}
+
+-- The captures are as many, of the same link types, taken at the same ports, and have the same records.
+pub record HaveSameRecords (tracks others : List Track) : Type 0 where
+  pub origins : map origin_of tracks ≡ map origin_of others
+  pub records : map (λ track. track.records) tracks ≡ map (λ track. track.records) others
+
+-- The captures were taken at the same ports, and the same bytes were read of them.
+pub record HaveSameBytes (tracks others : List Track) : Type 0 where
+  pub ports : map (λ track. track.port) tracks ≡ map (λ track. track.port) others
+  pub bytes : map (λ track. track.bytes) tracks ≡ map (λ track. track.bytes) others
+
+module _ {S T : Type 0} (left : S → Option (List ℕ)) (otherLeft : T → Option (List ℕ)) where
+  -- The captures were taken at the same ports, and their sources tell the same bytes.
+  pub record HaveSameContents (captures : List (OpenedCapture S)) (others : List (OpenedCapture T)) : Type 0 where
+    pub contents : List (List ℕ)
+    pub ports : map (λ capture. capture.port) captures ≡ map (λ capture. capture.port) others
+    pub told : map (λ capture. left capture.source) captures ≡ map Some contents
+    pub other_told : map (λ capture. otherLeft capture.source) others ≡ map Some contents
+
+-- the capture was ended by a failing read
+abbrev pub EndedByFailedRead : CaptureEnd → Type 0
+EndedByFailedRead (Read records) = ⊥
+EndedByFailedRead (Stopped at fault count) = fault ≡ ReadFault
+
+-- no capture was ended by a failing read
+abbrev pub HaveNoFailedRead : List CaptureEnd → Type 0
+HaveNoFailedRead [] = ⊤
+HaveNoFailedRead (end ∷ ends) = (EndedByFailedRead end → ⊥) × HaveNoFailedRead ends
+
+-- the captures that were ended by a failing read are the same
+abbrev pub HaveSameFailedReads : List CaptureEnd → List CaptureEnd → Type 0
+HaveSameFailedReads [] [] = ⊤
+HaveSameFailedReads (end ∷ ends) (other ∷ others) = (EndedByFailedRead end → EndedByFailedRead other) × (EndedByFailedRead other → EndedByFailedRead end) × HaveSameFailedReads ends others
+HaveSameFailedReads ends others = ⊥
+
+-- A capture's end as it is printed. Of a fault's end the count of the source's failed reads isn't printed.
+abbrev pub printed_end : CaptureEnd → CaptureEnd
+printed_end (Read records) = Read records
+printed_end (Stopped at fault count) = Stopped at fault 0
