@@ -161,17 +161,37 @@ class Maker:
             return bytes([self.choice([0, 3, 8, 128, 129])]) + bytes(7)
         return bytes(4)
 
+    def frame(self, link):
+        """A packet behind a link header; some have another type, and some are cut."""
+        packet = self.packet()
+        is_six = packet[:1] != b"" and packet[0] >> 4 == 6
+        kind = b"\x08\x06" if self.chance(0.03) else b"\x86\xdd" if is_six else b"\x08\x00"
+        if link == 0:
+            family = self.choice([24, 28, 30]) if is_six else 2
+            header = struct.pack(self.choice("<>") + "I", 7 if self.chance(0.03) else family)
+        elif link == 1:
+            tags = self.choice([b""] * 4 + [b"\x81\x00\x00\x07", b"\x81\x00\x00\x07" * 2, b"\x88\xa8\x00\x07"])
+            header = bytes(12) + tags + kind
+        elif link == 113:
+            header = bytes(14) + kind
+        else:
+            header = b""
+        whole = header + packet
+        return whole[:self.random.randrange(len(header) + 1)] if self.chance(0.03) else whole
+
     def capture(self):
-        """A raw capture, in either byte order, in microseconds or nanoseconds; some end too early."""
+        """A capture of one of the four link types, in either byte order, in microseconds or nanoseconds; some end too
+        early."""
         order, is_nanos = self.choice("<<<>"), self.chance(0.2)
         magic = 0xA1B23C4D if is_nanos else 0xA1B2C3D4
-        data = struct.pack(order + "IHHIIII", magic, 2, 4, 0, 0, 262144, 101)
+        link = self.choice([101, 101, 1, 1, 0, 113])
+        data = struct.pack(order + "IHHIIII", magic, 2, 4, 0, 0, 262144, link)
         second = 1000
         for _ in range(self.random.randrange(60)):
             second = max(0, second + self.choice([0, 0, 0, 0, 1, 1, 2, 5, -3]))
-            packet = self.packet()
+            frame = self.frame(link)
             fraction = self.random.randrange(1000)
-            data += struct.pack(order + "IIII", second, fraction, len(packet), len(packet)) + packet
+            data += struct.pack(order + "IIII", second, fraction, len(frame), len(frame)) + frame
         return data[:self.random.randrange(len(data))] if self.chance(0.08) else data
 
 
