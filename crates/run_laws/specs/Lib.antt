@@ -1,0 +1,2 @@
+-- one end of two runs
+pub mod SameRuns

@@ -1,0 +1,6 @@
+//! That runs of one command over the same files come to the same: a law of what `run` promises, and a function that
+//! runs twice.
+#![tactic(auto)]
+
+pub mod laws;
+pub mod two_runs;
