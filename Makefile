@@ -1,7 +1,9 @@
 # Builds, checks and installs ipfw_replay. 'make help' lists what can be made.
 
 RT = rt
-JOBS = $(shell nproc 2>/dev/null || echo 2)
+# As many crates are proved at once as there are processors and 4 GB of memory for each.
+JOBS = $(shell awk -v jobs="$$(nproc || echo 2)" '/^MemAvailable/ { fit = int($$2 / 4194304) } \
+	END { print (fit < 1 ? 1 : fit < jobs ? fit : jobs) }' /proc/meminfo 2>/dev/null || echo 2)
 PREFIX = /usr/local
 DESTDIR =
 
@@ -17,8 +19,8 @@ need_rt = @command -v $(RT) >/dev/null || { \
 
 all: $(PROGRAM)
 
-# rt proves the crates below the program, as many at once as JOBS says. Then it links the program and runs it once, on
-# the capture of one packet that lies beside it. A crate that is proved has its lines printed.
+# rt proves the program and the crates below it, as many at once as JOBS says. Then it links the program and runs it
+# once, on the capture of one packet that lies beside it. A crate that is proved has its lines printed.
 $(PROGRAM): bin/sources
 	$(need_rt)
 	@echo "proving the crates and linking $@: a first build takes minutes, and each proved crate has its lines"
@@ -73,7 +75,7 @@ help:
 	@echo "make install    builds, and copies the program and its manual page below DESTDIR/PREFIX ($(PREFIX))"
 	@echo "make clean      removes all that was built and what the proofs keep"
 	@echo
-	@echo "RT=COMMAND names another command than rt for the Rattle toolchain. JOBS=N proves N crates at a time: as many as"
-	@echo "there are processors, where nothing is said, each with up to 4 GB of memory."
+	@echo "RT=COMMAND names another command than rt for the Rattle toolchain. JOBS=N proves N crates at a time, each with"
+	@echo "up to 4 GB of memory: here $(JOBS), where nothing is said."
 
 .PHONY: all example test bench install clean help FORCE

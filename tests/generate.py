@@ -136,7 +136,7 @@ class Maker:
         offset = self.choice([0] * 12 + [185])
         options = self.choice([b""] * 10 + [b"\x07\x07\x04\x00\x00\x00\x00\x00", b"\x44\x04\x05\x00"])
         payload = self.transport(protocol)
-        total = 20 + len(options) + len(payload)
+        total = self.choice([8, 24]) if self.chance(0.03) else 20 + len(options) + len(payload)
         header = struct.pack(">BBHHHBBH", 0x45 + len(options) // 4, 0, total, 0, offset, 64, protocol, 0)
         whole = header + quad(source) + quad(destination) + options + payload
         return whole[:self.random.randrange(len(whole))] if self.chance(0.03) else whole
@@ -162,9 +162,10 @@ class Maker:
         return bytes(4)
 
     def frame(self, link):
-        """A packet behind a link header; some have another type, and some are cut."""
+        """A packet behind a link header, which a raw frame doesn't have. Some headers tell a type that is no IP, or the
+        other version's, and some frames end within the header or right behind it."""
         packet = self.packet()
-        is_six = packet[:1] != b"" and packet[0] >> 4 == 6
+        is_six = (packet[:1] != b"" and packet[0] >> 4 == 6) != self.chance(0.02)
         kind = b"\x08\x06" if self.chance(0.03) else b"\x86\xdd" if is_six else b"\x08\x00"
         if link == 0:
             family = self.choice([24, 28, 30]) if is_six else 2

@@ -25,7 +25,7 @@ pub record IsSameRecord (r s : RecordValue) : Type 0 where
   -- the editions, the entries of the journal, and the states that it leaves
   pub editions : r.editions ≡ s.editions
   pub journal : r.journal ≡ s.journal
-  -- for each lane its entries, its tracker word, and what it counted
+  -- for each lane its entries, its tracker word, and what it counted, and so what all lanes counted
   pub dockets : r.dockets ≡ s.dockets
   pub trackers : r.trackers ≡ s.trackers
   pub counted : (counter : ℕ) → lane_counts counter r ≡ lane_counts counter s

@@ -1,5 +1,6 @@
 -- What the captures of two replays have in common: where they were taken, what they hold, and how they ended.
 use Rattle.std.specs.Prelude.{◌≡◌, ℕ, ⊤, Option, Some, List, [], ◌∷◌, map}
+use Rattle.std.specs.List.{AllByRecursion}
 use Rattle.fw_report.specs.declared.capture_end.CaptureEnd.{CaptureEnd}
 use Rattle.fw_report.specs.declared.capture_end.CaptureEnd.TheVariants.{Read, Stopped}
 use Rattle.pcap_read.specs.declared.capture_fault.CaptureFault.TheVariants.{ReadFault}
@@ -24,23 +25,23 @@ module _ {S T : Type 0} (left : S → Option (List ℕ)) (otherLeft : T → Opti
     pub told : map (λ capture. left capture.source) captures ≡ map Some contents
     pub other_told : map (λ capture. otherLeft capture.source) others ≡ map Some contents
 
--- the capture was ended by a failing read
+-- the capture was ended by a failing read, whatever its source's count of faults
 abbrev pub EndedByFailedRead : CaptureEnd → Type 0
 EndedByFailedRead (Read records) = ⊥
 EndedByFailedRead (Stopped at fault count) = fault ≡ ReadFault
 
 -- no capture was ended by a failing read
 abbrev pub HaveNoFailedRead : List CaptureEnd → Type 0
-HaveNoFailedRead [] = ⊤
-HaveNoFailedRead (end ∷ ends) = (EndedByFailedRead end → ⊥) × HaveNoFailedRead ends
+HaveNoFailedRead = AllByRecursion (λ end. EndedByFailedRead end → ⊥)
 
--- the captures that were ended by a failing read are the same
+-- the captures are as many, and those that were ended by a failing read are the same
 abbrev pub HaveSameFailedReads : List CaptureEnd → List CaptureEnd → Type 0
 HaveSameFailedReads [] [] = ⊤
 HaveSameFailedReads (end ∷ ends) (other ∷ others) = (EndedByFailedRead end → EndedByFailedRead other) × (EndedByFailedRead other → EndedByFailedRead end) × HaveSameFailedReads ends others
-HaveSameFailedReads ends others = ⊥
+HaveSameFailedReads [] (other ∷ others) = ⊥
+HaveSameFailedReads (end ∷ ends) [] = ⊥
 
--- A capture's end as it is printed. Of a fault's end the count of the source's failed reads isn't printed.
+-- A capture's end as it is printed. Of a fault's end the count of the source's faults isn't printed.
 abbrev pub printed_end : CaptureEnd → CaptureEnd
 printed_end (Read records) = Read records
 printed_end (Stopped at fault count) = Stopped at fault 0

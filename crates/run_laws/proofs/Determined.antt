@@ -18,7 +18,7 @@ use Rattle.replay_driver.specs.RunResult.{summary_of}
 use Rattle.replay_driver.specs.ScriptTexts.{error_text}
 use Rattle.replay_driver.specs.Served.{Job, Replays, Loads}
 use Rattle.replay_driver.specs.declared.outcome.Outcome.{Outcome}
-use Rattle.run_laws.specs.SameRuns.{Outside, HaveSameFiles, IsSameKept, ComeToTheSame, IsPromisedRun, RunsAreDetermined}
+use Rattle.run_laws.specs.TwoRuns.{Outside, HaveSameFiles, IsSameKept, ComeToTheSame, IsPromisedRun, RunsAreDetermined}
 use Rattle.run_laws.proofs.SameNames.{same_read}
 use Rattle.run_laws.proofs.SameTexts.{err_one, not_both, no_failed_read, same_status, same_summary, same_replay}
 

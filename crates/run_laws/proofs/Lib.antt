@@ -3,4 +3,4 @@ pub mod SameNames
 pub mod SameTexts
 -- the law, and what the contract of `run` says by it
 pub mod Determined
-pub mod BothRuns
+pub mod TwoRuns

@@ -1,2 +1,2 @@
 -- one end of two runs
-pub mod SameRuns
+pub mod TwoRuns

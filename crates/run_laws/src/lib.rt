@@ -1,5 +1,5 @@
-//! That runs of one command over the same files come to the same: a law of what `run` promises, and a function that
-//! runs twice.
+//! That two runs of one command, over libraries that tell the same bytes, come to the same: a law of what `run`
+//! promises, and a function that runs twice.
 #![tactic(auto)]
 
 pub mod laws;

@@ -1,6 +1,7 @@
-ghost use Rattle.std.specs.Prelude.{◌≡◌, ◌≤◌, IfSome, map, string_bytes};
+ghost use Rattle.std.specs.Prelude.{◌≡◌, ◌≤◌, None, IfSome, map, string_bytes};
+ghost use Rattle.replay_driver.specs.Run.{IsNoCommand, IsRunOf};
 ghost use Rattle.replay_driver.specs.Served.{job_of};
-ghost use Rattle.run_laws.specs.SameRuns.{IsPromisedRun, HaveSameFiles, ComeToTheSame};
+ghost use Rattle.run_laws.specs.TwoRuns.{IsPromisedRun, HaveSameFiles, ComeToTheSame};
 
 use fw_base::{Gate, Library, Sink};
 use replay_driver::{Outcome, run};
@@ -8,7 +9,9 @@ use std::alloc::Global;
 use std::sync::Wait;
 use std::thread::Threads;
 
-/// Runs one command twice, over one library and over another.
+/// Runs the same words twice, over one library and sink and over others, and answers both outcomes, the first one
+/// first. Of words that are a command they come to the same, where the libraries tell the same bytes and no status is
+/// above 3.
 pub fn run_both<R: Threads + Wait, L: Library, M: Library, K: Sink, N: Sink, G: Gate + Sync>(
     rt: &R,
     alloc: Global,
@@ -22,14 +25,45 @@ pub fn run_both<R: Threads + Wait, L: Library, M: Library, K: Sink, N: Sink, G: 
 where
     L::Reader: Send + Sync,
     M::Reader: Send + Sync,
+    // Each outcome is that of a run, exactly.
+    ensures first_usage { job_of (map string_bytes words.now) ≡ None
+        → IsNoCommand K.written K.faults library.old library.new out.old out.new result.0 }
+    ensures first_found { IfSome (job_of (map string_bytes words.now)) (λ job.
+        IsRunOf K.written K.faults L.pairs L.faults L.refused L.Reader.left L.Reader.faults
+        job library.old library.new out.old out.new result.0) }
+    ensures second_usage { job_of (map string_bytes words.now) ≡ None
+        → IsNoCommand N.written N.faults other_library.old other_library.new
+        other_out.old other_out.new result.1 }
+    ensures second_found { IfSome (job_of (map string_bytes words.now)) (λ job.
+        IsRunOf N.written N.faults M.pairs M.faults M.refused M.Reader.left M.Reader.faults
+        job other_library.old other_library.new other_out.old other_out.new result.1) }
+
+    // Each keeps what the law asks for, and so both come to the same.
     ensures first { IfSome (job_of (map string_bytes words.now)) (λ job. IsPromisedRun
-        (record { pairs = L.pairs; faults = L.faults; refused = L.refused; left = L.Reader.left; failures = L.Reader.faults; written = K.written; sink_faults = K.faults })
+        (record {
+          pairs = L.pairs;
+          faults = L.faults;
+          refused = L.refused;
+          left = L.Reader.left;
+          failures = L.Reader.faults;
+          written = K.written;
+          sink_faults = K.faults;
+        })
         job library.old library.new out.old out.new result.0) }
     ensures second { IfSome (job_of (map string_bytes words.now)) (λ job. IsPromisedRun
-        (record { pairs = M.pairs; faults = M.faults; refused = M.refused; left = M.Reader.left; failures = M.Reader.faults; written = N.written; sink_faults = N.faults })
+        (record {
+          pairs = M.pairs;
+          faults = M.faults;
+          refused = M.refused;
+          left = M.Reader.left;
+          failures = M.Reader.faults;
+          written = N.written;
+          sink_faults = N.faults;
+        })
         job other_library.old other_library.new other_out.old other_out.new result.1) }
     ensures same { IfSome (job_of (map string_bytes words.now)) (λ job.
-        HaveSameFiles job (L.pairs library.old) (M.pairs other_library.old) → result.0.status ≤ 3 → result.1.status ≤ 3
+        HaveSameFiles job (L.pairs library.old) (M.pairs other_library.old)
+        → result.0.status ≤ 3 → result.1.status ≤ 3
         → ComeToTheSame K.written N.written result.0 result.1 out.old out.new other_out.old other_out.new) }
 {
     let first = run(rt, alloc, words, library, out, gate);

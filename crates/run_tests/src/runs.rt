@@ -16,6 +16,7 @@ mod loads;
 mod rows;
 mod scripts;
 mod states;
+mod twice;
 mod words;
 
 /// How much a sink takes unless a row says otherwise.

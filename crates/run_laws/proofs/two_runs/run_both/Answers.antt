@@ -1,8 +1,20 @@
 use Rattle.std.proofs.Common.{map}
 use Rattle.std.specs.Prelude.{string_bytes}
 use Rattle.replay_driver.specs.Served.{job_of}
-use Rattle.run_laws.proofs.BothRuns.{run_promised, both_same}
+use Rattle.run_laws.proofs.TwoRuns.{run_promised, both_same}
 use Rattle.run_laws.proofs.two_runs.run_both.Goals as goal
+
+pub returns-clause-first_usage : goal.returns-clause-first_usage
+returns-clause-first_usage g c = c.run-first.ensures.usage
+
+pub returns-clause-first_found : goal.returns-clause-first_found
+returns-clause-first_found g c = c.run-first.ensures.found
+
+pub returns-clause-second_usage : goal.returns-clause-second_usage
+returns-clause-second_usage g c = c.run-second.ensures.usage
+
+pub returns-clause-second_found : goal.returns-clause-second_found
+returns-clause-second_found g c = c.run-second.ensures.found
 
 pub returns-clause-first : goal.returns-clause-first
 returns-clause-first g c =

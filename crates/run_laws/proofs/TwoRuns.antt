@@ -3,7 +3,7 @@ use Rattle.std.proofs.Common.{◌≡◌, ◌≤◌, Option, None, Some, IfSome, 
 use Rattle.replay_driver.specs.Promises.{IsKept, IsUnreadyJob, IsQuiet, IsFaulty}
 use Rattle.replay_driver.specs.Served.{Job}
 use Rattle.replay_driver.specs.declared.outcome.Outcome.{Outcome}
-use Rattle.run_laws.specs.SameRuns.{Outside, HaveSameFiles, ComeToTheSame, IsPromisedRun}
+use Rattle.run_laws.specs.TwoRuns.{Outside, HaveSameFiles, ComeToTheSame, IsPromisedRun}
 use Rattle.run_laws.proofs.Determined.{runs_are_determined}
 
 -- a run of words that are a job keeps the promises of that job

@@ -29,7 +29,8 @@ abbrev pub contents_of : List (List ℕ) → List Pair → Option (List (List �
 contents_of [] told = Some []
 contents_of (name ∷ names) told = option_and_then (λ found. option_map (λ contents. found.0.1 ∷ contents) (contents_of names found.1)) (take_named name told)
 
--- Both libraries tell their lists, and the same bytes stand there under these names.
+-- Both libraries tell their lists, and the same bytes stand there under these names; or in each of them a name is
+-- missing.
 pub record TellSameContents (names : List (List ℕ)) (told otherTold : Option (List Pair)) : Type 0 where
   pub before : List Pair
   pub other_before : List Pair
@@ -51,12 +52,11 @@ IsSameKept None (Some s) = ⊥
 IsSameKept (Some r) None = ⊥
 IsSameKept (Some r) (Some s) = IsSameRecord r s
 
--- Both runs end with the same status and keep what says the same, their captures' ends are printed alike and their
--- answers are the same, and both sinks took the same text.
+-- Both runs end with the same status and keep what says the same. Where they kept records, their captures' ends are
+-- printed alike and their answers are the same. And one text is what each sink took, if it tells what was written.
 pub record ComeToTheSame {S T K N : Type 0} (written : K → Option (List ℕ)) (otherWritten : N → Option (List ℕ)) (outcome : Outcome S) (other : Outcome T) (sink sinkAfter : K) (otherSink otherSinkAfter : N) : Type 0 where
   pub status : outcome.status ≡ other.status
   pub kept : IsSameKept outcome.kept other.kept
-  -- where records were kept: how the captures' ends are printed, and the answers to lines of the script
   pub ends : IfSome outcome.kept (λ kept. map printed_end outcome.ends.captures ≡ map printed_end other.ends.captures)
   pub answers : IfSome outcome.kept (λ kept. outcome.ends.answers ≡ other.ends.answers)
   pub text : List ℕ
@@ -66,7 +66,7 @@ pub record ComeToTheSame {S T K N : Type 0} (written : K → Option (List ℕ)) 
 -- ---- runs
 
 module _ {L S K : Type 0} (out : Outside L S K) where
-  -- A run of this job keeps what the contract of `run` promises of what is kept and of the statuses 0 to 3.
+  -- A run of this job keeps the clauses of `run`'s contract that have these names.
   pub record IsPromisedRun (job : Job) (library libraryAfter : L) (sink sinkAfter : K) (outcome : Outcome S) : Type 0 where
     pub report : IfSome outcome.kept (λ kept. IsKept out.written out.sink_faults out.pairs out.faults out.refused out.left out.failures job library libraryAfter sink sinkAfter outcome kept)
     pub status_0_cause : outcome.status ≡ 0 → IsQuiet outcome
