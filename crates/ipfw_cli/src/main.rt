@@ -4,16 +4,16 @@
 use file_library::FileLibrary;
 use fw_base::FreeGate;
 use replay_driver::run;
-use standard_output::StandardOutput;
 use std::process::ExitCode;
 use std::rt::Env;
 use std::{env, io};
+use writer_sink::WriterSink;
 
 mod file_library;
 mod file_source;
-mod standard_output;
 #[cfg(test)]
 mod tests;
+mod writer_sink;
 
 /// The status of want of memory.
 const OUT_OF_MEMORY: u8 = 6;
@@ -38,7 +38,7 @@ fn main(rt: HostRuntime) -> ExitCode {
     let Ok(words) = words(&rt) else {
         return ExitCode::from(OUT_OF_MEMORY);
     };
-    let mut out = StandardOutput::new(&rt);
+    let mut out = WriterSink::new(io::writer(&rt));
     let mut library = FileLibrary::new(&rt);
     let outcome = run(&rt, alloc, &words, &mut library, &mut out, &FreeGate);
     ExitCode::from(outcome.status)
