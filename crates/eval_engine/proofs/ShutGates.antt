@@ -1,5 +1,6 @@
 -- Rules whose gates don't admit the packet's key are passed over.
-use Rattle.std.proofs.Common.{◌≡◌, ℕ, zero, suc, ◌+◌, ◌≤◌, Bool, true, false, ◌||◌, Option, Some, None, List, [], ◌∷◌, drop, refl, ap, ◌∙◌, arith}
+use Rattle.std.proofs.Common.{◌≡◌, ℕ, zero, suc, ◌+◌, ◌≤◌, Bool, true, false, Option, Some, None, List, [], ◌∷◌, drop, refl, ap, ◌∙◌, arith}
+use Rattle.std.proofs.lemmas.Bool.{or_parts}
 use Rattle.std.proofs.lemmas.List.{drop-drop}
 use Rattle.std.specs.List.{position_or_len}
 use Rattle.fw_rule.specs.declared.body.Body.{Body}
@@ -15,10 +16,6 @@ use Rattle.eval_engine.specs.Steps.{PassesTo}
 use Rattle.eval_engine.specs.Trace.{Seen, Trace, PassesOver, hits_of, stop_of_trace, length_of}
 use Rattle.eval_engine.specs.Walk.{walk_from, meets, pause_at, acts_before}
 
-either_false : (a b : Bool) → (a || b) ≡ false → (a ≡ false) × (b ≡ false)
-either_false true b is = cc
-either_false false b is = (refl, is)
-
 -- gates of the rules from a place on
 pub gates_from : (place : ℕ) (rules : List Rule) (gates : List Gate) → AreGates rules gates → AreGates (drop place rules) (drop place gates)
 gates_from zero rules gates are = are
@@ -32,7 +29,7 @@ module _ (q : Question) (seen : Seen) (callers : List ℕ) where
   unconcerned_passed : (rule : Rule) (rest : List Rule) → looks_up rule ≡ false → is_rule_met q rule ≡ false
       → walk_from q seen callers (rule ∷ rest) 0 ≡ PassesOver (walk_from q seen callers rest 0)
   unconcerned_passed rule rest unlooked unheld =
-      let plain : is_check_state rule.action ≡ false = (either_false (is_check_state rule.action) _ unlooked).0 in
+      let plain : is_check_state rule.action ≡ false = (or_parts (is_check_state rule.action) _ unlooked).0 in
       walk_meets q seen callers rule rest ∙ cases plain (is_disabled q rule) refl
     where
       cases : is_check_state rule.action ≡ false → (disabled : Bool) → is_disabled q rule ≡ disabled
@@ -49,7 +46,7 @@ module _ (q : Question) (seen : Seen) (callers : List ℕ) where
   shut_passed : (key : Key) → IsKeyOf q.packet key → (rule : Rule) (gate : Gate) (rest : List Rule) → IsGateOf rule gate → admits gate key ≡ false
       → walk_from q seen callers (rule ∷ rest) 0 ≡ PassesOver (walk_from q seen callers rest 0)
   shut_passed key is rule gate rest sound shut =
-      let neither = either_false (looks_up rule) _ (unconcerned (concerns rule q.edition.config.tables q.edition.config.locals q.packet q.port) refl) in
+      let neither = or_parts (looks_up rule) _ (unconcerned (concerns rule q.edition.config.tables q.edition.config.locals q.packet q.port) refl) in
       unconcerned_passed rule rest neither.0 (held_is rule rule.body refl neither.1)
     where
       unconcerned : (b : Bool) → concerns rule q.edition.config.tables q.edition.config.locals q.packet q.port ≡ b → concerns rule q.edition.config.tables q.edition.config.locals q.packet q.port ≡ false

@@ -1,3 +1,5 @@
+-- how a capture ended
+pub mod CaptureEnds
 -- lines of a text, and words without an end of a line
 pub mod SilentWords
 pub mod LineCounts

@@ -1,5 +1,7 @@
 -- what is reported
 pub mod Recorded
+-- how a capture ended
+pub mod CaptureEnds
 -- the report by its sections
 pub mod Report
 pub mod DocketText

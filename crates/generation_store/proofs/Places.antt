@@ -1,5 +1,6 @@
 -- The places of rules that have identities of their own.
-use Rattle.std.proofs.Common.{◌≡◌, ◌≢◌, ℕ, zero, suc, ◌+◌, ◌<◌, Bool, true, false, ◌||◌, ◌==◌, nat_lt, nat_eq, Some, None, List, [], ◌∷◌, map, length, get_or, All, refl, ap, sym, ◌∙◌, arith}
+use Rattle.std.proofs.Common.{◌≡◌, ◌≢◌, ℕ, zero, suc, ◌+◌, ◌<◌, true, false, ◌||◌, ◌==◌, nat_lt, nat_eq, Some, None, List, [], ◌∷◌, map, length, get_or, All, refl, ap, sym, ◌∙◌, arith}
+use Rattle.std.proofs.lemmas.Bool.{or_parts, or_right}
 use Rattle.std.proofs.lemmas.Bool.Decides.{nat_tests}
 use Rattle.std.proofs.lemmas.List.{get_or-map}
 use Rattle.std.proofs.lemmas.List.Elements.{All-from_recursion}
@@ -80,11 +81,7 @@ has_last least [] up = absurd up
 has_last least (r ∷ []) up =
     let zero_id : r.id ≡ 0 = ap (λ (x : Rule). x.id) up in
     rw zero_id refl
-has_last least (r ∷ s ∷ rules) up = rw (has_last r.number (s ∷ rules) up.2) (or_true (r.id == 0))
-  where
-    or_true : (b : Bool) → (b || true) ≡ true
-    or_true true = refl
-    or_true false = refl
+has_last least (r ∷ s ∷ rules) up = or_right (r.id == 0) (has_identity (s ∷ rules) 0) (has_last r.number (s ∷ rules) up.2)
 
 flips : (x y : ℕ) → nat_eq x y ≡ nat_eq y x
 flips x y = grind (arith, nat_tests)
@@ -136,13 +133,9 @@ place_at rules (place ∷ places) (id ∷ ids) (suc i) d same within =
 nowhere : (rules : List Rule) (id : ℕ) → has_identity rules id ≡ false → position_or_len (is_identity id) rules ≡ length rules
 nowhere [] id none = refl
 nowhere (r ∷ rules) id none =
-    let here = or_false (r.id == id) (has_identity rules id) none in
+    let here = or_parts (r.id == id) (has_identity rules id) none in
     let rest = nowhere rules id here.1 in
     rw (here.0, rest) (omega arith)
-  where
-    or_false : (a b : Bool) → (a || b) ≡ false → (a ≡ false) × (b ≡ false)
-    or_false true b is = cc
-    or_false false b is = (refl, is)
 
 -- no place of an identity that no rule has
 pub no_place_of : (rules : List Rule) (id : ℕ) → has_identity rules id ≡ false → place_of_rule id rules ≡ None

@@ -1,7 +1,7 @@
 -- Each capture gives all its records in their order.
 use Rattle.std.proofs.Common.{◌≡◌, ◌≢◌, ℕ, zero, suc, ◌+◌, Bool, true, false, List, [], ◌∷◌, length, map, refl, sym, ap, ◌∙◌, arith}
 use Rattle.std.proofs.lemmas.Bool.Decides.{nat_tests}
-use Rattle.std.specs.Prelude.{◌==◌, if◌then◌else◌, Option, Some, None, slice_get}
+use Rattle.std.specs.Prelude.{◌==◌, Option, Some, None, slice_get}
 use Rattle.std.specs.Option.{option_map}
 use Rattle.pcap_read.specs.Reading.{Captured}
 use Rattle.serial_schedule.specs.Order.{Turn, moment_of, first_head, first_capture, next_record_of, next_moment, without_next, records_at, turn_from, turns_from, turns, record_count}

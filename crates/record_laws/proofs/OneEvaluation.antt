@@ -5,7 +5,7 @@ use Rattle.std.specs.Prelude.{⊤}
 use Rattle.dyn_states.specs.StateObject.{StateObject, reply_of, after_ask}
 use Rattle.dyn_states.specs.declared.op.Op.{Op}
 use Rattle.dyn_states.specs.declared.reply.Reply.{Reply}
-use Rattle.eval_engine.proofs.Ending.{mismatch_stays}
+use Rattle.eval_engine.proofs.Ending.{mismatch_stays, no_reply_due}
 use Rattle.eval_engine.specs.Evaluated.{Whole}
 use Rattle.eval_engine.specs.Evaluation.{Progress, progress_by, progress_of, progress_from, progress_after_reply, is_reply_to, asks_at_stop, outcome_of, evaluate}
 use Rattle.eval_engine.specs.Question.{Question}
@@ -53,12 +53,6 @@ never_whole q progress replies judgement wrong whole =
     not_whole (EndsWith judged) is whole = absurd (cc)
     not_whole (WaitsFor op pause) is whole = absurd (cc)
     not_whole Mismatch is whole = absurd (cc)
-
--- behind a judgement no reply is due
-no_reply_due : (q : Question) (progress : Progress) (reply : Reply) (stop : Stop) (judgement : Judgement) → outcome_of stop ≡ Whole judgement → (progress_after_reply q progress.asks progress.hits reply stop).stop ≡ Mismatch
-no_reply_due q progress reply (EndsWith judged) judgement is = refl
-no_reply_due q progress reply (WaitsFor op pause) judgement is = absurd (cc)
-no_reply_due q progress reply Mismatch judgement is = refl
 
 -- An evaluation that becomes whole with one reply more waits for it, and behind it has the asks so far and the next.
 record TakesReply (q : Question) (progress : Progress) (reply : Reply) : Type 0 where

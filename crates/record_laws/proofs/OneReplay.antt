@@ -77,9 +77,6 @@ module _ {S T : Type 0} (left : S → Option (List ℕ)) (faults : S → ℕ) (o
     abbrev limit : ℕ
     limit = limit_for (length captures)
 
-    read : AllRead left faults limit captures r.sources.items replay.tracks r.ends.captures
-    read = replay.read
-
     -- the other replay's captures were read to the same limit, where they are as many
     other_read : length captures ≡ length others → AllRead otherLeft otherFaults limit others s.sources.items other.tracks s.ends.captures
     other_read count = subst (λ (n : ℕ). AllRead otherLeft otherFaults (limit_for n) others s.sources.items other.tracks s.ends.captures) (sym count) other.read
@@ -89,9 +86,9 @@ module _ {S T : Type 0} (left : S → Option (List ℕ)) (faults : S → ℕ) (o
         let tracks : length replay.tracks ≡ length other.tracks =
         sym (length-map replay.tracks (λ (t : Track). t.bytes)) ∙ ap length same.bytes ∙ length-map other.tracks (λ (t : Track). t.bytes) in
         let count : length captures ≡ length others =
-        track_count left faults limit captures r.sources.items replay.tracks r.ends.captures read
+        track_count left faults limit captures r.sources.items replay.tracks r.ends.captures replay.read
         ∙ tracks ∙ sym (track_count otherLeft otherFaults (limit_for (length others)) others s.sources.items other.tracks s.ends.captures other.read) in
-        let all = all_ended left faults limit captures r.sources.items replay.tracks r.ends.captures read in
+        let all = all_ended left faults limit captures r.sources.items replay.tracks r.ends.captures replay.read in
         let also = all_ended otherLeft otherFaults limit others s.sources.items other.tracks s.ends.captures (other_read count) in
         let replayed = same_replay (same_records limit replay.tracks other.tracks r.ends.captures s.ends.captures all also same) in
         (replayed, λ alike. one_report r s replayed.recorded (same_ends limit replay.tracks other.tracks r.ends.captures s.ends.captures all also same alike))
@@ -100,7 +97,7 @@ module _ {S T : Type 0} (left : S → Option (List ℕ)) (faults : S → ℕ) (o
     by_contents same none also =
         let count : length captures ≡ length others =
         sym (length-map captures (λ (c : OpenedCapture S). c.port)) ∙ ap length same.ports ∙ length-map others (λ (c : OpenedCapture T). c.port) in
-        let told = are_told left faults limit captures r.sources.items replay.tracks r.ends.captures same.contents read same.told none in
+        let told = are_told left faults limit captures r.sources.items replay.tracks r.ends.captures same.contents replay.read same.told none in
         let other_told = are_told otherLeft otherFaults limit others s.sources.items other.tracks s.ends.captures same.contents (other_read count) same.other_told also in
         let first = with_contents replay.tracks same.contents in
         let second = with_contents other.tracks same.contents in
@@ -114,7 +111,7 @@ module _ {S T : Type 0} (left : S → Option (List ℕ)) (faults : S → ℕ) (o
           records = told.same.records ∙ between.records ∙ sym other_told.same.records;
         } in
         let ends : length r.ends.captures ≡ length s.ends.captures =
-        sym (end_count left faults limit captures r.sources.items replay.tracks r.ends.captures read)
+        sym (end_count left faults limit captures r.sources.items replay.tracks r.ends.captures replay.read)
         ∙ count ∙ end_count otherLeft otherFaults limit others s.sources.items other.tracks s.ends.captures (other_read count) in
         let replayed = same_replay records in
         (replayed, one_report r s replayed.recorded (same_ends limit first second r.ends.captures s.ends.captures told.ended other_told.ended bytes (none_alike r.ends.captures s.ends.captures ends none also)))

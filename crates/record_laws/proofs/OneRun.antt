@@ -23,6 +23,7 @@ use Rattle.ip6_headers.specs.Either.{total_of}
 use Rattle.ip6_headers.specs.declared.any_ip.AnyIp.{AnyIp}
 use Rattle.rule_chain.specs.Apply.{apply}
 use Rattle.rule_chain.specs.Configuration.{Configuration}
+use Rattle.serial_replay.proofs.Lines.{one_last}
 use Rattle.serial_replay.specs.Commands.{Listing, listing_of}
 use Rattle.serial_replay.specs.Events.{RunState, ChangesLane, judged_lane, ReplaysInput, HasRefusalOf, RunsLine, ReplaysTurn, ReplaysEvent, ReplaysAll}
 use Rattle.serial_replay.specs.Reading.{Origin, input_of}
@@ -44,9 +45,6 @@ one_edition number config made a b same first second =
     (λ id. first.factual.identified id ∙ ap (λ (c : Configuration). has_identity c.rules id) configured ∙ sym (second.factual.identified id))
     (first.factual.set ∙ ap (λ (c : Configuration). c.values) configured ∙ sym second.factual.set) in
     λ i. record { number = numbered i; config = configured i; facts = facts i }
-
-one_last : (editions : List Published) (a b : Published) → IsLastOf editions a → IsLastOf editions b → a ≡ b
-one_last editions a b first second = let same = sym first ∙ second in cc
 
 one_world : (a b : WorldValue) → a.editions ≡ b.editions → a.journal ≡ b.journal → a ≡ b
 one_world a b editions journal = λ i. record { editions = editions i; journal = journal i }

@@ -28,9 +28,9 @@ use Rattle.fw_world.specs.Entries.{EachRecord, IsEntryFor}
 use Rattle.fw_world.specs.Inputs.{Input}
 use Rattle.fw_world.specs.Legal.{EachLane, LaneStands}
 use Rattle.fw_world.specs.RecordValue.{RecordValue}
-use Rattle.serial_replay.specs.Reading.{Track, AllRead, track_inputs}
+use Rattle.serial_replay.specs.Reading.{track_inputs}
 use Rattle.serial_replay.specs.Replay.{limit_for, lines_outcome}
-use Rattle.serial_replay.specs.declared.replay.OpenedCapture.{OpenedCapture}
+use Rattle.record_laws.proofs.ReadCaptures.{track_count, end_count}
 use Rattle.record_laws.specs.VerdictLines.{begins_with_digit, verdict_lines, other_lines, input_count, recorded_with, VerdictLinesAreRecords, ReplaysPrintEachRecord}
 
 -- a text that is one line: bytes with no line's end, and one
@@ -270,14 +270,9 @@ verdict_lines_are_records first commands inputs r hits ends answers journal lega
     }
 
 module _ {S : Type 0} (left : S → Option (List ℕ)) (faults : S → ℕ) where
-  -- each capture that was read has its end
-  end_count : (limit : ℕ) (captures : List (OpenedCapture S)) (sources : List S) (tracks : List Track) (ends : List CaptureEnd) → AllRead left faults limit captures sources tracks ends → length ends ≡ length tracks
-  end_count limit [] [] [] [] all = refl
-  end_count limit (opened ∷ captures) (source ∷ sources) (track ∷ tracks) (end ∷ ends) all = ap (λ n. suc n) (end_count limit captures sources tracks ends all.2)
-  end_count limit captures sources tracks ends all = absurd all
-
   -- the report of a replay has a verdict line for each record that was read
   pub replays_print_each_record : ReplaysPrintEachRecord left faults
   replays_print_each_record config steps captures r hits answers journal replay =
       verdict_lines_are_records config (lines_outcome config steps).accepted (map track_inputs replay.tracks) r.record hits r.ends.captures answers journal replay.legal
-      (end_count (limit_for (length captures)) captures r.sources.items replay.tracks r.ends.captures replay.read ∙ sym (length-map replay.tracks track_inputs))
+      (sym (end_count left faults (limit_for (length captures)) captures r.sources.items replay.tracks r.ends.captures replay.read)
+      ∙ track_count left faults (limit_for (length captures)) captures r.sources.items replay.tracks r.ends.captures replay.read ∙ sym (length-map replay.tracks track_inputs))

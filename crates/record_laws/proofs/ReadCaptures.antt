@@ -1,11 +1,13 @@
 -- What was read of captures, by the bytes that were read and by the bytes that their sources tell.
 use Rattle.std.specs.Bool.{⊤}
-use Rattle.std.proofs.Common.{◌≡◌, ℕ, ◌+◌, ◌≤◌, inl, inr, suc, Option, Some, None, List, [], ◌∷◌, ◌++◌, length, map, take, Result, Ok, Err, nat_lt, refl, sym, ap, ◌∙◌, subst, arith, append-nil, length-append}
+use Rattle.std.proofs.Common.{◌≡◌, ℕ, ◌≤◌, inl, inr, suc, false, Option, Some, None, List, [], ◌∷◌, ◌++◌, length, map, take, Result, Ok, Err, nat_lt, refl, sym, ap, ◌∙◌, subst, arith, append-nil, length-append}
 use Rattle.std.specs.Io.KnownBytes.{Consumes, IsAtEnd}
-use Rattle.std.proofs.lemmas.Bool.{cases_lt}
+use Rattle.std.proofs.lemmas.Bool.{cases_lt, or_parts}
+use Rattle.std.specs.List.{list_any}
 use Rattle.fw_base.specs.Faults.{Rose}
 use Rattle.fw_base.specs.declared.port.Port.{Port}
-use Rattle.fw_base.proofs.Logic.{was_true}
+use Rattle.fw_base.proofs.Logic.{clash, was_true}
+use Rattle.fw_report.specs.CaptureEnds.{is_unread}
 use Rattle.fw_report.specs.declared.capture_end.CaptureEnd.{CaptureEnd}
 use Rattle.pcap_read.specs.Reading.{Captured, Place, Open, InHeader, Closed, HasFront, Stops, place_number, header_of}
 use Rattle.pcap_read.specs.declared.capture_fault.CaptureFault.{CaptureFault}
@@ -15,7 +17,7 @@ use Rattle.pcap_read.proofs.Fronts.{header_grown, number_fault, number_behind}
 use Rattle.pcap_read.proofs.OneFront.{front_unique, front_stays}
 use Rattle.serial_replay.specs.Reading.{Track, Origin, origin_of, link_in, IsEnd, IsRead, AllRead}
 use Rattle.serial_replay.specs.declared.replay.OpenedCapture.{OpenedCapture}
-use Rattle.record_laws.specs.SameCaptures.{HaveSameRecords, HaveSameBytes, EndedByFailedRead, HaveNoFailedRead}
+use Rattle.record_laws.specs.SameCaptures.{HaveSameRecords, HaveSameBytes, HaveNoFailedRead}
 use Rattle.record_laws.proofs.SameEnds.{HasEnded, AllEnded, ended_of_stop}
 
 -- ---- by the bytes that were read
@@ -142,13 +144,13 @@ pub record AreTold {S : Type 0} (limit : ℕ) (captures : List (OpenedCapture S)
   pub bytes : map (λ (t : Track). t.bytes) told ≡ contents
 
 module _ {S : Type 0} (left : S → Option (List ℕ)) (faults : S → ℕ) where
-  told_one : (limit : ℕ) (source after : S) (track : Track) (end : CaptureEnd) (contents : List ℕ) → IsRead left faults limit source after track end → left source ≡ Some contents → (EndedByFailedRead end → ⊥)
+  told_one : (limit : ℕ) (source after : S) (track : Track) (end : CaptureEnd) (contents : List ℕ) → IsRead left faults limit source after track end → left source ≡ Some contents → is_unread end ≡ false
       → HasEnded limit (record track { bytes = contents }) end × (origin_of track ≡ origin_of (record track { bytes = contents }))
   told_one limit source after track end contents is tells read =
       let behind = is.stopped.behind in
       let taken : Consumes (Some contents) (left after) track.bytes = subst (λ (o : Option (List ℕ)). Consumes o (left after) track.bytes) tells is.stopped.taken in
       let says = says_same limit track.bytes contents (left after) track.records behind.0 is.stop (Rose (faults source) (faults after)) taken behind.1 behind.2
-      (λ fails. read (ended_of_stop end track.records is.number is.stop (faults after) is.told fails)) in (
+      (λ fails. clash (is_unread end) (ended_of_stop end track.records is.number is.stop (faults after) is.told fails) read) in (
         record {
           place = behind.0;
           front = says.front;
@@ -169,8 +171,9 @@ module _ {S : Type 0} (left : S → Option (List ℕ)) (faults : S → ℕ) wher
   are_told limit (opened ∷ captures) (source ∷ sources) (track ∷ tracks) (end ∷ ends) (bytes ∷ contents) all tells none =
       let first : left opened.source ≡ Some bytes = cc in
       let behind : map (λ (c : OpenedCapture S). left c.source) captures ≡ map Some contents = cc in
-      let one = told_one limit opened.source source track end bytes all.1 first none.0 in
-      let rest = are_told limit captures sources tracks ends contents all.2 behind none.1 in
+      let (here, beyond) = or_parts (is_unread end) (list_any is_unread ends) none in
+      let one = told_one limit opened.source source track end bytes all.1 first here in
+      let rest = are_told limit captures sources tracks ends contents all.2 behind beyond in
       record {
         same = record {
           origins = ap (λ (o : Origin). o ∷ map origin_of tracks) one.1 ∙ ap (λ (l : List Origin). origin_of (record track { bytes = bytes }) ∷ l) rest.same.origins;

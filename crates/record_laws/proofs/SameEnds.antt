@@ -1,8 +1,12 @@
 -- Captures whose ends are printed alike have one report, and the same bytes end alike.
 use Rattle.std.specs.Bool.{⊤}
-use Rattle.std.proofs.Common.{◌≡◌, ℕ, ◌+◌, inl, inr, Bool, Option, Some, List, [], ◌∷◌, ◌++◌, length, map, refl, sym, ap, ◌∙◌, subst, arith}
+use Rattle.std.proofs.Common.{◌≡◌, ℕ, ◌+◌, inl, inr, Bool, true, Option, Some, List, [], ◌∷◌, ◌++◌, length, map, refl, sym, ap, ◌∙◌, subst, arith}
+use Rattle.std.proofs.lemmas.Bool.{or_parts}
+use Rattle.std.specs.List.{list_any}
 use Rattle.eval_engine.specs.Dockets.{DocketValue}
+use Rattle.fw_report.proofs.CaptureEnds.{failed_fault}
 use Rattle.fw_report.specs.AnswerText.{answers_text}
+use Rattle.fw_report.specs.CaptureEnds.{is_failed_read, is_unread}
 use Rattle.fw_report.specs.DocketText.{captures_text, record_lines, end_line}
 use Rattle.fw_report.specs.Report.{start_text, last_closing, last_edition, report_text}
 use Rattle.fw_report.specs.RulesText.{editions_line}
@@ -15,7 +19,7 @@ use Rattle.pcap_read.specs.declared.capture_fault.CaptureFault.{CaptureFault}
 use Rattle.pcap_read.specs.declared.capture_fault.CaptureFault.TheVariants.{ReadFault}
 use Rattle.pcap_read.proofs.OneFront.{front_unique}
 use Rattle.serial_replay.specs.Reading.{Track, IsEnd}
-use Rattle.record_laws.specs.SameCaptures.{HaveSameBytes, EndedByFailedRead, HaveNoFailedRead, HaveSameFailedReads, printed_end}
+use Rattle.record_laws.specs.SameCaptures.{HaveSameBytes, HaveNoFailedRead, HaveSameFailedReads, printed_end}
 use Rattle.record_laws.specs.VerdictLines.{recorded_with}
 
 -- ---- texts
@@ -60,14 +64,14 @@ AllEnded limit (track ∷ tracks) (end ∷ ends) = HasEnded limit track end × A
 AllEnded limit tracks ends = ⊥
 
 -- a stop by a failing read is told by the end
-pub ended_of_stop : (end : CaptureEnd) (records : List Captured) (number : ℕ) (stop : Option CaptureFault) (count : ℕ) → IsEnd end records number stop count → stop ≡ Some ReadFault → EndedByFailedRead end
+pub ended_of_stop : (end : CaptureEnd) (records : List Captured) (number : ℕ) (stop : Option CaptureFault) (count : ℕ) → IsEnd end records number stop count → stop ≡ Some ReadFault → is_unread end ≡ true
 ended_of_stop (Read n) records number stop count is fails = let first = is.0 in absurd (cc)
-ended_of_stop (Stopped at fault c) records number stop count is fails = let first = is.0 in cc
+ended_of_stop (Stopped at fault c) records number stop count is fails = let first = is.0 in let same : fault ≡ ReadFault = cc in ap is_failed_read same
 
 -- and the end's is one of the stop
-stop_of_ended : (end : CaptureEnd) (records : List Captured) (number : ℕ) (stop : Option CaptureFault) (count : ℕ) → IsEnd end records number stop count → EndedByFailedRead end → stop ≡ Some ReadFault
-stop_of_ended (Read n) records number stop count is ended = absurd ended
-stop_of_ended (Stopped at fault c) records number stop count is ended = let first = is.0 in cc
+stop_of_ended : (end : CaptureEnd) (records : List Captured) (number : ℕ) (stop : Option CaptureFault) (count : ℕ) → IsEnd end records number stop count → is_unread end ≡ true → stop ≡ Some ReadFault
+stop_of_ended (Read n) records number stop count is ended = absurd (cc)
+stop_of_ended (Stopped at fault c) records number stop count is ended = is.0 ∙ ap (λ (f : CaptureFault). Some f) (failed_fault fault ended)
 
 -- at one place both stop alike, unless only one of them stops by a failing read
 same_stop : (place : Place) (stop other : Option CaptureFault) → Stops ⊤ ⊤ place stop → Stops ⊤ ⊤ place other → (stop ≡ Some ReadFault → other ≡ Some ReadFault) → (other ≡ Some ReadFault → stop ≡ Some ReadFault)
@@ -91,14 +95,14 @@ same_printed (Stopped at fault c) (Stopped place cause d) records number stop co
 
 -- of the same bytes two captures have the same records, and their ends are printed alike
 same_end : (limit : ℕ) (track other : Track) (end otherEnd : CaptureEnd) → HasEnded limit track end → HasEnded limit other otherEnd → track.bytes ≡ other.bytes
-    → (EndedByFailedRead end → EndedByFailedRead otherEnd) → (EndedByFailedRead otherEnd → EndedByFailedRead end) → printed_end end ≡ printed_end otherEnd
-same_end limit track other end otherEnd a b bytes to from =
+    → is_unread end ≡ is_unread otherEnd → printed_end end ≡ printed_end otherEnd
+same_end limit track other end otherEnd a b bytes alike =
     let front : HasFront limit track.bytes other.records b.place = subst (λ (l : List ℕ). HasFront limit l other.records b.place) (sym bytes) b.front in
     let one = front_unique limit track.bytes track.records other.records a.place b.place a.front front in
     let stops : Stops ⊤ ⊤ a.place b.stop = subst (λ (p : Place). Stops ⊤ ⊤ p b.stop) (sym one.1) b.stops in
     let stop : a.stop ≡ b.stop = same_stop a.place a.stop b.stop a.stops stops
-    (λ fails. stop_of_ended otherEnd other.records (place_number other.bytes other.records) b.stop b.count b.told (to (ended_of_stop end track.records (place_number track.bytes track.records) a.stop a.count a.told fails)))
-    (λ fails. stop_of_ended end track.records (place_number track.bytes track.records) a.stop a.count a.told (from (ended_of_stop otherEnd other.records (place_number other.bytes other.records) b.stop b.count b.told fails))) in
+    (λ fails. stop_of_ended otherEnd other.records (place_number other.bytes other.records) b.stop b.count b.told (sym alike ∙ ended_of_stop end track.records (place_number track.bytes track.records) a.stop a.count a.told fails))
+    (λ fails. stop_of_ended end track.records (place_number track.bytes track.records) a.stop a.count a.told (alike ∙ ended_of_stop otherEnd other.records (place_number other.bytes other.records) b.stop b.count b.told fails)) in
     let number : place_number track.bytes track.records ≡ place_number other.bytes other.records = λ i. place_number (bytes i) (one.0 i) in
     let told : IsEnd otherEnd track.records (place_number track.bytes track.records) a.stop b.count =
     subst (λ (l : List Captured). IsEnd otherEnd l (place_number track.bytes track.records) a.stop b.count) (sym one.0)
@@ -120,13 +124,20 @@ same_ends limit (track ∷ tracks) (other ∷ others) (end ∷ ends) (otherEnd �
     let all_ports = same.ports in
     let all_bytes = same.bytes in
     let bytes : track.bytes ≡ other.bytes = cc in
-    let first = same_end limit track other end otherEnd all.0 also.0 bytes alike.0 alike.1 in
-    let rest = same_ends limit tracks others ends otherEnds all.1 also.1 (record { ports = cc; bytes = cc }) alike.2 in
+    let unread : is_unread end ≡ is_unread otherEnd = cc in
+    let behind : map is_unread ends ≡ map is_unread otherEnds = cc in
+    let first = same_end limit track other end otherEnd all.0 also.0 bytes unread in
+    let rest = same_ends limit tracks others ends otherEnds all.1 also.1 (record { ports = cc; bytes = cc }) behind in
     λ i. first i ∷ rest i
 
 -- where no capture was ended by a failing read the same captures were
 pub none_alike : (ends others : List CaptureEnd) → length ends ≡ length others → HaveNoFailedRead ends → HaveNoFailedRead others → HaveSameFailedReads ends others
-none_alike [] [] same none also = tt
+none_alike [] [] same none also = refl
 none_alike [] (other ∷ others) same none also = absurd (omega arith)
 none_alike (end ∷ ends) [] same none also = absurd (omega arith)
-none_alike (end ∷ ends) (other ∷ others) same none also = (λ ended. absurd (none.0 ended), λ ended. absurd (also.0 ended), none_alike ends others (omega arith) none.1 also.1)
+none_alike (end ∷ ends) (other ∷ others) same none also =
+    let (here, behind) = or_parts (is_unread end) (list_any is_unread ends) none in
+    let (there, beyond) = or_parts (is_unread other) (list_any is_unread others) also in
+    let first : is_unread end ≡ is_unread other = here ∙ sym there in
+    let rest = none_alike ends others (omega arith) behind beyond in
+    λ i. first i ∷ rest i

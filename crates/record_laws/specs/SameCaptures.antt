@@ -1,9 +1,9 @@
 -- What the captures of two replays have in common: where they were taken, what they hold, and how they ended.
-use Rattle.std.specs.Prelude.{◌≡◌, ℕ, ⊤, Option, Some, List, [], ◌∷◌, map}
-use Rattle.std.specs.List.{AllByRecursion}
+use Rattle.std.specs.Prelude.{◌≡◌, ℕ, false, Option, Some, List, map}
+use Rattle.std.specs.List.{list_any}
+use Rattle.fw_report.specs.CaptureEnds.{is_unread}
 use Rattle.fw_report.specs.declared.capture_end.CaptureEnd.{CaptureEnd}
 use Rattle.fw_report.specs.declared.capture_end.CaptureEnd.TheVariants.{Read, Stopped}
-use Rattle.pcap_read.specs.declared.capture_fault.CaptureFault.TheVariants.{ReadFault}
 use Rattle.serial_replay.specs.Reading.{Track, origin_of}
 use Rattle.serial_replay.specs.declared.replay.OpenedCapture.{OpenedCapture}
 
@@ -25,21 +25,13 @@ module _ {S T : Type 0} (left : S → Option (List ℕ)) (otherLeft : T → Opti
     pub told : map (λ capture. left capture.source) captures ≡ map Some contents
     pub other_told : map (λ capture. otherLeft capture.source) others ≡ map Some contents
 
--- the capture was ended by a failing read, whatever its source's count of faults
-abbrev pub EndedByFailedRead : CaptureEnd → Type 0
-EndedByFailedRead (Read records) = ⊥
-EndedByFailedRead (Stopped at fault count) = fault ≡ ReadFault
-
 -- no capture was ended by a failing read
 abbrev pub HaveNoFailedRead : List CaptureEnd → Type 0
-HaveNoFailedRead = AllByRecursion (λ end. EndedByFailedRead end → ⊥)
+HaveNoFailedRead ends = list_any is_unread ends ≡ false
 
--- the captures are as many, and those that were ended by a failing read are the same
+-- the captures are as many, and the same were ended by a failing read
 abbrev pub HaveSameFailedReads : List CaptureEnd → List CaptureEnd → Type 0
-HaveSameFailedReads [] [] = ⊤
-HaveSameFailedReads (end ∷ ends) (other ∷ others) = (EndedByFailedRead end → EndedByFailedRead other) × (EndedByFailedRead other → EndedByFailedRead end) × HaveSameFailedReads ends others
-HaveSameFailedReads [] (other ∷ others) = ⊥
-HaveSameFailedReads (end ∷ ends) [] = ⊥
+HaveSameFailedReads ends others = map is_unread ends ≡ map is_unread others
 
 -- A capture's end as it is printed. Of a fault's end the count of the source's faults isn't printed.
 abbrev pub printed_end : CaptureEnd → CaptureEnd

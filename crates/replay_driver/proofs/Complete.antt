@@ -14,6 +14,7 @@ use Rattle.fw_command.specs.declared.script.Line.{Line}
 use Rattle.fw_command.specs.declared.script.Pace.TheVariants.{Serial}
 use Rattle.fw_command.specs.declared.script.Script.{Script}
 use Rattle.fw_command.specs.Scripts.{script_of}
+use Rattle.fw_report.specs.CaptureEnds.{is_unread}
 use Rattle.fw_report.specs.declared.capture_end.CaptureEnd.{CaptureEnd}
 use Rattle.fw_report.specs.declared.capture_end.CaptureEnd.TheVariants.{Read, Stopped}
 use Rattle.fw_report.specs.declared.ends.Ends.{Ends}
@@ -33,11 +34,11 @@ use Rattle.serial_replay.specs.Reading.{Track, IsRead, AllRead, IsEnd}
 use Rattle.serial_replay.specs.Replay.{limit_for, lines_outcome}
 use Rattle.serial_replay.specs.declared.replay.OpenedCapture.{OpenedCapture}
 use Rattle.replay_driver.specs.FirstEdition.{◌>>=◌, first_edition, configuration_behind, listings_of, listed_first, table_shown, first_edition_answer, with_answer, read_script}
-use Rattle.replay_driver.specs.Found.{FailsEarly, ReadsScript, FindsJob, FindsReplay, FindsLoad, IsReplayOf, known_left, no_failures, made_capture}
-use Rattle.replay_driver.specs.Openings.{OpensAll, sources_of}
+use Rattle.replay_driver.specs.Found.{ReadsScript, FindsReplay, FindsLoad, IsReplayOf, known_left, no_failures, made_capture}
+use Rattle.replay_driver.specs.Openings.{OpensAll}
 use Rattle.replay_driver.specs.Promises.{AllWhole, IsAccepted, IsComplete, IsCompleteJob}
-use Rattle.replay_driver.specs.Run.{IsRunOf, IsAnswered}
-use Rattle.replay_driver.specs.RunResult.{result_status, result_ends, report_status, is_unread, is_stopped, is_refused}
+use Rattle.replay_driver.specs.Run.{IsRunOf}
+use Rattle.replay_driver.specs.RunResult.{result_status, report_status, is_stopped, is_refused}
 use Rattle.replay_driver.specs.Served.{ReplayNames, Job, Replays, Loads}
 use Rattle.replay_driver.specs.WholeSource.{ReadsAll}
 use Rattle.replay_driver.specs.declared.first_edition.FirstEdition.{FirstEdition}

@@ -1,8 +1,10 @@
 -- What the status of a replay tells of how its captures ended and of its answers.
-use Rattle.std.proofs.Common.{◌≡◌, ◌≢◌, ℕ, ◌+◌, ◌<◌, ◌≤◌, Bool, true, false, List, [], ◌∷◌, Option, None, Some, refl, sym, ap, ◌∙◌, arith, inl, inr, ◌⊎◌}
+use Rattle.std.proofs.Common.{◌≡◌, ◌≢◌, ℕ, ◌<◌, ◌≤◌, Bool, true, false, List, [], ◌∷◌, Option, Some, refl, sym, ap, ◌∙◌, arith, inl, inr, ◌⊎◌}
 use Rattle.std.specs.Prelude.{if◌then◌else◌, ◌||◌}
 use Rattle.std.specs.List.{list_any, AllByRecursion}
 use Rattle.fw_base.specs.Faults.{Rose}
+use Rattle.fw_report.proofs.CaptureEnds.{failed_fault}
+use Rattle.fw_report.specs.CaptureEnds.{is_unread}
 use Rattle.fw_report.specs.declared.capture_end.CaptureEnd.{CaptureEnd}
 use Rattle.fw_report.specs.declared.capture_end.CaptureEnd.TheVariants.{Read, Stopped}
 use Rattle.fw_report.specs.declared.ends.LineAnswer.{LineAnswer}
@@ -11,12 +13,14 @@ use Rattle.pcap_read.specs.declared.capture_fault.CaptureFault.TheVariants as fa
 use Rattle.serial_replay.specs.Reading.{Track, IsRead, AllRead}
 use Rattle.serial_replay.specs.declared.replay.OpenedCapture.{OpenedCapture}
 use Rattle.replay_driver.specs.Promises.{FailedRead, HasFailedRead}
-use Rattle.replay_driver.specs.RunResult.{is_unread, is_stopped, is_refused, is_failed_read, report_status}
+use Rattle.replay_driver.specs.RunResult.{is_stopped, is_refused, report_status}
 
-abbrev status_by : Bool → Bool → Bool → ℕ
+-- the status by the three tests
+abbrev pub status_by : Bool → Bool → Bool → ℕ
 status_by unread stopped refused = if unread then 4 else if stopped then 3 else if refused then 2 else 0
 
-by_tests : (captures : List CaptureEnd) (answers : List LineAnswer) → report_status captures answers ≡ status_by (list_any is_unread captures) (list_any is_stopped captures) (list_any is_refused answers)
+-- the status of a report is the one by its three tests
+pub by_tests : (captures : List CaptureEnd) (answers : List LineAnswer) → report_status captures answers ≡ status_by (list_any is_unread captures) (list_any is_stopped captures) (list_any is_refused answers)
 unfolding report_status
 by_tests captures answers = refl
 
@@ -80,19 +84,6 @@ module _ (captures : List CaptureEnd) (answers : List LineAnswer) where
   -- where no source failed, no capture has a fault and no command was refused, the status is 0
   pub all_well : list_any is_unread captures ≡ false → list_any is_stopped captures ≡ false → list_any is_refused answers ≡ false → report_status captures answers ≡ 0
   all_well a b c = by_tests captures answers ∙ zero_tests _ _ _ a b c
-
--- a fault by which a read is known to have failed
-failed_fault : (f : CaptureFault) → is_failed_read f ≡ true → f ≡ fault.ReadFault
-failed_fault fault.ReadFault e = refl
-failed_fault fault.ShortHeader e = absurd (cc)
-failed_fault fault.BadMagic e = absurd (cc)
-failed_fault fault.BadVersion e = absurd (cc)
-failed_fault fault.UnknownLink e = absurd (cc)
-failed_fault fault.ShortRecordHeader e = absurd (cc)
-failed_fault fault.RecordTooLong e = absurd (cc)
-failed_fault fault.ShortRecord e = absurd (cc)
-failed_fault fault.TooManyPackets e = absurd (cc)
-failed_fault fault.OutOfMemory e = absurd (cc)
 
 module _ {S : Type 0} (left : S → Option (List ℕ)) (failures : S → ℕ) where
   -- so many captures that were opened with a count of 0

@@ -1,13 +1,12 @@
 -- What the openings leave of the told list and of the count.
-use Rattle.std.proofs.Common.{◌≡◌, ℕ, ◌+◌, suc, List, [], ◌∷◌, ◌++◌, Option, None, Some, length, map, take, refl, sym, ap, ◌∙◌, subst, inl, inr, ◌⊎◌, arith}
+use Rattle.std.proofs.Common.{◌≡◌, ℕ, suc, List, [], ◌∷◌, ◌++◌, Option, None, Some, length, take, sym, ap, ◌∙◌, subst}
 use Rattle.std.specs.Prelude.{MatchOption, option_and_then}
-use Rattle.std.specs.List.{AllByRecursion}
 use Rattle.std.proofs.Math.Seq.{take-append_seam, take-length}
 use Rattle.std.proofs.lemmas.List.{length-map, map-append}
 use Rattle.command_words.specs.Words.{CaptureNames}
 use Rattle.fw_base.specs.Pairs.{Pair, take_named, TakesOut}
 use Rattle.replay_driver.specs.Found.{ReadsNames, RefusesScript, FailsScript, RefusesCapture}
-use Rattle.replay_driver.specs.Openings.{Opens, RefusesToOpen, OpensAll, sources_of, file_names, pairs_without}
+use Rattle.replay_driver.specs.Openings.{Opens, OpensAll, sources_of, file_names, pairs_without}
 use Rattle.replay_driver.specs.Served.{ReplayNames}
 use Rattle.replay_driver.proofs.Openings.{opens_length}
 use Rattle.replay_driver.proofs.Statuses.{AreFresh}

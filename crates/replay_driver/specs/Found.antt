@@ -5,7 +5,6 @@ use Rattle.command_words.specs.Words.{CaptureNames}
 use Rattle.fw_base.specs.Faults.{Rose}
 use Rattle.fw_base.specs.Pairs.{Pair}
 use Rattle.fw_base.specs.declared.port.Direction.TheVariants.{In}
-use Rattle.fw_base.specs.declared.port.Port.{Port}
 use Rattle.fw_report.specs.declared.ends.Ends.{Ends}
 use Rattle.fw_world.specs.RecordValue.{RecordValue}
 use Rattle.load_maker.specs.Load.{load_script, load_capture}

@@ -1,10 +1,11 @@
 -- What a run promises, one fact each.
-use Rattle.std.specs.Prelude.{◌≡◌, ◌≢◌, ℕ, ◌<◌, ◌≤◌, Bool, true, false, ⊤, IsSome, List, [], ◌∷◌, length, Option, Some, Ok, ◌⊎◌}
+use Rattle.std.specs.Prelude.{◌≡◌, ℕ, ◌<◌, ◌≤◌, true, false, ⊤, IsSome, List, [], ◌∷◌, length, Option, Some, Ok, ◌⊎◌}
 use Rattle.std.specs.List.{list_any, AllByRecursion}
 use Rattle.std.specs.Io.KnownBytes.{Appends}
 use Rattle.command_words.specs.Words.{CaptureNames}
 use Rattle.fw_base.specs.Faults.{Rose}
 use Rattle.fw_base.specs.Pairs.{Pair, take_named}
+use Rattle.fw_report.specs.CaptureEnds.{is_unread}
 use Rattle.fw_report.specs.Report.{report_text}
 use Rattle.fw_report.specs.declared.capture_end.CaptureEnd.{CaptureEnd}
 use Rattle.fw_report.specs.declared.capture_end.CaptureEnd.TheVariants.{Stopped}
@@ -15,9 +16,9 @@ use Rattle.serial_replay.specs.Replay.{limit_for, lines_outcome}
 use Rattle.serial_replay.specs.declared.replay.OpenedCapture.{OpenedCapture}
 use Rattle.replay_driver.specs.FirstEdition.{first_edition}
 use Rattle.replay_driver.specs.Found.{ReadsNames, HasNoEdition, FindsReplay, IsReplayOf, ReplaysLoad}
-use Rattle.replay_driver.specs.Openings.{file_names, pairs_without}
+use Rattle.replay_driver.specs.Openings.{file_names}
 use Rattle.replay_driver.specs.Run.{Writes}
-use Rattle.replay_driver.specs.RunResult.{report_record, summary_of, report_status, unread_text, is_unread, is_stopped, is_refused}
+use Rattle.replay_driver.specs.RunResult.{report_record, summary_of, report_status, unread_text, is_stopped, is_refused}
 use Rattle.replay_driver.specs.ScriptTexts.{error_text}
 use Rattle.replay_driver.specs.Served.{ReplayNames, Job, Replays, Loads}
 use Rattle.replay_driver.specs.declared.first_edition.FirstEdition.{FirstEdition}

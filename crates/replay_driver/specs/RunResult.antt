@@ -1,6 +1,7 @@
 -- What a run comes to: its status and its text.
 use Rattle.std.specs.Prelude.{ℕ, ◌<◌, ⊤, Bool, true, false, if◌then◌else◌, List, [], ◌++◌, length, codes, Option, None, Some}
 use Rattle.std.specs.List.{list_any}
+use Rattle.fw_report.specs.CaptureEnds.{is_unread}
 use Rattle.fw_report.specs.Recorded.{Recorded}
 use Rattle.fw_report.specs.Report.{report_text}
 use Rattle.fw_report.specs.Summary.{summary_text}
@@ -8,11 +9,8 @@ use Rattle.fw_report.specs.declared.ends.Answer.{Answer}
 use Rattle.fw_report.specs.declared.ends.Answer.TheVariants as answer
 use Rattle.fw_report.specs.declared.capture_end.CaptureEnd.{CaptureEnd}
 use Rattle.fw_report.specs.declared.capture_end.CaptureEnd.TheVariants.{Read, Stopped}
-use Rattle.fw_report.specs.declared.ends.Ends.{Ends}
 use Rattle.fw_report.specs.declared.ends.LineAnswer.{LineAnswer}
 use Rattle.fw_world.specs.RecordValue.{RecordValue}
-use Rattle.pcap_read.specs.declared.capture_fault.CaptureFault.{CaptureFault}
-use Rattle.pcap_read.specs.declared.capture_fault.CaptureFault.TheVariants.{ShortHeader, BadMagic, BadVersion, UnknownLink, ShortRecordHeader, RecordTooLong, ShortRecord, TooManyPackets, ReadFault, OutOfMemory}
 use Rattle.replay_driver.specs.ScriptTexts.{error_text}
 use Rattle.replay_driver.specs.declared.run_result.RunResult.{RunResult}
 use Rattle.replay_driver.specs.declared.run_result.RunResult.TheVariants.{Usage, Unread, Unready, Reported, Summed}
@@ -32,24 +30,6 @@ report_record r = record { editions = r.editions; journal = r.journal; dockets =
 -- the summary of a record: its dockets, and how many editions, entries of the journal and live states there are
 abbrev pub summary_of : RecordValue → List ℕ
 summary_of r = summary_text r.dockets (length r.editions) (length r.journal.entries) (length r.journal.object.states)
-
--- a source failed; every other fault stands in the capture's bytes
-abbrev pub is_failed_read : CaptureFault → Bool
-is_failed_read ShortHeader = false
-is_failed_read BadMagic = false
-is_failed_read BadVersion = false
-is_failed_read UnknownLink = false
-is_failed_read ShortRecordHeader = false
-is_failed_read RecordTooLong = false
-is_failed_read ShortRecord = false
-is_failed_read TooManyPackets = false
-is_failed_read ReadFault = true
-is_failed_read OutOfMemory = false
-
--- the capture ended because its source failed
-abbrev pub is_unread : CaptureEnd → Bool
-is_unread (Read records) = false
-is_unread (Stopped at fault count) = is_failed_read fault
 
 -- the capture ended with a fault
 abbrev pub is_stopped : CaptureEnd → Bool

@@ -1,6 +1,7 @@
 ghost use Rattle.std.specs.Prelude.{◌≡◌, ◌<◌, [], length};
 ghost use Rattle.std.specs.List.{list_any};
 ghost use Rattle.fw_base.specs.Texts.{WritesText};
+ghost use Rattle.fw_report.specs.CaptureEnds as end_spec;
 ghost use Rattle.fw_report.specs.Report.{report_text};
 ghost use Rattle.replay_driver.specs.RunResult as spec;
 
@@ -36,7 +37,7 @@ pub(crate) enum RunResult {
 
 /// Whether the capture ended because its source failed.
 fn is_unread(end: &CaptureEnd) -> bool
-    ensures { result ≡ spec.is_unread end.now }
+    ensures { result ≡ end_spec.is_unread end.now }
 {
     match end {
         CaptureEnd::Read { .. } => false,
@@ -65,7 +66,7 @@ fn is_refused(line: &LineAnswer) -> bool
 }
 
 fn some_unread(ends: &[CaptureEnd]) -> bool
-    ensures { result ≡ list_any spec.is_unread ends.now }
+    ensures { result ≡ list_any end_spec.is_unread ends.now }
 {
     ends.iter().any(is_unread)
 }

@@ -1,6 +1,7 @@
 -- Replays of the same script and captures have one record, one status and one text.
-use Rattle.std.proofs.Common.{◌≡◌, ℕ, ◌≤◌, Bool, true, false, ◌||◌, List, [], ◌∷◌, ◌++◌, Option, Result, Ok, Err, length, map, refl, sym, ap, ◌∙◌, subst, arith, if◌then◌else◌}
+use Rattle.std.proofs.Common.{◌≡◌, ℕ, ◌≤◌, Bool, true, false, ◌||◌, List, [], ◌∷◌, ◌++◌, Option, Result, Ok, Err, length, map, refl, sym, ap, ◌∙◌, subst, arith}
 use Rattle.std.specs.List.{list_any}
+use Rattle.fw_report.specs.CaptureEnds.{is_failed_read, is_unread}
 use Rattle.fw_report.specs.Report.{report_text}
 use Rattle.fw_report.specs.Summary.{summary_text}
 use Rattle.fw_report.specs.declared.capture_end.CaptureEnd.{CaptureEnd}
@@ -9,12 +10,13 @@ use Rattle.fw_report.specs.declared.ends.Ends.{Ends}
 use Rattle.fw_report.specs.declared.ends.LineAnswer.{LineAnswer}
 use Rattle.fw_world.specs.RecordValue.{RecordValue}
 use Rattle.record_laws.specs.OneReplay.{IsSameRecord}
-use Rattle.record_laws.specs.SameCaptures.{HaveSameContents, HaveNoFailedRead, EndedByFailedRead, printed_end}
+use Rattle.record_laws.specs.SameCaptures.{HaveSameContents, HaveNoFailedRead, printed_end}
 use Rattle.record_laws.specs.VerdictLines.{recorded_with}
 use Rattle.record_laws.proofs.OneReplay.{contents_determine_reports}
+use Rattle.replay_driver.proofs.Statuses.{status_by, by_tests}
 use Rattle.replay_driver.specs.FirstEdition.{first_edition}
 use Rattle.replay_driver.specs.Found.{IsReplayOf}
-use Rattle.replay_driver.specs.RunResult.{summary_of, report_status, is_unread, is_stopped, is_refused, is_failed_read}
+use Rattle.replay_driver.specs.RunResult.{summary_of, report_status, is_stopped, is_refused}
 use Rattle.serial_replay.specs.Replay.{IsReplay}
 use Rattle.serial_replay.specs.declared.replay.OpenedCapture.{OpenedCapture}
 
@@ -38,38 +40,14 @@ moved same P h = subst P same h
 
 -- ---- statuses
 
--- neither test holds where their disjunction doesn't
-neither : (a b : Bool) → (a || b) ≡ false → (a ≡ false) × (b ≡ false)
-neither true b quiet = absurd (cc)
-neither false b quiet = (refl, quiet)
-
--- the status by the three tests
-abbrev status_by : Bool → Bool → Bool → ℕ
-status_by unread stopped refused = if unread then 4 else if stopped then 3 else if refused then 2 else 0
-
--- the status of a report is the one by the three tests
-by_tests : (captures : List CaptureEnd) (answers : List LineAnswer) → report_status captures answers ≡ status_by (list_any is_unread captures) (list_any is_stopped captures) (list_any is_refused answers)
-unfolding report_status
-by_tests captures answers = refl
-
--- where that is at most 3 the first test doesn't hold
+-- where the status is at most 3 the first of its three tests doesn't hold
 read_tests : (u s r : Bool) → status_by u s r ≤ 3 → u ≡ false
 read_tests true s r few = absurd (omega arith)
 read_tests false s r few = refl
 
--- a capture that isn't unread wasn't ended by a failing read
-not_failed : (end : CaptureEnd) → is_unread end ≡ false → EndedByFailedRead end → ⊥
-not_failed (Read records) quiet failed = failed
-not_failed (Stopped at fault count) quiet failed = let yes = ap is_failed_read failed in absurd (cc)
-
--- where none is unread none was
-all_read : (ends : List CaptureEnd) → list_any is_unread ends ≡ false → HaveNoFailedRead ends
-all_read [] quiet = tt
-all_read (end ∷ ends) quiet = let (here, behind) = neither (is_unread end) (list_any is_unread ends) quiet in (not_failed end here, all_read ends behind)
-
 -- where the status is at most 3 no capture was ended by a failing read
 pub no_failed_read : (captures : List CaptureEnd) (answers : List LineAnswer) → report_status captures answers ≤ 3 → HaveNoFailedRead captures
-no_failed_read captures answers few = all_read captures (read_tests _ _ _ (subst (λ (n : ℕ). n ≤ 3) (by_tests captures answers) few))
+no_failed_read captures answers few = read_tests _ _ _ (subst (λ (n : ℕ). n ≤ 3) (by_tests captures answers) few)
 
 -- whether an end is unread is seen in what is printed of it
 printed_unread : (ends : List CaptureEnd) → list_any is_unread (map printed_end ends) ≡ list_any is_unread ends

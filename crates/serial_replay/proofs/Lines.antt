@@ -28,8 +28,8 @@ state : WorldValue → List LaneValue → RunState
 state world lanes = record { world = world; lanes = lanes }
 
 -- there is one last edition
-same-last : (editions : List Published) (a b : Published) → IsLastOf editions a → IsLastOf editions b → a ≡ b
-same-last editions a b h k = let e : Some a ≡ Some b = sym h ∙ k in cc
+pub one_last : (editions : List Published) (a b : Published) → IsLastOf editions a → IsLastOf editions b → a ≡ b
+one_last editions a b h k = let e : Some a ≡ Some b = sym h ∙ k in cc
 
 state-same : (old new : LiveWorld) (answer : LineAnswer) → AnswersLine old new answer → run_state new ≡ run_state old
 unfolding state
@@ -63,7 +63,7 @@ runs-listed old new line listing answer is listed h = record {
   live = λ first inputs standing live.
       let (edition, last, config) = live.config in
       let (other, other_last, other_config) = listed.last in
-      let same : listed.config ≡ standing.config = sym other_config ∙ ap (λ (e : Published). e.config) (same-last old.world.editions other edition other_last last) ∙ config in
+      let same : listed.config ≡ standing.config = sym other_config ∙ ap (λ (e : Published). e.config) (one_last old.world.editions other edition other_last last) ∙ config in
       let told : answer ≡ listed_answer standing.config standing.number listing =
       listed.listed ∙ ap (λ c. listed_answer c (published_count old.world) listing) same ∙ ap (λ n. listed_answer standing.config n listing) (sym live.number) in
       let after : after_line standing line ≡ record standing { answers = standing.answers ++ line_answer line.line answer ∷ [] } =
@@ -79,7 +79,7 @@ runs-refused old new line is h = record {
   lanes = ap length h.answers.lanes;
   live = λ first inputs standing live.
       let (edition, last, config) = live.config in
-      let same : h.refusal.edition.config ≡ standing.config = ap (λ (e : Published). e.config) (same-last old.world.editions h.refusal.edition edition h.refusal.last last) ∙ config in
+      let same : h.refusal.edition.config ≡ standing.config = ap (λ (e : Published). e.config) (one_last old.world.editions h.refusal.edition edition h.refusal.last last) ∙ config in
       let refused : apply standing.config line.command ≡ Err h.fault = ap (λ c. apply c line.command) (sym same) ∙ h.refusal.refused in
       let after : after_line standing line ≡ record standing { answers = standing.answers ++ line_answer line.line (Refused h.fault) ∷ [] } =
       ap (after_command standing line.line line.command) is ∙ ap (after_applied standing line.line line.command) refused in
@@ -121,7 +121,7 @@ runs-accepted old new line is h = record {
   live = λ first inputs standing live.
       let p = h.publishes in
       let (edition, last, config) = live.config in
-      let same : p.next.before.config ≡ standing.config = ap (λ (e : Published). e.config) (same-last old.world.editions p.next.before edition p.next.last last) ∙ config in
+      let same : p.next.before.config ≡ standing.config = ap (λ (e : Published). e.config) (one_last old.world.editions p.next.before edition p.next.last last) ∙ config in
       let made : apply standing.config line.command ≡ Ok p.next.made = ap (λ c. apply c line.command) (sym same) ∙ p.next.applied in
       let after : after_line standing line ≡ record standing { config = p.next.made; number = standing.number + 1; accepted = standing.accepted ++ line.command ∷ [] } =
       ap (after_command standing line.line line.command) is ∙ ap (after_applied standing line.line line.command) made in

@@ -1,9 +1,7 @@
-use Rattle.std.proofs.Common.{◌≡◌, ◌∙◌, ◌+◌, get_or, ap, sym, subst, map, take, drop, refl, List, [], ◌∷◌, ◌++◌}
+use Rattle.std.proofs.Common.{◌+◌, get_or, map, take, drop, []}
 use Rattle.command_words.specs.Invocation.{capture_names}
-use Rattle.command_words.specs.Words.{CaptureNames}
 use Rattle.command_words.specs.declared.capture_word.CaptureWord.{CaptureWord}
 use Rattle.fw_base.specs.declared.port.Direction.TheVariants.{In}
-use Rattle.replay_driver.specs.Openings.{OpensAll}
 use Rattle.replay_driver.proofs.Openings.{opens_push, names_split, names_push}
 use Rattle.replay_driver.proofs.capture_openings.open_captures.Goals as goal
 

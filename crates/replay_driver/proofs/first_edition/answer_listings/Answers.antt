@@ -1,4 +1,4 @@
-use Rattle.std.proofs.Common.{◌≡◌, ◌∙◌, ◌+◌, drop, sym, ap, Option, Vec, Global}
+use Rattle.std.proofs.Common.{◌∙◌, ◌+◌, drop, sym, ap, Option, Vec, Global}
 use Rattle.std.proofs.lemmas.Result.{err_from_is_err_and}
 use Rattle.fw_report.specs.declared.ends.LineAnswer.{LineAnswer}
 use Rattle.replay_driver.specs.FirstEdition.{listings_of}

@@ -1,7 +1,7 @@
-use Rattle.std.proofs.Common.{◌≡◌, ◌∙◌, ap, sym, refl, subst, ℕ, ◌≤◌, List, Result, Err, Option}
+use Rattle.std.proofs.Common.{subst, ◌≤◌, Err}
 use Rattle.std.specs.Io.KnownBytes.{Appends}
 use Rattle.fw_base.specs.Faults.{HasCause}
-use Rattle.fw_base.specs.Texts.{WritesText, AppendsPart}
+use Rattle.fw_base.specs.Texts.{AppendsPart}
 use Rattle.fw_base.specs.declared.failure.Failed.{Failed}
 use Rattle.replay_driver.specs.PieceSink.{PieceText, written_of}
 use Rattle.replay_driver.specs.RunResult.{result_text}

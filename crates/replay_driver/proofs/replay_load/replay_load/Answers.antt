@@ -1,5 +1,5 @@
-use Rattle.std.proofs.Common.{◌≡◌, ◌∙◌, ap, sym, subst, List, [], ◌∷◌, ◌++◌, ℕ}
-use Rattle.load_maker.specs.Load.{load_script, load_capture}
+use Rattle.std.proofs.Common.{◌∙◌, ap, subst, List, [], ◌∷◌, ◌++◌, ℕ}
+use Rattle.load_maker.specs.Load.{load_capture}
 use Rattle.replay_driver.specs.Found.{IsReplayOf, made_capture, known_left, no_failures}
 use Rattle.serial_replay.specs.declared.replay.OpenedCapture.{OpenedCapture}
 use Rattle.replay_driver.proofs.replay_load.replay_load.Goals as goal

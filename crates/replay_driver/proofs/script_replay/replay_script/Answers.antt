@@ -1,6 +1,5 @@
-use Rattle.std.proofs.Common.{◌≡◌, ◌∙◌, ap, sym, subst, refl, List}
+use Rattle.std.proofs.Common.{subst, refl, List}
 use Rattle.fw_command.specs.declared.script.Step.{Step}
-use Rattle.replay_driver.specs.Found.{IsReplayOf}
 use Rattle.replay_driver.proofs.SomeEditions.{some_editions}
 use Rattle.serial_replay.specs.Replay.{IsReplay}
 use Rattle.replay_driver.proofs.script_replay.replay_script.Goals as goal

@@ -1,5 +1,5 @@
 -- A front of what was buffered was handed on so far.
-use Rattle.std.proofs.Common.{◌≡◌, ◌-◌, ◌≤◌, drop, vec_len}
+use Rattle.std.proofs.Common.{◌-◌, ◌≤◌, drop, vec_len}
 use Rattle.replay_driver.specs.PieceSink.{HandsOn}
 use Rattle.replay_driver.proofs.piece_sink.PieceSink.flush.Given as goal
 

@@ -1,7 +1,7 @@
-use Rattle.std.proofs.Common.{◌≡◌, ◌∙◌, ap, sym, refl, subst, ℕ, List, ◌++◌, length, take, Option, Bool, true, false}
+use Rattle.std.proofs.Common.{◌≡◌, ◌∙◌, ap, subst, ◌++◌, Bool}
 use Rattle.std.specs.Prelude.{if◌then◌else◌}
 use Rattle.std.proofs.Math.Seq.{take-length}
-use Rattle.std.specs.Io.KnownBytes.{Appends, WriteAppends}
+use Rattle.std.specs.Io.KnownBytes.{WriteAppends}
 use Rattle.replay_driver.specs.PieceSink.{PieceText, HandsOn}
 use Rattle.replay_driver.proofs.Pieces.{handed_then_buffered, handed_then_passed}
 use Rattle.replay_driver.proofs.piece_sink.PieceSinkSink.write.Goals as goal
