@@ -273,6 +273,7 @@ module _ {K S L : Type 0} (written : K → Option (List ℕ)) (sink_faults : K �
       replayed_well known_left no_failures (load.load_script n) (made_capture (load.load_capture n) ∷ []) kept ends found.sources (load_accepted n few)
       ((load.load_capture n, refl, refl, (records, front)), tt) found.replay (none_failed found.sources)
 
+  -- a run of what is complete ends with status 0, or 6
   pub ends_0 : (job : Job) → CanBeMade job → IsRunOf written sink_faults pairs faults refused left failures job library libraryAfter sink sinkAfter outcome
       → IsCompleteJob written sink_faults pairs faults refused left failures job library libraryAfter sink sinkAfter outcome → (outcome.status ≡ 0) ⊎ (outcome.status ≡ 6)
   ends_0 job few (inl memory) complete = inr memory.status

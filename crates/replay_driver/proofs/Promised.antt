@@ -29,10 +29,12 @@ use Rattle.replay_driver.proofs.LoadWords.{CanBeMade}
 use Rattle.replay_driver.proofs.Statuses.{quiet_ends, refused_lines, faulty_ends, unread_ends, few, AreFresh, failed_read}
 use Rattle.replay_driver.proofs.Told.{names_steady, all_fresh, all_named, script_refused, script_failed, capture_refused}
 
+-- what follows of a value from its being the one holds where there is one
 pub IfSome-by : {A : Type 0} (o : Option A) (P : A → Type 0) → ((x : A) → o ≡ Some x → P x) → IfSome o P
 IfSome-by None P f = tt
 IfSome-by (Some x) P f = f x refl
 
+-- what follows from there being none holds where there is none
 pub IfNone-by : {A : Type 0} (o : Option A) (P : Type 0) → (o ≡ None → P) → IfNone o P
 IfNone-by None P f = f refl
 IfNone-by (Some x) P f = tt
