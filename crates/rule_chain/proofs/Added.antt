@@ -1,70 +1,62 @@
--- What an `add` answers, case by case.
-use Rattle.std.proofs.Common.{◌≡◌, ◌≢◌, ℕ, ◌+◌, ◌≤◌, ◌<◌, true, false, nat_le, Ok, Err, List, length, refl, arith}
+-- What an `add` answers, step by step.
+use Rattle.std.proofs.Common.{◌≡◌, ℕ, Bool, true, false, not, nat_le, if◌then◌else◌, Some, None, Ok, Err, IfOk, IfErr, length, refl, ap, ◌∙◌}
 use Rattle.std.specs.Prelude.{◌==◌}
-use Rattle.std.proofs.lemmas.Bool.Decides.{nat_tests}
-use Rattle.fw_rule.specs.declared.rule.Rule.{Rule}
 use Rattle.fw_rule.specs.declared.rule_draft.RuleDraft.{RuleDraft}
-use Rattle.lookup_tables.specs.Tables.{NamedTables}
-use Rattle.rule_chain.specs.Answers.{◌>>=◌}
-use Rattle.rule_chain.specs.Apply.{add_rule, with_rule}
+use Rattle.rule_chain.specs.Adding.{adding_fault, with_name_and_tables}
+use Rattle.rule_chain.specs.Answers.{Answer, ◌>>=◌, unless_refused, Gives, IsRefusal}
+use Rattle.rule_chain.specs.Apply.{add_rule, with_rule, has_counters}
 use Rattle.rule_chain.specs.Configuration.{Configuration}
 use Rattle.rule_chain.specs.Lookups.{with_uses}
 use Rattle.rule_chain.specs.Names.{name_of, with_name_of}
-use Rattle.rule_chain.specs.Rules.{chosen_number, rule_of, insert_rule}
+use Rattle.rule_chain.specs.Rules.{chosen_number}
 use Rattle.rule_chain.specs.Uses.{uses_of}
 use Rattle.rule_chain.specs.declared.apply_fault.ApplyFault.{ApplyFault}
 use Rattle.rule_chain.specs.declared.apply_fault.ApplyFault.TheVariants.{ReservedRule, TooManyRules, TooManyCounters}
 
--- rule 65535 is refused
-pub add_reserved : (c : Configuration) (draft : RuleDraft) (number : ℕ) → number ≡ chosen_number c.rules draft.number → number ≡ 65535 → add_rule c draft ≡ Err ReservedRule
+-- three tests in turn refuse, or none does
+refused_in_turn : {X : Type 0} (first second third : Bool) (a b c : ApplyFault) (answer : Answer X)
+    → (if first then Err a else if second then Err b else if third then Err c else answer)
+    ≡ unless_refused (if first then Some a else if second then Some b else if third then Some c else None) answer
+refused_in_turn true second third a b c answer = refl
+refused_in_turn false true third a b c answer = refl
+refused_in_turn false false true a b c answer = refl
+refused_in_turn false false false a b c answer = refl
+
+-- a step behind two others may as well be taken of what they answer together
+step_behind : {X Y Z W : Type 0} (x : Answer X) (y : Answer Y) (both : X → Y → Z) (step : Z → W)
+    → (x >>= λ a. y >>= λ b. Ok (step (both a b))) ≡ ((x >>= λ a. y >>= λ b. Ok (both a b)) >>= λ z. Ok (step z))
+step_behind (Err fault) y both step = refl
+step_behind (Ok a) (Err fault) both step = refl
+step_behind (Ok a) (Ok b) both step = refl
+
+-- an `add` is refused, or the name and the tables are made and the rule is put in its place
+add_in_steps : (c : Configuration) (draft : RuleDraft) (number : ℕ) → number ≡ chosen_number c.rules draft.number
+    → add_rule c draft ≡ unless_refused (adding_fault c number) (with_name_and_tables c draft >>= λ ready. Ok (with_rule ready draft))
 unfolding add_rule
-add_reserved c draft number chosen last =
-    let yes : (chosen_number c.rules draft.number == 65535) ≡ true = grind (arith, nat_tests) in
-    rw yes refl
+add_in_steps c draft number chosen =
+    rw chosen
+    (refused_in_turn (chosen_number c.rules draft.number == 65535) (nat_le 65535 (length c.rules)) (not (has_counters c 1)) ReservedRule TooManyRules TooManyCounters
+    (with_name_of c.names (name_of draft.action draft.body) >>= λ names. with_uses c.tables (uses_of draft.body) >>= λ made. Ok (record (with_rule c draft) { names = names; tables = made }))
+    ∙ ap (unless_refused (adding_fault c (chosen_number c.rules draft.number)))
+    (step_behind (with_name_of c.names (name_of draft.action draft.body)) (with_uses c.tables (uses_of draft.body)) (λ names made. record c { names = names; tables = made }) (λ ready. with_rule ready draft)))
 
--- a rule too many is refused
-pub add_crowded : (c : Configuration) (draft : RuleDraft) (number : ℕ) → number ≡ chosen_number c.rules draft.number → number ≢ 65535 → 65535 ≤ length c.rules → add_rule c draft ≡ Err TooManyRules
-unfolding add_rule
-add_crowded c draft number chosen other full =
-    let no : (chosen_number c.rules draft.number == 65535) ≡ false = grind (arith, nat_tests) in
-    let yes : nat_le 65535 (length c.rules) ≡ true = grind (arith, nat_tests) in
-    rw (no, yes) refl
+-- what speaks against the number refuses the `add`
+pub add_refused : (c : Configuration) (draft : RuleDraft) (number : ℕ) (fault : ApplyFault) → number ≡ chosen_number c.rules draft.number → adding_fault c number ≡ Some fault → add_rule c draft ≡ Err fault
+add_refused c draft number fault chosen is = add_in_steps c draft number chosen ∙ rw is refl
 
--- a counter number too many is refused
-pub add_uncounted : (c : Configuration) (draft : RuleDraft) (number : ℕ) → number ≡ chosen_number c.rules draft.number → number ≢ 65535 → length c.rules < 65535 → 16777216 ≤ c.greatest_counter + 1
-    → add_rule c draft ≡ Err TooManyCounters
-unfolding add_rule
-add_uncounted c draft number chosen other few full =
-    let no : (chosen_number c.rules draft.number == 65535) ≡ false = grind (arith, nat_tests) in
-    let room : nat_le 65535 (length c.rules) ≡ false = grind (arith, nat_tests) in
-    let none : nat_le (c.greatest_counter + 1 + 1) 16777216 ≡ false = grind (arith, nat_tests) in
-    rw (no, room, none) refl
+-- and where nothing does, it is as the name and the tables decide
+add_decided : (c : Configuration) (draft : RuleDraft) (number : ℕ) → number ≡ chosen_number c.rules draft.number → adding_fault c number ≡ None
+    → add_rule c draft ≡ (with_name_and_tables c draft >>= λ ready. Ok (with_rule ready draft))
+add_decided c draft number chosen none = add_in_steps c draft number chosen ∙ rw none refl
 
--- else the names and then the tables decide
-add_decided : (c : Configuration) (draft : RuleDraft) (number : ℕ) → number ≡ chosen_number c.rules draft.number → number ≢ 65535 → length c.rules < 65535 → c.greatest_counter + 1 < 16777216
-    → add_rule c draft ≡ (with_name_of c.names (name_of draft.action draft.body) >>= λ names. with_uses c.tables (uses_of draft.body) >>= λ made. Ok (record (with_rule c draft) { names = names; tables = made }))
-unfolding add_rule
-add_decided c draft number chosen other few counted =
-    let no : (chosen_number c.rules draft.number == 65535) ≡ false = grind (arith, nat_tests) in
-    let room : nat_le 65535 (length c.rules) ≡ false = grind (arith, nat_tests) in
-    let more : nat_le (c.greatest_counter + 1 + 1) 16777216 ≡ true = grind (arith, nat_tests) in
-    rw (no, room, more) refl
+-- what refuses the name or the tables refuses the `add`
+pub add_unready : (c : Configuration) (draft : RuleDraft) (number : ℕ) → number ≡ chosen_number c.rules draft.number → adding_fault c number ≡ None
+    → (result : Answer Configuration) → Gives result (with_name_and_tables c draft) → IfErr result (λ fault. IsRefusal fault (add_rule c draft))
+add_unready c draft number chosen none (Ok ready) gives = tt
+add_unready c draft number chosen none (Err fault) gives = λ other. add_decided c draft number chosen none ∙ rw (gives other) refl
 
--- a name too many is refused
-pub add_unnamed : (c : Configuration) (draft : RuleDraft) (number : ℕ) → number ≡ chosen_number c.rules draft.number → number ≢ 65535 → length c.rules < 65535 → c.greatest_counter + 1 < 16777216
-    → (fault : ApplyFault) → with_name_of c.names (name_of draft.action draft.body) ≡ Err fault → add_rule c draft ≡ Err fault
-add_unnamed c draft number chosen other few counted fault is = rw (add_decided c draft number chosen other few counted, is) refl
-
--- a table of the wrong type is refused
-pub add_untabled : (c : Configuration) (draft : RuleDraft) (number : ℕ) → number ≡ chosen_number c.rules draft.number → number ≢ 65535 → length c.rules < 65535 → c.greatest_counter + 1 < 16777216
-    → (names : List (List ℕ)) → with_name_of c.names (name_of draft.action draft.body) ≡ Ok names
-    → (fault : ApplyFault) → with_uses c.tables (uses_of draft.body) ≡ Err fault → add_rule c draft ≡ Err fault
-add_untabled c draft number chosen other few counted names named fault is = rw (add_decided c draft number chosen other few counted, named, is) refl
-
--- and what is refused by none is added
-pub add_made : (c : Configuration) (draft : RuleDraft) (number : ℕ) → number ≡ chosen_number c.rules draft.number → number ≢ 65535 → length c.rules < 65535 → c.greatest_counter + 1 < 16777216
-    → (names : List (List ℕ)) → with_name_of c.names (name_of draft.action draft.body) ≡ Ok names
-    → (tables : NamedTables) → with_uses c.tables (uses_of draft.body) ≡ Ok tables
-    → (rules : List Rule) → rules ≡ insert_rule (rule_of draft number (c.greatest_id + 1) (c.greatest_counter + 1)) c.rules
-    → add_rule c draft ≡ Ok (record c { rules = rules; tables = tables; names = names; greatest_id = c.greatest_id + 1; greatest_counter = c.greatest_counter + 1 })
-add_made c draft number chosen other few counted names named tables made rules inserted = rw (add_decided c draft number chosen other few counted, named, made, inserted, chosen) refl
+-- and where nothing does, the rule is put in its place
+pub add_made : (c : Configuration) (draft : RuleDraft) (number : ℕ) → number ≡ chosen_number c.rules draft.number → adding_fault c number ≡ None
+    → (result : Answer Configuration) → Gives result (with_name_and_tables c draft) → IfOk result (λ ready. add_rule c draft ≡ Ok (with_rule ready draft))
+add_made c draft number chosen none (Ok ready) gives = add_decided c draft number chosen none ∙ rw gives refl
+add_made c draft number chosen none (Err fault) gives = tt

@@ -9,6 +9,7 @@ use Rattle.fw_base.proofs.Lists.{all_weaker}
 use Rattle.fw_rule.specs.WellFormed.{IsSet, IsDraft}
 use Rattle.fw_rule.specs.declared.rule.Rule.{Rule}
 use Rattle.fw_rule.specs.declared.rule_draft.RuleDraft.{RuleDraft}
+use Rattle.lookup_tables.specs.Tables.{NamedTables}
 use Rattle.rule_chain.specs.Chain.{IsRule, IsConfiguration}
 use Rattle.rule_chain.specs.Configuration.{Configuration}
 use Rattle.rule_chain.specs.Answers.{first_fault}
@@ -208,6 +209,24 @@ add_kept c d rule less new_id new_counter is room counters made named rules ids 
       counters = omega arith;
       disabled = rw disabled h.disabled;
     }
+
+-- where names are given numbers and tables are made, what holds in every configuration holds still
+pub names_kept : (c : Configuration) (names : List (List ℕ)) (tables : NamedTables) → Keeps c.names names → IsConfiguration c → IsConfiguration (record c { names = names; tables = tables })
+names_kept c names tables made h = record {
+  ordered = h.ordered;
+  rules = h.rules;
+  distinct = h.distinct;
+  counted = h.counted;
+  in_order = h.in_order;
+  identities = h.identities;
+  own_counters = h.own_counters;
+  names = made.lawful;
+  named = all_weaker (IsNamed c.names) (IsNamed names) (stays_named c.names names made) c.rules h.named;
+  held = h.held;
+  ids = h.ids;
+  counters = h.counters;
+  disabled = h.disabled;
+}
 
 -- where sets but 31 are disabled, and sets enabled, what holds in every configuration holds still
 pub mask_kept : (c : Configuration) (disable enable : ℕ) → disable < 2147483648 → IsConfiguration c → IsConfiguration (record c { disabled = mask_after c.disabled disable enable })

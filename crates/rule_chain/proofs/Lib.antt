@@ -16,7 +16,7 @@ pub mod FlowNames
 -- tables and their uses
 pub mod Keys
 pub mod UsesInTurn
--- what an `add` answers
+-- what an `add` answers, step by step
 pub mod Added
 -- what a command keeps
 pub mod Kept

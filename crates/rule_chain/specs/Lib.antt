@@ -6,6 +6,7 @@ pub mod Names
 pub mod Rules
 pub mod Uses
 -- commands and what they answer
+pub mod Adding
 pub mod Answers
 pub mod Apply
 pub mod Changing

@@ -1,9 +1,12 @@
-ghost use Rattle.std.specs.Prelude.{◌≡◌, ◌<◌, IfOk, OnOk, map};
+ghost use Rattle.std.specs.Prelude.{◌≡◌, ◌<◌, IfSome, Ok, IfOk, IfErr, OnOk, length, map};
 ghost use Rattle.std.specs.Arc.{arc_value};
 ghost use Rattle.fw_rule.specs.WellFormed.{IsDraft};
-ghost use Rattle.rule_chain.specs.Answers.{Gives};
+ghost use Rattle.rule_chain.specs.Adding as adding;
+ghost use Rattle.rule_chain.specs.Adding.{IsReadyFor};
+ghost use Rattle.rule_chain.specs.Answers.{Gives, IsRefusal};
 ghost use Rattle.rule_chain.specs.Apply as spec;
 ghost use Rattle.rule_chain.specs.Chain.{AscendsFrom};
+ghost use Rattle.rule_chain.specs.Names.{name_of, number_of_name};
 ghost use Rattle.rule_chain.specs.Rules as lists;
 
 use crate::config::{LAST_NUMBER, MOST_COUNTERS, MOST_RULES};
@@ -80,37 +83,97 @@ fn with_rule(alloc: Global, rules: RuleList, rule: Rule) -> Result<RuleList, Out
     RuleList::new(alloc, owned)
 }
 
+/// Why no rule of this number can be added, if anything speaks against it.
+fn adding_fault(config: &Config, number: u16) -> Option<ApplyFault>
+    ensures { result ≡ adding.adding_fault config.now number }
+{
+    if number == LAST_NUMBER {
+        return Some(ApplyFault::ReservedRule);
+    }
+    if config.rules.rules().len() >= MOST_RULES {
+        return Some(ApplyFault::TooManyRules);
+    }
+    if config.greatest_counter + 1 >= MOST_COUNTERS {
+        return Some(ApplyFault::TooManyCounters);
+    }
+    None
+}
+
+/// The rule of a draft, under its number, identity and counter number.
+fn rule_of(draft: RuleDraft, number: u16, id: u32, counter: u32) -> Rule
+    ensures { result ≡ lists.rule_of draft number id counter }
+{
+    Rule {
+        number,
+        set: draft.set,
+        id,
+        counter,
+        action: draft.action,
+        log: draft.log,
+        body: draft.body,
+    }
+}
+
 impl Config {
-    /// `add`: the draft as a rule, behind those of its number.
-    #[tactic(auto, unfolding(crate::specs::Apply::add_rule))]
-    pub(crate) fn add_rule(mut self, alloc: Global, draft: RuleDraft) -> Result<Config, ApplyFault>
-        requires { IsDraft draft }
-        ensures { Gives result (spec.add_rule self draft) }
+    /// Gives the draft's flow name a number and makes its tables, where it lacks them.
+    fn with_name_and_tables(
+        mut self,
+        alloc: Global,
+        draft: &RuleDraft,
+    ) -> Result<Config, ApplyFault>
+        ensures value { Gives result (adding.with_name_and_tables self draft.now) }
+        ensures named { IfOk result (λ after. IfSome (name_of draft.now.action draft.now.body)
+            (λ name. number_of_name after.names name < length after.names)) }
     {
-        let number = chosen_number(self.rules.rules(), draft.number);
-        if number == LAST_NUMBER {
-            return Err(ApplyFault::ReservedRule);
-        }
-        if self.rules.rules().len() >= MOST_RULES {
-            return Err(ApplyFault::TooManyRules);
-        }
-        if self.greatest_counter + 1 >= MOST_COUNTERS {
-            return Err(ApplyFault::TooManyCounters);
-        }
         self.names = with_name_of(alloc, self.names, &draft.action, &draft.body)?;
         self.tables = with_tables_of(alloc, self.tables, &draft.body)?;
-        let rule = Rule {
+        Ok(self)
+    }
+
+    /// The configuration into which the draft's rule can be put under this number.
+    fn ready_for(self, alloc: Global, number: u16, draft: &RuleDraft) -> Result<Config, ApplyFault>
+        requires { number ≡ lists.chosen_number self.rules draft.now.number }
+        ensures err { IfErr result (λ fault. IsRefusal fault (spec.add_rule self draft.now)) }
+        ensures ok { IfOk result (λ after.
+            spec.add_rule self draft.now ≡ Ok (spec.with_rule after draft.now)) }
+        ensures ready { IfOk result (λ after. IsReadyFor after number draft.now) }
+    {
+        match adding_fault(&self, number) {
+            Some(fault) => Err(fault),
+            None => self.with_name_and_tables(alloc, draft),
+        }
+    }
+
+    /// Puts the draft's rule in its place, under the next identity and the next counter number.
+    fn with_drafted_rule(
+        mut self,
+        alloc: Global,
+        number: u16,
+        draft: RuleDraft,
+    ) -> Result<Config, OutOfMemory>
+        requires draft { IsDraft draft }
+        requires ready { IsReadyFor self number draft }
+        ensures { IfOk result (λ after. after ≡ spec.with_rule self draft) }
+    {
+        let rule = rule_of(
+            draft,
             number,
-            set: draft.set,
-            id: self.greatest_id + 1,
-            counter: self.greatest_counter + 1,
-            action: draft.action,
-            log: draft.log,
-            body: draft.body,
-        };
+            self.greatest_id + 1,
+            self.greatest_counter + 1,
+        );
         self.rules = with_rule(alloc, self.rules, rule)?;
         self.greatest_id += 1;
         self.greatest_counter += 1;
         Ok(self)
+    }
+
+    /// `add`: the draft as a rule, behind those of its number.
+    pub(crate) fn add_rule(self, alloc: Global, draft: RuleDraft) -> Result<Config, ApplyFault>
+        requires { IsDraft draft }
+        ensures { Gives result (spec.add_rule self draft) }
+    {
+        let number = chosen_number(self.rules.rules(), draft.number);
+        let ready = self.ready_for(alloc, number, &draft)?;
+        Ok(ready.with_drafted_rule(alloc, number, draft)?)
     }
 }
