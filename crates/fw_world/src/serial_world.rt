@@ -1,4 +1,5 @@
 ghost use Rattle.std.specs.Prelude.{◌≡◌, ℕ, ◌+◌, ◌≤◌, ◌++◌, ◌∷◌, [], length, true, false, IfOk, OnOk, OnErr, IfErr, IsSome, None, List, is_ok, is_err, map};
+ghost use Rattle.std.specs.Arc.{arc_value};
 ghost use Rattle.std.specs.List.{list_any, AllByRecursion};
 ghost use Rattle.fw_rule.specs.declared.command.Command.{Command};
 ghost use Rattle.rule_chain.specs.Configuration.{Configuration};
@@ -7,7 +8,9 @@ ghost use Rattle.fw_world.specs.Columns.{no_columns};
 ghost use Rattle.fw_world.specs.Legal.{IsLegal};
 ghost use Rattle.eval_engine.specs.Dockets.{judged_entry};
 ghost use Rattle.fw_rule.specs.WellFormed.{IsWellFormed};
+ghost use Rattle.generation_store.specs.Published.{IsEdition};
 ghost use Rattle.rule_chain.specs.Changing.{IsChanging};
+ghost use Rattle.state_journal.specs.Journal.{first_journal};
 ghost use Rattle.fw_world.specs.Inputs.{Input, Packet};
 ghost use Rattle.fw_world.specs.Lane as lanes;
 ghost use Rattle.fw_world.specs.Lane.{LaneValue, first_lanes, lane_after_regain, lane_after_admission, with_docket_entry};
@@ -34,6 +37,7 @@ use rule_chain::Config;
 use state_journal::Book;
 use std::alloc::Global;
 use std::marker::Model;
+use std::sync::Arc;
 
 /// How many lanes a serial world may have.
 pub const MOST_LANES: u32 = 16;
@@ -74,6 +78,43 @@ fn open_lanes(alloc: Global, lanes: u32) -> Result<Vec<SerialLane>, OutOfMemory>
     Ok(opened)
 }
 
+/// The desk of a world that shows this edition alone.
+fn open_desk(alloc: Global, edition: &Arc<Edition>) -> Result<SerialDesk, OutOfMemory>
+    ensures { IfOk result (λ desk. desk ≡ arc_value edition.now ∷ []) }
+{
+    Ok(SerialDesk {
+        store: store_of(alloc, share(edition)?)?,
+    })
+}
+
+/// The book of so many lanes that begins with the publication of edition 1.
+fn open_book(alloc: Global, edition: &Edition, lanes: u32) -> Result<Book, OutOfMemory>
+    requires number { edition.now.facts.number ≡ 1 }
+    requires lanes { (1 ≤ lanes) × (lanes ≤ MOST_LANES) }
+    ensures { IfOk result (λ book. book ≡ first_journal lanes edition.now.facts) }
+{
+    Book::open(alloc, lanes, edition.facts().share()?)
+}
+
+/// The world of so many lanes that shows edition 1 alone.
+fn open_world(alloc: Global, edition: Arc<Edition>, lanes: u32) -> Result<SerialWorld, OutOfMemory>
+    requires number { (arc_value edition).number ≡ 1 }
+    requires factual { IsEdition (arc_value edition) }
+    requires lanes { (1 ≤ lanes) × (lanes ≤ MOST_LANES) }
+    ensures editions { IfOk result (λ world. world.editions ≡ arc_value edition ∷ []) }
+    ensures journal { IfOk result (λ world.
+        world.journal ≡ first_journal lanes (arc_value edition).facts) }
+{
+    let book = open_book(alloc, &edition, lanes)?;
+    let columns = Columns::with_room(alloc, lanes)?;
+    let store = store_of(alloc, edition)?;
+    Ok(SerialWorld {
+        book,
+        store,
+        columns,
+    })
+}
+
 /// What is entered for a record that isn't judged.
 fn skipped_entry(entry: Skipped) -> DocketEntry
     ensures { result ≡ entry_for entry }
@@ -95,15 +136,8 @@ impl SerialWorld {
         ensures desk { IfOk result (λ opened. opened.desk ≡ opened.world.editions) }
     {
         let edition = Edition::build(alloc, 1, config)?;
-        let book = Book::open(alloc, lanes, edition.facts().share()?)?;
-        let desk = SerialDesk {
-            store: store_of(alloc, share(&edition)?)?,
-        };
-        let world = SerialWorld {
-            book,
-            store: store_of(alloc, edition)?,
-            columns: Columns::with_room(alloc, lanes)?,
-        };
+        let desk = open_desk(alloc, &edition)?;
+        let world = open_world(alloc, edition, lanes)?;
         let lanes = open_lanes(alloc, lanes)?;
         Ok(OpenSerial { world, lanes, desk })
     }
