@@ -1,5 +1,5 @@
 -- The tracks of all captures.
-use Rattle.std.proofs.Common.{◌≡◌, ℕ, zero, suc, ◌+◌, ◌*◌, ◌<◌, Option, List, [], ◌∷◌, ◌++◌, map, length, refl, sym, ap, ◌∙◌, arith, length-append, get_or, get_or-set_same}
+use Rattle.std.proofs.Common.{◌≡◌, ℕ, zero, suc, ◌+◌, ◌*◌, ◌<◌, Option, List, [], ◌∷◌, ◌++◌, map, length, refl, sym, ap, ◌∙◌, arith, length-append, get_or}
 use Rattle.std.specs.Prelude.{slice_set}
 use Rattle.std.specs.Option.{option_map}
 use Rattle.std.proofs.lemmas.Option.{slice_get_read}
@@ -36,10 +36,6 @@ moments-set tracks moments k track moment is one =
     ap (λ ms. slice_set ms k moment) is ∙ ap (slice_set (map (option_map moment_of) (map held_record_of tracks)) k) one
     ∙ sym (map-set (option_map moment_of) (map held_record_of tracks) k (held_record_of track))
     ∙ ap (map (option_map moment_of)) (sym (map-set held_record_of tracks k track))
-
--- what is read at the place that was written
-pub read-set : {X : Type 0} (xs : List X) (k : ℕ) (x found : X) → k < length xs → found ≡ get_or (slice_set xs k x) k found → found ≡ x
-read-set xs k x found within is = is ∙ get_or-set_same xs k x found within
 
 module _ {S : Type 0} (left : S → Option (List ℕ)) (faults : S → ℕ) where
   are-push : (limit : ℕ) (captures : List (OpenedCapture S)) (tracks : List (Track S)) (origins : List Origin) (opened : OpenedCapture S) (track : Track S) (begins : Begins left faults limit opened track)

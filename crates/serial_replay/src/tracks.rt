@@ -81,8 +81,9 @@ impl<S: Source> Tracks<S> {
         requires { capture < length self.old }
         ensures { GoesFurtherAt S.left S.faults capture self.old self.new }
     {
-        self.tracks[capture].advance();
-        self.moments[capture] = self.tracks[capture].moment();
+        let track = &mut self.tracks[capture];
+        track.advance();
+        self.moments[capture] = track.moment();
     }
 
     /// Their sources, and how they ended.
