@@ -3,6 +3,7 @@ pub mod Pieces
 -- openings, and what they leave of the told list
 pub mod Openings
 pub mod Told
+pub mod Found
 -- a script from its bytes to edition 1
 pub mod ScriptReading
 pub mod ScriptLines

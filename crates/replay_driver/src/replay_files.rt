@@ -2,10 +2,10 @@ ghost use Rattle.std.specs.Prelude.{◌≡◌, ◌≤◌, ◌∷◌, IfOk, map, 
 ghost use Rattle.command_words.specs.Invocation.{capture_names};
 ghost use Rattle.replay_driver.specs.Found.{FindsReplay};
 ghost use Rattle.replay_driver.specs.RunResult.{IsWritable};
-ghost use Rattle.replay_driver.specs.ReplayFiles.{FindsBehind, ReplaysOpened};
+ghost use Rattle.replay_driver.specs.ReplayFiles.{FindsCaptures, ReplaysOpened};
 
 use crate::capture_openings::{CaptureOpenings, open_captures};
-use crate::run_result::{Found, RunResult};
+use crate::run_result::{Found, RunResult, without_sources};
 use crate::script_replay::{ScriptReplay, into_sources, replay_script};
 use crate::script_source::{ScriptSource, read_script_source};
 use command_words::CaptureWord;
@@ -13,32 +13,35 @@ use fw_base::{Library, Name, OutOfMemory, Source};
 use serial_replay::OpenedCapture;
 use std::alloc::Global;
 
-/// The sources with the script's before them.
-fn with_script<S: Drop>(script: S, captures: Vec<S>) -> Result<Vec<S>, OutOfMemory>
-    ensures { IfOk result (λ sources. sources.items ≡ script ∷ captures.items) }
+/// What was found, with the script's source before the captures'.
+fn with_script<S: Drop>(script: S, found: Found<S>) -> Result<Found<S>, OutOfMemory>
+    ensures { IfOk result (λ with. (with.result ≡ found.result)
+        × (with.sources.items ≡ script ∷ found.sources.items)) }
 {
-    let mut sources = captures;
+    let Found {
+        result,
+        mut sources,
+    } = found;
     sources.insert(0, script)?;
-    Ok(sources)
+    Ok(Found { result, sources })
 }
 
-/// Replays the captures, all of which were opened.
+/// Replays the captures, all of which were opened, and hands back their sources.
 fn replay_opened<S: Source>(
     alloc: Global,
     journal: bool,
-    script: S,
-    bytes: &[u8],
+    script: &[u8],
     opened: Vec<OpenedCapture<S>>,
 ) -> Result<Found<S>, OutOfMemory>
     requires { (1 ≤ length opened.items) × (length opened.items ≤ 16) }
     ensures writable { IfOk result (λ found. IsWritable found.result) }
-    ensures replays { IfOk result (λ found. ReplaysOpened S.left S.faults journal script bytes.now
+    ensures replays { IfOk result (λ found. ReplaysOpened S.left S.faults journal script.now
         opened.items found.result found.sources.items) }
 {
-    match replay_script(alloc, bytes, opened)? {
-        ScriptReplay::Unready(error, captures) => Ok(Found {
+    match replay_script(alloc, script, opened)? {
+        ScriptReplay::Unready(error, sources) => Ok(Found {
             result: RunResult::Unready(error),
-            sources: with_script(script, captures)?,
+            sources,
         }),
         ScriptReplay::Replayed {
             kept,
@@ -50,33 +53,32 @@ fn replay_opened<S: Source>(
                 ends,
                 journal,
             },
-            sources: with_script(script, sources)?,
+            sources,
         }),
     }
 }
 
-/// Opens the captures and replays them beside the script, which was read.
-fn find_behind_script<L: Library>(
+/// Opens the captures and replays them beside the script of these bytes, and hands back the captures' sources.
+fn find_captures<L: Library>(
     alloc: Global,
     journal: bool,
     captures: &[CaptureWord<'_>],
-    script: L::Reader,
-    bytes: &[u8],
+    script: &[u8],
     library: &mut L,
 ) -> Result<Found<L::Reader>, OutOfMemory>
     requires { (1 ≤ length captures.now) × (length captures.now ≤ 16) }
     ensures writable { IfOk result (λ found. IsWritable found.result) }
     ensures finds { IfOk result (λ found.
-        FindsBehind L.pairs L.faults L.refused L.Reader.left L.Reader.faults
-        journal (map capture_names captures.now) library.old library.new script bytes.now
+        FindsCaptures L.pairs L.faults L.refused L.Reader.left L.Reader.faults
+        journal (map capture_names captures.now) library.old library.new script.now
         found.result found.sources.items) }
 {
     match open_captures(alloc, captures, library)? {
         CaptureOpenings::Refused(name, opened) => Ok(Found {
             result: RunResult::Unread(name),
-            sources: with_script(script, into_sources(alloc, opened)?)?,
+            sources: into_sources(alloc, opened)?,
         }),
-        CaptureOpenings::All(opened) => replay_opened(alloc, journal, script, bytes, opened),
+        CaptureOpenings::All(opened) => replay_opened(alloc, journal, script, opened),
     }
 }
 
@@ -97,16 +99,14 @@ pub(crate) fn replay_files<L: Library>(
 {
     let name = Name::new(alloc, script)?;
     match read_script_source(alloc, &name, library)? {
-        ScriptSource::Refused => Ok(Found {
-            result: RunResult::Unread(name),
-            sources: Vec::new(alloc),
-        }),
-        ScriptSource::Broken(script) => Ok(Found {
-            result: RunResult::Unread(name),
-            sources: with_script(script, Vec::new(alloc))?,
-        }),
-        ScriptSource::Read(script, bytes) => {
-            find_behind_script(alloc, journal, captures, script, &bytes, library)
-        }
+        ScriptSource::Refused => Ok(without_sources(alloc, RunResult::Unread(name))),
+        ScriptSource::Broken(source) => with_script(
+            source,
+            without_sources(alloc, RunResult::Unread(name)),
+        ),
+        ScriptSource::Read(source, bytes) => with_script(
+            source,
+            find_captures(alloc, journal, captures, &bytes, library)?,
+        ),
     }
 }

@@ -13,7 +13,7 @@ use crate::Outcome;
 use crate::piece_sink::{PIECE_BYTES, write_pieced};
 use crate::replay_files::replay_files;
 use crate::replay_load::replay_load;
-use crate::run_result::{Found, RunResult, no_ends};
+use crate::run_result::{Found, RunResult, no_ends, without_sources};
 use command_words::{Invocation, Mode, read_words};
 use core::mem::replace_with;
 use fw_base::{Failed, Gate, Library, OutOfMemory, Sink};
@@ -94,20 +94,14 @@ fn find<L: Library>(
                 captures,
             },
         ) => replay_files(alloc, journal, script, &captures, library),
-        Some(Invocation::Load(records)) => Ok(Found {
-            result: replay_load(alloc, records)?,
-            sources: Vec::new(alloc),
-        }),
+        Some(Invocation::Load(records)) => Ok(without_sources(alloc, replay_load(alloc, records)?)),
         None
         | Some(
             Invocation::Replay {
                 mode: Mode::Live,
                 ..
             },
-        ) => Ok(Found {
-            result: RunResult::Usage,
-            sources: Vec::new(alloc),
-        }),
+        ) => Ok(without_sources(alloc, RunResult::Usage)),
     }
 }
 

@@ -229,3 +229,14 @@ pub(crate) struct Found<S> {
     pub(crate) result: RunResult,
     pub(crate) sources: Vec<S>,
 }
+
+/// What a run finds that hands back no source.
+pub(crate) fn without_sources<S>(alloc: Global, found: RunResult) -> Found<S>
+    ensures result { result.result ≡ found }
+    ensures sources { result.sources.items ≡ [] }
+{
+    Found {
+        result: found,
+        sources: Vec::new(alloc),
+    }
+}

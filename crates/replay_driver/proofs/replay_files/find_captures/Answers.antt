@@ -2,7 +2,7 @@ use Rattle.std.proofs.Common.{◌∙◌, arith}
 use Rattle.std.proofs.lemmas.List.{length-map}
 use Rattle.command_words.specs.Invocation.{capture_names}
 use Rattle.replay_driver.proofs.Openings.{opens_length}
-use Rattle.replay_driver.proofs.replay_files.find_behind_script.Goals as goal
+use Rattle.replay_driver.proofs.replay_files.find_captures.Goals as goal
 
 pub replay_opened-requires : goal.replay_opened-requires
 replay_opened-requires g c =
