@@ -1,6 +1,6 @@
 ghost use Rattle.std.specs.Prelude.{None, Some, ◌≡◌};
 
-use crate::file_source::FileSource;
+use crate::fault_counter::FaultCounter;
 use fw_base::{Failed, Library, Name};
 use std::marker::Model;
 use std::rt::Files;
@@ -43,7 +43,7 @@ impl<'a, R: Files> FileLibrary<'a, R> {
 }
 
 impl<'a, R: Files> Library for FileLibrary<'a, R> {
-    type Reader = FileSource<R::File>;
+    type Reader = FaultCounter<R::File>;
 
     ghost pairs = { λ _. None };
 
@@ -51,9 +51,9 @@ impl<'a, R: Files> Library for FileLibrary<'a, R> {
 
     ghost refused = { λ l. l.1 };
 
-    fn open(&mut self, name: Name) -> Result<FileSource<R::File>, Failed> {
+    fn open(&mut self, name: Name) -> Result<FaultCounter<R::File>, Failed> {
         match self.file(&name) {
-            Some(file) => Ok(FileSource::new(file)),
+            Some(file) => Ok(FaultCounter::new(file)),
             None => {
                 self.faults = self.faults.saturating_add(1);
                 self.refused = Some(name);

@@ -1,19 +1,18 @@
 //! `ipfw_replay`: replays captures beside an operator's script of rules.
 #![tactic(auto)]
 
+use fault_counter::FaultCounter;
 use file_library::FileLibrary;
 use fw_base::FreeGate;
 use replay_driver::run;
 use std::process::ExitCode;
 use std::rt::Env;
 use std::{env, io};
-use writer_sink::WriterSink;
 
+mod fault_counter;
 mod file_library;
-mod file_source;
 #[cfg(test)]
 mod tests;
-mod writer_sink;
 
 /// The status of want of memory.
 const OUT_OF_MEMORY: u8 = 6;
@@ -38,7 +37,7 @@ fn main(rt: HostRuntime) -> ExitCode {
     let Ok(words) = words(&rt) else {
         return ExitCode::from(OUT_OF_MEMORY);
     };
-    let mut out = WriterSink::new(io::writer(&rt));
+    let mut out = FaultCounter::new(io::writer(&rt));
     let mut library = FileLibrary::new(&rt);
     let outcome = run(&rt, alloc, &words, &mut library, &mut out, &FreeGate);
     ExitCode::from(outcome.status)

@@ -1,5 +1,5 @@
+use crate::fault_counter::FaultCounter;
 use crate::file_library::FileLibrary;
-use crate::writer_sink::WriterSink;
 use fw_base::{Library, Name, Sink, Source};
 use std::test::Fail;
 use std::{fs, io, process};
@@ -66,7 +66,7 @@ fn reading_a_directory_is_counted(rt: HostRuntime) -> Result<(), Fail> {
 
 #[test]
 fn line_is_taken_by_standard_output(rt: HostRuntime) -> Result<(), Fail> {
-    let mut out = WriterSink::new(io::writer(&rt));
+    let mut out = FaultCounter::new(io::writer(&rt));
     assert!(rt; out.write(b"") == Ok(0));
     assert!(rt; out.write(b"\n") == Ok(1));
     Ok(())
@@ -75,7 +75,7 @@ fn line_is_taken_by_standard_output(rt: HostRuntime) -> Result<(), Fail> {
 #[test]
 fn vector_has_what_its_sink_took(rt: HostRuntime) -> Result<(), Fail> {
     let mut taken = Vec::new(rt.alloc());
-    let mut out = WriterSink::new(&mut taken);
+    let mut out = FaultCounter::new(&mut taken);
     assert!(rt; out.write(b"end 1 ") == Ok(6));
     assert!(rt; out.write(b"records 3\n") == Ok(10));
     assert!(rt; taken.as_slice() == b"end 1 records 3\n".as_slice());
@@ -85,7 +85,7 @@ fn vector_has_what_its_sink_took(rt: HostRuntime) -> Result<(), Fail> {
 #[test]
 fn full_writer_is_a_failed_call(rt: HostRuntime) -> Result<(), Fail> {
     let mut room = [0u8; 3];
-    let mut out = WriterSink::new(room.as_mut_slice());
+    let mut out = FaultCounter::new(room.as_mut_slice());
     assert!(rt; out.write(b"four") == Ok(3));
     assert!(rt; out.write(b"") == Ok(0));
     assert!(rt; out.write(b"r").is_err());
