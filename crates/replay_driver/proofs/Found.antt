@@ -51,7 +51,7 @@ module _ {L S : Type 0} (pairs : L → Option (List Pair)) (faults : L → ℕ) 
     given_back = ap (λ (ss : List S). script ∷ ss) back;
   })))
 
-  -- the same of what holds both
+  -- the same of a result that equals what was found, and of sources that are the script's and then the captures'
   pub finds_behind : (journal : Bool) (name : List ℕ) (captures : List CaptureNames) (old between new : L) (script : S) (bytes : List ℕ) (result with : RunResult) (sources all : List S)
       → ReadsScript pairs faults refused left failures old between name script bytes
       → FindsCaptures pairs faults refused left failures journal captures between new bytes result sources
