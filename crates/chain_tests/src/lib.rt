@@ -1,5 +1,7 @@
-//! Tests of a configuration and its commands by the public calls of rule_chain.
+//! Tests of tables, a configuration and its commands by the public calls of lookup_tables and rule_chain.
 #![tactic(auto)]
 
 #[cfg(test)]
 mod commands;
+#[cfg(test)]
+mod lookups;

@@ -13,6 +13,4 @@ mod capture_word;
 mod captures;
 mod invocation;
 mod load_word;
-#[cfg(test)]
-mod tests;
 mod words;

@@ -18,5 +18,3 @@ mod layer;
 mod link_header;
 mod protocols;
 mod read;
-#[cfg(test)]
-mod tests;

@@ -21,5 +21,3 @@ mod pieces;
 mod shared_table;
 mod table;
 mod tables;
-#[cfg(test)]
-mod tests;

@@ -18,5 +18,3 @@ mod options;
 mod packet;
 mod protocols;
 mod read;
-#[cfg(test)]
-mod tests;

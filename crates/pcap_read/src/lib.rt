@@ -24,6 +24,4 @@ mod numbers;
 mod opening;
 mod record;
 mod records;
-#[cfg(test)]
-mod tests;
 mod window;

@@ -1,5 +1,5 @@
 //! Lists of words, each as one text with `|` between the words, and what they come to.
-use super::*;
+use command_words::{CaptureWord, Invocation, read_words};
 use std::alloc::Global;
 use std::fmt::Write;
 use std::test::Fail;

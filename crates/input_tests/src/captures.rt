@@ -1,6 +1,6 @@
 //! Worked captures, in every cut.
-use super::*;
 use fw_base::{Link, MemorySource, Source};
+use pcap_read::{Capture, CaptureFault, count_records};
 use std::alloc::{AllocError, Global};
 use std::process::Abort;
 use std::test::Fail;

@@ -1,5 +1,5 @@
-use crate::{AddrTable, InsertFault, NumberTable, SharedTable, Table, Tables};
 use fw_base::{Addr, Name, OutOfMemory, Prefix};
+use lookup_tables::{AddrTable, InsertFault, NumberTable, SharedTable, Table, Tables};
 use std::test::Fail;
 
 fn address(bytes: [u8; 4]) -> Addr {

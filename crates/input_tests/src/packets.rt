@@ -1,10 +1,10 @@
 mod frames;
-mod packets;
+mod made;
 
-use crate::{Flow, Ip4, Packet, flow, read_packet};
 use frames::CAPTURED;
 use fw_base::{Addr, Link};
-use packets::PACKETS;
+use made::PACKETS;
+use packet_headers::{Flow, Ip4, Packet, flow, read_packet};
 use std::alloc::{AllocError, Global};
 use std::process::Abort;
 use std::test::Fail;

@@ -1,10 +1,10 @@
 mod links;
-mod packets6;
+mod made;
 
-use crate::{AnyIp, AnyPacket, Ip6, read_any};
 use fw_base::{Addr6, Link};
+use ip6_headers::{AnyIp, AnyPacket, Ip6, read_any};
 use links::{FRAMES, HEADERS};
-use packets6::{PACKETS, SHORT};
+use made::{PACKETS, SHORT};
 use std::alloc::{AllocError, Global};
 use std::process::Abort;
 use std::test::Fail;

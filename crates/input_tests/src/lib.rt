@@ -1,0 +1,11 @@
+//! Tests of what is read from outside, by the public calls of pcap_read, packet_headers, ip6_headers and command_words.
+#![tactic(auto)]
+
+#[cfg(test)]
+mod captures;
+#[cfg(test)]
+mod packets;
+#[cfg(test)]
+mod packets6;
+#[cfg(test)]
+mod words;
