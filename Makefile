@@ -52,6 +52,11 @@ test: bin/sources
 	@cp crates/ipfw_cli/out/ipfw_cli $(PROGRAM).new && mv $(PROGRAM).new $(PROGRAM)
 	tests/run $(PROGRAM)
 
+# Those in crates/*/must-fail are the gate's.
+wrong-bodies:
+	$(need_rt)
+	RT=$(RT) wrong-bodies/run
+
 bench: $(PROGRAM) $(LOCK_BENCH) $(STATES_BENCH) $(REPORT_BENCH) $(EDIT_BENCH)
 	bench/run $(PROGRAM) $(EDIT_BENCH)
 	$(STATES_BENCH) 1000000
@@ -71,6 +76,7 @@ help:
 	@echo "make            proves the crates and builds bin/ipfw_replay, where something changed"
 	@echo "make example    builds, and replays examples/first: a real capture beside a script of rules"
 	@echo "make test       proves and tests every crate (rt ci), then runs the program's own checks (tests/run)"
+	@echo "make wrong-bodies  tries the wrong bodies that the gate leaves out: the prover must refuse each"
 	@echo "make bench      builds, and times the program on large captures, beside tcpdump where it is installed (needs python3), the states' asks, the report's lines, edits of a configuration, and the lock's sections"
 	@echo "make install    builds, and copies the program and its manual page below DESTDIR/PREFIX ($(PREFIX))"
 	@echo "make clean      removes all that was built and what the proofs keep"
@@ -78,4 +84,4 @@ help:
 	@echo "RT=COMMAND names another command than rt for the Rattle toolchain. JOBS=N proves N crates at a time, each with"
 	@echo "up to 4 GB of memory: here $(JOBS), where nothing is said."
 
-.PHONY: all example test bench install clean help FORCE
+.PHONY: all example test wrong-bodies bench install clean help FORCE

@@ -50,3 +50,8 @@ awk 'NR == FNR { wanted[++count] = $0; next }
      at <= count && $0 == wanted[at] { print; at++; is_gap = 0; next }
      !is_gap { print "not in the README: " $0; exit }' "$work/wanted" report >"$work/got"
 same first_example_of_README
+
+# Each wrong body, those that the gate tries and those that it leaves to wrong-bodies/run, can be put into its crate.
+: >"$work/wanted"
+python3 "$tests/edits.py" "$top" >"$work/got" 2>&1
+same wrong_bodies_fit_their_crates
