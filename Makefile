@@ -1,9 +1,6 @@
 # Builds, checks and installs ipfw_replay. 'make help' lists what can be made.
 
 RT = rt
-# As many crates are proved at once as there are processors and 4 GB of memory for each.
-JOBS = $(shell awk -v jobs="$$(nproc || echo 2)" '/^MemAvailable/ { fit = int($$2 / 4194304) } \
-	END { print (fit < 1 ? 1 : fit < jobs ? fit : jobs) }' /proc/meminfo 2>/dev/null || echo 2)
 PREFIX = /usr/local
 DESTDIR =
 
@@ -19,26 +16,24 @@ need_rt = @command -v $(RT) >/dev/null || { \
 
 all: $(PROGRAM)
 
-# rt proves the program and the crates below it, as many at once as JOBS says. Then it links the program and runs it
-# once, on the capture of one packet that lies beside it. A crate that is proved has its lines printed.
+# rt ci proves the program and the crates below it, links it and runs it on the capture that lies beside it.
 $(PROGRAM): bin/sources
 	$(need_rt)
 	@echo "proving the crates and linking $@: a first build takes minutes, and each proved crate has its lines"
-	cd crates/ipfw_cli && $(RT) all check --jobs $(JOBS) && $(RT) run -- serial data/s in:em0:data/c >/dev/null
-	@cp crates/ipfw_cli/out/ipfw_cli $@.new && mv $@.new $@
+	RT=$(RT) build/run ipfw_cli
+	@mv bin/ipfw_cli $@
 	@echo "built $@"
 
 $(LOCK_BENCH) $(STATES_BENCH) $(REPORT_BENCH) $(EDIT_BENCH): bin/%: bin/sources
 	$(need_rt)
-	cd crates/$* && $(RT) run >/dev/null
-	@cp crates/$*/out/$* $@.new && mv $@.new $@
+	RT=$(RT) build/run $*
 	@echo "built $@"
 
 # The checksum of each source. The file is replaced only where one of them changed, so that nothing is built
-# anew else.
+# anew else. Wrong bodies are no part of a program.
 bin/sources: FORCE
 	@mkdir -p bin
-	@find crates crates.txt HANDLES -name out -prune -o -type f -exec sha256sum {} + | LC_ALL=C sort >$@.new
+	@find crates crates.txt HANDLES \( -name out -o -name must-fail \) -prune -o -type f -exec sha256sum {} + | LC_ALL=C sort >$@.new
 	@if cmp -s $@.new $@; then rm $@.new; else mv $@.new $@; fi
 
 example: $(PROGRAM)
@@ -79,9 +74,9 @@ help:
 	@echo "make wrong-bodies  tries the wrong bodies that the gate leaves out: the prover must refuse each"
 	@echo "make bench      builds, and times the program on large captures, beside tcpdump where it is installed (needs python3), the states' asks, the report's lines, edits of a configuration, and the lock's sections"
 	@echo "make install    builds, and copies the program and its manual page below DESTDIR/PREFIX ($(PREFIX))"
-	@echo "make clean      removes all that was built and what the proofs keep"
+	@echo "make clean      removes all that was built here; what was proved stays with rt"
 	@echo
-	@echo "RT=COMMAND names another command than rt for the Rattle toolchain. JOBS=N proves N crates at a time, each with"
-	@echo "up to 4 GB of memory: here $(JOBS), where nothing is said."
+	@echo "RT=COMMAND names another command than rt for the Rattle toolchain. RT_JOBS=N in the environment has it do N things at a"
+	@echo "time, in place of one for each processor where memory is free."
 
 .PHONY: all example test wrong-bodies bench install clean help FORCE
