@@ -4,5 +4,3 @@
 pub use tally::{Count, Tally, total};
 
 mod tally;
-#[cfg(test)]
-mod tests;

@@ -1,7 +1,7 @@
 -- How long a state lives from its last packet on (ipfw(8), "SYSCTL VARIABLES"). The choice by the flags
 -- seen is this project's own: it has no keepalive packets.
 use Rattle.std.specs.Prelude.{ℕ, Bool, bit_and, not, ◌==◌, ◌&&◌, ◌||◌, if◌then◌else◌}
-use Rattle.fw_rule.specs.Canonical.{has_bit}
+use Rattle.fw_rule.specs.Bits.{has_bit}
 use Rattle.fw_rule.specs.Values.{Values}
 
 -- the flags that a state keeps, of a TCP header's flag byte: FIN 1, SYN 2, RST 4 (RFC 9293 section 3.1)

@@ -3,7 +3,7 @@ use Rattle.std.specs.Prelude.{ℕ, ◌==◌, if◌then◌else◌, List, [], ◌�
 use Rattle.std.specs.List.{flat_map}
 use Rattle.std.specs.Fmt.{decimal}
 use Rattle.fw_base.specs.Addr.{address_text}
-use Rattle.fw_rule.specs.Canonical.{five_digits, spaced_text, protocol_word}
+use Rattle.rule_text.specs.Canonical.{five_digits, spaced_text, protocol_word}
 use Rattle.packet_headers.specs.declared.flows.Flow.{Flow}
 use Rattle.dyn_states.specs.declared.state.State.{State}
 use Rattle.dyn_states.specs.Slots.{is_held}

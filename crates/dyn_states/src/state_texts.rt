@@ -1,15 +1,15 @@
 ghost use Rattle.std.specs.Prelude.{◌≡◌, ◌∷◌, [], flat_map, slice_index_or};
 ghost use Rattle.std.specs.Fmt.{decimal};
 ghost use Rattle.fw_base.specs.Addr.{address_text};
-ghost use Rattle.fw_rule.specs.Canonical.{spaced_text};
+ghost use Rattle.rule_text.specs.Canonical.{spaced_text};
 ghost use Rattle.fw_base.specs.Texts.{WritesText};
 ghost use Rattle.dyn_states.specs.StateTexts as text;
 
 use crate::{State, States};
 use fw_base::{Addr, Failed, Name, Sink, write_pieces, write_text};
-use fw_rule::{WriteFault, write_address, write_five_digits, write_protocol};
 use itoa::Buffer;
 use packet_headers::Flow;
+use rule_text::{WriteFault, write_address, write_five_digits, write_protocol};
 
 /// Writes an address and a port, each behind a space.
 fn write_end<K: Sink>(out: &mut K, address: Addr, port: u16) -> Result<(), Failed>

@@ -1,6 +1,9 @@
-//! Tests of editions and evaluations by the public calls of generation_store, eval_engine and evaluation_laws.
+//! Tests of editions, gates, evaluations and counts by the public calls of generation_store, rule_gates, eval_engine,
+//! evaluation_laws and counter_book.
 #![tactic(auto)]
 
+#[cfg(test)]
+mod counts;
 #[cfg(test)]
 mod drafts;
 #[cfg(test)]
@@ -9,5 +12,7 @@ mod editions;
 mod evaluations;
 #[cfg(test)]
 mod frames;
+#[cfg(test)]
+mod gates;
 #[cfg(test)]
 mod traces;

@@ -1,6 +1,6 @@
 -- What a rule is to the packet (ipfw(8), "RULE FORMAT", "SETS OF RULES", "STATEFUL FIREWALL").
 use Rattle.std.specs.Prelude.{ℕ, ⊤, Bool, false, ◌&&◌, nat_lt, unwrap_or, Option, Some, None}
-use Rattle.fw_rule.specs.Canonical.{has_bit}
+use Rattle.fw_rule.specs.Bits.{has_bit}
 use Rattle.fw_rule.specs.declared.action.Action.{Action}
 use Rattle.fw_rule.specs.declared.action.Action.TheVariants.{Allow, Deny, Reset, Unreach, Count, SkipTo, Call, Return, CheckState}
 use Rattle.fw_rule.specs.declared.body.Body.{Body}

@@ -1,7 +1,7 @@
 -- The line `add` with a rule's canonical text is the command that adds the rule.
 use Rattle.std.proofs.Common.{◌≡◌, ℕ, Bool, Result, Ok, List, ◌∷◌, map, codes, refl, sym, ap, ◌∙◌, subst}
 use Rattle.fw_lex.specs.Words.{tokens_of}
-use Rattle.fw_rule.specs.Canonical.{rule_words}
+use Rattle.rule_text.specs.Canonical.{rule_words}
 use Rattle.fw_rule.specs.declared.command.Command.TheVariants.{Add}
 use Rattle.fw_rule.specs.declared.rule.Rule.{Rule}
 use Rattle.ipfw_parser.specs.Reading.{Fault, ◌>>=◌, same, word_at}

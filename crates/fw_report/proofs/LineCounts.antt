@@ -1,7 +1,7 @@
 -- Each line of a record is one line.
 use Rattle.std.proofs.Common.{◌≡◌, ℕ, ◌+◌, List, [], ◌∷◌, ◌++◌, refl, ◌∙◌, arith}
 use Rattle.std.specs.Fmt.{decimal}
-use Rattle.fw_rule.specs.Canonical.{five_digits}
+use Rattle.rule_text.specs.Canonical.{five_digits}
 use Rattle.eval_engine.specs.Dockets.{judgement_of}
 use Rattle.eval_engine.specs.declared.docket_entry.DocketEntry.{DocketEntry}
 use Rattle.eval_engine.specs.declared.docket_entry.DocketEntry.TheVariants as entry

@@ -3,7 +3,7 @@ use Rattle.std.specs.Prelude.{ℕ, ◌==◌, Bool, Option, None, Some, List, [],
 use Rattle.std.specs.List.{flat_map}
 use Rattle.fw_base.specs.Addr.{address_text}
 use Rattle.fw_base.specs.Prefix.{Network}
-use Rattle.fw_rule.specs.Canonical.{rule_text}
+use Rattle.rule_text.specs.Canonical.{rule_text}
 use Rattle.fw_rule.specs.declared.rule.Rule.{Rule}
 use Rattle.lookup_tables.specs.Tables.{table_named}
 use Rattle.lookup_tables.specs.declared.table.Table.{Table}

@@ -1,6 +1,6 @@
 -- An ask's line has the flow's name between two parts whose length is bounded.
 use Rattle.std.specs.Prelude.{ℕ, Option, Some, None, List, ◌++◌, codes, decimal}
-use Rattle.fw_rule.specs.Canonical.{mask_word}
+use Rattle.rule_text.specs.Canonical.{mask_word}
 use Rattle.fw_rule.specs.declared.state_opt.LimitMask.{LimitMask}
 use Rattle.dyn_states.specs.declared.op.Op.{Op}
 use Rattle.dyn_states.specs.declared.op.Op.TheVariants.{Lookup, Install}

@@ -1,6 +1,6 @@
 -- The report's first section: for each capture a line for each record, and one for its end.
 use Rattle.std.specs.Prelude.{ℕ, ◌+◌, List, [], ◌∷◌, ◌++◌, codes, decimal}
-use Rattle.fw_rule.specs.Canonical.{code_word, five_digits}
+use Rattle.rule_text.specs.Canonical.{code_word, five_digits}
 use Rattle.pcap_read.specs.Words.{word_of}
 use Rattle.eval_engine.specs.Dockets.{DocketValue, judgement_of}
 use Rattle.eval_engine.specs.declared.docket_entry.DocketEntry.{DocketEntry}

@@ -3,7 +3,7 @@ use Rattle.std.specs.Prelude.{ℕ, ◌+◌, Bool, true, false, Option, Some, Non
 use Rattle.std.specs.List.{flat_map}
 use Rattle.packet_headers.specs.declared.flows.Flow.{Flow}
 use Rattle.fw_rule.specs.Bits.{has_bit}
-use Rattle.fw_rule.specs.Canonical.{mask_word}
+use Rattle.rule_text.specs.Canonical.{mask_word}
 use Rattle.fw_rule.specs.declared.state_opt.LimitMask.{LimitMask}
 use Rattle.dyn_states.specs.StateTexts.{flow_text}
 use Rattle.dyn_states.specs.declared.op.FlowName.{FlowName}

@@ -4,7 +4,7 @@ use Rattle.std.specs.List.{flat_map}
 use Rattle.counter_book.specs.Counts.{total_under}
 use Rattle.counter_book.specs.declared.tally.Count.{Count}
 use Rattle.fw_rule.specs.Bits.{has_bit}
-use Rattle.fw_rule.specs.Canonical.{five_digits, rest_text}
+use Rattle.rule_text.specs.Canonical.{five_digits, rest_text}
 use Rattle.fw_rule.specs.declared.rule.Rule.{Rule}
 use Rattle.fw_report.specs.AnswerText.{count_line}
 

@@ -3,7 +3,7 @@ ghost use Rattle.std.specs.Arc.{arc_value};
 ghost use Rattle.std.specs.List.{flat_map};
 ghost use Rattle.std.specs.Option.{option_copied, option_map};
 ghost use Rattle.fw_base.specs.Texts.{WritesText};
-ghost use Rattle.fw_rule.specs.Canonical.{rule_text};
+ghost use Rattle.rule_text.specs.Canonical.{rule_text};
 ghost use Rattle.lookup_tables.specs.Tables.{table_named};
 ghost use Rattle.rule_chain.specs.Words.{word_of};
 ghost use Rattle.fw_report.specs.AnswerText as text;
@@ -11,10 +11,11 @@ ghost use Rattle.fw_report.specs.AnswerText as text;
 use crate::line::{LINE_BYTES, Line};
 use crate::{Answer, LineAnswer};
 use fw_base::{Failed, Name, Prefix, Sink, write_text};
-use fw_rule::{Rule, write_address, write_rule};
+use fw_rule::Rule;
 use generation_store::Edition;
 use lookup_tables::Table;
 use rule_chain::{ApplyFault, Config};
+use rule_text::{write_address, write_rule};
 use std::sync::Arc;
 
 /// Writes which line of the script is answered, and by which edition.

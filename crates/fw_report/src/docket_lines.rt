@@ -1,7 +1,7 @@
 ghost use Rattle.std.specs.Prelude.{◌≡◌, ◌+◌, ◌<◌, ◌≤◌, ◌++◌, Some, length, map, slice_get};
 ghost use Rattle.fw_base.specs.Texts.{WritesText};
 ghost use Rattle.eval_engine.specs.Dockets as definition;
-ghost use Rattle.fw_rule.specs.Canonical.{code_word};
+ghost use Rattle.rule_text.specs.Canonical.{code_word};
 ghost use Rattle.fw_report.specs.DocketText as text;
 ghost use Rattle.pcap_read.specs.Words.{word_of};
 
@@ -10,8 +10,8 @@ use crate::line::{LINE_BYTES, Line};
 use dyn_states::RuleRef;
 use eval_engine::{Cause, Docket, DocketEntry, Judgement, Verdict};
 use fw_base::{Failed, Sink};
-use fw_rule::UNREACH_NAMES;
 use pcap_read::CaptureFault;
+use rule_text::UNREACH_NAMES;
 
 fn name_at<'x>(names: &'x [&'x [u8]], place: usize) -> &'x [u8]
     requires { place < length names.now }

@@ -1,7 +1,7 @@
 ghost use Rattle.std.specs.Prelude.{◌≡◌, ◌+◌, ◌≤◌, ◌++◌, ◌∷◌, [], length, codes, decimal};
 ghost use Rattle.std.specs.List.{flat_map};
 ghost use Rattle.fw_base.specs.Texts.{WritesText};
-ghost use Rattle.fw_rule.specs.Canonical.{mask_word, protocol_word, spaced_text};
+ghost use Rattle.rule_text.specs.Canonical.{mask_word, protocol_word, spaced_text};
 ghost use Rattle.dyn_states.specs.StateTexts.{flow_text};
 ghost use Rattle.fw_report.specs.AskText as ask;
 ghost use Rattle.fw_report.specs.JournalText as text;
@@ -120,7 +120,7 @@ fn put_question(line: &mut Line, op: &Op)
 }
 
 /// Puts the protocol behind a space.
-#[tactic(auto, unfolding(fw_rule::specs::Canonical::protocol_word))]
+#[tactic(auto, unfolding(rule_text::specs::Canonical::protocol_word))]
 fn put_protocol(line: &mut Line, protocol: u8)
     requires { length line.old + 21 ≤ LINE_BYTES }
     ensures items { line.new ≡ spaced_text (protocol_word protocol ∷ []) ++ line.old }

@@ -2,7 +2,7 @@ ghost use Rattle.std.specs.Prelude.{◌≡◌, ◌+◌, ◌≤◌, ◌++◌, [],
 ghost use Rattle.std.specs.Fmt.{decimal};
 ghost use Rattle.fw_base.specs.Addr.{address_text};
 ghost use Rattle.fw_base.specs.Texts.{WritesText};
-ghost use Rattle.fw_rule.specs.Canonical.{five_digits};
+ghost use Rattle.rule_text.specs.Canonical.{five_digits};
 
 use fw_base::{Addr, Failed, Sink, write_text};
 use itoa::write_digits;
@@ -119,7 +119,7 @@ impl Line {
     }
 
     /// Puts a number before what stands, in five digits.
-    #[tactic(auto, unfolding(fw_rule::specs::Canonical::five_digits))]
+    #[tactic(auto, unfolding(rule_text::specs::Canonical::five_digits))]
     pub(crate) fn put_five_digits(&mut self, n: u16)
         requires { length self.old + 5 ≤ LINE_BYTES }
         ensures items { self.new ≡ five_digits n ++ self.old }

@@ -14,9 +14,9 @@ use counter_book::Tally;
 use dyn_states::{States, write_states};
 use eval_engine::Docket;
 use fw_base::{Failed, Name, Sink};
-use fw_rule::WriteFault;
 use generation_store::Edition;
 use rule_chain::Config;
+use rule_text::WriteFault;
 use state_journal::{Book, Entry};
 use std::sync::Arc;
 

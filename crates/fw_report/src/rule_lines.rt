@@ -2,14 +2,15 @@ ghost use Rattle.std.specs.Prelude.{◌≡◌, ◌<◌, map};
 ghost use Rattle.std.specs.Arc.{arc_value};
 ghost use Rattle.std.specs.List.{flat_map};
 ghost use Rattle.fw_base.specs.Texts.{WritesText};
-ghost use Rattle.fw_rule.specs.Canonical.{rest_text};
+ghost use Rattle.rule_text.specs.Canonical.{rest_text};
 ghost use Rattle.fw_report.specs.RulesText as text;
 
 use crate::answer_lines::write_count;
 use crate::line::Line;
 use counter_book::{Tally, total};
 use fw_base::{Failed, Sink, write_text};
-use fw_rule::{Rule, has_bit, write_rule_rest};
+use fw_rule::{Rule, has_bit};
+use rule_text::write_rule_rest;
 use std::sync::Arc;
 
 /// Writes how many editions were published.

@@ -6,9 +6,9 @@ use crate::line::{LINE_BYTES, Line};
 use counter_book::Tally;
 use eval_engine::{Docket, DocketEntry, Verdict};
 use fw_base::{Failed, Sink};
-use fw_rule::WriteFault;
 use generation_store::Edition;
 use itoa::Buffer;
+use rule_text::WriteFault;
 use state_journal::Book;
 use std::sync::Arc;
 

@@ -1,11 +1,7 @@
--- rules and their texts
-pub mod Address6Text
+-- rules
 pub mod Bits
-pub mod Canonical
 pub mod FlowName
-pub mod Pieces
 pub mod TypeSet
-pub mod ZeroRuns
 -- the ranges of numbers
 pub mod Settings
 pub mod Values

@@ -1,25 +1,5 @@
-ghost use Rattle.std.specs.Prelude.{◌≡◌, ◌++◌, codes};
-ghost use Rattle.fw_base.specs.Texts.{WritesText};
-ghost use Rattle.fw_rule.specs.Canonical as text;
-ghost use Rattle.fw_rule.specs.Canonical.{spaced_text};
-
-use crate::writing::{Piece, write_pieces};
-use fw_base::{Failed, Name, Sink};
-
 /// The name of a flow that is given none (ipfw(8), "STATEFUL FIREWALL").
 pub const DEFAULT_FLOW: &[u8] = b"default";
 
 /// What `:any` names: not one flow, but each. So no flow is called so.
 pub const ANY_FLOW: &[u8] = b"any";
-
-/// Writes the name behind a space and a colon, but for `default`.
-pub(crate) fn write_flow_name<K: Sink>(out: &mut K, name: &Name) -> Result<(), Failed>
-    ensures { WritesText (K.written out.old) (K.written out.new) (K.faults out.old)
-        (K.faults out.new) (spaced_text (text.flow_words name.now)) result }
-{
-    if name.bytes() == DEFAULT_FLOW {
-        Ok(())
-    } else {
-        write_pieces(out, &[Piece::Text(b" :"), Piece::Text(name.bytes())])
-    }
-}

@@ -1,18 +1,12 @@
 //! `ipfw_replay`: replays captures beside an operator's script of rules.
 #![tactic(auto)]
 
-use fault_counter::FaultCounter;
-use file_library::FileLibrary;
 use fw_base::FreeGate;
 use replay_driver::run;
 use std::process::ExitCode;
 use std::rt::Env;
 use std::{env, io};
-
-mod fault_counter;
-mod file_library;
-#[cfg(test)]
-mod tests;
+use system_files::{FaultCounter, FileLibrary};
 
 /// The status of want of memory.
 const OUT_OF_MEMORY: u8 = 6;

@@ -8,5 +8,3 @@ mod generator;
 mod load;
 mod made_capture;
 mod packets;
-#[cfg(test)]
-mod tests;

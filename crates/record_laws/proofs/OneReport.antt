@@ -12,7 +12,7 @@ use Rattle.fw_report.specs.Report.{start_text, last_text, closing_text, last_clo
 use Rattle.fw_report.specs.RulesText.{counts_text, counted_line, disabled_text, rules_text}
 use Rattle.fw_report.specs.declared.capture_end.CaptureEnd.{CaptureEnd}
 use Rattle.fw_report.specs.declared.ends.LineAnswer.{LineAnswer}
-use Rattle.fw_rule.specs.Canonical.{five_digits, rest_text}
+use Rattle.rule_text.specs.Canonical.{five_digits, rest_text}
 use Rattle.fw_rule.specs.declared.rule.Rule.{Rule}
 use Rattle.fw_world.specs.RecordValue.{RecordValue}
 use Rattle.generation_store.specs.Published.{Published}

@@ -6,7 +6,7 @@ use Rattle.std.proofs.lemmas.List.Sums.{sum_by-cons}
 use Rattle.std.specs.Fmt.{decimal, digits, digits_onto, digit_glyph}
 use Rattle.std.specs.List.{onto_first}
 use Rattle.counter_book.specs.declared.tally.Count.{Count}
-use Rattle.fw_rule.specs.Canonical.{five_digits}
+use Rattle.rule_text.specs.Canonical.{five_digits}
 use Rattle.pcap_read.specs.Words.{word_of}
 use Rattle.pcap_read.specs.declared.capture_fault.CaptureFault.{CaptureFault}
 use Rattle.pcap_read.specs.declared.capture_fault.CaptureFault.TheVariants.{ShortHeader, BadMagic, BadVersion, UnknownLink, ShortRecordHeader, RecordTooLong, ShortRecord, TooManyPackets, ReadFault, OutOfMemory}

@@ -2,7 +2,7 @@
 use Rattle.std.specs.Prelude.{ℕ, ◌+◌, ◌-◌, Bool, ◌||◌, not, ◌==◌, nat_le, if◌then◌else◌, Option, Some, None, Ok, Err, List, [], ◌∷◌, ◌++◌, length, bit_and, bit_or}
 use Rattle.std.specs.List.{list_any}
 use Rattle.fw_base.specs.declared.address.Addr.{Addr}
-use Rattle.fw_rule.specs.Canonical.{has_bit}
+use Rattle.fw_rule.specs.Bits.{has_bit}
 use Rattle.fw_rule.specs.declared.rule.Rule.{Rule}
 use Rattle.fw_rule.specs.declared.rule_draft.RuleDraft.{RuleDraft}
 use Rattle.fw_rule.specs.Values.{with_value}

@@ -23,7 +23,5 @@ mod key_making;
 mod ports;
 mod sharing;
 mod stateful;
-#[cfg(test)]
-mod tests;
 mod versions;
 mod words;

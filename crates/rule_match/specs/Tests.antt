@@ -1,7 +1,7 @@
 -- What the options of a rule's body ask of a packet (ipfw(8), "RULE OPTIONS").
 use Rattle.std.specs.Prelude.{ℕ, Bool, false, not, ◌&&◌, ◌||◌, ◌==◌, nat_lt, is_some, Option, Some, None, List, bit_and}
 use Rattle.fw_base.specs.declared.port.Port.{Port}
-use Rattle.fw_rule.specs.Canonical.{has_bit}
+use Rattle.fw_rule.specs.Bits.{has_bit}
 use Rattle.fw_rule.specs.declared.test.Test.{Test}
 use Rattle.fw_rule.specs.declared.test.Test.TheVariants.{Inward, Outward, Established, Setup, Frag, Recv, Xmit, Via, TcpFlags, IcmpTypes, Icmp6Types, IpOptions, Lookup}
 use Rattle.fw_rule.specs.declared.type_set.TypeSet.{TypeSet}

@@ -7,14 +7,14 @@ use Rattle.ipfw_parser.specs.Reading.{word_at}
 use Rattle.ipfw_parser.specs.Numbers.{number}
 use Rattle.ipfw_parser.specs.Ports.{ranges}
 use Rattle.fw_base.specs.PortRange.{Ports}
-use Rattle.fw_rule.specs.Canonical.{range_text, network_text}
+use Rattle.rule_text.specs.Canonical.{range_text, network_text}
 use Rattle.fw_base.specs.Prefix.{Network, IsNetwork}
 use Rattle.ipfw_parser.specs.Addresses.{prefix}
 use Rattle.fw_rule.specs.WellFormed.{IsRange}
 use Rattle.fw_rule.specs.declared.addr_item.AddrItem.{AddrItem}
-use Rattle.fw_rule.specs.Canonical.{item_text, signed_names, numbers_where, flag_names, option_names}
+use Rattle.rule_text.specs.Canonical.{item_text, signed_names, numbers_where, flag_names, option_names}
 use Rattle.fw_base.specs.Prefix6.{Network6, IsNetwork6}
-use Rattle.fw_rule.specs.Address6Text.{groups_text, network6_text}
+use Rattle.rule_text.specs.Address6Text.{groups_text, network6_text}
 use Rattle.fw_rule.specs.Bits.{has_bit}
 use Rattle.fw_rule.specs.TypeSet.{has_type}
 use Rattle.fw_rule.specs.declared.type_set.TypeSet.{TypeSet}
@@ -22,7 +22,7 @@ use Rattle.ipfw_parser.specs.Addresses6.{eight_groups, prefix6}
 use Rattle.ipfw_parser.specs.Lists.{signs, types, types6}
 use Rattle.ipfw_parser.specs.Addresses.{items}
 use Rattle.ipfw_parser.specs.Forms.{IsItemForm, AreSigns, IsTypesForm, IsRuleForm}
-use Rattle.fw_rule.specs.Canonical.{rule_text, rule_words}
+use Rattle.rule_text.specs.Canonical.{rule_text, rule_words}
 use Rattle.fw_rule.specs.declared.rule.Rule.{Rule}
 use Rattle.fw_rule.specs.declared.rule_draft.RuleDraft.{RuleDraft}
 use Rattle.fw_lex.specs.declared.token.Token.{Token}

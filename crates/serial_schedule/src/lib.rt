@@ -10,5 +10,3 @@ mod agenda;
 mod head;
 mod moment;
 mod order;
-#[cfg(test)]
-mod tests;

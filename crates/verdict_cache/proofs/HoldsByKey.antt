@@ -4,7 +4,7 @@ use Rattle.std.specs.List.{list_all}
 use Rattle.std.specs.Option.{option_map}
 use Rattle.fw_base.specs.declared.address.Addr.{Addr}
 use Rattle.fw_base.specs.declared.port.Port.{Port}
-use Rattle.fw_rule.specs.Canonical.{has_bit}
+use Rattle.fw_rule.specs.Bits.{has_bit}
 use Rattle.fw_rule.specs.declared.body.Body.{Body}
 use Rattle.fw_rule.specs.declared.body.Family.{Family}
 use Rattle.fw_rule.specs.declared.body.Family.TheVariants as family

@@ -10,7 +10,7 @@ use Rattle.std.proofs.lemmas.List.{append-nil}
 use Rattle.std.specs.Char.{is_ascii_digit}
 use Rattle.fw_base.specs.Prefix.{Network, network, IsNetwork}
 use Rattle.fw_base.specs.Addr.{address_text}
-use Rattle.fw_rule.specs.Canonical.{network_text}
+use Rattle.rule_text.specs.Canonical.{network_text}
 use Rattle.ipfw_parser.specs.Reading.{Fault, ◌>>=◌}
 use Rattle.ipfw_parser.specs.Numbers.{up_to, decimal as decimal_of}
 use Rattle.ipfw_parser.specs.Addresses.{octet_in, with_rest, octet_and_dot, address_in, found_address, address, found_length, prefix_length, prefix}

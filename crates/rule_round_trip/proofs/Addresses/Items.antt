@@ -12,8 +12,8 @@ use Rattle.fw_base.specs.Prefix.{Network}
 use Rattle.fw_base.specs.Addr.{address_text}
 use Rattle.fw_base.proofs.Logic.{clash}
 use Rattle.fw_base.specs.Name.{is_name_byte}
-use Rattle.fw_rule.specs.Address6Text.{network6_text}
-use Rattle.fw_rule.specs.Canonical.{network_text, item_text}
+use Rattle.rule_text.specs.Address6Text.{network6_text}
+use Rattle.rule_text.specs.Canonical.{network_text, item_text}
 use Rattle.fw_rule.specs.declared.addr_item.AddrItem.{AddrItem}
 use Rattle.fw_rule.specs.declared.addr_item.AddrItem.TheVariants.{Any, Me, Net, Net6, InTable, TableValue}
 use Rattle.ipfw_parser.specs.declared.kind.Kind.TheVariants.{BadName, BadAddress}

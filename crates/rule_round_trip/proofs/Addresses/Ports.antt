@@ -9,7 +9,7 @@ use Rattle.std.proofs.lemmas.List.{append-nil}
 use Rattle.std.proofs.Math.Numerals.{one-add}
 use Rattle.rule_round_trip.proofs.Addresses.Four.{free_decimal}
 use Rattle.fw_base.specs.PortRange.{Ports}
-use Rattle.fw_rule.specs.Canonical.{range_text}
+use Rattle.rule_text.specs.Canonical.{range_text}
 use Rattle.fw_rule.specs.WellFormed.{IsRange}
 use Rattle.ipfw_parser.specs.Reading.{Word, Fault, fault_at, ◌>>=◌, same}
 use Rattle.ipfw_parser.specs.declared.kind.Kind.TheVariants.{BadRange}

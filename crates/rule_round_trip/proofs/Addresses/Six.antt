@@ -11,8 +11,8 @@ use Rattle.std.proofs.Math.Nat.{add-zero}
 use Rattle.std.specs.Char.{is_ascii_digit}
 use Rattle.fw_base.specs.Prefix6.{Network6, network6, IsNetwork6}
 use Rattle.fw_base.proofs.Logic.{clash}
-use Rattle.fw_rule.specs.Address6Text.{groups_of, hexadecimal, groups_joined, leading_zeros, longest_run, place_of_run, shortened_text, groups_text, address6_text, network6_text}
-use Rattle.fw_rule.proofs.ZeroRuns.{run_fits, run_there}
+use Rattle.rule_text.specs.Address6Text.{groups_of, hexadecimal, groups_joined, leading_zeros, longest_run, place_of_run, shortened_text, groups_text, address6_text, network6_text}
+use Rattle.rule_text.proofs.ZeroRuns.{run_fits, run_there}
 use Rattle.ipfw_parser.specs.declared.kind.Kind.TheVariants.{BadAddress, BadPrefix}
 use Rattle.ipfw_parser.specs.Reading.{Fault, ◌>>=◌}
 use Rattle.ipfw_parser.specs.Numbers.{up_to}

@@ -7,7 +7,7 @@ use Rattle.std.proofs.lemmas.Nat.Bits.{bit_at_and, bit_at-zero}
 use Rattle.std.specs.Int.{bit_at}
 use Rattle.std.proofs.lemmas.Bool.Decides.{eqb_tells}
 use Rattle.fw_base.proofs.Logic.{clash}
-use Rattle.fw_rule.specs.Canonical.{has_bit}
+use Rattle.fw_rule.specs.Bits.{has_bit}
 
 one_mul : (n : ℕ) → n ≡ 1 * n
 one_mul n = omega arith

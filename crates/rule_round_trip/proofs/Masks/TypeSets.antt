@@ -6,7 +6,7 @@ use Rattle.std.specs.Fmt.{decimal}
 use Rattle.std.proofs.Math.Nat.{mod-eq_of_lt, add-zero}
 use Rattle.std.proofs.lemmas.Bool.{lt-ltb, le-ltb}
 use Rattle.std.proofs.lemmas.Bool.Decides.{leb_tells}
-use Rattle.fw_rule.specs.Canonical.{numbers_where, WordTexts}
+use Rattle.rule_text.specs.Canonical.{numbers_where, WordTexts}
 use Rattle.fw_rule.specs.TypeSet.{has_type, no_types, with_type}
 use Rattle.fw_rule.specs.WellFormed.{IsTypeSet}
 use Rattle.fw_rule.specs.declared.type_set.TypeSet.{TypeSet}

@@ -5,7 +5,7 @@ use Rattle.std.specs.List.{AllByRecursion, join_with_byte}
 use Rattle.std.specs.Fmt.{decimal}
 use Rattle.std.proofs.Math.Nat.{mod-eq_of_lt, zero-add, add-zero}
 use Rattle.fw_rule.specs.Bits.{has_bit}
-use Rattle.fw_rule.specs.Canonical.{numbers_where, WordTexts}
+use Rattle.rule_text.specs.Canonical.{numbers_where, WordTexts}
 use Rattle.ipfw_parser.specs.Reading.{Fault, ◌>>=◌}
 use Rattle.ipfw_parser.specs.Lists.{type_mask, types}
 use Rattle.rule_round_trip.proofs.Numbers.Digits.{IsFree, elements_again, free_digits}

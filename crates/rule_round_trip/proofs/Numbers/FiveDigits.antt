@@ -5,7 +5,7 @@ use Rattle.std.specs.Fmt.{decimal}
 use Rattle.std.proofs.lemmas.Bool.{le-leb}
 use Rattle.std.proofs.lemmas.Fmt.{decimal_nonempty, length-decimal-le}
 use Rattle.std.specs.Char.{is_ascii_digit}
-use Rattle.fw_rule.specs.Canonical.{five_digits}
+use Rattle.rule_text.specs.Canonical.{five_digits}
 use Rattle.ipfw_parser.specs.declared.kind.Kind.TheVariants.{NumberRange, UnknownWord}
 use Rattle.ipfw_parser.specs.Reading.{fault_at}
 use Rattle.ipfw_parser.specs.Numbers.{number, number_by, value_after, digits_value, starts_with_digit, set_number, decimal as decimal_of}

@@ -5,8 +5,8 @@ use Rattle.std.specs.Fmt.{digits, digits_onto, digit_glyph}
 use Rattle.std.proofs.Math.Nat.{pow-suc}
 use Rattle.std.proofs.lemmas.Bool.{le-leb, and_from}
 use Rattle.std.proofs.lemmas.Bool.Decides.{leb_tells}
-use Rattle.fw_rule.specs.Address6Text.{hexadecimal}
-use Rattle.fw_rule.proofs.HexSteps.{one_more, the_last}
+use Rattle.rule_text.specs.Address6Text.{hexadecimal}
+use Rattle.rule_text.proofs.HexSteps.{one_more, the_last}
 use Rattle.ipfw_parser.specs.Addresses6.{is_hex, hex_value, hex_after, hex_number, group}
 
 -- one digit, read and counted

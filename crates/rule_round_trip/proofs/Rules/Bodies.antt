@@ -7,13 +7,13 @@ use Rattle.std.proofs.lemmas.Bool.Decides.{eqb_tells}
 use Rattle.std.proofs.lemmas.List.{append-nil}
 use Rattle.std.proofs.Math.Nat.{zero-add, add-zero}
 use Rattle.fw_base.specs.PortRange.{Ports}
-use Rattle.fw_rule.specs.Canonical.{WordTexts, five_digits, unreach_names, code_word, action_words, looked_up_words, amount_words, log_words, set_words, protocol_word, family_word, item_text, list_words, addr_words, range_text, port_words, options_words, body_words, optional_body, rule_words}
+use Rattle.rule_text.specs.Canonical.{WordTexts, five_digits, unreach_names, code_word, action_words, looked_up_words, amount_words, log_words, set_words, protocol_word, family_word, item_text, list_words, addr_words, range_text, port_words, options_words, body_words, optional_body, rule_words}
 use Rattle.fw_rule.specs.WellFormed.{IsAction, IsValue, IsRange}
 use Rattle.fw_rule.specs.declared.action.Action.{Action}
 use Rattle.fw_rule.specs.declared.action.Action.TheVariants.{Allow, Deny, Reset, Unreach, Count, SkipTo, Call, Return, CheckState}
 use Rattle.fw_rule.specs.declared.addr_item.AddrItem.{AddrItem}
 use Rattle.fw_rule.specs.declared.addr_item.AddrItem.TheVariants.{Any, Me, Net, Net6, InTable, TableValue}
-use Rattle.fw_rule.specs.Address6Text.{network6_text}
+use Rattle.rule_text.specs.Address6Text.{network6_text}
 use Rattle.fw_rule.specs.declared.body.Family.{Family}
 use Rattle.fw_rule.specs.declared.body.Family.TheVariants.{AnyIp, Four, Six}
 use Rattle.fw_rule.specs.declared.addr_spec.AddrSpec.{AddrSpec}

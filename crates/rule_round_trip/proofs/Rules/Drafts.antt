@@ -5,7 +5,7 @@ use Rattle.std.proofs.lemmas.Bool.{le-ltb}
 use Rattle.std.proofs.Math.Numerals.{one-add}
 use Rattle.fw_lex.specs.declared.token.Token.{Token}
 use Rattle.fw_lex.specs.Words.{tokens_of, before_comment, first_bad, is_readable}
-use Rattle.fw_rule.specs.Canonical.{rule_text, rule_words}
+use Rattle.rule_text.specs.Canonical.{rule_text, rule_words}
 use Rattle.fw_rule.specs.WellFormed.{IsAction}
 use Rattle.fw_rule.specs.declared.rule.Rule.{Rule}
 use Rattle.fw_rule.specs.declared.rule_draft.RuleDraft.{RuleDraft}

@@ -2,7 +2,7 @@
 use Rattle.std.proofs.Common.{◌≡◌, ◌≢◌, ◌⊎◌, ℕ, Bool, true, false, if◌then◌else◌, nat_eq, Some, None, Option, Ok, List, ◌∷◌, ◌++◌, codes, refl, sym, ap, ◌∙◌, inl, inr, []}
 use Rattle.std.specs.Prelude.{IfSome, ⊤}
 use Rattle.std.specs.Cmp.Lexicographic.{pointwise, bytes_decides}
-use Rattle.fw_rule.specs.Canonical.{WordTexts, flow_words, looked_up_words}
+use Rattle.rule_text.specs.Canonical.{WordTexts, flow_words, looked_up_words}
 use Rattle.fw_rule.specs.FlowName.{default_flow}
 use Rattle.ipfw_parser.specs.Reading.{WordReading, same}
 use Rattle.ipfw_parser.specs.Names.{starts_with_colon, is_any_flow, named_flow}

@@ -1,10 +1,10 @@
 use Rattle.std.proofs.Common.{refl, [], ◌∷◌}
 use Rattle.fw_base.proofs.Texts.{starts}
-use Rattle.fw_rule.proofs.WriteSteps.{goes, breaks_off, finishes}
+use Rattle.rule_text.proofs.WriteSteps.{goes, breaks_off, finishes}
 use Rattle.std.specs.Fmt.{decimal}
 use Rattle.fw_base.specs.Addr.{address_text}
-use Rattle.fw_rule.specs.Canonical.{protocol_word}
-use Rattle.fw_rule.proofs.Lists.{spaced-append}
+use Rattle.rule_text.specs.Canonical.{protocol_word}
+use Rattle.rule_text.proofs.Lists.{spaced-append}
 use Rattle.dyn_states.proofs.state_texts.write_flow.Goals as goal
 
 pub returns-in_err-write_protocol : goal.returns-in_err-write_protocol

@@ -1,5 +1,5 @@
 use Rattle.std.proofs.Common.{◌+◌, drop, flat_map}
-use Rattle.fw_rule.proofs.WriteSteps.{goes, breaks_off}
+use Rattle.rule_text.proofs.WriteSteps.{goes, breaks_off}
 use Rattle.fw_report.proofs.Sections.{text_at}
 use Rattle.fw_report.specs.AnswerText.{address_line}
 use Rattle.fw_report.proofs.answer_lines.write_address_lines.Goals as goal

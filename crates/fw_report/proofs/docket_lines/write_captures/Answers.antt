@@ -1,6 +1,6 @@
 use Rattle.std.proofs.Common.{◌≡◌, ◌∙◌, ℕ, List, ◌+◌, ◌++◌, ap, sym, length, drop, arith}
 use Rattle.fw_base.proofs.Texts.{ends}
-use Rattle.fw_rule.proofs.WriteSteps.{goes, breaks_off}
+use Rattle.rule_text.proofs.WriteSteps.{goes, breaks_off}
 use Rattle.eval_engine.specs.declared.docket_entry.DocketEntry.{DocketEntry}
 use Rattle.fw_report.specs.DocketText.{capture_text, captures_text}
 use Rattle.fw_report.proofs.Sections.{next_capture, no_capture_end, no_capture}

@@ -1,6 +1,6 @@
 use Rattle.std.proofs.Common.{arith, ◌+◌, drop}
 use Rattle.fw_base.proofs.Texts.{ends}
-use Rattle.fw_rule.proofs.WriteSteps.{goes, breaks_off}
+use Rattle.rule_text.proofs.WriteSteps.{goes, breaks_off}
 use Rattle.fw_report.specs.JournalText.{hits_text}
 use Rattle.fw_report.proofs.Sections.{next_hits, no_hits}
 use Rattle.fw_report.proofs.journal_lines.write_hits.Goals as goal

@@ -1,6 +1,6 @@
 use Rattle.std.proofs.Common.{refl}
 use Rattle.fw_base.proofs.Texts.{starts}
-use Rattle.fw_rule.proofs.WriteSteps.{goes, breaks_off, finishes}
+use Rattle.rule_text.proofs.WriteSteps.{goes, breaks_off, finishes}
 use Rattle.fw_report.specs.JournalText.{journal_text}
 use Rattle.fw_report.proofs.journal_lines.write_journal.Goals as goal
 

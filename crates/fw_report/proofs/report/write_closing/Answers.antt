@@ -1,6 +1,6 @@
 use Rattle.std.proofs.Common.{refl, ◌∙◌, ◌++◌, ℕ, List, ap, sym}
 use Rattle.fw_base.proofs.Texts.{starts}
-use Rattle.fw_rule.proofs.WriteSteps.{goes, breaks_off, finishes}
+use Rattle.rule_text.proofs.WriteSteps.{goes, breaks_off, finishes}
 use Rattle.dyn_states.specs.StateObject.{StateObject}
 use Rattle.state_journal.specs.declared.entry.Entry.{Entry}
 use Rattle.fw_report.specs.JournalText.{hits_text, optional_journal}

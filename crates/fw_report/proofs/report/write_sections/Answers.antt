@@ -1,6 +1,6 @@
 use Rattle.std.proofs.Common.{refl, ◌∙◌, ℕ, List, ap, sym, map}
 use Rattle.fw_base.proofs.Texts.{starts}
-use Rattle.fw_rule.proofs.WriteSteps.{goes, breaks_off, finishes}
+use Rattle.rule_text.proofs.WriteSteps.{goes, breaks_off, finishes}
 use Rattle.std.specs.Arc.{arc_value}
 use Rattle.rule_chain.specs.Configuration.{Configuration}
 use Rattle.fw_report.specs.Recorded.{Recorded}

@@ -1,8 +1,8 @@
 use Rattle.std.proofs.Common.{refl, ◌++◌, ap, sym, codes}
 use Rattle.fw_base.proofs.Texts.{starts}
-use Rattle.fw_rule.proofs.WriteSteps.{goes, breaks_off, finishes}
+use Rattle.rule_text.proofs.WriteSteps.{goes, breaks_off, finishes}
 use Rattle.std.specs.Arc.{arc_value}
-use Rattle.fw_rule.specs.Canonical.{rest_text}
+use Rattle.rule_text.specs.Canonical.{rest_text}
 use Rattle.fw_rule.specs.declared.rule.Rule.{Rule}
 use Rattle.fw_report.specs.RulesText.{counts_text, counted_line}
 use Rattle.fw_report.proofs.rule_lines.write_counted.Goals as goal

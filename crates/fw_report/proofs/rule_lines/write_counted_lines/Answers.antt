@@ -1,5 +1,5 @@
 use Rattle.std.proofs.Common.{◌+◌, drop, flat_map, Global}
-use Rattle.fw_rule.proofs.WriteSteps.{goes, breaks_off}
+use Rattle.rule_text.proofs.WriteSteps.{goes, breaks_off}
 use Rattle.fw_report.proofs.Sections.{text_at}
 use Rattle.std.specs.Arc.{arc_value}
 use Rattle.std.specs.declared.sync.Arc.{Arc}

@@ -1,6 +1,6 @@
 use Rattle.std.proofs.Common.{refl, ◌≡◌}
 use Rattle.fw_base.proofs.Texts.{starts}
-use Rattle.fw_rule.proofs.WriteSteps.{goes, breaks_off, finishes}
+use Rattle.rule_text.proofs.WriteSteps.{goes, breaks_off, finishes}
 use Rattle.std.proofs.Common.{false, nat_eq, arith}
 use Rattle.std.proofs.lemmas.Bool.Decides.{nat_tests}
 use Rattle.fw_report.specs.RulesText.{disabled_line}

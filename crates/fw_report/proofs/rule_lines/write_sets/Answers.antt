@@ -1,6 +1,6 @@
 use Rattle.std.proofs.Common.{arith, ◌+◌, ◌-◌}
 use Rattle.fw_base.proofs.Texts.{ends}
-use Rattle.fw_rule.proofs.WriteSteps.{goes, breaks_off}
+use Rattle.rule_text.proofs.WriteSteps.{goes, breaks_off}
 use Rattle.fw_report.specs.RulesText.{sets_text}
 use Rattle.fw_report.proofs.Sections.{next_set, no_set}
 use Rattle.fw_report.proofs.rule_lines.write_sets.Goals as goal

@@ -3,7 +3,7 @@ use Rattle.std.specs.Fmt.{decimal}
 use Rattle.std.proofs.lemmas.Fmt.{length-decimal-le}
 use Rattle.std.proofs.lemmas.List.{take-replicate, length-replicate}
 use Rattle.std.proofs.Math.ListN.{replicate}
-use Rattle.fw_rule.specs.Canonical.{five_digits}
+use Rattle.rule_text.specs.Canonical.{five_digits}
 use Rattle.fw_report.proofs.line.Line.put_five_digits.Goals as goal
 
 pub write_digits-start-requires : goal.write_digits-start-requires

@@ -1,5 +1,0 @@
-use Rattle.fw_rule.proofs.RunLaw.{first_longest}
-use Rattle.fw_rule.proofs.address6_text.first_longest_runs_are_found.Goals as goal
-
-pub returns : goal.returns
-returns c = first_longest

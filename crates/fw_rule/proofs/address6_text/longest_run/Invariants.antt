@@ -1,8 +1,0 @@
-use Rattle.fw_rule.proofs.Runs.{IsRunFrom}
-use Rattle.fw_rule.proofs.address6_text.longest_run.Given as goal
-
-abbrev pub invariant-loop-place : goal.invariant-loop-place
-invariant-loop-place l = IsRunFrom l.groups l.place l.zeros l.longest
-
-abbrev pub decreases-loop-place : goal.decreases-loop-place
-decreases-loop-place l = l.place

@@ -1,9 +1,0 @@
-use Rattle.std.proofs.Common.{sym, ap}
-use Rattle.fw_base.proofs.Texts.{starts}
-use Rattle.fw_rule.specs.Address6Text.{address6_text, groups_text}
-use Rattle.fw_rule.proofs.WriteSteps.{finishes}
-use Rattle.fw_rule.proofs.address6_text.write_address6.Goals as goal
-
-pub returns : goal.returns
-unfolding address6_text
-returns g c = finishes _ (starts _ _ _) (ap groups_text (sym c.groups.ensures)) c.write_groups.ensures

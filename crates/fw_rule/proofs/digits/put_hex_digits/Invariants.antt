@@ -1,8 +1,0 @@
-use Rattle.fw_rule.proofs.HexSteps.{IsHexWriting}
-use Rattle.fw_rule.proofs.digits.put_hex_digits.Given as goal
-
-abbrev pub invariant-loop-rest : goal.invariant-loop-rest
-invariant-loop-rest l = IsHexWriting l.fn.n l.rest l.at l.buffer
-
-abbrev pub decreases-loop-rest : goal.decreases-loop-rest
-decreases-loop-rest l = l.rest

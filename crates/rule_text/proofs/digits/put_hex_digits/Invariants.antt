@@ -1,0 +1,8 @@
+use Rattle.rule_text.proofs.HexSteps.{IsHexWriting}
+use Rattle.rule_text.proofs.digits.put_hex_digits.Given as goal
+
+abbrev pub invariant-loop-rest : goal.invariant-loop-rest
+invariant-loop-rest l = IsHexWriting l.fn.n l.rest l.at l.buffer
+
+abbrev pub decreases-loop-rest : goal.decreases-loop-rest
+decreases-loop-rest l = l.rest
