@@ -1,5 +1,6 @@
 use fw_rule::Rule;
-use rule_chain::{ApplyFault, Config};
+use rule_chain::Config;
+use rule_edits::{ApplyFault, apply, apply_owned};
 use std::alloc::{AllocError, Global};
 use std::process::Abort;
 use std::test::Fail;
@@ -16,7 +17,7 @@ mod tables;
 /// The configuration after one more step.
 fn after_one(alloc: Global, config: Config, step: Step) -> Result<Config, Fail> {
     let command = command_of(alloc, step)?;
-    Ok(config.apply_owned(alloc, &command)?)
+    Ok(apply_owned(alloc, config, &command)?)
 }
 
 /// The configuration after the steps.
@@ -40,13 +41,13 @@ fn after_each(alloc: Global, first: Config, step: Step, count: u16) -> Result<Co
 /// The configuration that the step makes of this one, which stays.
 fn applied(alloc: Global, config: &Config, step: Step) -> Result<Config, Fail> {
     let command = command_of(alloc, step)?;
-    Ok(config.apply(alloc, &command)?)
+    Ok(apply(alloc, &config, &command)?)
 }
 
 /// What refuses the step.
 fn fault_of(alloc: Global, config: &Config, step: Step) -> Result<Option<ApplyFault>, Fail> {
     let command = command_of(alloc, step)?;
-    Ok(config.apply(alloc, &command).err())
+    Ok(apply(alloc, &config, &command).err())
 }
 
 /// That each step is refused with its fault, or is accepted.

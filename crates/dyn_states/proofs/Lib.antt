@@ -3,10 +3,9 @@ pub mod Mapped
 pub mod FirstChanged
 pub mod Pairs
 pub mod Options
--- slots, their places and their texts
+-- slots and their places
 pub mod SlotLaws
 pub mod PlaceLaws
-pub mod SlotTexts
 -- lines of flows, and where they lead
 pub mod LineLaws
 pub mod LeadsLaws

@@ -13,5 +13,3 @@ pub mod ExpiryQueue
 pub mod LimitCounts
 pub mod Tallies
 pub mod StateTable
--- the printed states
-pub mod StateTexts

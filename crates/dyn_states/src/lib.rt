@@ -9,7 +9,6 @@ pub use op::{FlowName, Op};
 pub use reply::{Reply, Way};
 pub use scanned_states::ScannedStates;
 pub use state::{RuleRef, State};
-pub use state_texts::write_states;
 
 /// The states that a book keeps.
 pub type States = HashedStates;
@@ -28,6 +27,5 @@ mod scanned_states;
 mod state;
 mod state_rules;
 mod state_table;
-mod state_texts;
 mod table_asks;
 mod tallies;

@@ -4,7 +4,8 @@ use crate::kind::EditKind;
 use crate::scripts::{edits, rules, tables};
 use anyhow::{Result, bail};
 use fw_command::{Line, Pace, parse_script};
-use rule_chain::{Config, is_changing};
+use rule_chain::Config;
+use rule_edits::{apply, apply_owned, is_changing};
 use std::alloc::Global;
 
 /// The configuration behind the command of a line, which isn't a listing.
@@ -14,7 +15,7 @@ fn behind_line(alloc: Global, config: Config, line: &Line) -> Result<Config>
     if !is_changing(&line.command) {
         bail!("a listing");
     }
-    match config.apply_owned(alloc, &line.command) {
+    match apply_owned(alloc, config, &line.command) {
         Ok(next) => Ok(next),
         Err(_) => bail!("a refused command"),
     }
@@ -27,7 +28,7 @@ fn beside_line(alloc: Global, config: &Config, line: &Line) -> Result<Config>
     if !is_changing(&line.command) {
         bail!("a listing");
     }
-    match config.apply(alloc, &line.command) {
+    match apply(alloc, config, &line.command) {
         Ok(next) => Ok(next),
         Err(_) => bail!("a refused command"),
     }

@@ -8,7 +8,8 @@ use fw_rule::{
     Action, AddrItem, AddrSpec, Body, Command, Family, Items, LimitMask, Opt, PortList, RuleDraft,
     StateOpt, Test,
 };
-use rule_chain::{Config, is_changing};
+use rule_chain::Config;
+use rule_edits::{apply_owned, is_changing};
 use std::alloc::Global;
 use std::test::Fail;
 
@@ -237,7 +238,7 @@ pub fn applied(alloc: Global, config: Config, command: &Command) -> Result<Confi
     requires { IsWellFormed command.now }
 {
     if is_changing(command) {
-        Ok(config.apply_owned(alloc, command)?)
+        Ok(apply_owned(alloc, config, command)?)
     } else {
         Err("a listing")?
     }

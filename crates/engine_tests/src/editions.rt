@@ -1,12 +1,13 @@
 ghost use Rattle.std.specs.Prelude.{IfOk};
 ghost use Rattle.fw_rule.specs.WellFormed.{IsWellFormed};
-ghost use Rattle.rule_chain.specs.Touching.{HasRulesOf};
+ghost use Rattle.rule_chain.specs.Configuration.{HasRulesOf};
 
 use crate::drafts::{Deed, added};
 use dyn_states::FlowName;
 use fw_rule::Command;
 use generation_store::{Edition, Store};
-use rule_chain::{Config, is_changing, touches_rules};
+use rule_chain::Config;
+use rule_edits::{apply, is_changing, touches_rules};
 use std::alloc::Global;
 use std::process::Abort;
 use std::sync::Arc;
@@ -30,7 +31,7 @@ fn edited(alloc: Global, config: &Config, command: &Command) -> Result<Config, F
     ensures { IfOk result (HasRulesOf config.now) }
 {
     if is_changing(command) && !touches_rules(command) {
-        Ok(config.apply(alloc, command)?)
+        Ok(apply(alloc, config, command)?)
     } else {
         Err("an edit of rules")?
     }

@@ -9,8 +9,8 @@ use Rattle.lookup_tables.specs.Tables.{table_named}
 use Rattle.lookup_tables.specs.declared.table.Table.{Table}
 use Rattle.lookup_tables.specs.declared.table.Table.TheVariants.{Addresses, Numbers}
 use Rattle.rule_chain.specs.Configuration.{Configuration}
-use Rattle.rule_chain.specs.Words.{word_of}
-use Rattle.rule_chain.specs.declared.apply_fault.ApplyFault.{ApplyFault}
+use Rattle.rule_edits.specs.Words.{word_of}
+use Rattle.rule_edits.specs.declared.apply_fault.ApplyFault.{ApplyFault}
 use Rattle.generation_store.specs.Published.{Published}
 use Rattle.fw_report.specs.declared.ends.Answer.{Answer}
 use Rattle.fw_report.specs.declared.ends.Answer.TheVariants.{Refused, Listed}

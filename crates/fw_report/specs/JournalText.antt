@@ -5,7 +5,7 @@ use Rattle.packet_headers.specs.declared.flows.Flow.{Flow}
 use Rattle.fw_rule.specs.Bits.{has_bit}
 use Rattle.rule_text.specs.Canonical.{mask_word}
 use Rattle.fw_rule.specs.declared.state_opt.LimitMask.{LimitMask}
-use Rattle.dyn_states.specs.StateTexts.{flow_text}
+use Rattle.state_texts.specs.StateTexts.{flow_text}
 use Rattle.dyn_states.specs.declared.op.FlowName.{FlowName}
 use Rattle.dyn_states.specs.declared.op.FlowName.TheVariants.{Any, Named}
 use Rattle.dyn_states.specs.declared.op.Op.{Op}

@@ -2,7 +2,7 @@
 use Rattle.std.specs.Prelude.{ℕ, Bool, Option, None, Some, List, [], ◌∷◌, ◌++◌, length}
 use Rattle.counter_book.specs.declared.tally.Count.{Count}
 use Rattle.dyn_states.specs.StateObject.{StateObject}
-use Rattle.dyn_states.specs.StateTexts.{states_text}
+use Rattle.state_texts.specs.StateTexts.{states_text}
 use Rattle.eval_engine.specs.Dockets.{DocketValue}
 use Rattle.generation_store.specs.Published.{Published}
 use Rattle.rule_chain.specs.Configuration.{Configuration}

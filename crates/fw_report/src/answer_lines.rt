@@ -5,7 +5,7 @@ ghost use Rattle.std.specs.Option.{option_copied, option_map};
 ghost use Rattle.fw_base.specs.Texts.{WritesText};
 ghost use Rattle.rule_text.specs.Canonical.{rule_text};
 ghost use Rattle.lookup_tables.specs.Tables.{table_named};
-ghost use Rattle.rule_chain.specs.Words.{word_of};
+ghost use Rattle.rule_edits.specs.Words.{word_of};
 ghost use Rattle.fw_report.specs.AnswerText as text;
 
 use crate::line::{LINE_BYTES, Line};
@@ -14,7 +14,8 @@ use fw_base::{Failed, Name, Prefix, Sink, write_text};
 use fw_rule::Rule;
 use generation_store::Edition;
 use lookup_tables::Table;
-use rule_chain::{ApplyFault, Config};
+use rule_chain::Config;
+use rule_edits::ApplyFault;
 use rule_text::{write_address, write_rule};
 use std::sync::Arc;
 

@@ -1,7 +1,7 @@
 use crate::CaptureEnd;
 use fw_base::Name;
 use fw_rule::Items;
-use rule_chain::ApplyFault;
+use rule_edits::ApplyFault;
 
 /// How the captures of a run ended, in the order of the words, and the answers to lines of the script, in
 /// the order of the lines.

@@ -2,7 +2,7 @@ ghost use Rattle.std.specs.Prelude.{◌≡◌, ◌+◌, ◌≤◌, ◌++◌, ◌
 ghost use Rattle.std.specs.List.{flat_map};
 ghost use Rattle.fw_base.specs.Texts.{WritesText};
 ghost use Rattle.rule_text.specs.Canonical.{mask_word, protocol_word, spaced_text};
-ghost use Rattle.dyn_states.specs.StateTexts.{flow_text};
+ghost use Rattle.state_texts.specs.StateTexts.{flow_text};
 ghost use Rattle.fw_report.specs.AskText as ask;
 ghost use Rattle.fw_report.specs.JournalText as text;
 

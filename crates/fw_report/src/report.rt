@@ -1,7 +1,7 @@
 ghost use Rattle.std.specs.Prelude.{◌≡◌, ◌<◌, [], All, Some, map, length};
 ghost use Rattle.std.specs.Arc.{arc_value};
 ghost use Rattle.fw_base.specs.Texts.{WritesText};
-ghost use Rattle.dyn_states.specs.StateTexts.{states_text};
+ghost use Rattle.state_texts.specs.StateTexts.{states_text};
 ghost use Rattle.fw_report.specs.JournalText.{optional_journal};
 ghost use Rattle.fw_report.specs.Report as text;
 
@@ -11,13 +11,14 @@ use crate::docket_lines::write_captures;
 use crate::journal_lines::{write_hits, write_journal};
 use crate::rule_lines::{write_counted_rules, write_disabled, write_editions};
 use counter_book::Tally;
-use dyn_states::{States, write_states};
+use dyn_states::States;
 use eval_engine::Docket;
 use fw_base::{Failed, Name, Sink};
 use generation_store::Edition;
 use rule_chain::Config;
 use rule_text::WriteFault;
 use state_journal::{Book, Entry};
+use state_texts::write_states;
 use std::sync::Arc;
 
 /// The edition that was published last.

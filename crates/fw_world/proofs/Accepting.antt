@@ -2,7 +2,7 @@
 use Rattle.std.proofs.Common.{◌≡◌, ℕ, ◌+◌, List, [], ◌∷◌, ◌++◌, length, Some, Ok, sym, ap, ◌∙◌, subst, arith}
 use Rattle.fw_rule.specs.declared.command.Command.{Command}
 use Rattle.generation_store.specs.Published.{Published, IsBuilt}
-use Rattle.rule_chain.specs.Apply.{apply}
+use Rattle.rule_edits.specs.Apply.{apply}
 use Rattle.rule_chain.specs.Configuration.{Configuration}
 use Rattle.fw_world.specs.Editions.{AreEditionsFrom, IsLastOf}
 use Rattle.fw_world.specs.Steps.{Publishes}

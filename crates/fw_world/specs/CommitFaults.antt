@@ -2,9 +2,9 @@
 use Rattle.std.specs.Prelude.{◌≡◌, ⊤, Err, List}
 use Rattle.fw_rule.specs.declared.command.Command.{Command}
 use Rattle.generation_store.specs.Published.{Published}
-use Rattle.rule_chain.specs.Apply.{apply}
-use Rattle.rule_chain.specs.declared.apply_fault.ApplyFault.{ApplyFault}
-use Rattle.rule_chain.specs.declared.apply_fault.ApplyFault.TheVariants as fault
+use Rattle.rule_edits.specs.Apply.{apply}
+use Rattle.rule_edits.specs.declared.apply_fault.ApplyFault.{ApplyFault}
+use Rattle.rule_edits.specs.declared.apply_fault.ApplyFault.TheVariants as fault
 use Rattle.fw_world.specs.Editions.{IsLastOf}
 use Rattle.fw_world.specs.declared.commit_fault.CommitFault.{CommitFault}
 use Rattle.fw_world.specs.declared.commit_fault.CommitFault.TheVariants.{Refused, OutOfMemory}

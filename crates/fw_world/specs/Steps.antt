@@ -12,7 +12,7 @@ use Rattle.generation_store.specs.Published.{Published, IsBuilt}
 use Rattle.fw_base.specs.declared.port.Port.{Port}
 use Rattle.ip6_headers.specs.Either.{total_of}
 use Rattle.ip6_headers.specs.declared.any_ip.AnyIp.{AnyIp}
-use Rattle.rule_chain.specs.Apply.{apply}
+use Rattle.rule_edits.specs.Apply.{apply}
 use Rattle.rule_chain.specs.Configuration.{Configuration}
 use Rattle.state_journal.specs.Items.{asks_of}
 use Rattle.state_journal.specs.Journal.{Journal, with_ask, with_publication}

@@ -2,7 +2,7 @@ ghost use Rattle.std.specs.Prelude.{◌≡◌};
 ghost use Rattle.fw_world.specs.CommitFaults.{commit_fault};
 
 use fw_base::OutOfMemory;
-use rule_chain::ApplyFault;
+use rule_edits::ApplyFault;
 use thiserror::Error;
 
 /// Why nothing was published. World and desk are as they were.

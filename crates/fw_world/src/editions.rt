@@ -2,8 +2,8 @@ ghost use Rattle.std.specs.Prelude.{◌≡◌, ◌≤◌, ◌∷◌, [], length,
 ghost use Rattle.std.specs.Arc.{arc_value};
 ghost use Rattle.fw_rule.specs.WellFormed.{IsWellFormed};
 ghost use Rattle.generation_store.specs.Published.{IsBuilt};
-ghost use Rattle.rule_chain.specs.Apply.{apply};
-ghost use Rattle.rule_chain.specs.Changing.{IsChanging};
+ghost use Rattle.rule_edits.specs.Apply.{apply};
+ghost use Rattle.rule_edits.specs.Changing.{IsChanging};
 ghost use Rattle.fw_world.specs.CommitFaults.{IsCauseOf};
 ghost use Rattle.fw_world.specs.Editions.{IsLastOf};
 ghost use Rattle.fw_world.specs.Steps.{IsNextEdition};
@@ -13,7 +13,8 @@ use crate::commit_fault::refusal;
 use fw_base::OutOfMemory;
 use fw_rule::Command;
 use generation_store::{Edition, Store};
-use rule_chain::{Config, touches_rules};
+use rule_chain::Config;
+use rule_edits::{apply, touches_rules};
 use std::alloc::Global;
 use std::sync::Arc;
 
@@ -68,7 +69,7 @@ pub(crate) fn next_edition(
 {
     let number = editions.len() as u64 + 1;
     let last = last_edition(editions);
-    match last.config().apply(alloc, command) {
+    match apply(alloc, last.config(), command) {
         Ok(config) => Ok(edition_after(alloc, last, number, command, config)?),
         Err(fault) => Err(refusal(fault)),
     }

@@ -9,7 +9,7 @@ ghost use Rattle.fw_world.specs.Legal.{IsLegal};
 ghost use Rattle.eval_engine.specs.Dockets.{judged_entry};
 ghost use Rattle.fw_rule.specs.WellFormed.{IsWellFormed};
 ghost use Rattle.generation_store.specs.Published.{IsEdition};
-ghost use Rattle.rule_chain.specs.Changing.{IsChanging};
+ghost use Rattle.rule_edits.specs.Changing.{IsChanging};
 ghost use Rattle.state_journal.specs.Journal.{first_journal};
 ghost use Rattle.fw_world.specs.Inputs.{Input, Packet};
 ghost use Rattle.fw_world.specs.Lane as lanes;

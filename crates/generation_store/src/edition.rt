@@ -1,7 +1,7 @@
 ghost use Rattle.std.specs.Prelude.{◌≡◌, ◌<◌, ℕ, IfOk, length, map, slice_index_or};
 ghost use Rattle.std.specs.Arc.{arc_value};
 ghost use Rattle.fw_rule.specs.declared.rule.Rule.{Rule};
-ghost use Rattle.rule_chain.specs.Touching.{HasRulesOf};
+ghost use Rattle.rule_chain.specs.Configuration.{HasRulesOf};
 ghost use Rattle.generation_store.specs.Jumps as jumps;
 ghost use Rattle.generation_store.specs.Placing.{ArePlaced, identity_of};
 ghost use Rattle.generation_store.specs.Published as spec;

@@ -22,7 +22,7 @@ use Rattle.fw_command.specs.declared.script_fault.ScriptFault.{ScriptFault}
 use Rattle.fw_command.specs.declared.script.Line.{Line}
 use Rattle.fw_rule.specs.declared.action.Action.TheVariants.{Allow, Deny}
 use Rattle.fw_rule.specs.declared.command.Command.TheVariants.{Add}
-use Rattle.rule_chain.specs.Rules.{any_body}
+use Rattle.rule_chain.specs.LastRule.{any_body}
 use Rattle.load_maker.specs.Load as load
 use Rattle.load_laws.specs.MadeScript.{lookup_draft, draft, connection_body, question_body, echo_body}
 use Rattle.rule_round_trip.proofs.Numbers.Digits.{IsFree}

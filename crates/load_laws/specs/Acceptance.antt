@@ -1,7 +1,7 @@
 -- Commands that are accepted, one after the other.
 use Rattle.std.specs.Prelude.{◌≡◌, Ok, ⊤, List, [], ◌∷◌}
 use Rattle.fw_command.specs.declared.script.Line.{Line}
-use Rattle.rule_chain.specs.Apply.{apply}
+use Rattle.rule_edits.specs.Apply.{apply}
 use Rattle.rule_chain.specs.Configuration.{Configuration}
 
 -- the command of each line is accepted by the configuration that the lines before it left

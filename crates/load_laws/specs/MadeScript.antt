@@ -16,7 +16,7 @@ use Rattle.fw_rule.specs.declared.test.Test.TheVariants.{Setup, IcmpTypes}
 use Rattle.fw_command.specs.declared.script.Line.{Line}
 use Rattle.fw_command.specs.declared.script.Script.{Script}
 use Rattle.fw_command.specs.declared.script.Step.TheVariants.{Run, After}
-use Rattle.rule_chain.specs.Rules.{any_address, any_body}
+use Rattle.rule_chain.specs.LastRule.{any_address, any_body}
 
 -- 10.0.0.0/24, the network of the load's clients
 abbrev pub client_network : AddrSpec

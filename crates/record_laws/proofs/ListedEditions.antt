@@ -17,10 +17,10 @@ use Rattle.fw_world.specs.Publications.{publications}
 use Rattle.fw_world.specs.RecordValue.{RecordValue}
 use Rattle.generation_store.specs.Published.{Published}
 use Rattle.lookup_tables.specs.Tables.{table_named}
-use Rattle.rule_chain.specs.Answers.{Answer as Applied}
-use Rattle.rule_chain.specs.Apply.{apply}
+use Rattle.rule_edits.specs.Answers.{Answer as Applied}
+use Rattle.rule_edits.specs.Apply.{apply}
 use Rattle.rule_chain.specs.Configuration.{Configuration}
-use Rattle.rule_chain.specs.declared.apply_fault.ApplyFault.TheVariants.{NoSuchTable}
+use Rattle.rule_edits.specs.declared.apply_fault.ApplyFault.TheVariants.{NoSuchTable}
 use Rattle.serial_replay.specs.Commands.{Standing, Listing, Rules, Entries, listing_of, line_answer, listed_answer, after_applied, after_command, after_line, after_lines, first_standing}
 use Rattle.serial_replay.specs.Replay.{lines_outcome}
 use Rattle.serial_schedule.specs.Agenda.{all_lines}

@@ -5,7 +5,7 @@ use Rattle.std.specs.Fmt.{decimal}
 use Rattle.std.specs.List.{flat_map}
 use Rattle.counter_book.specs.Counts.{counted_under, total_under}
 use Rattle.counter_book.specs.declared.tally.Count.{Count}
-use Rattle.dyn_states.specs.StateTexts.{states_text}
+use Rattle.state_texts.specs.StateTexts.{states_text}
 use Rattle.fw_report.specs.AnswerText.{count_line}
 use Rattle.fw_report.specs.JournalText.{hits_text, optional_journal}
 use Rattle.fw_report.specs.Report.{start_text, last_text, closing_text, last_closing, last_edition, report_text}

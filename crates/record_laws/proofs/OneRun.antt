@@ -21,7 +21,7 @@ use Rattle.fw_world.specs.World.{WorldValue, published_count}
 use Rattle.generation_store.specs.Published.{Published, IsBuilt, has_identity}
 use Rattle.ip6_headers.specs.Either.{total_of}
 use Rattle.ip6_headers.specs.declared.any_ip.AnyIp.{AnyIp}
-use Rattle.rule_chain.specs.Apply.{apply}
+use Rattle.rule_edits.specs.Apply.{apply}
 use Rattle.rule_chain.specs.Configuration.{Configuration}
 use Rattle.serial_replay.proofs.Lines.{one_last}
 use Rattle.serial_replay.specs.Commands.{Listing, listing_of}

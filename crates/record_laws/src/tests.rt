@@ -19,7 +19,8 @@ use fw_world::{
 };
 use ip6_headers::{AnyIp, AnyPacket, read_any};
 use rows::{ROWS, Row, Timed};
-use rule_chain::{Config, is_changing};
+use rule_chain::Config;
+use rule_edits::{apply_owned, is_changing};
 use std::alloc::Global;
 use std::process::Abort;
 use std::test::Fail;
@@ -45,7 +46,7 @@ fn configured(alloc: Global, lines: &[Line]) -> Result<Config, Fail>
     let mut config = Config::new(alloc)?;
     for line in lines {
         if is_changing(&line.command) {
-            config = config.apply_owned(alloc, &line.command)?;
+            config = apply_owned(alloc, config, &line.command)?;
         }
     }
     Ok(config)

@@ -2,7 +2,7 @@
 use Rattle.std.proofs.Common.{◌≡◌, ℕ, ◌+◌, ◌≤◌, Bool, true, false, List, [], ◌∷◌, ◌++◌, length, Option, None, Some, Result, Ok, Err, refl, sym, ap, ◌∙◌, subst, arith, inl, inr, ◌⊎◌, append-nil, length-append}
 use Rattle.std.specs.Prelude.{IfSome, MatchOption, ◌||◌, is_some, if◌then◌else◌}
 use Rattle.lookup_tables.specs.Tables.{table_named}
-use Rattle.rule_chain.specs.declared.apply_fault.ApplyFault.TheVariants.{NoSuchTable}
+use Rattle.rule_edits.specs.declared.apply_fault.ApplyFault.TheVariants.{NoSuchTable}
 use Rattle.replay_driver.specs.declared.script_error.ScriptError.TheVariants.{Refused}
 use Rattle.std.specs.List.{list_any, AllByRecursion}
 use Rattle.std.specs.Io.KnownBytes.{Consumes, IsAtEnd}

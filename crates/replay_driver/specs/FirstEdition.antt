@@ -10,12 +10,12 @@ use Rattle.fw_command.specs.Scripts.{script_of}
 use Rattle.fw_report.specs.declared.ends.Answer.TheVariants.{Listed}
 use Rattle.fw_report.specs.declared.ends.LineAnswer.{LineAnswer}
 use Rattle.lookup_tables.specs.Tables.{table_named}
-use Rattle.rule_chain.specs.Answers.{Answer}
-use Rattle.rule_chain.specs.Apply.{apply}
-use Rattle.rule_chain.specs.Changing.{is_changing}
+use Rattle.rule_edits.specs.Answers.{Answer}
+use Rattle.rule_edits.specs.Apply.{apply}
+use Rattle.rule_edits.specs.Changing.{is_changing}
 use Rattle.rule_chain.specs.Configuration.{Configuration}
 use Rattle.rule_chain.specs.First.{first_configuration}
-use Rattle.rule_chain.specs.declared.apply_fault.ApplyFault.TheVariants.{NoSuchTable}
+use Rattle.rule_edits.specs.declared.apply_fault.ApplyFault.TheVariants.{NoSuchTable}
 use Rattle.serial_replay.specs.Commands.{Listing, Rules, Entries, listing_of, line_answer}
 use Rattle.replay_driver.specs.declared.first_edition.FirstEdition.{FirstEdition}
 use Rattle.replay_driver.specs.declared.script_error.ScriptError.{ScriptError}

@@ -1,7 +1,7 @@
 -- What is printed of a script that gives no edition.
 use Rattle.std.specs.Prelude.{ℕ, List, [], ◌++◌, codes, decimal}
 use Rattle.fw_command.specs.FaultText.{fault_text}
-use Rattle.rule_chain.specs.Words.{word_of}
+use Rattle.rule_edits.specs.Words.{word_of}
 use Rattle.replay_driver.specs.declared.script_error.RefusedLine.{RefusedLine}
 use Rattle.replay_driver.specs.declared.script_error.ScriptError.{ScriptError}
 use Rattle.replay_driver.specs.declared.script_error.ScriptError.TheVariants.{Fault, Refused, OutOfMemory}

@@ -13,7 +13,8 @@ use fw_base::Name;
 use fw_command::{Line, Pace, Script, ScriptFault, Step, parse_script};
 use fw_report::{Answer, LineAnswer};
 use fw_rule::Items;
-use rule_chain::{ApplyFault, Config, is_changing};
+use rule_chain::Config;
+use rule_edits::{ApplyFault, apply_owned, is_changing};
 use serial_replay::{Listing, listing_of};
 use std::alloc::Global;
 
@@ -36,7 +37,7 @@ fn apply_line(alloc: Global, config: Config, line: &Line) -> Result<Config, Scri
     if !is_changing(&line.command) {
         return Ok(config);
     }
-    match config.apply_owned(alloc, &line.command) {
+    match apply_owned(alloc, config, &line.command) {
         Ok(next) => Ok(next),
         Err(ApplyFault::OutOfMemory) => Err(ScriptError::OutOfMemory),
         Err(fault) => Err(ScriptError::Refused(RefusedLine {

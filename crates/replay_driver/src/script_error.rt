@@ -6,7 +6,7 @@ ghost use Rattle.replay_driver.specs.declared.script_error.ScriptError.TheVarian
 use fw_base::{Failed, OutOfMemory, Sink, write_pieces};
 use fw_command::ScriptFault;
 use itoa::Buffer;
-use rule_chain::ApplyFault;
+use rule_edits::ApplyFault;
 use std::alloc::{AllocError, AllocFailed};
 
 /// Why a script gives no edition, in the order in which it is tested.

@@ -9,7 +9,7 @@ use fw_base::MemorySink;
 use fw_report::{CaptureEnd, Ends, write_report, write_summary};
 use generation_store::Edition;
 use pcap_read::CaptureFault;
-use rule_chain::ApplyFault;
+use rule_edits::ApplyFault;
 use state_journal::Book;
 use std::alloc::Global;
 use std::process::Abort;

@@ -1,7 +1,6 @@
 -- What holds of the rules at two places of a list.
-use Rattle.std.proofs.Common.{◌≡◌, ◌≢◌, ℕ, zero, suc, ◌<◌, List, [], ◌∷◌, length, get_or, sym, inl, inr, arith}
+use Rattle.std.proofs.Common.{◌≢◌, ℕ, zero, suc, ◌<◌, List, [], ◌∷◌, length, get_or, sym, arith}
 use Rattle.std.specs.List.{AllByRecursion}
-use Rattle.std.proofs.lemmas.Bool.{cases_order}
 use Rattle.fw_rule.specs.declared.rule.Rule.{Rule}
 use Rattle.rule_chain.specs.Chain.{AscendsFrom, DifferBy, DifferInCounters, HaveOwnCounters, HaveOwnIdentities, HaveOwnIds, StandInOrder}
 use Rattle.rule_chain.proofs.Chains.{numbers_ascend}
@@ -28,21 +27,3 @@ own_identities rules h i j d less within = differ_at (λ r. r.id) rules i j d h 
 -- the same of their counter numbers
 pub own_counters : (rules : List Rule) → DifferInCounters rules → HaveOwnCounters rules
 own_counters rules h i j d less within = differ_at (λ r. r.counter) rules i j d h less within
-
--- an identity stands at one place
-pub place_of_identity : (rules : List Rule) (i j : ℕ) (d : Rule) → HaveOwnIdentities rules → i < length rules → j < length rules → (get_or rules i d).id ≡ (get_or rules j d).id → i ≡ j
-place_of_identity rules i j d own here there same =
-    elim (cases_order i j) [
-      | inl is ↦ is
-      | inr (inl before) ↦ absurd (own i j d before there same)
-      | inr (inr behind) ↦ absurd (own j i d behind here (sym same))
-    ]
-
--- a counter number stands at one place
-pub place_of_counter : (rules : List Rule) (i j : ℕ) (d : Rule) → HaveOwnCounters rules → i < length rules → j < length rules → (get_or rules i d).counter ≡ (get_or rules j d).counter → i ≡ j
-place_of_counter rules i j d own here there same =
-    elim (cases_order i j) [
-      | inl is ↦ is
-      | inr (inl before) ↦ absurd (own i j d before there same)
-      | inr (inr behind) ↦ absurd (own j i d behind here (sym same))
-    ]

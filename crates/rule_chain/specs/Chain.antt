@@ -5,7 +5,7 @@ use Rattle.fw_rule.specs.WellFormed.{IsNumber, IsSet, IsAction, IsValue, HasBody
 use Rattle.fw_rule.specs.declared.rule.Rule.{Rule}
 use Rattle.rule_chain.specs.Configuration.{Configuration}
 use Rattle.rule_chain.specs.Names.{AreNames, IsNamed}
-use Rattle.rule_chain.specs.Rules.{last_rule}
+use Rattle.rule_chain.specs.LastRule.{last_rule}
 
 -- The numbers ascend from the least on, equal ones among them; the last rule is rule 65535, and no
 -- other has its number.

@@ -1,5 +1,5 @@
 -- A configuration of the packet filter (ipfw(8), "RULESET", "SETS OF RULES", "LOOKUP TABLES", "SYSCTL VARIABLES").
-use Rattle.std.specs.Prelude.{ℕ, List}
+use Rattle.std.specs.Prelude.{◌≡◌, ℕ, List}
 use Rattle.fw_base.specs.declared.address.Addr.{Addr}
 use Rattle.fw_rule.specs.Values.{Values}
 use Rattle.fw_rule.specs.declared.rule.Rule.{Rule}
@@ -16,3 +16,8 @@ pub record Configuration : Type 0 where
   pub names : List (List ℕ)
   pub greatest_id : ℕ
   pub greatest_counter : ℕ
+
+-- the one configuration has the rules and the flow names of the other
+pub record HasRulesOf (before after : Configuration) : Type 0 where
+  pub rules : after.rules ≡ before.rules
+  pub names : after.names ≡ before.names

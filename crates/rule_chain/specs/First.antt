@@ -3,7 +3,7 @@ use Rattle.std.specs.Prelude.{[], ◌∷◌}
 use Rattle.fw_rule.specs.FlowName.{default_flow}
 use Rattle.fw_rule.specs.Values.{default_values}
 use Rattle.rule_chain.specs.Configuration.{Configuration}
-use Rattle.rule_chain.specs.Rules.{last_rule}
+use Rattle.rule_chain.specs.LastRule.{last_rule}
 
 -- rule 65535 alone, no set disabled, no table, no flow name but `default`
 abbrev pub first_configuration : Configuration

@@ -1,8 +1,8 @@
 -- Flow names (ipfw(8), "STATEFUL FIREWALL"): the one that a rule names, and those of a configuration,
 -- whose places are their numbers.
-use Rattle.std.specs.Prelude.{◌≡◌, ◌≢◌, ℕ, ◌<◌, ◌≤◌, Bool, nat_eq, nat_le, if◌then◌else◌, Option, Some, None, IfSome, List, [], ◌∷◌, ◌++◌, length, slice_index_or, Ok, Err}
+use Rattle.std.specs.Prelude.{◌≡◌, ◌≢◌, ℕ, ◌<◌, ◌≤◌, nat_eq, Option, Some, None, IfSome, List, [], length, slice_index_or}
 use Rattle.std.specs.Cmp.Lexicographic.{pointwise}
-use Rattle.std.specs.List.{list_any, position_or_len}
+use Rattle.std.specs.List.{position_or_len}
 use Rattle.std.specs.Option.{option_map, option_or}
 use Rattle.fw_rule.specs.FlowName.{default_flow}
 use Rattle.fw_rule.specs.declared.action.Action.{Action}
@@ -11,8 +11,6 @@ use Rattle.fw_rule.specs.declared.body.Body.{Body}
 use Rattle.fw_rule.specs.declared.rule.Rule.{Rule}
 use Rattle.fw_rule.specs.declared.state_opt.StateOpt.{StateOpt}
 use Rattle.fw_rule.specs.declared.state_opt.StateOpt.TheVariants.{Keep, Limit}
-use Rattle.rule_chain.specs.declared.apply_fault.ApplyFault.TheVariants.{TooManyNames}
-use Rattle.rule_chain.specs.Answers.{Answer}
 
 -- the flow name of an action, if any; `check-state :any` names none
 abbrev pub action_name : Action → Option (List ℕ)
@@ -43,22 +41,6 @@ name_of action body = option_or (action_name action) (body_name body)
 -- the number of the name: the first place where it stands; the list's length where it stands nowhere
 abbrev pub number_of_name : List (List ℕ) → List ℕ → ℕ
 number_of_name names name = position_or_len (λ other. pointwise nat_eq other name) names
-
--- the name has a number
-abbrev pub is_listed : List (List ℕ) → List ℕ → Bool
-is_listed names name = list_any (λ other. pointwise nat_eq other name) names
-
--- the names after an `add` that names this one: a new one gets the next number, and there are at most 64
-abbrev pub with_name : List (List ℕ) → List ℕ → Answer (List (List ℕ))
-with_name names name =
-    if is_listed names name then Ok names
-    else if nat_le 64 (length names) then Err TooManyNames
-    else Ok (names ++ name ∷ [])
-
--- the names after an `add` that may name one
-unfoldable pub with_name_of : List (List ℕ) → Option (List ℕ) → Answer (List (List ℕ))
-with_name_of names None = Ok names
-with_name_of names (Some name) = with_name names name
 
 -- the name that a rule names has a number
 abbrev pub IsNamed : List (List ℕ) → Rule → Type 0

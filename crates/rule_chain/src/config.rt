@@ -6,10 +6,11 @@ ghost use Rattle.lookup_tables.specs.Tables.{table_named};
 ghost use Rattle.rule_chain.specs.Chain.{IsConfiguration};
 ghost use Rattle.rule_chain.specs.Configuration.{Configuration};
 ghost use Rattle.rule_chain.specs.First.{first_configuration};
-ghost use Rattle.rule_chain.specs.Rules as lists;
+ghost use Rattle.rule_chain.specs.LastRule as lists;
+ghost use Rattle.rule_chain.specs.Parts.{configuration_of};
 
 use crate::names::first_names;
-use crate::rule_list::RuleList;
+use crate::{ConfigParts, RuleList};
 use fw_base::{Addr, Name, OutOfMemory};
 use fw_rule::{Action, AddrItem, AddrSpec, Body, Family, Items, Rule, Settings, default_settings};
 use lookup_tables::{Table, Tables};
@@ -36,46 +37,19 @@ pub const MOST_COUNTERS: u32 = 16_777_216;
 /// that one made from it by a command copies only those of them that the command changes.
 #[derive(Clone, Drop)]
 pub struct Config {
-    pub(crate) rules: RuleList,
-    pub(crate) disabled: u32,
-    pub(crate) tables: Arc<Tables>,
-    pub(crate) locals: Arc<Vec<Addr>>,
-    pub(crate) settings: Settings,
-    pub(crate) names: Arc<Vec<Name>>,
-    pub(crate) greatest_id: u32,
-    pub(crate) greatest_counter: u32,
+    parts: ConfigParts,
 }
 
 impl Model for Config {
-    ghost use Rattle.std.specs.Arc.{arc_value};
-    ghost use Rattle.fw_rule.specs.Values.{values_of};
     ghost use Rattle.rule_chain.specs.Chain.{IsConfiguration};
     ghost use Rattle.rule_chain.specs.Configuration.{Configuration};
+    ghost use Rattle.rule_chain.specs.Parts.{configuration_of};
 
     ghost Value = { Configuration };
 
-    ghost view = { λ c. record {
-      rules = c.rules;
-      disabled = c.disabled;
-      tables = arc_value c.tables;
-      locals = (arc_value c.locals).items;
-      values = values_of c.settings;
-      names = (arc_value c.names).items;
-      greatest_id = c.greatest_id;
-      greatest_counter = c.greatest_counter;
-    } };
+    ghost view = { λ c. configuration_of c.parts };
 
-    ghost invariant = { λ c.
-        IsConfiguration (record {
-          rules = c.rules;
-          disabled = c.disabled;
-          tables = arc_value c.tables;
-          locals = (arc_value c.locals).items;
-          values = values_of c.settings;
-          names = (arc_value c.names).items;
-          greatest_id = c.greatest_id;
-          greatest_counter = c.greatest_counter;
-        }) };
+    ghost invariant = { λ c. IsConfiguration (configuration_of c.parts) };
 }
 
 impl Config {
@@ -85,7 +59,7 @@ impl Config {
     {
         let mut rules = Vec::new(alloc);
         rules.push(Arc::new(alloc, last_rule(alloc)?)?)?;
-        Ok(Config {
+        Ok(Config::from_parts(ConfigParts {
             rules: RuleList::new(alloc, rules)?,
             disabled: 0,
             tables: Arc::new(alloc, Tables::new(alloc))?,
@@ -94,7 +68,23 @@ impl Config {
             names: Arc::new(alloc, first_names(alloc)?)?,
             greatest_id: 0,
             greatest_counter: 0,
-        })
+        }))
+    }
+
+    /// The configuration that has these parts.
+    pub fn from_parts(parts: ConfigParts) -> Config
+        requires { IsConfiguration (configuration_of parts) }
+        ensures { result ≡ configuration_of parts }
+    {
+        Config { parts }
+    }
+
+    /// Its parts.
+    pub fn into_parts(self) -> ConfigParts
+        ensures value { configuration_of result ≡ self }
+        ensures lawful { IsConfiguration self }
+    {
+        self.parts
     }
 
     /// The rules in order: by number, those of one number in the order of their `add`, rule 65535 last.
@@ -102,21 +92,21 @@ impl Config {
         ensures value { map arc_value result.now ≡ self.now.rules }
         ensures lawful { IsConfiguration self.now }
     {
-        self.rules.rules()
+        self.parts.rules.rules()
     }
 
     /// The disabled sets, as the bits of a mask. Bit 31 is clear.
     pub fn disabled(&self) -> u32
         ensures { result ≡ self.now.disabled }
     {
-        self.disabled
+        self.parts.disabled
     }
 
     /// The settings of dynamic states.
     pub fn settings(&self) -> Settings
         ensures { values_of result ≡ self.now.values }
     {
-        self.settings
+        self.parts.settings
     }
 
     /// The flow names by their numbers: `default` first, and each other since the first `add` that named
@@ -125,14 +115,14 @@ impl Config {
         ensures value { result.now ≡ self.now.names }
         ensures lawful { IsConfiguration self.now }
     {
-        &self.names
+        &self.parts.names
     }
 
     /// The host's own addresses, no two equal, in the order in which they were added.
     pub fn locals(&self) -> &[Addr]
         ensures { result.now ≡ self.now.locals }
     {
-        &self.locals
+        &self.parts.locals
     }
 
     /// How many counter numbers were given out, number 0 among them: 1 to 16,777,216. Each rule's is
@@ -140,21 +130,21 @@ impl Config {
     pub fn counters(&self) -> u32
         ensures { result ≡ self.now.greatest_counter + 1 }
     {
-        self.greatest_counter + 1
+        self.parts.greatest_counter + 1
     }
 
     /// The table of that name; `None` exactly where there is none.
     pub fn table(&self, name: &Name) -> Option<&Table>
         ensures { option_copied result ≡ table_named self.now.tables name.now }
     {
-        self.tables.get(name)
+        self.parts.tables.get(name)
     }
 
     /// The tables under their names.
     pub fn tables(&self) -> &Tables
         ensures { result.now ≡ self.now.tables }
     {
-        &self.tables
+        &self.parts.tables
     }
 }
 

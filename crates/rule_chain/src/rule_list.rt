@@ -10,7 +10,7 @@ use std::sync::Arc;
 /// The rules of a configuration in their order. Several configurations may have one list at once, in any
 /// threads, and none of them changes it. Contracts see it as the rules themselves.
 #[derive(Clone, Drop)]
-pub(crate) struct RuleList {
+pub struct RuleList {
     rules: Arc<Vec<Arc<Rule>>>,
 }
 
@@ -26,7 +26,7 @@ impl Model for RuleList {
 
 impl RuleList {
     /// The list of these rules.
-    pub(crate) fn new(alloc: Global, rules: Vec<Arc<Rule>>) -> Result<RuleList, OutOfMemory>
+    pub fn new(alloc: Global, rules: Vec<Arc<Rule>>) -> Result<RuleList, OutOfMemory>
         ensures { IfOk result (λ list. list ≡ map arc_value rules.items) }
     {
         Ok(RuleList {
@@ -35,7 +35,7 @@ impl RuleList {
     }
 
     /// The rules in order.
-    pub(crate) fn rules(&self) -> &[Arc<Rule>]
+    pub fn rules(&self) -> &[Arc<Rule>]
         ensures { map arc_value result.now ≡ self.now }
     {
         self.rules.as_slice()
@@ -43,7 +43,7 @@ impl RuleList {
 
     /// The rules to change: the list itself where no other configuration has it, and else a second one of
     /// the same rules, not of copies.
-    pub(crate) fn own(self, alloc: Global) -> Result<Vec<Arc<Rule>>, OutOfMemory>
+    pub fn own(self, alloc: Global) -> Result<Vec<Arc<Rule>>, OutOfMemory>
         ensures { IfOk result (λ rules. map arc_value rules.items ≡ self) }
     {
         match Arc::try_unwrap(self.rules) {

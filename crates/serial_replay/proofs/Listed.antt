@@ -11,11 +11,11 @@ use Rattle.generation_store.specs.Published.{Published}
 use Rattle.lookup_tables.specs.Tables.{table_named}
 use Rattle.lookup_tables.specs.declared.table.Table.{Table}
 use Rattle.rule_chain.specs.Configuration.{Configuration}
-use Rattle.rule_chain.specs.declared.apply_fault.ApplyFault.TheVariants.{NoSuchTable}
+use Rattle.rule_edits.specs.declared.apply_fault.ApplyFault.TheVariants.{NoSuchTable}
 use Rattle.fw_rule.specs.declared.command.Command.{Command}
 use Rattle.fw_rule.specs.declared.command.Command.TheVariants.{Add, Delete, DeleteSet, Flush, Zero, ListRules, SetMask, MoveSet, MoveRule, SwapSets, Table as OfTable, Sysctl, Local}
 use Rattle.fw_rule.specs.declared.table_command.TableCommand.TheVariants as entries
-use Rattle.rule_chain.specs.Changing.{IsChanging}
+use Rattle.rule_edits.specs.Changing.{IsChanging}
 use Rattle.serial_replay.specs.Commands.{listing_of, Rules, Entries}
 use Rattle.serial_replay.specs.Live.{HasConfig, IsListed}
 use Rattle.serial_replay.specs.declared.live_world.LiveWorld.{LiveWorld}

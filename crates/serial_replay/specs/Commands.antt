@@ -10,10 +10,10 @@ use Rattle.fw_rule.specs.declared.command.Command.TheVariants.{Add, Delete, Dele
 use Rattle.fw_rule.specs.declared.table_command.TableCommand.{TableCommand}
 use Rattle.fw_rule.specs.declared.table_command.TableCommand.TheVariants as entries
 use Rattle.lookup_tables.specs.Tables.{table_named}
-use Rattle.rule_chain.specs.Answers.{Answer as Applied}
-use Rattle.rule_chain.specs.Apply.{apply}
+use Rattle.rule_edits.specs.Answers.{Answer as Applied}
+use Rattle.rule_edits.specs.Apply.{apply}
 use Rattle.rule_chain.specs.Configuration.{Configuration}
-use Rattle.rule_chain.specs.declared.apply_fault.ApplyFault.TheVariants.{NoSuchTable}
+use Rattle.rule_edits.specs.declared.apply_fault.ApplyFault.TheVariants.{NoSuchTable}
 
 -- what a listing asks for: the rules, or the entries of a table
 pub data Listing : Type 0 where

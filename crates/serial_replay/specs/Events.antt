@@ -13,7 +13,7 @@ use Rattle.fw_world.specs.Lane.{LaneValue, lane_after_admission, with_docket_ent
 use Rattle.fw_world.specs.Steps.{Judges, Publishes}
 use Rattle.fw_world.specs.World.{WorldValue, published_count}
 use Rattle.ip6_headers.specs.declared.any_ip.AnyIp.{AnyIp}
-use Rattle.rule_chain.specs.declared.apply_fault.ApplyFault.{ApplyFault}
+use Rattle.rule_edits.specs.declared.apply_fault.ApplyFault.{ApplyFault}
 use Rattle.serial_replay.specs.Commands.{Listing, listing_of}
 use Rattle.serial_replay.specs.Reading.{Origin, input_of}
 use Rattle.serial_schedule.specs.Order.{Turn}

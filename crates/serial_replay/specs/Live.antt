@@ -15,7 +15,7 @@ use Rattle.fw_world.specs.Steps.{Publishes}
 use Rattle.fw_world.specs.World.{WorldValue, published_count, IsLaneOf, LaneStandsFor, DeskStandsFor}
 use Rattle.generation_store.specs.Published.{Published}
 use Rattle.rule_chain.specs.Configuration.{Configuration}
-use Rattle.rule_chain.specs.declared.apply_fault.ApplyFault.{ApplyFault}
+use Rattle.rule_edits.specs.declared.apply_fault.ApplyFault.{ApplyFault}
 use Rattle.serial_replay.specs.Commands.{Standing, Listing, listing_of, listed_answer, line_answer, after_line}
 use Rattle.serial_replay.specs.Events.{RunState, RunsLine, ReplaysInput}
 use Rattle.serial_replay.specs.declared.live_world.LiveWorld.{LiveWorld}

@@ -1,7 +1,7 @@
 ghost use Rattle.std.specs.Prelude.{◌≡◌, ◌<◌, ◌≤◌, ◌⊎◌, length, IfOk, OnOk};
 ghost use Rattle.fw_command.specs.WellFormed.{IsLine};
 ghost use Rattle.pcap_read.specs.Capture.{captured_of};
-ghost use Rattle.rule_chain.specs.Changing.{IsChanging};
+ghost use Rattle.rule_edits.specs.Changing.{IsChanging};
 ghost use Rattle.serial_replay.specs.Commands.{line_answer};
 ghost use Rattle.serial_replay.specs.Listings.{listing_in};
 ghost use Rattle.serial_replay.specs.Live.{AnswersLine, IsListed, Accepts, RefusesLine, RunsALine, ReplaysARecord, IsSound};
@@ -14,7 +14,7 @@ use fw_report::{Answer, LineAnswer};
 use fw_world::{CommitFault, SerialDesk, SerialLane, SerialWorld, Skipped};
 use ip6_headers::{AnyPacket, read_any};
 use pcap_read::Record;
-use rule_chain::ApplyFault;
+use rule_edits::ApplyFault;
 use std::alloc::Global;
 
 /// A world with its desk and its lanes, and the answers to the lines that ran.

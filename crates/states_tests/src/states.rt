@@ -3,11 +3,11 @@ ghost use Rattle.fw_rule.specs.Settings.{IsLifetime, IsMostStates};
 
 use dyn_states::{
     Facts, FlowName, Identities, Op, Reply, RuleRef, ScannedStates, States, Way, is_ordered,
-    write_states,
 };
 use fw_base::{Addr, MemorySink, Name};
 use fw_rule::{LimitMask, Settings, USUAL_MOST_STATES};
 use packet_headers::Flow;
+use state_texts::write_states;
 use std::alloc::Global;
 use std::process::Abort;
 use std::test::Fail;

@@ -1,7 +1,8 @@
 use super::names::named;
 use super::steps::Step;
 use super::{after_each, after_one, assert_faults};
-use rule_chain::{ApplyFault, Config};
+use rule_chain::Config;
+use rule_edits::ApplyFault;
 use std::alloc::Global;
 use std::test::Fail;
 

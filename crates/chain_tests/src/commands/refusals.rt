@@ -1,10 +1,11 @@
 ghost use Rattle.fw_rule.specs.WellFormed.{IsWellFormed};
-ghost use Rattle.rule_chain.specs.Changing.{IsChanging};
+ghost use Rattle.rule_edits.specs.Changing.{IsChanging};
 
 use super::after;
 use super::steps::{Step, command_of};
 use fw_rule::{Command, TableType};
-use rule_chain::{ApplyFault, Config};
+use rule_chain::Config;
+use rule_edits::{ApplyFault, apply, apply_owned};
 use std::alloc::Global;
 use std::test::Fail;
 
@@ -49,14 +50,14 @@ fn lent_fault(alloc: Global, config: &Config, command: &Command) -> Option<Apply
     requires formed { IsWellFormed command.now }
     requires changing { IsChanging command.now }
 {
-    config.apply(alloc, command).err()
+    apply(alloc, config, command).err()
 }
 
 fn owned_fault(alloc: Global, config: Config, command: &Command) -> Option<ApplyFault>
     requires formed { IsWellFormed command.now }
     requires changing { IsChanging command.now }
 {
-    config.apply_owned(alloc, command).err()
+    apply_owned(alloc, config, command).err()
 }
 
 const OF_NUMBERS: [(Step, ApplyFault); 15] = [

@@ -2,7 +2,8 @@ use super::steps::{Step, command_of};
 use super::{after, applied};
 use fw_base::Name;
 use fw_rule::{Command, TableCommand};
-use rule_chain::{Config, is_changing, touches_rules, untouched_rules_stay};
+use rule_chain::Config;
+use rule_edits::{apply, is_changing, touches_rules, untouched_rules_stay};
 use std::alloc::Global;
 use std::process::Abort;
 use std::sync::Arc;
@@ -79,7 +80,7 @@ fn edits_copy_no_rules(rt: HostRuntime) -> Result<(), Fail> {
 
 /// How many rules a `flush` leaves of the configuration, 0 where it is refused.
 fn left_by_flush(alloc: Global, config: &Config) -> usize {
-    match config.apply(alloc, &Command::Flush) {
+    match apply(alloc, config, &Command::Flush) {
         Ok(flushed) => flushed.rules().len(),
         Err(_) => 0,
     }

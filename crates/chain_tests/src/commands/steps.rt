@@ -1,7 +1,7 @@
 ghost use Rattle.std.specs.Prelude.{◌≡◌, IfOk, IfSome, IsTrue, [], ◌∷◌};
 ghost use Rattle.fw_rule.specs.FlowName.{IsFlowName};
 ghost use Rattle.fw_rule.specs.WellFormed.{IsBody, IsItem, IsKey, IsNumber, IsState, IsTableCommand, IsTest, IsWellFormed};
-ghost use Rattle.rule_chain.specs.Changing.{IsChanging, changes_table};
+ghost use Rattle.rule_edits.specs.Changing.{IsChanging, changes_table};
 ghost use Rattle.std.specs.List.{AllByRecursion};
 
 use fw_base::{Addr, Name, OutOfMemory, Prefix};

@@ -10,7 +10,8 @@ use fw_rule::{
     TableCommand, Test,
 };
 use generation_store::Edition;
-use rule_chain::{Config, is_changing};
+use rule_chain::Config;
+use rule_edits::{apply, is_changing};
 use std::alloc::{AllocError, Global};
 use std::process::Abort;
 use std::sync::Arc;
@@ -161,7 +162,7 @@ fn changed(
 ) -> Result<Config, Fail> {
     let command = command_of(alloc, change)?;
     assert!(rt; is_changing(&command));
-    Ok(config.apply(alloc, &command)?)
+    Ok(apply(alloc, &config, &command)?)
 }
 
 /// The empty configuration after the changes.

@@ -2,7 +2,7 @@ use super::{Captured, Row};
 use fw_base::Name;
 use fw_report::{Answer, CaptureEnd, Ends, LineAnswer};
 use fw_rule::Items;
-use rule_chain::ApplyFault;
+use rule_edits::ApplyFault;
 use std::alloc::Global;
 use std::test::Fail;
 

@@ -1,5 +1,5 @@
 use Rattle.std.proofs.Common.{sym, ◌∙◌}
-use Rattle.rule_chain.proofs.Untouched.{untouched_rules_stay}
+use Rattle.rule_edits.proofs.Untouched.{untouched_rules_stay}
 use Rattle.engine_tests.proofs.editions.edited.Goals as goal
 
 pub returns-in_ok-apply : goal.returns-in_ok-apply

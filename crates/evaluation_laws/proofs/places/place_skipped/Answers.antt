@@ -1,5 +1,5 @@
 use Rattle.std.proofs.Common.{◌+◌, arith}
-use Rattle.rule_chain.specs.Rules.{last_rule}
+use Rattle.rule_chain.specs.LastRule.{last_rule}
 use Rattle.eval_engine.proofs.Places.{first_within}
 use Rattle.evaluation_laws.proofs.Stepping.{skipped}
 use Rattle.evaluation_laws.proofs.places.place_skipped.Goals as goal

@@ -1,7 +1,7 @@
 use Rattle.std.proofs.Common.{◌++◌, ℕ, List, ap, sym}
 use Rattle.fw_base.proofs.Texts.{starts}
 use Rattle.rule_text.proofs.WriteSteps.{goes, breaks_off, finishes}
-use Rattle.dyn_states.specs.StateTexts.{states_text}
+use Rattle.state_texts.specs.StateTexts.{states_text}
 use Rattle.fw_rule.specs.declared.rule.Rule.{Rule}
 use Rattle.fw_report.specs.RulesText.{disabled_text, rules_text}
 use Rattle.fw_report.specs.Report.{last_text}

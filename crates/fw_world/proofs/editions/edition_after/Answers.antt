@@ -1,5 +1,5 @@
 use Rattle.std.proofs.Common.{sym, ◌∙◌}
-use Rattle.rule_chain.proofs.Untouched.{untouched_rules_stay}
+use Rattle.rule_edits.proofs.Untouched.{untouched_rules_stay}
 use Rattle.fw_world.proofs.editions.edition_after.Goals as goal
 
 pub build_beside-requires : goal.build_beside-requires

@@ -3,11 +3,11 @@ use Rattle.std.proofs.lemmas.List.{length-map}
 use Rattle.std.specs.Arc.{arc_value}
 use Rattle.fw_rule.specs.declared.command.Command.{Command}
 use Rattle.generation_store.specs.Published.{Published, IsBuilt}
-use Rattle.rule_chain.specs.Answers.{IsRefusal}
-use Rattle.rule_chain.specs.Apply.{apply}
+use Rattle.rule_edits.specs.Answers.{IsRefusal}
+use Rattle.rule_edits.specs.Apply.{apply}
 use Rattle.rule_chain.specs.Configuration.{Configuration}
-use Rattle.rule_chain.specs.declared.apply_fault.ApplyFault.{ApplyFault}
-use Rattle.rule_chain.specs.declared.apply_fault.ApplyFault.TheVariants as fault
+use Rattle.rule_edits.specs.declared.apply_fault.ApplyFault.{ApplyFault}
+use Rattle.rule_edits.specs.declared.apply_fault.ApplyFault.TheVariants as fault
 use Rattle.fw_world.specs.CommitFaults.{IsCauseOf, commit_fault}
 use Rattle.fw_world.specs.declared.commit_fault.CommitFault.{CommitFault}
 use Rattle.fw_world.specs.Editions.{IsLastOf}

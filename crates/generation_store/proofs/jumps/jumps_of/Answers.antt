@@ -1,7 +1,7 @@
 use Rattle.std.proofs.Common.{arith, map}
 use Rattle.std.proofs.lemmas.Grind.{common_steps}
 use Rattle.std.specs.Arc.{arc_value}
-use Rattle.rule_chain.specs.Rules.{last_rule}
+use Rattle.rule_chain.specs.LastRule.{last_rule}
 use Rattle.generation_store.proofs.Whole.{jump_more, no_jump}
 use Rattle.generation_store.proofs.jumps.jumps_of.Goals as goal
 

@@ -1,6 +1,6 @@
 use Rattle.std.proofs.Common.{Some, None, sym, subst, ◌∙◌}
 use Rattle.fw_report.specs.declared.ends.Answer.TheVariants.{Listed, Refused}
-use Rattle.rule_chain.specs.declared.apply_fault.ApplyFault.TheVariants.{NoSuchTable}
+use Rattle.rule_edits.specs.declared.apply_fault.ApplyFault.TheVariants.{NoSuchTable}
 use Rattle.serial_replay.specs.Listings.{listing_in}
 use Rattle.serial_replay.specs.Live.{IsListed}
 use Rattle.serial_replay.proofs.Listed.{has-config, listed-rules, listed-entries, listed-refused}

@@ -1,6 +1,0 @@
-use Rattle.std.proofs.Common.{take}
-use Rattle.rule_chain.specs.Addresses.{AreListed}
-use Rattle.rule_chain.proofs.address_list.tree_of.Given as goal
-
-abbrev pub invariant-loop-address : goal.invariant-loop-address
-invariant-loop-address l = AreListed (take l.address-index l.addresses) l.tree

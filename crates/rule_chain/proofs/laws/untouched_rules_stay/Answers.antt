@@ -1,5 +1,0 @@
-use Rattle.rule_chain.proofs.Untouched.{untouched_rules_stay}
-use Rattle.rule_chain.proofs.laws.untouched_rules_stay.Goals as goal
-
-pub returns : goal.returns
-returns c = untouched_rules_stay

@@ -1,6 +1,0 @@
-use Rattle.std.proofs.Common.{take}
-use Rattle.rule_chain.specs.Marks.{AreMarked}
-use Rattle.rule_chain.proofs.number_set.marks_of.Given as goal
-
-abbrev pub invariant-loop-number : goal.invariant-loop-number
-invariant-loop-number l = AreMarked (take l.number-index l.numbers) l.marks.items

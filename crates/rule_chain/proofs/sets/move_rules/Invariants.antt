@@ -1,8 +1,0 @@
-use Rattle.std.proofs.Common.{◌≡◌, map}
-use Rattle.std.specs.Arc.{arc_value}
-use Rattle.rule_chain.specs.Moves.{set_after}
-use Rattle.rule_chain.specs.Rules as lists
-use Rattle.rule_chain.proofs.sets.move_rules.Given as goal
-
-abbrev pub invariant-loop-rule : goal.invariant-loop-rule
-invariant-loop-rule l = map arc_value l.moved.items ≡ lists.move_rules (set_after l.moves) (map arc_value l.yielded)

@@ -1,0 +1,2 @@
+-- the lines of slots
+pub mod SlotTexts

@@ -1,0 +1,2 @@
+-- the printed states
+pub mod StateTexts

@@ -1,0 +1,6 @@
+//! The dynamic states as the report prints them: the clock, and a line for each.
+#![tactic(auto)]
+
+pub use state_texts::write_states;
+
+mod state_texts;
