@@ -2,7 +2,7 @@
 use Rattle.std.proofs.Common.{◌≡◌, ℕ, ◌+◌, ◌<◌, Bool, true, false, List, [], ◌∷◌, Some, length, take, zero, suc, refl, ap, sym, ◌∙◌, cond, arith}
 use Rattle.std.specs.Prelude.{filter, map, ◌||◌}
 use Rattle.std.specs.List.{list_any}
-use Rattle.dyn_states.specs.declared.op.FlowName.TheVariants.{Named}
+use Rattle.state_asks.specs.declared.op.FlowName.TheVariants.{Named}
 use Rattle.dyn_states.specs.declared.lines.Lines.{Lines}
 use Rattle.dyn_states.specs.declared.state.State.{State}
 use Rattle.dyn_states.specs.Lines.{Leads, place_of, line_at}

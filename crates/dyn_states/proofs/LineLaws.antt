@@ -5,7 +5,7 @@ use Rattle.std.proofs.lemmas.Bool.Decides.{nat_tests}
 use Rattle.std.proofs.lemmas.Map.Views.{exact_unsigned_eq}
 use Rattle.std.proofs.lemmas.Bool.{and_parts, or_right}
 use Rattle.packet_headers.specs.declared.flows.Flow.{Flow}
-use Rattle.dyn_states.specs.declared.op.FlowName.TheVariants.{Named}
+use Rattle.state_asks.specs.declared.op.FlowName.TheVariants.{Named}
 use Rattle.dyn_states.specs.declared.lines.Line.{Line}
 use Rattle.dyn_states.specs.declared.state.State.{State}
 use Rattle.dyn_states.specs.Flows.{same_flow, reverse_flow, matches_flow}

@@ -14,7 +14,7 @@ use Rattle.dyn_states.specs.Tallies.{IsTallied}
 use Rattle.dyn_states.proofs.CountLaws.{Counts-touch, Counts-held, live-touch, live-held}
 use Rattle.dyn_states.proofs.SlotLaws.{filter-same, dead_is}
 use Rattle.dyn_states.specs.declared.expiry_queue.ExpiryQueue.{ExpiryQueue}
-use Rattle.dyn_states.specs.declared.op.FlowName.TheVariants.{Named}
+use Rattle.state_asks.specs.declared.op.FlowName.TheVariants.{Named}
 use Rattle.dyn_states.specs.declared.lines.Line.{Line}
 use Rattle.dyn_states.specs.declared.lines.Lines.{Lines}
 use Rattle.dyn_states.specs.declared.state.State.{State}

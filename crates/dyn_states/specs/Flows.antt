@@ -1,8 +1,8 @@
 -- The two directions of a flow.
 use Rattle.std.specs.Prelude.{Bool, ◌==◌, ◌&&◌, ◌||◌, if◌then◌else◌}
 use Rattle.packet_headers.specs.declared.flows.Flow.{Flow}
-use Rattle.dyn_states.specs.declared.reply.Way.{Way}
-use Rattle.dyn_states.specs.declared.reply.Way.TheVariants.{Forward, Reverse}
+use Rattle.state_asks.specs.declared.reply.Way.{Way}
+use Rattle.state_asks.specs.declared.reply.Way.TheVariants.{Forward, Reverse}
 
 -- the same protocol and the same ends
 abbrev pub same_flow : Flow → Flow → Bool

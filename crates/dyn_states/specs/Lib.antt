@@ -1,9 +1,6 @@
 -- the values of a state
 pub mod Flows
 pub mod Lifetimes
--- what a publication tells
-pub mod Facts
-pub mod RuleLists
 -- the state object: what an ask and a publication do
 pub mod StateObject
 -- the parts of the hashed body, each against its slots

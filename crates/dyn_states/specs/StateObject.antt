@@ -6,18 +6,18 @@ use Rattle.packet_headers.specs.declared.flows.Flow.{Flow}
 use Rattle.fw_rule.specs.declared.state_opt.LimitMask.{LimitMask}
 use Rattle.fw_rule.specs.declared.state_opt.LimitMask.TheVariants.{SrcAddr, SrcPort, DstAddr, DstPort}
 use Rattle.fw_rule.specs.Values.{Values}
-use Rattle.dyn_states.specs.declared.op.FlowName.{FlowName}
-use Rattle.dyn_states.specs.declared.op.FlowName.TheVariants.{Any, Named}
-use Rattle.dyn_states.specs.declared.op.Op.{Op}
-use Rattle.dyn_states.specs.declared.op.Op.TheVariants.{Lookup, Install}
-use Rattle.dyn_states.specs.declared.reply.Reply.{Reply}
-use Rattle.dyn_states.specs.declared.reply.Reply.TheVariants.{Found, NotFound, Created, Exists, LimitReached, TableFull}
-use Rattle.dyn_states.specs.declared.state.RuleRef.{RuleRef}
+use Rattle.state_asks.specs.declared.op.FlowName.{FlowName}
+use Rattle.state_asks.specs.declared.op.FlowName.TheVariants.{Any, Named}
+use Rattle.state_asks.specs.declared.op.Op.{Op}
+use Rattle.state_asks.specs.declared.op.Op.TheVariants.{Lookup, Install}
+use Rattle.state_asks.specs.declared.reply.Reply.{Reply}
+use Rattle.state_asks.specs.declared.reply.Reply.TheVariants.{Found, NotFound, Created, Exists, LimitReached, TableFull}
+use Rattle.state_asks.specs.declared.rule_ref.RuleRef.{RuleRef}
 use Rattle.dyn_states.specs.declared.state.State.{State}
-use Rattle.dyn_states.specs.declared.reply.Way.{Way}
-use Rattle.dyn_states.specs.declared.reply.Way.TheVariants.{Forward, Reverse}
+use Rattle.state_asks.specs.declared.reply.Way.{Way}
+use Rattle.state_asks.specs.declared.reply.Way.TheVariants.{Forward, Reverse}
 use Rattle.dyn_states.specs.Flows.{matches_flow, way_of}
-use Rattle.dyn_states.specs.RuleLists.{has_id}
+use Rattle.state_asks.specs.RuleLists.{has_id}
 use Rattle.dyn_states.specs.Lifetimes.{kept_flags, lifetime}
 
 -- The states in order of making, the clock, and the settings.

@@ -7,7 +7,7 @@ use Rattle.dyn_states.specs.Lines.{Leads, line_room}
 use Rattle.dyn_states.specs.Slots.{held_states}
 use Rattle.fw_rule.specs.Values.{Values}
 use Rattle.dyn_states.specs.StateObject.{StateObject, considers}
-use Rattle.dyn_states.specs.declared.op.FlowName.TheVariants.{Named}
+use Rattle.state_asks.specs.declared.op.FlowName.TheVariants.{Named}
 use Rattle.std.specs.List.{list_any}
 use Rattle.dyn_states.specs.Tallies.{IsTallied, HasTallyRoom}
 

@@ -1,8 +1,8 @@
 ghost use Rattle.std.specs.Prelude.{◌≡◌};
 ghost use Rattle.dyn_states.specs.Flows as flows;
 
-use crate::Way;
 use packet_headers::Flow;
+use state_asks::Way;
 
 /// Whether the two flows are one.
 pub(crate) fn is_same(a: &Flow, b: &Flow) -> bool

@@ -6,9 +6,10 @@ ghost use Rattle.dyn_states.specs.Slots.{held_states};
 
 use crate::state_table::StateTable;
 use crate::table_asks::{install, look_up};
-use crate::{Facts, Op, Reply, State};
+use crate::State;
 use fw_base::OutOfMemory;
 use fw_rule::{MOST_STATES, Settings};
+use state_asks::{Facts, Op, Reply};
 use std::alloc::Global;
 use std::marker::Model;
 

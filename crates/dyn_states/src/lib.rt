@@ -2,27 +2,19 @@
 //! and what a publication leaves.
 #![tactic(auto)]
 
-pub use facts::{Facts, is_ordered};
 pub use hashed_states::HashedStates;
-pub use identities::Identities;
-pub use op::{FlowName, Op};
-pub use reply::{Reply, Way};
 pub use scanned_states::ScannedStates;
-pub use state::{RuleRef, State};
+pub use state::State;
 
 /// The states that a book keeps.
 pub type States = HashedStates;
 
 mod expiry_queue;
-mod facts;
 mod flows;
 mod hashed_states;
-mod identities;
 mod lifetimes;
 mod limit_counts;
 mod lines;
-mod op;
-mod reply;
 mod scanned_states;
 mod state;
 mod state_rules;

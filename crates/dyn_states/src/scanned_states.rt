@@ -2,18 +2,19 @@ ghost use Rattle.std.specs.Prelude.{◌≡◌, ◌≤◌, ◌<◌, ◌++◌, ◌
 ghost use Rattle.std.specs.List.{list_any};
 ghost use Rattle.fw_rule.specs.Values.{values_of};
 ghost use Rattle.dyn_states.specs.StateObject as object;
-ghost use Rattle.dyn_states.specs.declared.reply.Reply.TheVariants.{Created};
-ghost use Rattle.dyn_states.specs.declared.op.FlowName.TheVariants.{Named};
+ghost use Rattle.state_asks.specs.declared.reply.Reply.TheVariants.{Created};
+ghost use Rattle.state_asks.specs.declared.op.FlowName.TheVariants.{Named};
 ghost use Rattle.dyn_states.specs.declared.state.State.{State};
 ghost use Rattle.dyn_states.specs.StateObject.{StateObject, after_lookup, lookup_reply, object_at_second, install_reply, after_install, reply_of, after_ask, after_publication, first_object};
 
 use crate::flows::way_of;
 use crate::lifetimes::kept_flags;
 use crate::state_rules::{is_considered, parameter, renewed, take_over, with_flags};
-use crate::{Facts, FlowName, Op, Reply, RuleRef, State};
+use crate::State;
 use fw_base::OutOfMemory;
 use fw_rule::{LimitMask, Settings};
 use packet_headers::Flow;
+use state_asks::{Facts, FlowName, Op, Reply, RuleRef};
 use std::alloc::Global;
 use std::marker::Model;
 

@@ -1,5 +1,6 @@
 use fw_rule::LimitMask;
 use packet_headers::Flow;
+use state_asks::RuleRef;
 
 /// A dynamic state (ipfw(8), "STATEFUL FIREWALL").
 #[derive(Clone, Copy, Debug, PartialEq, Eq, Hash)]
@@ -18,13 +19,4 @@ pub struct State {
     pub forward: u8,
     /// Those seen the other way.
     pub reverse: u8,
-}
-
-/// A rule, as a state and a verdict name it.
-#[derive(Clone, Copy, Debug, PartialEq, Eq, PartialOrd, Ord, Hash)]
-pub struct RuleRef {
-    /// Its identity: the place of its `add` among all, from 1; 0 for rule 65535.
-    pub id: u32,
-    /// Its number, 1 to 65535.
-    pub number: u16,
 }

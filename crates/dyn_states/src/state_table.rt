@@ -1,7 +1,7 @@
 ghost use Rattle.std.specs.Prelude.{◌≡◌, ◌≢◌, ℕ, ◌+◌, ◌*◌, ◌<◌, ◌≤◌, ◌^◌, [], ◌∷◌, ◌++◌, true, false, IfOk, IfSome, IfNone, Some, length, filter, count_by, slice_set, take, vec_len, vec_capacity};
 ghost use Rattle.std.specs.List.{list_any};
 ghost use Rattle.dyn_states.specs.StateObject as object;
-ghost use Rattle.dyn_states.specs.declared.op.FlowName.TheVariants.{Any, Named};
+ghost use Rattle.state_asks.specs.declared.op.FlowName.TheVariants.{Any, Named};
 ghost use Rattle.dyn_states.specs.Lines.{line_at};
 ghost use Rattle.dyn_states.specs.ExpiryQueue.{entry_count, entry_room, due_count};
 ghost use Rattle.dyn_states.specs.Slots.{is_held, given_up, held_states, slot, no_state, holds_one, IsFirstPlace, earlier_place};
@@ -12,10 +12,11 @@ use crate::expiry_queue::ExpiryQueue;
 use crate::lines::{Lines, line_of};
 use crate::state_rules::{is_considered, take_over};
 use crate::tallies::Tallies;
-use crate::{Facts, FlowName, RuleRef, State};
+use crate::State;
 use fw_base::OutOfMemory;
 use fw_rule::LimitMask;
 use packet_headers::Flow;
+use state_asks::{Facts, FlowName, RuleRef};
 use std::alloc::Global;
 
 /// So many slots and four for each state there are before the table is compacted, though there be room: so

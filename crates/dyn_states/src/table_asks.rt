@@ -2,8 +2,8 @@
 ghost use Rattle.std.specs.Prelude.{◌≡◌, ◌≢◌, ℕ, ◌+◌, ◌*◌, ◌<◌, ◌≤◌, ◌++◌, ◌∷◌, [], true, false, List, Some, length, slice_set};
 ghost use Rattle.std.specs.List.{list_any};
 ghost use Rattle.fw_rule.specs.Values.{values_of, default_values};
-ghost use Rattle.dyn_states.specs.declared.op.FlowName.TheVariants.{Named};
-ghost use Rattle.dyn_states.specs.declared.reply.Reply.TheVariants.{Created};
+ghost use Rattle.state_asks.specs.declared.op.FlowName.TheVariants.{Named};
+ghost use Rattle.state_asks.specs.declared.reply.Reply.TheVariants.{Created};
 ghost use Rattle.dyn_states.specs.Flows as flows;
 ghost use Rattle.dyn_states.specs.StateObject as object;
 ghost use Rattle.dyn_states.specs.declared.state.State.{State};
@@ -15,9 +15,10 @@ use crate::flows::way_of;
 use crate::lifetimes::kept_flags;
 use crate::state_rules::{renewed, with_flags};
 use crate::state_table::StateTable;
-use crate::{FlowName, Reply, RuleRef, State};
+use crate::State;
 use fw_rule::{LimitMask, Settings};
 use packet_headers::Flow;
+use state_asks::{FlowName, Reply, RuleRef};
 
 /// The state as a packet of the flow leaves it.
 fn touched(settings: &Settings, clock: u32, flow: &Flow, flags: u8, state: State) -> State

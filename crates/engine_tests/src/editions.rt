@@ -3,11 +3,11 @@ ghost use Rattle.fw_rule.specs.WellFormed.{IsWellFormed};
 ghost use Rattle.rule_chain.specs.Configuration.{HasRulesOf};
 
 use crate::drafts::{Deed, added};
-use dyn_states::FlowName;
 use fw_rule::Command;
 use generation_store::{Edition, Store};
 use rule_chain::Config;
 use rule_edits::{apply, is_changing, touches_rules};
+use state_asks::FlowName;
 use std::alloc::Global;
 use std::process::Abort;
 use std::sync::Arc;

@@ -2,7 +2,7 @@
 use Rattle.std.proofs.Common.{◌≡◌, ℕ, List, ◌∷◌, ◌++◌, Option, Some, refl, ap, ◌∙◌}
 use Rattle.std.proofs.lemmas.List.Elements.{filter_map-append}
 use Rattle.std.specs.List.{cons_option}
-use Rattle.dyn_states.specs.declared.state.RuleRef.{RuleRef}
+use Rattle.state_asks.specs.declared.rule_ref.RuleRef.{RuleRef}
 use Rattle.eval_engine.specs.Dockets.{entry_by_cause, judged_entry, judgement_of, judgement_in, judgements}
 use Rattle.eval_engine.specs.declared.docket_entry.DocketEntry.{DocketEntry}
 use Rattle.eval_engine.specs.declared.judgement.Cause.{Cause}

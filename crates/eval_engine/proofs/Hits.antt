@@ -9,9 +9,9 @@ use Rattle.fw_rule.specs.declared.action.Action.TheVariants.{Allow, Deny, Reset,
 use Rattle.fw_rule.specs.declared.rule.Rule.{Rule}
 use Rattle.fw_rule.specs.declared.state_opt.StateOpt.{StateOpt}
 use Rattle.packet_headers.specs.declared.flows.Flow.{Flow}
-use Rattle.dyn_states.specs.declared.op.Op.{Op}
-use Rattle.dyn_states.specs.declared.reply.Reply.{Reply}
-use Rattle.dyn_states.specs.declared.reply.Reply.TheVariants.{Found, NotFound, Created, Exists, LimitReached, TableFull}
+use Rattle.state_asks.specs.declared.op.Op.{Op}
+use Rattle.state_asks.specs.declared.reply.Reply.{Reply}
+use Rattle.state_asks.specs.declared.reply.Reply.TheVariants.{Found, NotFound, Created, Exists, LimitReached, TableFull}
 use Rattle.generation_store.specs.Published.{is_identity}
 use Rattle.rule_chain.specs.Chain.{IsConfiguration, IsRule}
 use Rattle.eval_engine.specs.Encounter.{is_check_state, is_disabled, is_rule_met, state_of, any_flow_of}

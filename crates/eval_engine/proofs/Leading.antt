@@ -4,7 +4,7 @@ use Rattle.std.proofs.lemmas.List.{length-set}
 use Rattle.counter_book.specs.Counts.{counted_under, count_after_packet}
 use Rattle.counter_book.specs.declared.tally.Count.{Count}
 use Rattle.ip6_headers.specs.Either.{total_of}
-use Rattle.dyn_states.specs.declared.op.Op.{Op}
+use Rattle.state_asks.specs.declared.op.Op.{Op}
 use Rattle.fw_rule.specs.declared.rule.Rule.{Rule}
 use Rattle.eval_engine.specs.Encounter.{rule_ref}
 use Rattle.eval_engine.specs.Question.{Question}

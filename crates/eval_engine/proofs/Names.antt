@@ -4,8 +4,8 @@ use Rattle.std.specs.Int.{bit_at}
 use Rattle.std.proofs.lemmas.Nat.Bits.{bit_at_or, bit_at-lt, bit_at-pow_same, bit_at-pow_other}
 use Rattle.std.proofs.lemmas.Nat.{one_shl}
 use Rattle.fw_rule.specs.Bits.{has_bit}
-use Rattle.dyn_states.specs.declared.op.FlowName.{FlowName}
-use Rattle.dyn_states.specs.declared.op.FlowName.TheVariants.{Any, Named}
+use Rattle.state_asks.specs.declared.op.FlowName.{FlowName}
+use Rattle.state_asks.specs.declared.op.FlowName.TheVariants.{Any, Named}
 use Rattle.eval_engine.specs.Standing.{is_searched, seen_by}
 use Rattle.eval_engine.specs.Trace.{Names, with_seen, is_same_name}
 

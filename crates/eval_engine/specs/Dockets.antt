@@ -1,6 +1,6 @@
 -- What is entered for the records of one lane.
 use Rattle.std.specs.Prelude.{ℕ, List, Option, Some, None, filter_map}
-use Rattle.dyn_states.specs.declared.state.RuleRef.{RuleRef}
+use Rattle.state_asks.specs.declared.rule_ref.RuleRef.{RuleRef}
 use Rattle.eval_engine.specs.declared.docket_entry.DocketEntry.{DocketEntry}
 use Rattle.eval_engine.specs.declared.docket_entry.DocketEntry.TheVariants.{Other, Malformed, Judged, Limited, Full}
 use Rattle.eval_engine.specs.declared.judgement.Cause.{Cause}

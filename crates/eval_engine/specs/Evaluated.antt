@@ -1,6 +1,6 @@
 -- What an evaluation comes to, given the replies to its asks.
 use Rattle.std.specs.Prelude.{ℕ, List}
-use Rattle.dyn_states.specs.declared.op.Op.{Op}
+use Rattle.state_asks.specs.declared.op.Op.{Op}
 use Rattle.eval_engine.specs.declared.judgement.Judgement.{Judgement}
 
 -- An evaluation ended and used every reply; it is open at an ask with no reply left; or a reply wasn't one

@@ -2,7 +2,7 @@
 -- matches that ends the search).
 use Rattle.std.specs.Prelude.{◌≡◌, ℕ, ⊤, Bool, not, ◌&&◌, ◌==◌, true, is_some, unwrap_or, Option, Some, None, find, List, [], ◌∷◌, ◌++◌}
 use Rattle.std.specs.List.{AllByRecursion, list_any}
-use Rattle.dyn_states.specs.declared.reply.Reply.{Reply}
+use Rattle.state_asks.specs.declared.reply.Reply.{Reply}
 use Rattle.fw_rule.specs.declared.action.Action.{Action}
 use Rattle.fw_rule.specs.declared.action.Action.TheVariants.{Allow, Deny, Reset, Unreach, Count, SkipTo, Call, Return, CheckState}
 use Rattle.fw_rule.specs.declared.rule.Rule.{Rule}

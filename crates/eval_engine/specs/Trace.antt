@@ -1,9 +1,9 @@
 -- What an evaluation goes through from one ask to the next (ipfw(8), "RULE ACTIONS").
 use Rattle.std.specs.Prelude.{ℕ, suc, Bool, true, false, not, ◌&&◌, ◌||◌, ◌==◌, List, [], ◌∷◌}
 use Rattle.fw_rule.specs.declared.rule.Rule.{Rule}
-use Rattle.dyn_states.specs.declared.op.FlowName.{FlowName}
-use Rattle.dyn_states.specs.declared.op.FlowName.TheVariants.{Any, Named}
-use Rattle.dyn_states.specs.declared.op.Op.{Op}
+use Rattle.state_asks.specs.declared.op.FlowName.{FlowName}
+use Rattle.state_asks.specs.declared.op.FlowName.TheVariants.{Any, Named}
+use Rattle.state_asks.specs.declared.op.Op.{Op}
 use Rattle.eval_engine.specs.declared.judgement.Judgement.{Judgement}
 
 -- the flow names that were looked up; `Done` where a state was found, and no more is looked up

@@ -2,7 +2,7 @@ ghost use Rattle.std.specs.Prelude.{◌≡◌};
 ghost use Rattle.eval_engine.specs.Dockets.{judged_entry, judgement_in};
 
 use crate::{Cause, Judgement, Verdict};
-use dyn_states::RuleRef;
+use state_asks::RuleRef;
 
 /// What is entered for a record of a capture. A judgement has a variant for each cause, and its fields stand
 /// there one by one, the narrow ones first, so that an entry takes 24 bytes.

@@ -1,5 +1,5 @@
 ghost use Rattle.std.specs.Prelude.{◌≡◌, ℕ, ◌+◌, false, Some, [], MatchOption, drop};
-ghost use Rattle.dyn_states.specs.declared.op.FlowName.TheVariants.{Named};
+ghost use Rattle.state_asks.specs.declared.op.FlowName.TheVariants.{Named};
 ghost use Rattle.generation_store.specs.Jumps as jumps;
 ghost use Rattle.eval_engine.specs.Encounter as spec;
 ghost use Rattle.eval_engine.specs.Place.{IsNumbered, IsRuleAt};
@@ -9,7 +9,6 @@ ghost use Rattle.eval_engine.specs.Walk as walk;
 
 use crate::search::{Search, flow_of};
 use crate::searched::Searched;
-use dyn_states::{FlowName, Op, RuleRef};
 use fw_base::Port;
 use fw_rule::{LimitMask, Rule, StateOpt, has_bit};
 use generation_store::Edition;
@@ -17,6 +16,7 @@ use ip6_headers::AnyIp;
 use packet_headers::Flow;
 use rule_gates::looks_up;
 use rule_match::matches;
+use state_asks::{FlowName, Op, RuleRef};
 
 /// The packet, there and at that second, under those rules.
 pub(crate) fn search_for<'a, 'p>(

@@ -1,4 +1,4 @@
-use dyn_states::RuleRef;
+use state_asks::RuleRef;
 
 /// Why the deciding rule decided.
 #[derive(Clone, Copy, Debug, PartialEq, Eq, Hash)]

@@ -1,6 +1,6 @@
 use crate::callers::Callers;
 use crate::{Cause, Verdict};
-use dyn_states::Op;
+use state_asks::Op;
 
 /// Where an evaluation stands.
 #[derive(Clone, Copy, Debug)]

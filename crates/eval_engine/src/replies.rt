@@ -2,8 +2,8 @@ ghost use Rattle.std.specs.Prelude.{◌≡◌};
 ghost use Rattle.generation_store.specs.Published.{has_identity};
 ghost use Rattle.eval_engine.specs.Evaluation as spec;
 
-use dyn_states::{Op, Reply};
 use generation_store::Edition;
+use state_asks::{Op, Reply};
 
 /// Whether the reply is one to the ask of an evaluation under this edition: to a lookup a state of one of
 /// its rules, or none; to an install one of the other four.

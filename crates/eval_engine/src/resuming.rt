@@ -1,6 +1,6 @@
 ghost use Rattle.std.specs.Prelude.{◌≡◌, ◌<◌, [], ◌∷◌, ◌++◌, List, length, drop};
-ghost use Rattle.dyn_states.specs.declared.op.Op.{Op};
-ghost use Rattle.dyn_states.specs.declared.reply.Reply.{Reply};
+ghost use Rattle.state_asks.specs.declared.op.Op.{Op};
+ghost use Rattle.state_asks.specs.declared.reply.Reply.{Reply};
 ghost use Rattle.counter_book.specs.declared.tally.Count.{Count};
 ghost use Rattle.eval_engine.specs.Standing.{StandsAt, AnswersOpenAsk, callers_of, seen_by};
 ghost use Rattle.eval_engine.specs.Steps.{question_of, LeadsOn};
@@ -15,11 +15,11 @@ use crate::searched::Searched;
 use crate::walking::{act, judgement_at, test, waiting, walk};
 use crate::{Cause, Paused, Stage, Verdict};
 use counter_book::Tally;
-use dyn_states::Reply;
 use fw_base::Port;
 use generation_store::Edition;
 use ip6_headers::AnyIp;
 use rule_gates::key_of;
+use state_asks::Reply;
 
 /// Goes on with an evaluation that waits for this reply, to its next ask or to its end. Edition, packet,
 /// port and second are those that it began with. It takes no memory.

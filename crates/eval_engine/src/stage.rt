@@ -1,5 +1,5 @@
 use crate::{Judgement, Paused};
-use dyn_states::Op;
+use state_asks::Op;
 
 /// How far an evaluation is.
 #[derive(Clone, Copy, Debug)]

@@ -21,10 +21,10 @@ use crate::search::{Search, flow_of};
 use crate::searched::Searched;
 use crate::{Cause, Judgement, Paused, Stage, Verdict};
 use counter_book::Tally;
-use dyn_states::{Op, RuleRef};
 use fw_rule::{Action, Rule, StateOpt};
 use packet_headers::Flow;
 use rule_gates::{Key, is_check_state, is_exact, next_admitted, state_of};
+use state_asks::{Op, RuleRef};
 
 /// The rule that each list ends with.
 const LAST: RuleRef = RuleRef {

@@ -5,8 +5,8 @@ use Rattle.std.specs.List.{AllByRecursion, list_any, position_or_len}
 use Rattle.std.proofs.lemmas.List.Folds.{list_any_at}
 use Rattle.std.proofs.lemmas.List.Sums.{passes_at_first}
 use Rattle.std.proofs.lemmas.Bool.{or_right, and_from}
-use Rattle.dyn_states.specs.declared.reply.Reply.{Reply}
-use Rattle.dyn_states.specs.declared.reply.Reply.TheVariants.{Found, NotFound, Created, Exists, LimitReached, TableFull}
+use Rattle.state_asks.specs.declared.reply.Reply.{Reply}
+use Rattle.state_asks.specs.declared.reply.Reply.TheVariants.{Found, NotFound, Created, Exists, LimitReached, TableFull}
 use Rattle.fw_rule.specs.declared.rule.Rule.{Rule}
 use Rattle.fw_rule.specs.declared.state_opt.StateOpt.{StateOpt}
 use Rattle.generation_store.specs.Jumps.{first_from}

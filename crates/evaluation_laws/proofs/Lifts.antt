@@ -1,10 +1,10 @@
 -- What the plain evaluator's functions promise of one rule, sentence by sentence.
 use Rattle.std.proofs.Common.{◌≡◌, ℕ, suc, ◌+◌, ◌<◌, ◌≤◌, true, false, Option, Some, None, Result, Ok, Err, IfOk, List, [], ◌∷◌, length, drop, refl, ap, sym, subst, arith}
-use Rattle.dyn_states.specs.declared.op.Op.{Op}
-use Rattle.dyn_states.specs.declared.reply.Reply.{Reply}
-use Rattle.dyn_states.specs.declared.reply.Reply.TheVariants.{Found, NotFound, Created, Exists, LimitReached, TableFull}
-use Rattle.dyn_states.specs.declared.state.RuleRef.{RuleRef}
-use Rattle.dyn_states.specs.declared.reply.Way.{Way}
+use Rattle.state_asks.specs.declared.op.Op.{Op}
+use Rattle.state_asks.specs.declared.reply.Reply.{Reply}
+use Rattle.state_asks.specs.declared.reply.Reply.TheVariants.{Found, NotFound, Created, Exists, LimitReached, TableFull}
+use Rattle.state_asks.specs.declared.rule_ref.RuleRef.{RuleRef}
+use Rattle.state_asks.specs.declared.reply.Way.{Way}
 use Rattle.fw_rule.specs.declared.action.Action.TheVariants.{Count, SkipTo, Call, Return, CheckState}
 use Rattle.fw_rule.specs.declared.rule.Rule.{Rule}
 use Rattle.fw_rule.specs.declared.state_opt.StateOpt.{StateOpt}

@@ -1,8 +1,8 @@
 -- What a trace comes to, given the replies to come.
 use Rattle.std.proofs.Common.{◌≡◌, ℕ, ◌+◌, true, false, List, [], ◌∷◌, ◌++◌, refl, ap, sym, ◌∙◌}
 use Rattle.std.proofs.lemmas.List.{append_assoc, append-nil}
-use Rattle.dyn_states.specs.declared.op.Op.{Op}
-use Rattle.dyn_states.specs.declared.reply.Reply.{Reply}
+use Rattle.state_asks.specs.declared.op.Op.{Op}
+use Rattle.state_asks.specs.declared.reply.Reply.{Reply}
 use Rattle.eval_engine.specs.Evaluated.{Evaluated, Whole, OpenAt, Neither}
 use Rattle.eval_engine.specs.Evaluation.{Progress, progress_after_reply, progress_by, progress_from, progress_result, is_reply_to, asks_at_stop}
 use Rattle.eval_engine.specs.Question.{Question}

@@ -1,6 +1,6 @@
 -- What the plain evaluator's functions promise.
 use Rattle.std.specs.Prelude.{◌≡◌, ℕ, ◌+◌, ◌≤◌, true, List, ◌∷◌, length, drop}
-use Rattle.dyn_states.specs.declared.reply.Reply.{Reply}
+use Rattle.state_asks.specs.declared.reply.Reply.{Reply}
 use Rattle.fw_rule.specs.declared.rule.Rule.{Rule}
 use Rattle.generation_store.specs.Published.{has_identity}
 use Rattle.eval_engine.specs.Place.{IsRuleAt}

@@ -1,9 +1,9 @@
 -- First match with jumps, calls and asks, sentence by sentence (ipfw(8), "RULE ACTIONS", "STATEFUL FIREWALL").
 use Rattle.std.specs.Prelude.{◌≡◌, ℕ, suc, ◌+◌, ◌<◌, ◌≤◌, ◌↔◌, true, false, ⊤, Option, Some, None, List, [], ◌∷◌, drop}
-use Rattle.dyn_states.specs.declared.reply.Reply.{Reply}
-use Rattle.dyn_states.specs.declared.reply.Reply.TheVariants.{Found, NotFound, Created, Exists, LimitReached, TableFull}
-use Rattle.dyn_states.specs.declared.state.RuleRef.{RuleRef}
-use Rattle.dyn_states.specs.declared.reply.Way.{Way}
+use Rattle.state_asks.specs.declared.reply.Reply.{Reply}
+use Rattle.state_asks.specs.declared.reply.Reply.TheVariants.{Found, NotFound, Created, Exists, LimitReached, TableFull}
+use Rattle.state_asks.specs.declared.rule_ref.RuleRef.{RuleRef}
+use Rattle.state_asks.specs.declared.reply.Way.{Way}
 use Rattle.fw_rule.specs.declared.action.Action.TheVariants.{Count, SkipTo, Call, Return, CheckState}
 use Rattle.fw_rule.specs.declared.rule.Rule.{Rule}
 use Rattle.fw_rule.specs.declared.state_opt.StateOpt.{StateOpt}

@@ -1,7 +1,7 @@
 -- What a run over rules comes to.
 use Rattle.std.specs.Prelude.{ℕ, List, [], ◌∷◌, ◌++◌}
-use Rattle.dyn_states.specs.declared.op.Op.{Op}
-use Rattle.dyn_states.specs.declared.reply.Reply.{Reply}
+use Rattle.state_asks.specs.declared.op.Op.{Op}
+use Rattle.state_asks.specs.declared.reply.Reply.{Reply}
 use Rattle.eval_engine.specs.Evaluated.{Evaluated, Outcome, Whole, OpenAt, Neither}
 use Rattle.eval_engine.specs.Trace.{Seen}
 use Rattle.eval_engine.specs.declared.judgement.Judgement.{Judgement}

@@ -1,7 +1,7 @@
 -- What the plain evaluator's values stand for.
 use Rattle.std.specs.Prelude.{Bool, false, if◌then◌else◌, slice_index_or}
-use Rattle.dyn_states.specs.declared.op.FlowName.{FlowName}
-use Rattle.dyn_states.specs.declared.op.FlowName.TheVariants.{Any, Named}
+use Rattle.state_asks.specs.declared.op.FlowName.{FlowName}
+use Rattle.state_asks.specs.declared.op.FlowName.TheVariants.{Any, Named}
 use Rattle.eval_engine.specs.Evaluated as evaluated
 use Rattle.eval_engine.specs.Question as spec
 use Rattle.eval_engine.specs.Trace.{Seen, Done, Names}

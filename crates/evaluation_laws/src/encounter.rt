@@ -1,5 +1,5 @@
 ghost use Rattle.std.specs.Prelude.{◌≡◌, ℕ, ◌+◌, ◌<◌, ◌≤◌, false, Some, [], MatchOption, drop, length};
-ghost use Rattle.dyn_states.specs.declared.op.FlowName.TheVariants.{Named};
+ghost use Rattle.state_asks.specs.declared.op.FlowName.TheVariants.{Named};
 ghost use Rattle.generation_store.specs.Jumps as jumps;
 ghost use Rattle.eval_engine.specs.Encounter as spec;
 ghost use Rattle.eval_engine.specs.Place.{IsRuleAt};
@@ -8,12 +8,12 @@ ghost use Rattle.evaluation_laws.specs.Views.{viewed_question, viewed_names};
 
 use crate::looked::Looked;
 use crate::question::Question;
-use dyn_states::{FlowName, Op, RuleRef};
 use fw_rule::{LimitMask, Rule, StateOpt, has_bit};
 use ip6_headers::AnyIp;
 use packet_headers::{Flow, flow};
 use rule_gates::looks_up;
 use rule_match::matches;
+use state_asks::{FlowName, Op, RuleRef};
 
 /// The rule in that place; `None` behind the last.
 pub(crate) fn rule_at<'a>(question: &Question<'a, '_>, place: usize) -> Option<&'a Rule>

@@ -9,10 +9,10 @@ ghost use Rattle.evaluation_laws.specs.Views.{viewed_question, story_of};
 use crate::encounter::rule_ref;
 use crate::question::Question;
 use crate::story::{Ending, Story, asked, hit, plainly};
-use dyn_states::{Op, Reply, RuleRef};
 use eval_engine::{Cause, Judgement, Verdict};
 use fw_base::OutOfMemory;
 use fw_rule::Rule;
+use state_asks::{Op, Reply, RuleRef};
 
 fn judgement_of(
     question: &Question<'_, '_>,

@@ -8,11 +8,11 @@ use crate::looked::Looked;
 use crate::question::Question;
 use crate::running::meet;
 use crate::story::Ending;
-use dyn_states::{Op, Reply};
 use eval_engine::Judgement;
 use fw_base::{OutOfMemory, Port};
 use generation_store::Edition;
 use ip6_headers::AnyIp;
+use state_asks::{Op, Reply};
 use std::alloc::Global;
 use std::collections::LinkedList;
 

@@ -15,12 +15,12 @@ use crate::looked::Looked;
 use crate::places::{first_behind, first_from, place_of, place_skipped};
 use crate::question::Question;
 use crate::story::{Ending, Story, asked, behind, hit, plainly};
-use dyn_states::Reply;
 use eval_engine::{Cause, MOST_CALLS, Verdict};
 use fw_base::OutOfMemory;
 use fw_rule::{Action, Rule, StateOpt};
 use packet_headers::Flow;
 use rule_gates::{is_check_state, state_of};
+use state_asks::Reply;
 
 /// The run from the rule in that place on.
 #[cycle(runs)]

@@ -3,9 +3,9 @@ ghost use Rattle.evaluation_laws.specs.Story as spec;
 ghost use Rattle.evaluation_laws.specs.Views.{ending_of, story_of};
 
 use crate::looked::Looked;
-use dyn_states::{Op, Reply};
 use eval_engine::Judgement;
 use fw_base::OutOfMemory;
+use state_asks::{Op, Reply};
 use std::alloc::Global;
 use std::collections::LinkedList;
 

@@ -2,9 +2,9 @@
 use Rattle.std.specs.Prelude.{ℕ, Option, Some, None, List, ◌++◌, codes, decimal}
 use Rattle.rule_text.specs.Canonical.{mask_word}
 use Rattle.fw_rule.specs.declared.state_opt.LimitMask.{LimitMask}
-use Rattle.dyn_states.specs.declared.op.Op.{Op}
-use Rattle.dyn_states.specs.declared.op.Op.TheVariants.{Lookup, Install}
-use Rattle.dyn_states.specs.declared.reply.Reply.{Reply}
+use Rattle.state_asks.specs.declared.op.Op.{Op}
+use Rattle.state_asks.specs.declared.op.Op.TheVariants.{Lookup, Install}
+use Rattle.state_asks.specs.declared.reply.Reply.{Reply}
 use Rattle.state_texts.specs.StateTexts.{flow_text}
 use Rattle.fw_report.specs.JournalText.{name_numbered, name_word, ask_start, ask_end, flow_of_ask, asked_flags, asked_second}
 

@@ -6,14 +6,14 @@ use Rattle.fw_rule.specs.Bits.{has_bit}
 use Rattle.rule_text.specs.Canonical.{mask_word}
 use Rattle.fw_rule.specs.declared.state_opt.LimitMask.{LimitMask}
 use Rattle.state_texts.specs.StateTexts.{flow_text}
-use Rattle.dyn_states.specs.declared.op.FlowName.{FlowName}
-use Rattle.dyn_states.specs.declared.op.FlowName.TheVariants.{Any, Named}
-use Rattle.dyn_states.specs.declared.op.Op.{Op}
-use Rattle.dyn_states.specs.declared.op.Op.TheVariants.{Lookup, Install}
-use Rattle.dyn_states.specs.declared.reply.Reply.{Reply}
-use Rattle.dyn_states.specs.declared.reply.Reply.TheVariants.{Found, NotFound, Created, Exists, LimitReached, TableFull}
-use Rattle.dyn_states.specs.declared.reply.Way.{Way}
-use Rattle.dyn_states.specs.declared.reply.Way.TheVariants.{Forward, Reverse}
+use Rattle.state_asks.specs.declared.op.FlowName.{FlowName}
+use Rattle.state_asks.specs.declared.op.FlowName.TheVariants.{Any, Named}
+use Rattle.state_asks.specs.declared.op.Op.{Op}
+use Rattle.state_asks.specs.declared.op.Op.TheVariants.{Lookup, Install}
+use Rattle.state_asks.specs.declared.reply.Reply.{Reply}
+use Rattle.state_asks.specs.declared.reply.Reply.TheVariants.{Found, NotFound, Created, Exists, LimitReached, TableFull}
+use Rattle.state_asks.specs.declared.reply.Way.{Way}
+use Rattle.state_asks.specs.declared.reply.Way.TheVariants.{Forward, Reverse}
 use Rattle.eval_engine.specs.Dockets.{DocketValue}
 use Rattle.state_journal.specs.declared.entry.Entry.{Entry}
 use Rattle.state_journal.specs.declared.entry.Entry.TheVariants.{Publish, Ask}

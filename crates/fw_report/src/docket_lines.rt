@@ -7,11 +7,11 @@ ghost use Rattle.pcap_read.specs.Words.{word_of};
 
 use crate::CaptureEnd;
 use crate::line::{LINE_BYTES, Line};
-use dyn_states::RuleRef;
 use eval_engine::{Cause, Docket, DocketEntry, Judgement, Verdict};
 use fw_base::{Failed, Sink};
 use pcap_read::CaptureFault;
 use rule_text::UNREACH_NAMES;
+use state_asks::RuleRef;
 
 fn name_at<'x>(names: &'x [&'x [u8]], place: usize) -> &'x [u8]
     requires { place < length names.now }

@@ -7,11 +7,11 @@ ghost use Rattle.fw_report.specs.AskText as ask;
 ghost use Rattle.fw_report.specs.JournalText as text;
 
 use crate::line::{LINE_BYTES, Line, write_around};
-use dyn_states::{FlowName, Op, Reply, Way};
 use eval_engine::Docket;
 use fw_base::{Failed, Name, Sink};
 use fw_rule::{LimitMask, has_bit};
 use packet_headers::Flow;
+use state_asks::{FlowName, Op, Reply, Way};
 use state_journal::Entry;
 
 /// The longest name that stands in an ask's line that is composed whole.

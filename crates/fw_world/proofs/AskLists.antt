@@ -3,8 +3,8 @@ use Rattle.std.proofs.Common.{◌≡◌, ◌≢◌, ℕ, ◌≤◌, Bool, true, 
 use Rattle.std.proofs.Math.Facts.{eqb_yes}
 use Rattle.std.proofs.lemmas.List.{append-nil}
 use Rattle.std.specs.Prelude.{◌==◌}
-use Rattle.dyn_states.specs.declared.op.Op.{Op}
-use Rattle.dyn_states.specs.declared.reply.Reply.{Reply}
+use Rattle.state_asks.specs.declared.op.Op.{Op}
+use Rattle.state_asks.specs.declared.reply.Reply.{Reply}
 use Rattle.state_journal.specs.Items.{asks_of}
 use Rattle.state_journal.specs.Journal.{Journal, with_ask}
 use Rattle.state_journal.specs.declared.entry.Entry.{Entry}

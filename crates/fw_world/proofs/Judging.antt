@@ -9,8 +9,8 @@ use Rattle.ip6_headers.specs.Either.{total_of}
 use Rattle.ip6_headers.specs.declared.any_ip.AnyIp.{AnyIp}
 use Rattle.counter_book.specs.Counts.{count_after_packet}
 use Rattle.counter_book.specs.declared.tally.Count.{Count}
-use Rattle.dyn_states.specs.declared.op.Op.{Op}
-use Rattle.dyn_states.specs.declared.reply.Reply.{Reply}
+use Rattle.state_asks.specs.declared.op.Op.{Op}
+use Rattle.state_asks.specs.declared.reply.Reply.{Reply}
 use Rattle.generation_store.specs.Published.{Published}
 use Rattle.eval_engine.proofs.Dockets.{judgement_in-judged}
 use Rattle.eval_engine.specs.Dockets.{DocketValue, judged_entry, judgement_in}

@@ -11,8 +11,8 @@ use Rattle.std.specs.Prelude.{◌⊎◌, ◌==◌, get_or, Option, Some, None, I
 use Rattle.std.specs.List.{AllByRecursion}
 use Rattle.std.specs.List.Sorted.{IsNonDecreasing}
 use Rattle.fw_base.proofs.Lists.{all_push, all_weaker}
-use Rattle.dyn_states.specs.declared.op.Op.{Op}
-use Rattle.dyn_states.specs.declared.reply.Reply.{Reply}
+use Rattle.state_asks.specs.declared.op.Op.{Op}
+use Rattle.state_asks.specs.declared.reply.Reply.{Reply}
 use Rattle.generation_store.specs.Published.{Published}
 use Rattle.eval_engine.specs.Dockets.{judgement_in}
 use Rattle.eval_engine.specs.declared.docket_entry.DocketEntry.{DocketEntry}

@@ -3,13 +3,13 @@ use Rattle.std.proofs.Common.{◌≡◌, ℕ, Bool, true, false, List, length, O
 use Rattle.std.specs.Prelude.{nat_le}
 use Rattle.std.specs.List.{list_any}
 use Rattle.packet_headers.specs.declared.flows.Flow.{Flow}
-use Rattle.dyn_states.specs.RuleLists.{has_id}
-use Rattle.dyn_states.specs.declared.op.FlowName.{FlowName}
-use Rattle.dyn_states.specs.declared.op.FlowName.TheVariants.{Named}
-use Rattle.dyn_states.specs.declared.op.Op.{Op}
-use Rattle.dyn_states.specs.declared.op.Op.TheVariants.{Lookup, Install}
-use Rattle.dyn_states.specs.declared.reply.Reply.{Reply}
-use Rattle.dyn_states.specs.declared.reply.Reply.TheVariants.{Found, NotFound, Created, Exists, LimitReached, TableFull}
+use Rattle.state_asks.specs.RuleLists.{has_id}
+use Rattle.state_asks.specs.declared.op.FlowName.{FlowName}
+use Rattle.state_asks.specs.declared.op.FlowName.TheVariants.{Named}
+use Rattle.state_asks.specs.declared.op.Op.{Op}
+use Rattle.state_asks.specs.declared.op.Op.TheVariants.{Lookup, Install}
+use Rattle.state_asks.specs.declared.reply.Reply.{Reply}
+use Rattle.state_asks.specs.declared.reply.Reply.TheVariants.{Found, NotFound, Created, Exists, LimitReached, TableFull}
 use Rattle.dyn_states.specs.declared.state.State.{State}
 use Rattle.dyn_states.specs.StateObject.{StateObject, found_reply, lookup_reply, install_reply, or_full, full_reply, limit_reply, limit_count, considers, reply_of, object_at_second}
 use Rattle.eval_engine.specs.Standing.{is_reply_to, InstallsRuleOf}

@@ -8,8 +8,8 @@ use Rattle.std.proofs.Math.Facts.{eqb_yes}
 use Rattle.std.specs.Prelude.{◌==◌, All, slice_set}
 use Rattle.counter_book.specs.Counts.{counted_under, count_after_packet, no_count}
 use Rattle.counter_book.specs.declared.tally.Count.{Count}
-use Rattle.dyn_states.specs.declared.op.Op.{Op}
-use Rattle.dyn_states.specs.declared.reply.Reply.{Reply}
+use Rattle.state_asks.specs.declared.op.Op.{Op}
+use Rattle.state_asks.specs.declared.reply.Reply.{Reply}
 use Rattle.rule_chain.specs.Chain.{IsConfiguration}
 use Rattle.ip6_headers.specs.Either.{total_of}
 use Rattle.eval_engine.proofs.Hits.{hits_are_given_out}

@@ -2,10 +2,10 @@
 use Rattle.std.specs.Prelude.{◌≡◌, ℕ, ⊤, ◌==◌, if◌then◌else◌, List, [], ◌∷◌}
 use Rattle.counter_book.specs.Counts.{counted_under, count_after_packet}
 use Rattle.counter_book.specs.declared.tally.Count.{Count}
-use Rattle.dyn_states.specs.declared.op.Op.{Op}
-use Rattle.dyn_states.specs.declared.op.Op.TheVariants.{Lookup, Install}
-use Rattle.dyn_states.specs.declared.reply.Reply.{Reply}
-use Rattle.dyn_states.specs.declared.reply.Reply.TheVariants.{Found, NotFound, Created, Exists, LimitReached, TableFull}
+use Rattle.state_asks.specs.declared.op.Op.{Op}
+use Rattle.state_asks.specs.declared.op.Op.TheVariants.{Lookup, Install}
+use Rattle.state_asks.specs.declared.reply.Reply.{Reply}
+use Rattle.state_asks.specs.declared.reply.Reply.TheVariants.{Found, NotFound, Created, Exists, LimitReached, TableFull}
 use Rattle.eval_engine.specs.Evaluated.{Whole}
 use Rattle.eval_engine.specs.Evaluation.{evaluate}
 use Rattle.eval_engine.specs.Question.{Question}

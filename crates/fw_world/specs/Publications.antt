@@ -1,6 +1,6 @@
 -- The publications of a journal, and when the journal is lawful beside the editions.
 use Rattle.std.specs.Prelude.{◌≡◌, ℕ, List, [], ◌∷◌, map}
-use Rattle.dyn_states.specs.declared.facts.Facts.{Facts}
+use Rattle.state_asks.specs.declared.facts.Facts.{Facts}
 use Rattle.generation_store.specs.Published.{Published}
 use Rattle.state_journal.specs.Journal.{no_states, IsLawfulFrom, BeginsWithOne}
 use Rattle.state_journal.specs.declared.entry.Entry.{Entry}

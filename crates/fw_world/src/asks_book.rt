@@ -1,11 +1,11 @@
 ghost use Rattle.std.specs.Prelude.{ℕ, ◌≡◌, ◌+◌, List, IfOk, OnErr, OnOk};
-ghost use Rattle.dyn_states.specs.declared.op.Op.{Op};
-ghost use Rattle.dyn_states.specs.declared.reply.Reply.{Reply};
+ghost use Rattle.state_asks.specs.declared.op.Op.{Op};
+ghost use Rattle.state_asks.specs.declared.reply.Reply.{Reply};
 ghost use Rattle.state_journal.specs.Journal.{NamesRuleOf, IsFoundOf};
 ghost use Rattle.fw_world.specs.AskRuns.{Answers};
 
-use dyn_states::{Op, Reply};
 use fw_base::OutOfMemory;
+use state_asks::{Op, Reply};
 
 /// Who asks the dynamic states for a lane: the book where one thread has it, or the way to it where it is
 /// shared.

@@ -1,5 +1,5 @@
 ghost use Rattle.std.specs.Prelude.{◌≡◌, ◌<◌, ℕ, length, IfOk};
-ghost use Rattle.dyn_states.specs.RuleLists.{has_id};
+ghost use Rattle.state_asks.specs.RuleLists.{has_id};
 ghost use Rattle.generation_store.specs.Published.{has_identity};
 ghost use Rattle.rule_chain.specs.Chain.{IsConfiguration};
 ghost use Rattle.fw_world.specs.AskRuns.{Evaluates, AsksSome};

@@ -1,5 +1,5 @@
 ghost use Rattle.std.specs.Prelude.{◌≡◌, ◌+◌, ℕ, None, length, ◌∷◌, [], ◌++◌, ◌==◌, true, false, IfOk, OnOk, OnErr};
-ghost use Rattle.dyn_states.specs.RuleLists.{has_id};
+ghost use Rattle.state_asks.specs.RuleLists.{has_id};
 ghost use Rattle.eval_engine.specs.Dockets.{judged_entry};
 ghost use Rattle.generation_store.specs.Published.{has_identity};
 ghost use Rattle.fw_world.specs.AskRuns.{Evaluates, AsksSome};

@@ -1,6 +1,6 @@
 use crate::asks_book::AsksBook;
-use dyn_states::{Op, Reply};
 use fw_base::OutOfMemory;
+use state_asks::{Op, Reply};
 use state_journal::Book;
 
 impl AsksBook for Book {

@@ -2,8 +2,8 @@
 use Rattle.std.proofs.Common.{◌≡◌, ◌≢◌, ℕ, zero, suc, ◌+◌, ◌≤◌, ◌<◌, true, false, ◌==◌, nat_lt, List, [], ◌∷◌, length, get_or, refl, ap, sym, ◌∙◌, arith}
 use Rattle.std.proofs.lemmas.Bool.Decides.{nat_tests}
 use Rattle.std.proofs.lemmas.Bool.{and_parts}
-use Rattle.dyn_states.specs.Facts.{rises_from, is_rule_list}
-use Rattle.dyn_states.specs.RuleLists.{has_id}
+use Rattle.state_asks.specs.Facts.{rises_from, is_rule_list}
+use Rattle.state_asks.specs.RuleLists.{has_id}
 
 -- numbers that rise strictly rise from the first on
 rising : (first : ℕ) (ids : List ℕ) → ((k : ℕ) → k < length ids → get_or (first ∷ ids) k 0 < get_or ids k 0) → rises_from first ids ≡ true

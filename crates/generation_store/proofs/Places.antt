@@ -10,7 +10,7 @@ use Rattle.std.specs.List.{position_or_len, AllByRecursion, IsDistinct}
 use Rattle.std.specs.List.Sorted.{IsPermutation, IsNonDecreasing, IsNonDecreasingBy}
 use Rattle.fw_rule.specs.declared.rule.Rule.{Rule}
 use Rattle.rule_chain.specs.Chain.{AscendsFrom, HaveOwnIds}
-use Rattle.dyn_states.specs.RuleLists.{has_id}
+use Rattle.state_asks.specs.RuleLists.{has_id}
 use Rattle.generation_store.specs.Published.{is_identity, has_identity, place_of_rule}
 use Rattle.generation_store.specs.Indexed.{some_place}
 use Rattle.generation_store.specs.Placing.{identity_of, place_alone, placed_from, ArePlaced}

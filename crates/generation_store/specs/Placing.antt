@@ -1,8 +1,8 @@
 -- The places of the rules, in the order of their identities.
 use Rattle.std.specs.Prelude.{◌≡◌, ℕ, ◌+◌, true, Some, List, [], ◌∷◌, map, All}
 use Rattle.fw_rule.specs.declared.rule.Rule.{Rule}
-use Rattle.dyn_states.specs.Facts.{is_rule_list}
-use Rattle.dyn_states.specs.RuleLists.{has_id}
+use Rattle.state_asks.specs.Facts.{is_rule_list}
+use Rattle.state_asks.specs.RuleLists.{has_id}
 use Rattle.generation_store.specs.Published.{has_identity, place_of_rule}
 use Rattle.generation_store.specs.declared.placed.Placed.{Placed}
 

@@ -5,10 +5,10 @@ use Rattle.fw_rule.specs.Values.{values_of}
 use Rattle.fw_rule.specs.declared.rule.Rule.{Rule}
 use Rattle.rule_chain.specs.Configuration.{Configuration}
 use Rattle.rule_chain.specs.Names.{name_of, number_of_name}
-use Rattle.dyn_states.specs.RuleLists.{has_id}
-use Rattle.dyn_states.specs.declared.facts.Facts.{Facts}
-use Rattle.dyn_states.specs.declared.op.FlowName.{FlowName}
-use Rattle.dyn_states.specs.declared.op.FlowName.TheVariants.{Any, Named}
+use Rattle.state_asks.specs.RuleLists.{has_id}
+use Rattle.state_asks.specs.declared.facts.Facts.{Facts}
+use Rattle.state_asks.specs.declared.op.FlowName.{FlowName}
+use Rattle.state_asks.specs.declared.op.FlowName.TheVariants.{Any, Named}
 
 -- the number of an edition, its configuration, and what its publication tells the states
 pub record Published : Type 0 where

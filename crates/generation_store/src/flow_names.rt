@@ -6,10 +6,10 @@ ghost use Rattle.rule_chain.specs.Names as rule_names;
 ghost use Rattle.rule_chain.specs.Names.{IsNamed};
 ghost use Rattle.generation_store.specs.Published as spec;
 
-use dyn_states::FlowName;
 use fw_base::{Name, OutOfMemory};
 use fw_rule::Rule;
 use rule_chain::flow_name_of;
+use state_asks::FlowName;
 use std::alloc::Global;
 use std::sync::Arc;
 

@@ -9,10 +9,10 @@ use crate::Jump;
 use crate::flow_names::flow_names;
 use crate::jumps::jumps_of;
 use crate::placed::{Placed, places};
-use dyn_states::FlowName;
 use fw_base::OutOfMemory;
 use rule_chain::Config;
 use rule_gates::Gate;
+use state_asks::FlowName;
 use std::alloc::Global;
 use std::sync::Arc;
 

@@ -3,9 +3,9 @@ ghost use Rattle.std.specs.Arc.{arc_value};
 ghost use Rattle.rule_chain.specs.Chain.{AscendsFrom, HaveOwnIds};
 ghost use Rattle.generation_store.specs.Placing.{ArePlaced, identity_of, placed_from};
 
-use dyn_states::Identities;
 use fw_base::OutOfMemory;
 use fw_rule::Rule;
+use state_asks::Identities;
 use std::alloc::Global;
 use std::sync::Arc;
 

@@ -5,9 +5,9 @@ use Rattle.std.specs.Prelude.{Option, Some, None, slice_get}
 use Rattle.fw_base.specs.declared.port.Port.{Port}
 use Rattle.counter_book.specs.declared.tally.Count.{Count}
 use Rattle.dyn_states.specs.StateObject.{StateObject, reply_of, after_ask}
-use Rattle.dyn_states.specs.declared.facts.Facts.{Facts}
-use Rattle.dyn_states.specs.declared.op.Op.{Op}
-use Rattle.dyn_states.specs.declared.reply.Reply.{Reply}
+use Rattle.state_asks.specs.declared.facts.Facts.{Facts}
+use Rattle.state_asks.specs.declared.op.Op.{Op}
+use Rattle.state_asks.specs.declared.reply.Reply.{Reply}
 use Rattle.eval_engine.specs.Evaluation.{evaluate}
 use Rattle.eval_engine.specs.declared.judgement.Judgement.{Judgement}
 use Rattle.fw_rule.specs.declared.command.Command.{Command}

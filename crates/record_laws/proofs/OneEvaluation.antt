@@ -3,8 +3,8 @@ use Rattle.std.proofs.Common.{◌≡◌, Bool, true, false, cond, List, [], ◌�
 use Rattle.std.proofs.lemmas.List.{append_cancel_left}
 use Rattle.std.specs.Prelude.{⊤}
 use Rattle.dyn_states.specs.StateObject.{StateObject, reply_of, after_ask}
-use Rattle.dyn_states.specs.declared.op.Op.{Op}
-use Rattle.dyn_states.specs.declared.reply.Reply.{Reply}
+use Rattle.state_asks.specs.declared.op.Op.{Op}
+use Rattle.state_asks.specs.declared.reply.Reply.{Reply}
 use Rattle.eval_engine.proofs.Ending.{mismatch_stays, no_reply_due}
 use Rattle.eval_engine.specs.Evaluated.{Whole}
 use Rattle.eval_engine.specs.Evaluation.{Progress, progress_by, progress_of, progress_from, progress_after_reply, is_reply_to, asks_at_stop, outcome_of, evaluate}

@@ -4,9 +4,9 @@ use Rattle.std.proofs.Props.{props}
 use Rattle.std.proofs.lemmas.Bool.{and_parts}
 use Rattle.std.proofs.lemmas.Bool.Decides.{nat_tests}
 use Rattle.std.specs.Prelude.{◌==◌, IsTrue}
-use Rattle.dyn_states.specs.Facts.{rises_from, is_rule_list}
-use Rattle.dyn_states.specs.RuleLists.{has_id}
-use Rattle.dyn_states.specs.declared.facts.Facts.{Facts}
+use Rattle.state_asks.specs.Facts.{rises_from, is_rule_list}
+use Rattle.state_asks.specs.RuleLists.{has_id}
+use Rattle.state_asks.specs.declared.facts.Facts.{Facts}
 use Rattle.fw_rule.specs.Settings.{IsLifetime, IsMostStates}
 use Rattle.fw_rule.specs.Values.{Values, values_of}
 use Rattle.fw_rule.specs.declared.settings.Settings.{Settings}

@@ -4,7 +4,7 @@ use Rattle.std.specs.Prelude.{⊤, Option, Some, None, Ok, Err, slice_get, slice
 use Rattle.fw_base.specs.declared.port.Port.{Port}
 use Rattle.counter_book.specs.Counts.{counted_under}
 use Rattle.counter_book.specs.declared.tally.Count.{Count}
-use Rattle.dyn_states.specs.declared.reply.Reply.{Reply}
+use Rattle.state_asks.specs.declared.reply.Reply.{Reply}
 use Rattle.eval_engine.specs.Evaluated.{Whole}
 use Rattle.eval_engine.specs.Evaluation.{evaluate}
 use Rattle.eval_engine.specs.Question.{Question}

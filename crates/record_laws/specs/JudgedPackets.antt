@@ -3,7 +3,7 @@ use Rattle.std.specs.Prelude.{ℕ, ◌+◌, ◌*◌, ◌==◌, Option, Some, Non
 use Rattle.fw_base.specs.declared.port.Port.{Port}
 use Rattle.ip6_headers.specs.Either.{total_of}
 use Rattle.ip6_headers.specs.declared.any_ip.AnyIp.{AnyIp}
-use Rattle.dyn_states.specs.declared.reply.Reply.{Reply}
+use Rattle.state_asks.specs.declared.reply.Reply.{Reply}
 use Rattle.generation_store.specs.Published.{Published}
 use Rattle.eval_engine.specs.Dockets.{DocketValue, judgements}
 use Rattle.eval_engine.specs.Evaluated.{Evaluated}

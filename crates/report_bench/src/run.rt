@@ -3,7 +3,6 @@ ghost use Rattle.state_journal.specs.Journal.{NamesRuleOf};
 
 use anyhow::{Result, bail};
 use counter_book::Tally;
-use dyn_states::{FlowName, Op, RuleRef};
 use eval_engine::{Cause, Docket, DocketEntry, Judgement, Verdict};
 use fw_base::{Addr, OutOfMemory};
 use fw_report::{CaptureEnd, Ends};
@@ -11,6 +10,7 @@ use fw_rule::Items;
 use generation_store::Edition;
 use packet_headers::Flow;
 use rule_chain::Config;
+use state_asks::{FlowName, Op, RuleRef};
 use state_journal::Book;
 use std::alloc::Global;
 use std::sync::Arc;

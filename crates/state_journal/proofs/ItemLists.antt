@@ -1,6 +1,6 @@
 -- The lists of a shared book after a publication.
 use Rattle.std.proofs.Common.{◌≡◌, ◌≢◌, ℕ, List, [], ◌∷◌, ◌++◌, zero, suc, refl}
-use Rattle.dyn_states.specs.declared.facts.Facts.{Facts}
+use Rattle.state_asks.specs.declared.facts.Facts.{Facts}
 use Rattle.state_journal.specs.declared.entry.Entry.{Entry}
 use Rattle.state_journal.specs.declared.entry.Entry.TheVariants.{Publish, Ask}
 use Rattle.state_journal.specs.Items.{asks_of, items_of, last_facts}

@@ -4,16 +4,16 @@ use Rattle.std.specs.Prelude.{◌==◌, ◌&&◌, ◌||◌}
 use Rattle.std.specs.List.{AllByRecursion, filter, find}
 use Rattle.fw_rule.specs.declared.state_opt.LimitMask.{LimitMask}
 use Rattle.packet_headers.specs.declared.flows.Flow.{Flow}
-use Rattle.dyn_states.specs.declared.op.Op.{Op}
-use Rattle.dyn_states.specs.declared.op.Op.TheVariants.{Lookup, Install}
-use Rattle.dyn_states.specs.declared.reply.Reply.{Reply}
-use Rattle.dyn_states.specs.declared.reply.Reply.TheVariants.{Created, Exists, LimitReached, TableFull}
-use Rattle.dyn_states.specs.declared.reply.Way.{Way}
-use Rattle.dyn_states.specs.declared.reply.Way.TheVariants.{Forward, Reverse}
+use Rattle.state_asks.specs.declared.op.Op.{Op}
+use Rattle.state_asks.specs.declared.op.Op.TheVariants.{Lookup, Install}
+use Rattle.state_asks.specs.declared.reply.Reply.{Reply}
+use Rattle.state_asks.specs.declared.reply.Reply.TheVariants.{Created, Exists, LimitReached, TableFull}
+use Rattle.state_asks.specs.declared.reply.Way.{Way}
+use Rattle.state_asks.specs.declared.reply.Way.TheVariants.{Forward, Reverse}
 use Rattle.dyn_states.specs.Flows.{way_of}
-use Rattle.dyn_states.specs.Facts.{is_rule_list}
-use Rattle.dyn_states.specs.RuleLists.{has_id}
-use Rattle.dyn_states.specs.declared.state.RuleRef.{RuleRef}
+use Rattle.state_asks.specs.Facts.{is_rule_list}
+use Rattle.state_asks.specs.RuleLists.{has_id}
+use Rattle.state_asks.specs.declared.rule_ref.RuleRef.{RuleRef}
 use Rattle.dyn_states.specs.declared.state.State.{State}
 use Rattle.dyn_states.specs.StateObject.{StateObject, object_at_second, with_first, found_reply, or_full, limit_reply, install_reply, after_lookup, after_install, lookup_reply, new_state, reply_of, after_ask, state_after_lookup, considers, has_rule_among, is_live, renewed_state, with_flags, handed_over, states_after, last_rule_ref}
 use Rattle.state_journal.specs.Journal.{IsFoundOf, NamesRuleOf}

@@ -3,13 +3,14 @@ ghost use Rattle.state_journal.specs.Items.{items_of, last_facts};
 ghost use Rattle.state_journal.specs.declared.entry.Item.TheVariants.{Published};
 ghost use Rattle.state_journal.specs.Journal as journal;
 ghost use Rattle.state_journal.specs.Journal.{IsJournal, first_journal, with_ask, with_publication, NamesRuleOf, IsFoundOf, last_rules};
-ghost use Rattle.dyn_states.specs.RuleLists.{has_id};
+ghost use Rattle.state_asks.specs.RuleLists.{has_id};
 ghost use Rattle.dyn_states.specs.StateObject.{reply_of};
 
 use crate::{Entry, Item};
-use dyn_states::{Facts, Op, Reply, States};
+use dyn_states::States;
 use fw_base::{Kept, OutOfMemory};
 use fw_rule::MOST_STATES;
+use state_asks::{Facts, Op, Reply};
 use std::alloc::Global;
 use std::marker::Model;
 

@@ -1,4 +1,4 @@
-use dyn_states::{Facts, Op, Reply};
+use state_asks::{Facts, Op, Reply};
 
 /// What the state object met.
 #[derive(Clone, Copy, Debug, PartialEq, Eq, Hash)]

@@ -2,10 +2,10 @@ ghost use Rattle.std.specs.Prelude.{ℕ, List};
 ghost use Rattle.fw_rule.specs.Settings.{IsLifetime};
 ghost use Rattle.state_journal.specs.Journal.{NamesRuleOf};
 
-use dyn_states::{FlowName, Op, RuleRef};
 use fw_base::Addr;
 use fw_rule::{LimitMask, MOST_STATES, Settings};
 use packet_headers::Flow;
+use state_asks::{FlowName, Op, RuleRef};
 
 const RULE: RuleRef = RuleRef { id: 1, number: 100 };
 

@@ -1,8 +1,8 @@
 use crate::flows::{lookup, settings};
 use crate::timing::{nanoseconds, print_mean};
 use anyhow::{Result, bail};
-use dyn_states::{Facts, Identities, is_ordered};
 use fw_base::OutOfMemory;
+use state_asks::{Facts, Identities, is_ordered};
 use state_journal::{Book, Entry};
 use std::alloc::Global;
 use std::io::Print;

@@ -1,11 +1,11 @@
 ghost use Rattle.std.specs.Prelude.{◌≡◌, ℕ, List, IsTrue};
-ghost use Rattle.dyn_states.specs.RuleLists.{has_id};
+ghost use Rattle.state_asks.specs.RuleLists.{has_id};
 ghost use Rattle.state_journal.specs.Journal.{NamesRuleOf};
 
-use dyn_states::{Facts, FlowName, Identities, Op, Reply, RuleRef, Way, is_ordered};
 use fw_base::{Addr, Kept};
 use fw_rule::{Settings, USUAL_MOST_STATES};
 use packet_headers::Flow;
+use state_asks::{Facts, FlowName, Identities, Op, Reply, RuleRef, Way, is_ordered};
 use state_journal::{Book, Entry};
 use std::mem::size_of;
 use std::process::Abort;

@@ -1,12 +1,11 @@
 ghost use Rattle.std.specs.Prelude.{◌≡◌, ◌+◌, ◌<◌, ◌≤◌, ◌^◌};
 ghost use Rattle.fw_rule.specs.Settings.{IsLifetime, IsMostStates};
 
-use dyn_states::{
-    Facts, FlowName, Identities, Op, Reply, RuleRef, ScannedStates, States, Way, is_ordered,
-};
+use dyn_states::{ScannedStates, States};
 use fw_base::{Addr, MemorySink, Name};
 use fw_rule::{LimitMask, Settings, USUAL_MOST_STATES};
 use packet_headers::Flow;
+use state_asks::{Facts, FlowName, Identities, Op, Reply, RuleRef, Way, is_ordered};
 use state_texts::write_states;
 use std::alloc::Global;
 use std::process::Abort;

@@ -7,11 +7,12 @@ use crate::frames::{
     packet_of,
 };
 use counter_book::Tally;
-use dyn_states::{RuleRef, States};
+use dyn_states::States;
 use eval_engine::{Cause, Judgement, Stage, Verdict, begin, is_reply_to, resume};
 use fw_base::Port;
 use generation_store::Edition;
 use ip6_headers::AnyIp;
+use state_asks::RuleRef;
 use std::alloc::Global;
 use std::process::Abort;
 use std::test::Fail;

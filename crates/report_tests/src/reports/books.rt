@@ -1,11 +1,11 @@
 ghost use Rattle.std.specs.Prelude.{ℕ, List, IsTrue};
-ghost use Rattle.dyn_states.specs.RuleLists.{has_id};
+ghost use Rattle.state_asks.specs.RuleLists.{has_id};
 ghost use Rattle.state_journal.specs.Journal.{NamesRuleOf};
 
-use dyn_states::{FlowName, Op, RuleRef};
 use fw_base::Addr;
 use generation_store::Edition;
 use packet_headers::Flow;
+use state_asks::{FlowName, Op, RuleRef};
 use state_journal::Book;
 use std::alloc::Global;
 use std::process::Abort;

@@ -1,7 +1,7 @@
 use super::Captured;
 use counter_book::Tally;
-use dyn_states::RuleRef;
 use eval_engine::{Cause, Docket, DocketEntry, Judgement, Verdict};
+use state_asks::RuleRef;
 use std::alloc::Global;
 use std::process::Abort;
 use std::test::Fail;

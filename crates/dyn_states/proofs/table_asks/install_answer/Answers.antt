@@ -1,6 +1,6 @@
 use Rattle.std.proofs.Common.{◌≡◌, ap, ◌∙◌, Some, None, false, true, refl}
 use Rattle.std.specs.List.{list_any}
-use Rattle.dyn_states.specs.declared.op.FlowName.TheVariants.{Named}
+use Rattle.state_asks.specs.declared.op.FlowName.TheVariants.{Named}
 use Rattle.dyn_states.specs.Slots.{IsFirstPlace, slot}
 use Rattle.dyn_states.specs.StateObject as object
 use Rattle.dyn_states.specs.StateObject.{install_reply, limit_count, or_full}

@@ -1,7 +1,7 @@
 use Rattle.std.proofs.Common.{◌≡◌, ℕ, suc, ◌+◌, ◌-◌, ◌<◌, ◌≤◌, false, List, ◌∷◌, drop, refl, ap, sym, ◌∙◌, subst, inl, inr, ◌⊎◌, arith, Bor}
-use Rattle.dyn_states.specs.declared.op.Op.{Op}
-use Rattle.dyn_states.specs.declared.reply.Reply.{Reply}
-use Rattle.dyn_states.specs.declared.reply.Reply.TheVariants.{Found}
+use Rattle.state_asks.specs.declared.op.Op.{Op}
+use Rattle.state_asks.specs.declared.reply.Reply.{Reply}
+use Rattle.state_asks.specs.declared.reply.Reply.TheVariants.{Found}
 use Rattle.eval_engine.specs.Encounter.{rule_ref, lookup_by, install_by}
 use Rattle.eval_engine.specs.Evaluation.{is_reply_to}
 use Rattle.eval_engine.specs.Laws.{verdict_of}

@@ -1,7 +1,7 @@
 use Rattle.std.proofs.Common.{◌≡◌, ℕ, Some, None, List, ◌++◌, append_assoc}
-use Rattle.dyn_states.specs.declared.op.Op.{Op}
-use Rattle.dyn_states.specs.declared.op.Op.TheVariants.{Lookup, Install}
-use Rattle.dyn_states.specs.declared.reply.Reply.{Reply}
+use Rattle.state_asks.specs.declared.op.Op.{Op}
+use Rattle.state_asks.specs.declared.op.Op.TheVariants.{Lookup, Install}
+use Rattle.state_asks.specs.declared.reply.Reply.{Reply}
 use Rattle.fw_report.specs.AskText.{asked_name, install_start, ask_front, ask_rest}
 use Rattle.fw_report.specs.JournalText.{ask_line, lookup_text, install_text}
 use Rattle.fw_report.proofs.journal_lines.write_ask.Goals as goal

@@ -1,5 +1,5 @@
 use Rattle.std.proofs.Common.{◌≡◌, ◌<◌, ℕ, length, refl, [], arith, subst, sym, ◌∙◌, ap}
-use Rattle.dyn_states.specs.RuleLists.{has_id}
+use Rattle.state_asks.specs.RuleLists.{has_id}
 use Rattle.eval_engine.proofs.Progressing.{stands-length}
 use Rattle.fw_world.proofs.Running.{IsReached-ended, IsReached-answered, AsksSome-reached}
 use Rattle.fw_world.proofs.evaluating.evaluate_packet.Goals as goal

@@ -1,5 +1,5 @@
 use Rattle.std.proofs.Common.{◌≡◌, ◌<◌, ℕ, length, ◌-◌, ◌^◌}
-use Rattle.dyn_states.specs.RuleLists.{has_id}
+use Rattle.state_asks.specs.RuleLists.{has_id}
 use Rattle.generation_store.specs.Published.{has_identity}
 use Rattle.fw_world.proofs.Running.{IsReached}
 use Rattle.fw_world.proofs.evaluating.evaluate_packet.Given as goal

@@ -1,6 +1,6 @@
 use Rattle.std.proofs.Common.{◌≡◌, ◌<◌, length, take, ap, ◌∙◌, arith}
 use Rattle.std.proofs.lemmas.List.Elements.{filter_passes}
-use Rattle.dyn_states.specs.declared.op.FlowName.TheVariants.{Named}
+use Rattle.state_asks.specs.declared.op.FlowName.TheVariants.{Named}
 use Rattle.dyn_states.specs.declared.state.State.{State}
 use Rattle.dyn_states.specs.Slots.{is_held, slot, no_state}
 use Rattle.dyn_states.specs.StateObject as object

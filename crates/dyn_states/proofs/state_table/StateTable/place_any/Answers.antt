@@ -1,6 +1,6 @@
 use Rattle.std.proofs.Common.{◌+◌}
 use Rattle.dyn_states.specs.StateObject as object
-use Rattle.dyn_states.specs.declared.op.FlowName.TheVariants.{Named}
+use Rattle.state_asks.specs.declared.op.FlowName.TheVariants.{Named}
 use Rattle.dyn_states.specs.StateTable.{slots_of}
 use Rattle.dyn_states.proofs.PlaceLaws.{IsFirstPlace-either, below_name, below_more}
 use Rattle.dyn_states.proofs.state_table.StateTable.place_any.Goals as goal

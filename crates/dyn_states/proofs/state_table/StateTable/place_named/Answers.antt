@@ -1,5 +1,5 @@
 use Rattle.std.proofs.Common.{◌≡◌, ◌<◌, Some, None, ap, sym, ◌∙◌, arith, length, true, false}
-use Rattle.dyn_states.specs.declared.op.FlowName.TheVariants.{Named}
+use Rattle.state_asks.specs.declared.op.FlowName.TheVariants.{Named}
 use Rattle.dyn_states.specs.StateObject as object
 use Rattle.dyn_states.specs.Lines.{place_of, line_of}
 use Rattle.dyn_states.specs.Slots.{holds_one, slot}

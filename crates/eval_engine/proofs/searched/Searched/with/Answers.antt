@@ -1,5 +1,5 @@
 use Rattle.std.proofs.Common.{subst}
-use Rattle.dyn_states.specs.declared.op.FlowName.{FlowName}
+use Rattle.state_asks.specs.declared.op.FlowName.{FlowName}
 use Rattle.eval_engine.specs.Place.{IsNumbered}
 use Rattle.eval_engine.proofs.Names.{with_name}
 use Rattle.eval_engine.proofs.searched.Searched.with.Goals as goal

@@ -1,8 +1,8 @@
 use Rattle.std.proofs.Common.{◌≡◌, ℕ, ◌≤◌, Bool, true, false, nat_lt, get_or, ap, arith, replicate, refl}
 use Rattle.std.proofs.lemmas.List.{get_or-replicate, length-replicate, get_or_past}
 use Rattle.std.proofs.Math.Path.{fun_ext}
-use Rattle.dyn_states.specs.declared.op.FlowName.{FlowName}
-use Rattle.dyn_states.specs.declared.op.FlowName.TheVariants.{Any, Named}
+use Rattle.state_asks.specs.declared.op.FlowName.{FlowName}
+use Rattle.state_asks.specs.declared.op.FlowName.TheVariants.{Any, Named}
 use Rattle.eval_engine.specs.Trace.{Names}
 use Rattle.evaluation_laws.specs.Views.{is_looked}
 use Rattle.evaluation_laws.proofs.looked.Looked.none.Goals as goal

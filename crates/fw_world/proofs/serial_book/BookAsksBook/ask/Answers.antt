@@ -1,8 +1,8 @@
 use Rattle.std.proofs.Common.{◌≡◌, Result, Ok, Err, IfOk, subst, sym}
 use Rattle.fw_base.specs.declared.failure.OutOfMemory.{OutOfMemory}
 use Rattle.dyn_states.specs.StateObject.{StateObject, reply_of}
-use Rattle.dyn_states.specs.declared.op.Op.{Op}
-use Rattle.dyn_states.specs.declared.reply.Reply.{Reply}
+use Rattle.state_asks.specs.declared.op.Op.{Op}
+use Rattle.state_asks.specs.declared.reply.Reply.{Reply}
 use Rattle.fw_world.specs.AskRuns.{Answers}
 use Rattle.fw_world.proofs.Replies.{reply_answers}
 use Rattle.fw_world.proofs.serial_book.BookAsksBook.ask.Goals as goal

@@ -1,6 +1,6 @@
 use Rattle.std.proofs.Common.{◌≡◌, ℕ, ◌+◌, ◌≤◌, List, length, ◌∙◌, sym, ap, subst}
-use Rattle.dyn_states.specs.RuleLists.{has_id}
-use Rattle.dyn_states.specs.declared.facts.Facts.{Facts}
+use Rattle.state_asks.specs.RuleLists.{has_id}
+use Rattle.state_asks.specs.declared.facts.Facts.{Facts}
 use Rattle.eval_engine.specs.Dockets.{judged_entry}
 use Rattle.generation_store.specs.Published.{Published}
 use Rattle.state_journal.specs.Journal.{last_rules}

@@ -1,6 +1,6 @@
 use Rattle.std.proofs.Common.{◌≡◌, List, [], ◌∷◌, ◌++◌, ◌∙◌, sym, ap, subst}
 use Rattle.std.specs.Arc.{arc_value}
-use Rattle.dyn_states.specs.declared.facts.Facts.{Facts}
+use Rattle.state_asks.specs.declared.facts.Facts.{Facts}
 use Rattle.generation_store.specs.Published.{Published}
 use Rattle.generation_store.specs.Held.{Held}
 use Rattle.state_journal.specs.Journal.{Journal, with_publication}

@@ -1,8 +1,8 @@
 use Rattle.std.proofs.Common.{◌≡◌, true, false, sym, ◌∙◌}
 use Rattle.std.proofs.lemmas.List.Sorted.{searched}
 use Rattle.std.specs.Arc.{arc_value}
-use Rattle.dyn_states.specs.Facts.{is_rule_list}
-use Rattle.dyn_states.specs.RuleLists.{has_id}
+use Rattle.state_asks.specs.Facts.{is_rule_list}
+use Rattle.state_asks.specs.RuleLists.{has_id}
 use Rattle.generation_store.proofs.Ordered.{not_falling, not_among}
 use Rattle.generation_store.proofs.Places.{place_at, no_place_of}
 use Rattle.generation_store.proofs.edition.Edition.place_of.Goals as goal

@@ -1,5 +1,5 @@
 use Rattle.std.proofs.Common.{◌≡◌, List, ap, sym, subst, arith}
-use Rattle.dyn_states.specs.declared.facts.Facts.{Facts}
+use Rattle.state_asks.specs.declared.facts.Facts.{Facts}
 use Rattle.dyn_states.specs.StateObject.{reply_of}
 use Rattle.state_journal.specs.Journal.{Journal, NamesRuleOf, IsFoundOf, last_rules}
 use Rattle.state_journal.proofs.Growing.{IsJournal-ask, IsFoundOf-ask}

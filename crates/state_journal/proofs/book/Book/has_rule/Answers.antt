@@ -1,5 +1,5 @@
 use Rattle.std.proofs.Common.{◌≡◌, List, ℕ, ap, sym, ◌∙◌}
-use Rattle.dyn_states.specs.RuleLists.{has_id}
+use Rattle.state_asks.specs.RuleLists.{has_id}
 use Rattle.state_journal.specs.Journal.{Journal, last_rules}
 use Rattle.state_journal.proofs.Growing.{last_rules-append}
 use Rattle.state_journal.proofs.book.Book.has_rule.Goals as goal

@@ -1,5 +1,5 @@
 use Rattle.std.proofs.Common.{◌≡◌, ◌+◌, List, length, ap, sym, subst, arith}
-use Rattle.dyn_states.specs.declared.facts.Facts.{Facts}
+use Rattle.state_asks.specs.declared.facts.Facts.{Facts}
 use Rattle.state_journal.specs.Journal.{Journal}
 use Rattle.state_journal.proofs.Growing.{IsJournal-publication}
 use Rattle.state_journal.proofs.ItemLists.{items_of-publication, last_facts-append}

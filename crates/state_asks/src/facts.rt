@@ -1,6 +1,6 @@
 ghost use Rattle.std.specs.Prelude.{◌≡◌, IsTrue, IfOk};
-ghost use Rattle.dyn_states.specs.Facts as facts;
-ghost use Rattle.dyn_states.specs.Facts.{is_rule_list};
+ghost use Rattle.state_asks.specs.Facts as facts;
+ghost use Rattle.state_asks.specs.Facts.{is_rule_list};
 
 use crate::Identities;
 use fw_base::OutOfMemory;

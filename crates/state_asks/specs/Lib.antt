@@ -1,0 +1,3 @@
+-- what a publication tells the states
+pub mod Facts
+pub mod RuleLists

@@ -1,0 +1,14 @@
+//! What the dynamic states are asked and told, and what they answer (ipfw(8), "STATEFUL FIREWALL").
+#![tactic(auto)]
+
+pub use facts::{Facts, is_ordered};
+pub use identities::Identities;
+pub use op::{FlowName, Op};
+pub use reply::{Reply, Way};
+pub use rule_ref::RuleRef;
+
+mod facts;
+mod identities;
+mod op;
+mod reply;
+mod rule_ref;

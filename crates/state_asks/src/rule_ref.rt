@@ -1,0 +1,8 @@
+/// A rule, as a state and a verdict name it.
+#[derive(Clone, Copy, Debug, PartialEq, Eq, PartialOrd, Ord, Hash)]
+pub struct RuleRef {
+    /// Its identity: the place of its `add` among all, from 1; 0 for rule 65535.
+    pub id: u32,
+    /// Its number, 1 to 65535.
+    pub number: u16,
+}
