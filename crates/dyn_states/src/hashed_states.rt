@@ -4,9 +4,9 @@ ghost use Rattle.dyn_states.specs.StateObject as object;
 ghost use Rattle.dyn_states.specs.StateObject.{StateObject, object_at_second, reply_of, after_ask, after_publication, first_object};
 ghost use Rattle.dyn_states.specs.Slots.{held_states};
 
+use crate::State;
 use crate::state_table::StateTable;
 use crate::table_asks::{install, look_up};
-use crate::State;
 use fw_base::OutOfMemory;
 use fw_rule::{MOST_STATES, Settings};
 use state_asks::{Facts, Op, Reply};

@@ -7,10 +7,10 @@ ghost use Rattle.state_asks.specs.declared.op.FlowName.TheVariants.{Named};
 ghost use Rattle.dyn_states.specs.declared.state.State.{State};
 ghost use Rattle.dyn_states.specs.StateObject.{StateObject, after_lookup, lookup_reply, object_at_second, install_reply, after_install, reply_of, after_ask, after_publication, first_object};
 
+use crate::State;
 use crate::flows::way_of;
 use crate::lifetimes::kept_flags;
 use crate::state_rules::{is_considered, parameter, renewed, take_over, with_flags};
-use crate::State;
 use fw_base::OutOfMemory;
 use fw_rule::{LimitMask, Settings};
 use packet_headers::Flow;

@@ -4,9 +4,9 @@ ghost use Rattle.std.specs.Prelude.{◌≡◌, ◌≤◌, vec_len, vec_capacity,
 ghost use Rattle.fw_rule.specs.Values.{values_of};
 ghost use Rattle.dyn_states.specs.StateObject as object;
 
+use crate::State;
 use crate::flows::is_matching;
 use crate::lifetimes::{kept_flags, lifetime};
-use crate::State;
 use fw_rule::{LimitMask, Settings};
 use packet_headers::Flow;
 use state_asks::{Facts, FlowName, RuleRef, Way};

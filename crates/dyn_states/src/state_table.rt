@@ -8,11 +8,11 @@ ghost use Rattle.dyn_states.specs.Slots.{is_held, given_up, held_states, slot, n
 ghost use Rattle.dyn_states.specs.Tallies.{IsTallied};
 ghost use Rattle.dyn_states.specs.StateTable.{slots_of, states_of, HasRoom, HasRoomForOne, HasParts, IsStateTable, IsTableBut, IsTouched, AreApart};
 
+use crate::State;
 use crate::expiry_queue::ExpiryQueue;
 use crate::lines::{Lines, line_of};
 use crate::state_rules::{is_considered, take_over};
 use crate::tallies::Tallies;
-use crate::State;
 use fw_base::OutOfMemory;
 use fw_rule::LimitMask;
 use packet_headers::Flow;

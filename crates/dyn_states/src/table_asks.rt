@@ -11,11 +11,11 @@ ghost use Rattle.dyn_states.specs.StateObject.{lookup_reply, after_lookup, insta
 ghost use Rattle.dyn_states.specs.Slots.{is_held, slot, holds_one, no_state};
 ghost use Rattle.dyn_states.specs.StateTable.{slots_of, states_of, object_of, HasRoomForOne, IsStateTable, IsRoomy};
 
+use crate::State;
 use crate::flows::way_of;
 use crate::lifetimes::kept_flags;
 use crate::state_rules::{renewed, with_flags};
 use crate::state_table::StateTable;
-use crate::State;
 use fw_rule::{LimitMask, Settings};
 use packet_headers::Flow;
 use state_asks::{FlowName, Reply, RuleRef};

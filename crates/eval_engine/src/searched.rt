@@ -2,8 +2,8 @@ ghost use Rattle.std.specs.Prelude.{◌≡◌, ◌<◌, false};
 ghost use Rattle.eval_engine.specs.Place.{IsNumbered};
 ghost use Rattle.eval_engine.specs.Standing.{is_searched, seen_by};
 ghost use Rattle.eval_engine.specs.Trace as trace;
-use state_asks::FlowName;
 
+use state_asks::FlowName;
 
 /// The flow names that were looked up.
 #[derive(Clone, Copy, Debug)]

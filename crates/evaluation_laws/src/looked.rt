@@ -1,8 +1,8 @@
 ghost use Rattle.std.specs.Prelude.{◌≡◌};
 ghost use Rattle.evaluation_laws.specs.Views.{is_looked, viewed_names};
 ghost use Rattle.eval_engine.specs.Trace as trace;
-use state_asks::FlowName;
 
+use state_asks::FlowName;
 
 /// The flow names that were looked up.
 #[derive(Clone, Copy, Debug)]

@@ -40,7 +40,7 @@ use Rattle.replay_driver.specs.Promises.{AllWhole, IsAccepted, IsComplete, IsCom
 use Rattle.replay_driver.specs.Run.{IsRunOf}
 use Rattle.replay_driver.specs.RunResult.{result_status, report_status, is_stopped, is_refused}
 use Rattle.replay_driver.specs.Served.{ReplayNames, Job, Replays, Loads}
-use Rattle.replay_driver.specs.WholeSource.{ReadsAll}
+use Rattle.buffered_io.specs.WholeSource.{ReadsAll}
 use Rattle.replay_driver.specs.declared.first_edition.FirstEdition.{FirstEdition}
 use Rattle.replay_driver.specs.declared.outcome.Outcome.{Outcome}
 use Rattle.replay_driver.specs.declared.run_result.RunResult.{RunResult}

@@ -1,5 +1,3 @@
--- text in pieces before a sink
-pub mod Pieces
 -- openings, and what they leave of the told list
 pub mod Openings
 pub mod Told

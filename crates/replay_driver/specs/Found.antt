@@ -14,7 +14,7 @@ use Rattle.serial_replay.specs.declared.replay.Replayed.{Replayed}
 use Rattle.replay_driver.specs.FirstEdition.{first_edition}
 use Rattle.replay_driver.specs.Openings.{Opens, RefusesToOpen, OpensAll, sources_of}
 use Rattle.replay_driver.specs.Served.{ReplayNames, Job, Replays, Loads}
-use Rattle.replay_driver.specs.WholeSource.{ReadsAll}
+use Rattle.buffered_io.specs.WholeSource.{ReadsAll}
 use Rattle.replay_driver.specs.declared.first_edition.FirstEdition.{FirstEdition}
 use Rattle.replay_driver.specs.declared.run_result.RunResult.{RunResult}
 use Rattle.replay_driver.specs.declared.run_result.RunResult.TheVariants.{Usage, Unread, Unready, Reported, Summed}

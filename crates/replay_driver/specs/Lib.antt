@@ -3,7 +3,6 @@ pub mod Served
 -- what is opened and read
 pub mod Openings
 pub mod CaptureOpenings
-pub mod WholeSource
 pub mod ScriptSource
 -- what a script gives
 pub mod FirstEdition
@@ -13,8 +12,6 @@ pub mod Found
 pub mod ReplayFiles
 pub mod ScriptReplay
 pub mod RunResult
--- how it is written
-pub mod PieceSink
 -- what a run leaves, and what it promises
 pub mod Run
 pub mod Promises

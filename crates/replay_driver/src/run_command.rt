@@ -10,10 +10,11 @@ ghost use Rattle.replay_driver.specs.RunResult as results;
 ghost use Rattle.replay_driver.specs.Served.{job_of};
 
 use crate::Outcome;
-use crate::piece_sink::{PIECE_BYTES, write_pieced};
+use crate::pieced_text::write_pieced;
 use crate::replay_files::replay_files;
 use crate::replay_load::replay_load;
 use crate::run_result::{Found, RunResult, no_ends, without_sources};
+use buffered_io::PIECE_BYTES;
 use command_words::{Invocation, Mode, read_words};
 use core::mem::replace_with;
 use fw_base::{Failed, Gate, Library, OutOfMemory, Sink};

@@ -1,7 +1,7 @@
 ghost use Rattle.std.specs.Prelude.{IfOk};
 ghost use Rattle.replay_driver.specs.ScriptSource.{FindsScript};
 
-use crate::whole_source::{ReadError, read_up_to};
+use buffered_io::{ReadError, read_up_to};
 use fw_base::{Library, Name, OutOfMemory};
 use fw_command::SCRIPT_BYTES;
 use std::alloc::Global;

@@ -8,7 +8,7 @@ use Rattle.replay_driver.specs.Found.{ReadsNames}
 use Rattle.replay_driver.specs.Openings.{OpensAll, file_names, port_of}
 use Rattle.replay_driver.specs.Promises.{opening_order}
 use Rattle.replay_driver.specs.Served.{ReplayNames, Replays}
-use Rattle.replay_driver.specs.WholeSource.{ReadsAll}
+use Rattle.buffered_io.specs.WholeSource.{ReadsAll}
 use Rattle.run_laws.specs.TwoRuns.{Outside, TellSameContents, contents_of}
 use Rattle.serial_replay.specs.declared.replay.OpenedCapture.{OpenedCapture}
 

@@ -3,11 +3,11 @@ use Rattle.std.specs.Io.KnownBytes.{Appends}
 use Rattle.fw_base.specs.Faults.{HasCause}
 use Rattle.fw_base.specs.Texts.{AppendsPart}
 use Rattle.fw_base.specs.declared.failure.Failed.{Failed}
-use Rattle.replay_driver.specs.PieceSink.{PieceText, written_of}
+use Rattle.buffered_io.specs.PieceSink.{PieceText, written_of}
 use Rattle.replay_driver.specs.RunResult.{result_text}
-use Rattle.replay_driver.proofs.Pieces.{flushed, broken}
-use Rattle.replay_driver.proofs.piece_sink.write_pieced.Goals.{in-Ok, in-Err}
-use Rattle.replay_driver.proofs.piece_sink.write_pieced.Goals as goal
+use Rattle.buffered_io.proofs.Pieces.{flushed, broken}
+use Rattle.replay_driver.proofs.pieced_text.write_pieced.Goals.{in-Ok, in-Err}
+use Rattle.replay_driver.proofs.pieced_text.write_pieced.Goals as goal
 
 pub returns : goal.returns
 returns g c = elim c.match-write.branch [

@@ -1,6 +1,6 @@
 ghost use Rattle.std.specs.Prelude.{◌≡◌, ◌≤◌, ◌<◌, IfOk, IfErr, length, vec_len};
-ghost use Rattle.replay_driver.specs.declared.whole_source.ReadError.TheVariants as errors;
-ghost use Rattle.replay_driver.specs.WholeSource.{ReadsAll, ReadsPart, TakesPiece, TakesNone};
+ghost use Rattle.buffered_io.specs.declared.whole_source.ReadError.TheVariants as errors;
+ghost use Rattle.buffered_io.specs.WholeSource.{ReadsAll, ReadsPart, TakesPiece, TakesNone};
 
 use fw_base::{Failed, OutOfMemory, Source};
 use std::alloc::{AllocError, Global};
@@ -10,8 +10,10 @@ const PIECE_BYTES: usize = 65_536;
 
 /// Why a source was not read to its end.
 #[derive(Clone, Copy, Debug, PartialEq, Eq)]
-pub(crate) enum ReadError {
+pub enum ReadError {
+    /// The source failed.
     Failed,
+    /// Memory ran out.
     OutOfMemory,
 }
 
@@ -59,8 +61,8 @@ fn read_piece<S: Source>(
     Ok(count)
 }
 
-/// Reads a source to its end, or to so many bytes.
-pub(crate) fn read_up_to<S: Source>(
+/// Reads a source to its end, or to so many bytes. Where it fails, those that were read before are lost.
+pub fn read_up_to<S: Source>(
     alloc: Global,
     source: &mut S,
     most: usize,

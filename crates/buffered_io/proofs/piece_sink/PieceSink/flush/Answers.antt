@@ -1,7 +1,7 @@
 use Rattle.std.proofs.Common.{arith}
 use Rattle.fw_base.proofs.Parts.{rest-cut, cut-within}
-use Rattle.replay_driver.proofs.Pieces.{hands_on_more}
-use Rattle.replay_driver.proofs.piece_sink.PieceSink.flush.Goals as goal
+use Rattle.buffered_io.proofs.Pieces.{hands_on_more}
+use Rattle.buffered_io.proofs.piece_sink.PieceSink.flush.Goals as goal
 
 pub loop-self-preserved : goal.loop-self-preserved
 loop-self-preserved g c = record {

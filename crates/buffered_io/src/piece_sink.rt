@@ -2,22 +2,20 @@ ghost use Rattle.std.specs.Prelude.{◌≡◌, ◌≤◌, ◌<◌, [], ◌++◌,
 ghost use Rattle.std.specs.Io.{WritesAtMost};
 ghost use Rattle.std.specs.Io.KnownBytes.{WriteAppends};
 ghost use Rattle.fw_base.specs.Faults.{HasCause};
-ghost use Rattle.fw_base.specs.Texts.{WritesText};
-ghost use Rattle.replay_driver.specs.PieceSink as spec;
-ghost use Rattle.replay_driver.specs.PieceSink.{HandsOn};
-ghost use Rattle.replay_driver.specs.RunResult.{IsWritable, result_text};
+ghost use Rattle.buffered_io.specs.PieceSink as spec;
+ghost use Rattle.buffered_io.specs.PieceSink.{HandsOn};
 
-use crate::run_result::RunResult;
 use fw_base::{Failed, Sink};
 use std::marker::Model;
 use std::snapshot::Snapshot;
 
 /// How much text the sink is handed at a time: 64 KiB.
-pub(crate) const PIECE_BYTES: usize = 65_536;
+pub const PIECE_BYTES: usize = 65_536;
 
-/// A sink before another one, which is given text in pieces as large as the buffer.
+/// A sink before another one, which is given text in pieces as large as the buffer. Contracts see the other one, what
+/// it was not given yet, and the other one as it was at first.
 #[derive(Drop)]
-pub(crate) struct PieceSink<K> {
+pub struct PieceSink<K> {
     sink: K,
     buffer: Vec<u8>,
     /// What stands before this place in the buffer was handed on.
@@ -28,7 +26,7 @@ pub(crate) struct PieceSink<K> {
 
 impl<K> Model for PieceSink<K> {
     ghost use Rattle.std.specs.Prelude.{◌≤◌, drop, vec_len};
-    ghost use Rattle.replay_driver.specs.PieceSink.{PieceText};
+    ghost use Rattle.buffered_io.specs.PieceSink.{PieceText};
 
     ghost Value = { PieceText K };
 
@@ -43,7 +41,7 @@ impl<K> Model for PieceSink<K> {
 
 impl<K: Sink> PieceSink<K> {
     /// A sink before this one, with this buffer, which is empty.
-    fn new(sink: K, buffer: Vec<u8>) -> PieceSink<K>
+    pub fn new(sink: K, buffer: Vec<u8>) -> PieceSink<K>
         requires { buffer.items ≡ [] }
         ensures { result ≡ record { sink = sink; pending = []; begun = sink } }
     {
@@ -57,7 +55,7 @@ impl<K: Sink> PieceSink<K> {
     }
 
     /// Hands the sink all that is buffered. Where the sink fails, what it didn't take stays buffered.
-    fn flush(&mut self) -> Result<(), Failed>
+    pub fn flush(&mut self) -> Result<(), Failed>
         ensures all { OnOk result (self.new.pending ≡ []) }
         ensures handed_on { HandsOn K.written self.old self.new }
         ensures cause { HasCause (K.faults self.old.sink) (K.faults self.new.sink) result }
@@ -92,7 +90,7 @@ impl<K: Sink> PieceSink<K> {
     }
 
     /// The sink, with what it was given.
-    fn into_inner(self) -> K
+    pub fn into_inner(self) -> K
         ensures { result ≡ self.sink }
     {
         self.sink
@@ -125,20 +123,4 @@ impl<K: Sink> Sink for PieceSink<K> {
         }
         self.pass(bytes)
     }
-}
-
-/// Writes what was found in pieces as large as the buffer, which is empty, and gives the sink back.
-pub(crate) fn write_pieced<K: Sink>(sink: K, text: (Vec<u8>, &RunResult)) -> (K, Result<(), Failed>)
-    requires empty { text.0.items ≡ [] }
-    requires writable { IsWritable text.1.now }
-    ensures { WritesText (K.written sink) (K.written result.0) (K.faults sink) (K.faults result.0)
-        (result_text text.entry.1.now) result.1 }
-{
-    let (buffer, found) = text;
-    let mut pieces = PieceSink::new(sink, buffer);
-    let written = match found.write(&mut pieces) {
-        Ok(()) => pieces.flush(),
-        Err(Failed) => Err(Failed),
-    };
-    (pieces.into_inner(), written)
 }

@@ -8,7 +8,7 @@ use Rattle.std.specs.Io.KnownBytes.{Appends, Keeps, WriteAppends}
 use Rattle.std.proofs.KnownBytes.{Appends-trans, Appends-nil, Appends-kept}
 use Rattle.fw_base.specs.Faults.{Rose, HasCause}
 use Rattle.fw_base.specs.Texts.{AppendsPart, WritesText}
-use Rattle.replay_driver.specs.PieceSink.{PieceText, HandsOn, known_count, text_behind, written_of}
+use Rattle.buffered_io.specs.PieceSink.{PieceText, HandsOn, known_count, text_behind, written_of}
 
 module _ {K : Type 0} (written : K → Option (List ℕ)) where
   -- one more write took the front of what is left

@@ -2,8 +2,8 @@
 use Rattle.std.specs.Prelude.{◌≡◌, ℕ, ◌<◌, ◌≤◌, List, ◌++◌, length, Option}
 use Rattle.std.specs.Io.KnownBytes.{Consumes, IsAtEnd, Keeps}
 use Rattle.fw_base.specs.Faults.{Rose}
-use Rattle.replay_driver.specs.declared.whole_source.ReadError.{ReadError}
-use Rattle.replay_driver.specs.declared.whole_source.ReadError.TheVariants.{Failed, OutOfMemory}
+use Rattle.buffered_io.specs.declared.whole_source.ReadError.{ReadError}
+use Rattle.buffered_io.specs.declared.whole_source.ReadError.TheVariants.{Failed, OutOfMemory}
 
 -- these bytes were taken: all that were left, or as many as the limit
 pub record ReadsAll (left leftAfter : Option (List ℕ)) (most : ℕ) (bytes : List ℕ) : Type 0 where

@@ -1,7 +1,7 @@
 -- A front of what was buffered was handed on so far.
 use Rattle.std.proofs.Common.{◌-◌, ◌≤◌, drop, vec_len}
-use Rattle.replay_driver.specs.PieceSink.{HandsOn}
-use Rattle.replay_driver.proofs.piece_sink.PieceSink.flush.Given as goal
+use Rattle.buffered_io.specs.PieceSink.{HandsOn}
+use Rattle.buffered_io.proofs.piece_sink.PieceSink.flush.Given as goal
 
 abbrev pub invariant-loop-self : goal.invariant-loop-self
 invariant-loop-self g l = record {

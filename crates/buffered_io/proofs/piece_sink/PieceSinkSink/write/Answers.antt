@@ -2,9 +2,9 @@ use Rattle.std.proofs.Common.{◌≡◌, ◌∙◌, ap, subst, ◌++◌, Bool}
 use Rattle.std.specs.Prelude.{if◌then◌else◌}
 use Rattle.std.proofs.Math.Seq.{take-length}
 use Rattle.std.specs.Io.KnownBytes.{WriteAppends}
-use Rattle.replay_driver.specs.PieceSink.{PieceText, HandsOn}
-use Rattle.replay_driver.proofs.Pieces.{handed_then_buffered, handed_then_passed}
-use Rattle.replay_driver.proofs.piece_sink.PieceSinkSink.write.Goals as goal
+use Rattle.buffered_io.specs.PieceSink.{PieceText, HandsOn}
+use Rattle.buffered_io.proofs.Pieces.{handed_then_buffered, handed_then_passed}
+use Rattle.buffered_io.proofs.piece_sink.PieceSinkSink.write.Goals as goal
 
 pub returns-then-buffer-2-clause-bytes : goal.returns-then-buffer-2-clause-bytes
 returns-then-buffer-2-clause-bytes g c =

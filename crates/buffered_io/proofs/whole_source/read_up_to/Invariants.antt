@@ -1,7 +1,7 @@
 -- These bytes were taken so far.
 use Rattle.std.proofs.Common.{◌-◌, ◌<◌, ◌≤◌, vec_len}
 use Rattle.std.specs.Io.KnownBytes.{Consumes}
-use Rattle.replay_driver.proofs.whole_source.read_up_to.Given as goal
+use Rattle.buffered_io.proofs.whole_source.read_up_to.Given as goal
 
 abbrev pub invariant-loop-buffer : goal.invariant-loop-buffer
 invariant-loop-buffer g l = record {

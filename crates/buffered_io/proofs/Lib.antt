@@ -1,0 +1,2 @@
+-- text in pieces before a sink
+pub mod Pieces
