@@ -9,8 +9,8 @@ use crate::CaptureEnd;
 use crate::line::{LINE_BYTES, Line};
 use eval_engine::{Cause, Docket, DocketEntry, Judgement, Verdict};
 use fw_base::{Failed, Sink};
+use fw_rule::UNREACH_NAMES;
 use pcap_read::CaptureFault;
-use rule_text::UNREACH_NAMES;
 use state_asks::RuleRef;
 
 fn name_at<'x>(names: &'x [&'x [u8]], place: usize) -> &'x [u8]

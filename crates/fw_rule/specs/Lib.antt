@@ -1,6 +1,7 @@
 -- rules
 pub mod Bits
 pub mod FlowName
+pub mod Names
 pub mod TypeSet
 -- the ranges of numbers
 pub mod Settings

@@ -2,7 +2,7 @@
 use Rattle.std.specs.Prelude.{ℕ, ◌-◌, Bool, false, ◌&&◌, ◌==◌, nat_le, if◌then◌else◌, Option, Some, None, Result, Ok, List, [], ◌∷◌, length, position, slice_get, slice_index, take, drop, codes, option_and_then}
 use Rattle.std.specs.List.{list_all}
 use Rattle.fw_base.specs.Name.{is_name_byte}
-use Rattle.rule_text.specs.Canonical.{unreach_names}
+use Rattle.fw_rule.specs.Names.{unreach_names}
 use Rattle.fw_rule.specs.declared.iface.Iface.{Iface}
 use Rattle.fw_rule.specs.declared.iface.Iface.TheVariants.{AnyIface, Exact, Begins}
 use Rattle.ipfw_parser.specs.declared.kind.Kind.TheVariants.{BadName, UnknownWord}

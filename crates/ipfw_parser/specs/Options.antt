@@ -1,6 +1,6 @@
 -- The options of a rule's body, and how it makes states.
 use Rattle.std.specs.Prelude.{ℕ, ◌+◌, zero, suc, Bool, true, false, ◌||◌, if◌then◌else◌, Option, Some, None, Result, Ok, List, [], ◌∷◌, codes, is_some}
-use Rattle.rule_text.specs.Canonical.{flag_names, option_names}
+use Rattle.fw_rule.specs.Names.{flag_names, option_names}
 use Rattle.fw_rule.specs.FlowName.{default_flow}
 use Rattle.fw_rule.specs.declared.test.Field.{Field}
 use Rattle.fw_rule.specs.declared.test.Field.TheVariants.{SrcIp, DstIp, SrcPort as SrcPortField, DstPort as DstPortField}

@@ -2,14 +2,13 @@ ghost use Rattle.std.specs.Prelude.{◌≡◌, ◌<◌, ◌≤◌, length, drop,
 ghost use Rattle.std.specs.Bool.{OnTrue};
 ghost use Rattle.ipfw_parser.specs.Reading.{ReadsAs, same};
 ghost use Rattle.ipfw_parser.specs.Views.{view};
-ghost use Rattle.rule_text.specs.Canonical.{unreach_names};
+ghost use Rattle.fw_rule.specs.Names.{unreach_names};
 ghost use Rattle.ipfw_parser.specs.Names as spec;
 
 use crate::numbers::{number, starts_with_digit};
 use crate::{Kind, ParseFault, Word};
 use fw_base::{Name, are_name_bytes};
-use fw_rule::{ANY_FLOW, Iface};
-use rule_text::UNREACH_NAMES;
+use fw_rule::{ANY_FLOW, Iface, UNREACH_NAMES};
 use std::alloc::Global;
 
 /// The services that are known by name, and their ports (RFC 6335).
@@ -132,7 +131,7 @@ pub(crate) fn service(text: &[u8]) -> Option<u16>
     }
 }
 
-#[tactic(auto, unfolding(crate::specs::Names::place, rule_text::specs::Canonical::unreach_names))]
+#[tactic(auto, unfolding(crate::specs::Names::place, fw_rule::specs::Names::unreach_names))]
 fn unreach_place(text: &[u8]) -> Option<usize>
     ensures place { result ≡ spec.place unreach_names text.now }
     ensures within { IfSome result (λ k. k < 16) }

@@ -8,8 +8,9 @@ use crate::names::{iface, is_any_flow, named_flow, starts_with_colon};
 use crate::numbers::number;
 use crate::{Kind, ParseFault, Word, Words, table_name};
 use fw_base::Name;
-use fw_rule::{DEFAULT_FLOW, Field, Items, LimitMask, Opt, StateOpt, Test};
-use rule_text::{FLAG_NAMES, OPTION_NAMES};
+use fw_rule::{
+    DEFAULT_FLOW, FLAG_NAMES, Field, Items, LimitMask, OPTION_NAMES, Opt, StateOpt, Test,
+};
 use std::alloc::Global;
 
 #[tactic(auto, unfolding(crate::specs::Options::field))]
@@ -100,7 +101,7 @@ fn test_of<'a>(alloc: Global, name: Word<'a>, word: Word<'a>) -> Result<Test, Pa
     }
 }
 
-#[tactic(auto, unfolding(rule_text::specs::Canonical::flag_names))]
+#[tactic(auto, unfolding(fw_rule::specs::Names::flag_names))]
 fn tcp_flags(word: Word<'_>) -> Result<Test, ParseFault>
     ensures { ReadsAs (λ t. t) result (spec.tcp_flags (view word.entry)) }
 {
@@ -111,7 +112,7 @@ fn tcp_flags(word: Word<'_>) -> Result<Test, ParseFault>
     })
 }
 
-#[tactic(auto, unfolding(rule_text::specs::Canonical::option_names))]
+#[tactic(auto, unfolding(fw_rule::specs::Names::option_names))]
 fn ip_options(word: Word<'_>) -> Result<Test, ParseFault>
     ensures { ReadsAs (λ t. t) result (spec.ip_options (view word.entry)) }
 {

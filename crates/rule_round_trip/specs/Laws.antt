@@ -12,7 +12,8 @@ use Rattle.fw_base.specs.Prefix.{Network, IsNetwork}
 use Rattle.ipfw_parser.specs.Addresses.{prefix}
 use Rattle.fw_rule.specs.WellFormed.{IsRange}
 use Rattle.fw_rule.specs.declared.addr_item.AddrItem.{AddrItem}
-use Rattle.rule_text.specs.Canonical.{item_text, signed_names, numbers_where, flag_names, option_names}
+use Rattle.fw_rule.specs.Names.{flag_names, option_names}
+use Rattle.rule_text.specs.Canonical.{item_text, signed_names, numbers_where}
 use Rattle.fw_base.specs.Prefix6.{Network6, IsNetwork6}
 use Rattle.rule_text.specs.Address6Text.{groups_text, network6_text}
 use Rattle.fw_rule.specs.Bits.{has_bit}

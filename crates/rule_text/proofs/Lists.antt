@@ -8,7 +8,8 @@ use Rattle.std.proofs.lemmas.List.{append-nil, take_min, drop_min, drop_all}
 use Rattle.fw_base.proofs.Texts.{IsUnderWay}
 use Rattle.std.proofs.lemmas.Grind.{flat_map-append}
 use Rattle.fw_rule.specs.Bits.{has_bit}
-use Rattle.rule_text.specs.Canonical.{spaced_text, list_words, signed_names, signed_name, sign_of, unreach_names, code_word, numbers_where, option_words, test_words, negation_words}
+use Rattle.fw_rule.specs.Names.{unreach_names}
+use Rattle.rule_text.specs.Canonical.{spaced_text, list_words, signed_names, signed_name, sign_of, code_word, numbers_where, option_words, test_words, negation_words}
 use Rattle.fw_rule.specs.declared.opt.Opt.{Opt}
 
 -- each text behind a byte

@@ -8,6 +8,7 @@ use Rattle.fw_base.specs.Prefix.{Network}
 use Rattle.fw_base.specs.PortRange.{Ports}
 use Rattle.fw_rule.specs.Bits.{has_bit}
 use Rattle.fw_rule.specs.FlowName.{default_flow}
+use Rattle.fw_rule.specs.Names.{unreach_names, flag_names, option_names}
 use Rattle.fw_rule.specs.TypeSet.{has_type}
 use Rattle.fw_rule.specs.declared.action.Action.{Action}
 use Rattle.fw_rule.specs.declared.action.Action.TheVariants.{Allow, Deny, Reset, Unreach, Count, SkipTo, Call, Return, CheckState}
@@ -47,12 +48,6 @@ spaced_text words = flat_map (λ word. 32 ∷ word) words
 -- a number as five digits with leading zeros
 unfoldable pub five_digits : ℕ → List ℕ
 five_digits n = replicate (5 - length (decimal n)) 48 ++ decimal n
-
--- the codes of `unreach` from 0 to 15 by name (RFC 792, RFC 1812 section 5.2.7.1)
-unfoldable pub unreach_names : WordTexts
-unreach_names =
-    codes "net" ∷ codes "host" ∷ codes "protocol" ∷ codes "port" ∷ codes "needfrag" ∷ codes "srcfail" ∷ codes "net-unknown" ∷ codes "host-unknown"
-    ∷ codes "isolated" ∷ codes "net-prohib" ∷ codes "host-prohib" ∷ codes "tosnet" ∷ codes "toshost" ∷ codes "filter-prohib" ∷ codes "host-precedence" ∷ codes "precedence-cutoff" ∷ []
 
 -- a code of `unreach` by its name where it has one, else as a number
 unfoldable pub code_word : ℕ → List ℕ
@@ -158,14 +153,6 @@ signed_name (Some sign) name = (sign ++ name) ∷ []
 unfoldable pub signed_names : WordTexts → ℕ → ℕ → ℕ → WordTexts
 signed_names [] k set clear = []
 signed_names (name ∷ names) k set clear = signed_name (sign_of (has_bit set k) (has_bit clear k)) name ++ signed_names names (k + 1) set clear
-
--- bits 0 to 5 of a mask of TCP flags (RFC 9293 section 3.1)
-unfoldable pub flag_names : WordTexts
-flag_names = codes "fin" ∷ codes "syn" ∷ codes "rst" ∷ codes "psh" ∷ codes "ack" ∷ codes "urg" ∷ []
-
--- bits 0 to 3 of a mask of IP options (RFC 791 section 3.1)
-unfoldable pub option_names : WordTexts
-option_names = codes "ssrr" ∷ codes "lsrr" ∷ codes "rr" ∷ codes "ts" ∷ []
 
 -- those of the n numbers from k on of which the test holds
 unfoldable pub numbers_where : (ℕ → Bool) → ℕ → ℕ → WordTexts

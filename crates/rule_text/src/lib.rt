@@ -3,8 +3,7 @@
 
 pub use address6_text::{first_longest_runs_are_found, write_address6};
 pub use elements::write_address;
-pub use options::{FLAG_NAMES, OPTION_NAMES};
-pub use rule_text::{UNREACH_NAMES, WriteFault, write_protocol, write_rule, write_rule_rest};
+pub use rule_text::{WriteFault, write_protocol, write_rule, write_rule_rest};
 pub use writing::write_five_digits;
 
 mod address6_text;

@@ -10,13 +10,9 @@ ghost use Rattle.fw_rule.specs.TypeSet.{has_type};
 use crate::flow_name::write_flow_name;
 use crate::writing::{Piece, write_pieces};
 use fw_base::{Failed, Sink, write_text};
-use fw_rule::{Field, Iface, LimitMask, Opt, StateOpt, Test, TypeSet, has_bit};
-
-/// The names of bits 0 to 5 of a mask of TCP flags.
-pub const FLAG_NAMES: [&[u8]; 6] = [b"fin", b"syn", b"rst", b"psh", b"ack", b"urg"];
-
-/// The names of bits 0 to 3 of a mask of IP options.
-pub const OPTION_NAMES: [&[u8]; 4] = [b"ssrr", b"lsrr", b"rr", b"ts"];
+use fw_rule::{
+    FLAG_NAMES, Field, Iface, LimitMask, OPTION_NAMES, Opt, StateOpt, Test, TypeSet, has_bit,
+};
 
 fn sign_of(is_set: bool, is_clear: bool) -> Option<&'static [u8]>
     ensures { option_copied result ≡ text.sign_of is_set is_clear }
@@ -134,7 +130,7 @@ fn mask_word(mask: LimitMask) -> &'static [u8]
 }
 
 /// Writes a test, each word behind a space.
-#[tactic(auto, unfolding(crate::specs::Canonical::flag_names, crate::specs::Canonical::option_names))]
+#[tactic(auto, unfolding(fw_rule::specs::Names::flag_names, fw_rule::specs::Names::option_names))]
 fn write_test<K: Sink>(out: &mut K, test: &Test) -> Result<(), Failed>
     ensures { WritesText (K.written out.old) (K.written out.new) (K.faults out.old)
         (K.faults out.new) (spaced_text (text.test_words test.now)) result }

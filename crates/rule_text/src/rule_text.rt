@@ -8,7 +8,7 @@ use crate::flow_name::write_flow_name;
 use crate::options::{write_options, write_state};
 use crate::writing::{Piece, write_five_digits, write_list_words, write_piece, write_pieces};
 use fw_base::{Failed, Name, Sink, write_text};
-use fw_rule::{Action, AddrSpec, Body, Family, Opt, PortList, Rule, StateOpt};
+use fw_rule::{Action, AddrSpec, Body, Family, Opt, PortList, Rule, StateOpt, UNREACH_NAMES};
 use std::error::Error;
 use std::fmt;
 
@@ -25,26 +25,6 @@ impl fmt::Display for WriteFault {
 }
 
 impl Error for WriteFault {}
-
-/// The names of the codes of `unreach` from 0 on (RFC 792, RFC 1812 section 5.2.7.1).
-pub const UNREACH_NAMES: [&[u8]; 16] = [
-    b"net",
-    b"host",
-    b"protocol",
-    b"port",
-    b"needfrag",
-    b"srcfail",
-    b"net-unknown",
-    b"host-unknown",
-    b"isolated",
-    b"net-prohib",
-    b"host-prohib",
-    b"tosnet",
-    b"toshost",
-    b"filter-prohib",
-    b"host-precedence",
-    b"precedence-cutoff",
-];
 
 fn name_at<'x>(names: &'x [&'x [u8]], place: usize) -> &'x [u8]
     requires { place < length names.now }

@@ -4,7 +4,7 @@ use Rattle.std.specs.Prelude.{bit_and, IfOk}
 use Rattle.std.specs.List.{position_or_len}
 use Rattle.std.proofs.lemmas.Nat.{pow_pos, or_lt, le_or_l, le_or_r, pow_below}
 use Rattle.std.proofs.lemmas.Bool.{cases_lt, lt-ltb, le-ltb, eqb-true}
-use Rattle.rule_text.specs.Canonical.{flag_names, option_names}
+use Rattle.fw_rule.specs.Names.{flag_names, option_names}
 use Rattle.ipfw_parser.specs.declared.kind.Kind.TheVariants.{BadFlag}
 use Rattle.ipfw_parser.specs.Reading.{Word, fault_at, same}
 use Rattle.ipfw_parser.specs.Names.{place}

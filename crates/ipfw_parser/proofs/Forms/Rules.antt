@@ -1,7 +1,7 @@
 -- The options and the rule that are read.
 use Rattle.std.proofs.Common.{◌≡◌, ℕ, ◌+◌, ◌^◌, ◌<◌, ◌≤◌, zero, suc, Bool, true, false, ◌||◌, if◌then◌else◌, Some, None, is_some, Option, Ok, List, ◌∷◌, length, map, drop, codes, nat_eq, refl, sym, ap, arith, subst, []}
 use Rattle.std.specs.Prelude.{IfOk, IfSome, ⊤}
-use Rattle.rule_text.specs.Canonical.{unreach_names, flag_names, option_names}
+use Rattle.fw_rule.specs.Names.{unreach_names, flag_names, option_names}
 use Rattle.fw_rule.specs.WellFormed.{IsFromTo, IsAction, IsValue}
 use Rattle.fw_rule.specs.FlowName.{default_flow, IsFlowName}
 use Rattle.fw_rule.specs.declared.body.Family.{Family}

@@ -2,7 +2,7 @@
 use Rattle.std.proofs.Common.{◌≡◌, ℕ, ◌-◌, ◌^◌, Bool, true, false, ◌&&◌, ◌||◌, ◌==◌, nat_le, nat_eq, if◌then◌else◌, Option, Some, None, Result, Ok, Err, List, [], ◌∷◌, length, take, drop, codes, refl, sym, inl, inr, subst}
 use Rattle.std.specs.Prelude.{bit_and, bit_or, ⊤}
 use Rattle.std.specs.List.{starts_with}
-use Rattle.rule_text.specs.Canonical.{unreach_names, flag_names, option_names}
+use Rattle.fw_rule.specs.Names.{unreach_names, flag_names, option_names}
 use Rattle.fw_rule.specs.TypeSet.{no_types, with_type}
 use Rattle.fw_rule.specs.declared.type_set.TypeSet.{TypeSet}
 use Rattle.ipfw_parser.specs.declared.kind.Kind.{Kind}

@@ -4,7 +4,8 @@ use Rattle.std.specs.Prelude.{bit_or, bit_and, ⊤}
 use Rattle.std.specs.List.{AllByRecursion, join_with_byte}
 use Rattle.std.proofs.Math.Nat.{mod-eq_of_lt, zero-add, add-zero}
 use Rattle.fw_rule.specs.Bits.{has_bit}
-use Rattle.rule_text.specs.Canonical.{signed_names, sign_of, signed_name, flag_names, option_names, WordTexts}
+use Rattle.fw_rule.specs.Names.{flag_names, option_names}
+use Rattle.rule_text.specs.Canonical.{signed_names, sign_of, signed_name, WordTexts}
 use Rattle.ipfw_parser.specs.declared.kind.Kind.TheVariants.{BadFlag}
 use Rattle.ipfw_parser.specs.Reading.{Fault, fault_at, ◌>>=◌, same}
 use Rattle.ipfw_parser.specs.Names.{place}

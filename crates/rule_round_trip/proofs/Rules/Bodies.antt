@@ -7,7 +7,8 @@ use Rattle.std.proofs.lemmas.Bool.Decides.{eqb_tells}
 use Rattle.std.proofs.lemmas.List.{append-nil}
 use Rattle.std.proofs.Math.Nat.{zero-add, add-zero}
 use Rattle.fw_base.specs.PortRange.{Ports}
-use Rattle.rule_text.specs.Canonical.{WordTexts, five_digits, unreach_names, code_word, action_words, looked_up_words, amount_words, log_words, set_words, protocol_word, family_word, item_text, list_words, addr_words, range_text, port_words, options_words, body_words, optional_body, rule_words}
+use Rattle.fw_rule.specs.Names.{unreach_names}
+use Rattle.rule_text.specs.Canonical.{WordTexts, five_digits, code_word, action_words, looked_up_words, amount_words, log_words, set_words, protocol_word, family_word, item_text, list_words, addr_words, range_text, port_words, options_words, body_words, optional_body, rule_words}
 use Rattle.fw_rule.specs.WellFormed.{IsAction, IsValue, IsRange}
 use Rattle.fw_rule.specs.declared.action.Action.{Action}
 use Rattle.fw_rule.specs.declared.action.Action.TheVariants.{Allow, Deny, Reset, Unreach, Count, SkipTo, Call, Return, CheckState}

@@ -9,7 +9,8 @@ use Rattle.std.proofs.lemmas.List.{take_at, take-append-drop, length-take-le}
 use Rattle.std.proofs.Math.Bool.{and-false}
 use Rattle.fw_base.proofs.Logic.{clash}
 use Rattle.fw_base.specs.Name.{is_name_byte}
-use Rattle.rule_text.specs.Canonical.{WordTexts, negation_words as negation_words, test_words, option_words, state_words, placed_words, iface_text, field_word, mask_word, flow_words, signed_names, numbers_where, flag_names, option_names}
+use Rattle.fw_rule.specs.Names.{flag_names, option_names}
+use Rattle.rule_text.specs.Canonical.{WordTexts, negation_words as negation_words, test_words, option_words, state_words, placed_words, iface_text, field_word, mask_word, flow_words, signed_names, numbers_where}
 use Rattle.fw_rule.specs.Bits.{has_bit}
 use Rattle.fw_rule.specs.TypeSet.{has_type}
 use Rattle.fw_rule.specs.declared.iface.Iface.{Iface}

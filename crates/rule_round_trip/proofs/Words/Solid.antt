@@ -12,7 +12,8 @@ use Rattle.fw_lex.specs.Words.{is_blank, is_readable}
 use Rattle.fw_base.specs.Prefix.{Network}
 use Rattle.fw_base.specs.Addr.{address_text}
 use Rattle.fw_base.specs.PortRange.{Ports}
-use Rattle.rule_text.specs.Canonical.{WordTexts, five_digits, unreach_names, code_word, action_words, flow_words, looked_up_words, log_words, set_words, protocol_word, family_word, network_text, item_text, list_words, addr_words, range_text, port_words, negation_words as negation_words, test_words, option_words, iface_text, field_word, mask_word, state_words, options_words, placed_words, body_words, optional_body, rule_words, signed_names, numbers_where, flag_names, option_names}
+use Rattle.fw_rule.specs.Names.{unreach_names, flag_names, option_names}
+use Rattle.rule_text.specs.Canonical.{WordTexts, five_digits, code_word, action_words, flow_words, looked_up_words, log_words, set_words, protocol_word, family_word, network_text, item_text, list_words, addr_words, range_text, port_words, negation_words as negation_words, test_words, option_words, iface_text, field_word, mask_word, state_words, options_words, placed_words, body_words, optional_body, rule_words, signed_names, numbers_where}
 use Rattle.fw_rule.specs.WellFormed.{IsAction, IsValue, IsRange}
 use Rattle.fw_rule.specs.Bits.{has_bit}
 use Rattle.fw_rule.specs.TypeSet.{has_type}

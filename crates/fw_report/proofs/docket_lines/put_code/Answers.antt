@@ -1,6 +1,6 @@
 use Rattle.std.proofs.Common.{◌∙◌, ◌++◌, ℕ, List, sym, ap, arith}
 use Rattle.std.specs.Fmt.{decimal}
-use Rattle.rule_text.specs.Canonical.{unreach_names}
+use Rattle.fw_rule.specs.Names.{unreach_names}
 use Rattle.rule_text.proofs.Lists.{code_named, code_unnamed}
 use Rattle.fw_report.proofs.docket_lines.put_code.Goals as goal
 
