@@ -1,20 +1,28 @@
 #!/usr/bin/env python3
-"""Counts over crates/ what docs/DECISIONS.md tells under "The house, counted": python3 docs/house.py [TOP].
+"""Counts over the crates and the pages what docs/MEASURED.md tells under "The house, counted": python3 docs/house.py [TOP].
 
 It knows of the language only how lines begin in this repository: a declaration is a line NAME : .., with words
-such as `pub` or `abbrev` before the name, and a comment stands on the line above."""
+such as `pub` or `abbrev` before the name, and a comment stands on the line above; a type is a line `pub struct NAME`,
+or with `enum`, `trait` or `type`. A sentence of a page ends at a full stop, a question mark or a colon before a blank
+and a capital letter; each item of a list and each cell of a table begins one."""
 
 import collections
 import os
 import re
 import sys
 
-TOP = os.path.join(sys.argv[1] if len(sys.argv) > 1 else os.path.join(os.path.dirname(__file__), ".."), "crates")
+REPOSITORY = sys.argv[1] if len(sys.argv) > 1 else os.path.join(os.path.dirname(os.path.abspath(__file__)), "..")
+TOP = os.path.join(REPOSITORY, "crates")
+PAGES = ["README.md", "CHANGELOG.md"] + [f"docs/{name}.md" for name in ("DECISIONS", "LOCK", "MAP", "MEASURED", "RECIPES", "RULES")]
 DECLARED = re.compile(r"^( *)(?:(abbrev|unfoldable) )?(pub )?(record |data )?([^\s:(){}.\\]+)((?: [({].*?[)}])*) : ?(.*)$")
+TYPE = re.compile(r"^ *pub (?:struct|enum|trait|type) (\w+)")
+SENTENCE_END = re.compile(r"(?<=[.?!:])[\"')*]*\s+(?=[A-Z`*\"(0-9])")
+ITEM = re.compile(r"\s*(\d+\. |- )")
 CLAUSE = re.compile(r"\s*(requires|ensures|invariant|decreases)\b")
 WIDEST_CLAUSE = 100
 SMALL_FILE = 12
 WINDOW = 6
+LONGEST_SENTENCE = 40
 
 
 def files(*parts):
@@ -90,6 +98,19 @@ def definitions():
     print("names that may be bare participles, to be read:", *sorted(set(participles)))
 
 
+def types():
+    crates = collections.defaultdict(set)
+    for path in files(".rt"):
+        if is_in(path, "src"):
+            for line in lines_of(path):
+                found = TYPE.match(line)
+                if found:
+                    crates[found[1]].add(path.split("/")[0])
+    shared = sorted(name for name, of in crates.items() if len(of) > 1)
+    told = " ".join(f"{name} ({', '.join(sorted(crates[name]))})" for name in shared)
+    print(f"names of public types in two crates or more: {len(shared)} of {len(crates)}: {told}")
+
+
 def sources():
     small = [path for path in files(".rt") if is_in(path, "src") and text_of(path).count("\n") <= SMALL_FILE]
     every = [path for path in files(".rt") if is_in(path, "src")]
@@ -124,8 +145,36 @@ def repeated():
     print(f"pairs of places that share {WINDOW} lines or more: {len(pairs)}")
 
 
+def paragraphs(page):
+    """The paragraphs, items and cells of a page, without its examples."""
+    parts, is_example = [[]], False
+    with open(os.path.join(REPOSITORY, page), encoding="utf-8") as file:
+        for line in file:
+            if line.startswith("```"):
+                is_example = not is_example
+            if is_example or line.startswith(("```", "    ")) and not ITEM.match(line) or not line.strip():
+                parts.append([])
+            elif line.startswith("|"):
+                parts += [[cell] for cell in line.strip().strip("|").split(" | ")] + [[]]
+            else:
+                if ITEM.match(line):
+                    parts.append([])
+                parts[-1].append(line.strip())
+    return [" ".join(part) for part in parts if part]
+
+
+def sentences():
+    for page in PAGES:
+        if os.path.exists(os.path.join(REPOSITORY, page)):
+            counts = [sum(1 for word in sentence.split() if re.search(r"\w", word))
+                      for part in paragraphs(page) for sentence in SENTENCE_END.split(part)]
+            long = sum(1 for count in counts if count > LONGEST_SENTENCE)
+            print(f"sentences of more than {LONGEST_SENTENCE} words in {page}: {long} of {len(counts)}")
+
+
 lemmas()
 definitions()
+types()
 sources()
 clauses()
 repeated()
@@ -133,3 +182,4 @@ for crate in ("ipfw_parser", "rule_round_trip"):
     entries = os.listdir(os.path.join(TOP, crate, "proofs"))
     flat = sum(entry.endswith(".antt") for entry in entries)
     print(f"flat files of lemmas in {crate}, Lib among them: {flat}, and rooms: {len(entries) - flat}")
+sentences()
