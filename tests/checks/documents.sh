@@ -4,12 +4,39 @@
 crates=$top/crates.txt
 sed -n 's/^\([a-z0-9_]*\)\( [^:]*\)\?:.*/\1/p' "$crates" >"$work/crates"
 
-# The tables of the README and of the map have a row for each crate, in the order of crates.txt.
-for document in README.md docs/MAP.md; do
-    cp "$work/crates" "$work/wanted"
-    sed -n 's/^| `\([a-z0-9_]*\)` |.*/\1/p' "$top/$document" >"$work/got"
-    same "crates_of_$(basename "$document" .md)"
-done
+# The table of the map has a row for each crate, in the order of crates.txt.
+cp "$work/crates" "$work/wanted"
+awk '/^## / { section = $0 } section == "## One by one"' "$top/docs/MAP.md" >table
+sed -n 's/^| `\([a-z0-9_]*\)` |.*/\1/p' table >"$work/got"
+same crates_of_MAP
+
+# Where it says that a crate's tests stand, there are tests.
+: >"$work/wanted"
+: >"$work/got"
+while IFS='|' read -r _ crate _ _ tests_of _; do
+    crate=$(tr -d '` ' <<<"$crate")
+    while read -r place; do
+        # A place alone is the crate's own.
+        room=$(sed -n 's/^ *`\([a-z0-9_]*\)`, .*/\1/p' <<<"${place:-none}")
+        file=$top/crates/${room:-$crate}/src/${place##*src/}
+        [[ -e $file.rt || -d $file ]] || echo "$crate: there is no $file" >>"$work/got"
+    done < <(grep -oE '(`[a-z0-9_]+`, )?src/[a-z0-9_/]+' <<<"$tests_of")
+done < <(grep '^| `' table)
+same tests_of_MAP
+
+# Its words stand in alphabetical order, and each names crates that there are.
+awk '/^## / { section = $0 } section == "## Whose words are whose" && /^\| / && !/^\| Word / { print }' "$top/docs/MAP.md" >words
+sed 's/^| //; s/ | .*//' words | tr 'A-Z' 'a-z' | tr -cd 'a-z0-9 \n' >"$work/got"
+sort "$work/got" >"$work/wanted"
+same words_of_MAP
+: >"$work/wanted"
+awk -F ' [|] ' '{ print $2 }' words | grep -o '`[a-z0-9_]*`' | tr -d '`' | sort -u | grep -vxFf "$work/crates" >"$work/got"
+same crates_of_the_words_of_MAP
+
+# The README names each page.
+(cd "$top" && printf '%s\n' CHANGELOG.md docs/*.1 docs/*.md examples/*/README.md tests/captures/README.md) | sort >"$work/wanted"
+awk '/^## / { section = $0 } section == "## Where to read on"' "$top/README.md" | grep -oE '[A-Za-z0-9_/]+[.](md|1)' | sort >"$work/got"
+same pages_of_README
 
 # A crate stands behind those that it uses.
 : >"$work/wanted"
@@ -35,15 +62,15 @@ sed -n 's/^| \([0-6]\) | .*/\1/p' "$top/README.md" | sort -u >"$work/wanted"
 awk '/^\.Sh EXIT STATUS/ { inside = 1; next } /^\.Sh/ { inside = 0 } inside && /^\.It / { print $2 }' "$manual" >"$work/got"
 same manual_has_each_status
 
-# The README's first example prints the lines that stand there, in their order, '..' standing for some lines.
-ln -sf "$top/examples" examples
-awk '/^    cat >rules/ { inside = 1 } inside { print substr($0, 5) } /^    END$/ { exit }' "$top/README.md" >script_of_readme
-bash script_of_readme
-command=$(sed -n 's/^    bin\/ipfw_replay \(serial rules .*\)/\1/p' "$top/README.md")
-awk '/^prints, with/ { inside = 1; next } /^Record 110/ { exit } inside && /^    / { print substr($0, 5) }' "$top/README.md" \
-    >"$work/wanted"
-read -r -a words <<<"$command"
-replay_whole "${words[@]}" >report
+# The README's first example, pasted as it stands, prints the lines that stand below it, in their order, '..' standing
+# for some lines.
+mkdir -p bin && ln -sf "$program" bin/ipfw_replay && ln -sf "$top/examples" examples
+awk '/^```/ { if (inside) exit; inside = $0 == "```sh"; next } inside' "$top/README.md" >script_of_readme
+{
+    awk '/^This is printed/ { behind = 1 } behind && /^```$/ { if (inside) exit; inside = 1; next } inside' "$top/README.md"
+    echo 'status 0'
+} >"$work/wanted"
+{ timeout 100 bash script_of_readme </dev/null 2>&1; echo "status $?"; } >report
 awk 'NR == FNR { wanted[++count] = $0; next }
      BEGIN { at = 1 }
      at <= count && wanted[at] == ".." { is_gap = 1; print ".."; at++ }
