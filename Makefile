@@ -63,6 +63,8 @@ install: $(PROGRAM)
 	install -m 755 $(PROGRAM) $(DESTDIR)$(PREFIX)/bin/ipfw_replay
 	install -d $(DESTDIR)$(PREFIX)/share/man/man1
 	install -m 644 docs/ipfw_replay.1 $(DESTDIR)$(PREFIX)/share/man/man1/ipfw_replay.1
+	install -d $(DESTDIR)$(PREFIX)/share/doc/ipfw_replay
+	install -m 644 docs/RULES.md docs/RECIPES.md $(DESTDIR)$(PREFIX)/share/doc/ipfw_replay
 
 clean:
 	rm -rf bin crates/*/out
@@ -73,7 +75,7 @@ help:
 	@echo "make test       proves and tests every crate (rt ci), then runs the program's own checks (tests/run)"
 	@echo "make wrong-bodies  tries the wrong bodies that the gate leaves out: the prover must refuse each"
 	@echo "make bench      builds, and times the program on large captures, beside tcpdump where it is installed (needs python3), the states' asks, the report's lines, edits of a configuration, and the lock's sections"
-	@echo "make install    builds, and copies the program and its manual page below DESTDIR/PREFIX ($(PREFIX))"
+	@echo "make install    builds, and copies the program, its manual page, docs/RULES.md and docs/RECIPES.md below DESTDIR/PREFIX ($(PREFIX))"
 	@echo "make clean      removes all that was built here; what was proved stays with rt"
 	@echo
 	@echo "RT=COMMAND names another command than rt for the Rattle toolchain. RT_JOBS=N in the environment has it do N things at a"
