@@ -62,6 +62,11 @@ sed -n 's/^| \([0-6]\) | .*/\1/p' "$top/README.md" | sort -u >"$work/wanted"
 awk '/^\.Sh EXIT STATUS/ { inside = 1; next } /^\.Sh/ { inside = 0 } inside && /^\.It / { print $2 }' "$manual" >"$work/got"
 same manual_has_each_status
 
+# The manual has each kind of fault and each refusal that the tables of the rules have.
+sed -n 's/^| \(\(`[A-Z][A-Za-z]*`\(, \)\?\)*\) | .*/\1/p' "$top/docs/RULES.md" | grep -o '[A-Z][A-Za-z]*' | sort >"$work/wanted"
+sed -n 's/^\.It Sy \([A-Z][A-Za-z]*\)$/\1/p' "$manual" | sort >"$work/got"
+same manual_has_each_fault
+
 # The README's first example, pasted as it stands, prints the lines that stand below it, in their order, '..' standing
 # for some lines.
 mkdir -p bin && ln -sf "$program" bin/ipfw_replay && ln -sf "$top/examples" examples
