@@ -59,9 +59,6 @@ pub record IsConfiguration (c : Configuration) : Type 0 where
   pub rules : AllByRecursion (IsRule c.greatest_id c.greatest_counter) c.rules
   pub distinct : HaveOwnIds c.rules
   pub counted : DifferInCounters c.rules
-  pub in_order : StandInOrder c.rules
-  pub identities : HaveOwnIdentities c.rules
-  pub own_counters : HaveOwnCounters c.rules
   pub names : AreNames c.names
   pub named : AllByRecursion (IsNamed c.names) c.rules
   pub held : length c.rules ≤ 65535

@@ -118,7 +118,7 @@ impl Config {
         &self.parts.names
     }
 
-    /// The host's own addresses, no two equal, in the order in which they were added.
+    /// The host's own addresses, in the order in which they were added.
     pub fn locals(&self) -> &[Addr]
         ensures { result.now ≡ self.now.locals }
     {

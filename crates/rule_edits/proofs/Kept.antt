@@ -20,7 +20,6 @@ use Rattle.rule_chain.specs.LastRule.{last_rule}
 use Rattle.rule_edits.specs.Rules.{rule_of, insert_rule, renumber, count_of, in_set_for, move_rules, set_moved, set_of_number, set_swapped, is_among, is_named, has_rule}
 use Rattle.rule_edits.proofs.Chains.{filter_keeps, move_keeps, renumber_keeps, insert_keeps}
 use Rattle.rule_edits.proofs.FlowNames.{Keeps, stays_named}
-use Rattle.rule_chain.proofs.InPlaces.{stand_in_order, own_identities, own_counters}
 use Rattle.rule_edits.proofs.Lists.{length-filter_le, all-filter, all-map}
 use Rattle.rule_edits.proofs.Own.{filter_own, move_own, renumber_ids, renumber_counters, insert_ids, insert_counters}
 
@@ -35,9 +34,6 @@ filter_kept c p last h =
       rules = all-filter (IsRule c.greatest_id c.greatest_counter) p c.rules h.rules;
       distinct = distinct;
       counted = counted;
-      in_order = stand_in_order (filter p c.rules) ordered;
-      identities = own_identities (filter p c.rules) distinct;
-      own_counters = own_counters (filter p c.rules) counted;
       names = h.names;
       named = all-filter (IsNamed c.names) p c.rules h.named;
       held = let less = length-filter_le p c.rules in omega (arith, h.held, less);
@@ -72,9 +68,6 @@ move_kept c set_for last in_range h =
       rules = all-map (IsRule c.greatest_id c.greatest_counter) (in_set_for set_for) (rule_moved set_for in_range c.greatest_id c.greatest_counter) c.rules h.rules;
       distinct = distinct;
       counted = counted;
-      in_order = stand_in_order (move_rules set_for c.rules) ordered;
-      identities = own_identities (move_rules set_for c.rules) distinct;
-      own_counters = own_counters (move_rules set_for c.rules) counted;
       names = h.names;
       named = all-map (IsNamed c.names) (in_set_for set_for) (λ rule named. named) c.rules h.named;
       held = let same = length_moved set_for c.rules in omega (arith, h.held, same);
@@ -145,9 +138,6 @@ zero_kept c test room h =
       rules = all_zeroed test c.greatest_id c.greatest_counter (c.greatest_counter + count_of test c.rules) (c.greatest_counter + 1) c.rules (omega arith) (omega arith) h.rules;
       distinct = distinct;
       counted = counted;
-      in_order = stand_in_order (renumber test (c.greatest_counter + 1) c.rules) ordered;
-      identities = own_identities (renumber test (c.greatest_counter + 1) c.rules) distinct;
-      own_counters = own_counters (renumber test (c.greatest_counter + 1) c.rules) counted;
       names = h.names;
       named = all_named c.names test (c.greatest_counter + 1) c.rules h.named;
       held = let same = length_zeroed test (c.greatest_counter + 1) c.rules in omega (arith, h.held, same);
@@ -200,9 +190,6 @@ add_kept c d rule less new_id new_counter is room counters made named rules ids 
           (all_weaker (IsRule c.greatest_id c.greatest_counter) (IsRule (c.greatest_id + 1) (c.greatest_counter + 1)) (rule_within c.greatest_id (c.greatest_id + 1) c.greatest_counter (c.greatest_counter + 1) (omega arith) (omega arith)) c.rules h.rules));
       distinct = rw rules distinct;
       counted = rw rules counted;
-      in_order = rw rules (stand_in_order (insert_rule rule c.rules) ordered);
-      identities = rw rules (own_identities (insert_rule rule c.rules) distinct);
-      own_counters = rw rules (own_counters (insert_rule rule c.rules) counted);
       names = made.lawful;
       named = rw rules (all_inserted (IsNamed d.names) rule named c.rules (all_weaker (IsNamed c.names) (IsNamed d.names) (stays_named c.names d.names made) c.rules h.named));
       held = let more = length_inserted rule c.rules in rw rules (omega arith);
@@ -218,9 +205,6 @@ names_kept c names tables made h = record {
   rules = h.rules;
   distinct = h.distinct;
   counted = h.counted;
-  in_order = h.in_order;
-  identities = h.identities;
-  own_counters = h.own_counters;
   names = made.lawful;
   named = all_weaker (IsNamed c.names) (IsNamed names) (stays_named c.names names made) c.rules h.named;
   held = h.held;
@@ -236,9 +220,6 @@ mask_kept c disable enable low h = record {
   rules = h.rules;
   distinct = h.distinct;
   counted = h.counted;
-  in_order = h.in_order;
-  identities = h.identities;
-  own_counters = h.own_counters;
   names = h.names;
   named = h.named;
   held = h.held;
