@@ -96,14 +96,21 @@ table u number 2 line 8 edition 1
 80 7
 END
 
-# What each of these lines comes to, behind a line that denies all.
-: >"$work/wanted"
-: >"$work/got"
-while IFS='|' read -r line text; do
-    printf 'add 100 deny ip from any to any\n%b\n' "$line" >script
-    { printf '%s\n' "$line" && replay serial script in:em0:syn.pcap | head -n 1; } >>"$work/got"
-    printf '%s\n%s\n' "$line" "$text" >>"$work/wanted"
-done <<'END'
+# each_line NAME: what each line of standard input comes to, behind a line that denies all. It has the line and, behind a
+# bar, what is printed first.
+each_line() {
+    local name=$1 line text
+    : >"$work/wanted"
+    : >"$work/got"
+    while IFS='|' read -r line text; do
+        printf 'add 100 deny ip from any to any\n%b\n' "$line" >script
+        { printf '%s\n' "$line" && replay serial script in:em0:syn.pcap | head -n 1; } >>"$work/got"
+        printf '%s\n%s\n' "$line" "$text" >>"$work/wanted"
+    done
+    same "$name"
+}
+
+each_line lines_one_by_one <<'END'
 add|script line 2 column 4 MissingWord
 add allow ip from any to any|1.1 deny 00100 at 1
 add 0 allow ip from any to any|1.1 deny 00100 at 1
@@ -182,7 +189,111 @@ add 1 allow ip from any to any\0|script line 2 column 31 BadByte
 \x20|1.1 deny 00100 at 1
 \xff\xfe|script line 2 column 1 BadByte
 END
-same lines_one_by_one
+
+# What ipfw(8) has and this program doesn't read, or reads otherwise, and what docs/RECIPES.md has to put in its place.
+each_line words_of_ipfw_and_their_substitutes <<'END'
+add 1 allow ip from any to any proto tcp|script line 2 column 32 UnknownWord
+add 1 allow { tcp or udp } from any to any|script line 2 column 13 UnknownWord
+add 1 allow tcp from any to any|1.1 allow 00001 at 1
+add 1 allow igmp from any to any|script line 2 column 13 UnknownWord
+add 1 allow 2 from any to any|1.1 deny 00100 at 1
+add 1 allow gre from any to any|script line 2 column 13 UnknownWord
+add 1 allow 47 from any to any|1.1 deny 00100 at 1
+add 1 allow esp from any to any|script line 2 column 13 UnknownWord
+add 1 allow 50 from any to any|1.1 deny 00100 at 1
+add 1 allow ah from any to any|script line 2 column 13 UnknownWord
+add 1 allow tcp from any to any nfs|script line 2 column 33 UnknownWord
+add 1 allow tcp from any nfs to any|script line 2 column 26 BadPort
+add 1 allow tcp from any to any 2049|1.1 deny 00100 at 1
+add 1 allow icmp from any to any icmptype 8|script line 2 column 34 UnknownWord
+add 1 allow icmp from any to any icmptypes 8|1.1 deny 00100 at 1
+add 1 allow ip from { 10.0.0.1 or 10.0.0.2 } to any|script line 2 column 21 BadAddress
+add 1 allow ip from 10.0.0.2,10.0.0.1 to any|1.1 allow 00001 at 1
+add 1 allow ip from 10.0.0.0:255.255.0.0 to any|script line 2 column 21 BadAddress
+add 1 allow ip from 10.0.0.0/255.255.0.0 to any|script line 2 column 21 BadPrefix
+add 1 allow ip from 10.0.0.0/16 to any|1.1 allow 00001 at 1
+add 1 allow tcp from any to any 80, 443|script line 2 column 33 BadPort
+add 1 allow tcp from any to any 443,80|1.1 allow 00001 at 1
+add 1 allow tcp from any to any dst-port 80|script line 2 column 33 UnknownWord
+add 1 allow tcp from any to any 80|1.1 allow 00001 at 1
+add 1 allow tcp from any src-port 1025 to any|script line 2 column 26 BadPort
+add 1 allow tcp from any 1025 to any|1.1 allow 00001 at 1
+add 1 allow ip from me6 to any|script line 2 column 21 BadAddress
+add 1 allow ip from fe80::1,10.0.0.1 to any|1.1 allow 00001 at 1
+add 1 allow ip from www.example.org to any|script line 2 column 21 BadAddress
+add 1 allow ip from any to any via 10.0.0.1|1.1 deny 00100 at 1
+add 1 allow ip from any to any via em0|1.1 allow 00001 at 1
+add 1 allow ip from any to any // why|script line 2 column 32 UnknownWord
+add 1 allow ip from any to any # why|1.1 allow 00001 at 1
+add 1 pipe 1 ip from any to any|script line 2 column 7 UnknownWord
+add 1 queue 1 ip from any to any|script line 2 column 7 UnknownWord
+add 1 nat 1 ip from any to any|script line 2 column 7 UnknownWord
+add 1 divert 8668 ip from any to any|script line 2 column 7 UnknownWord
+add 1 fwd 10.0.0.9 ip from any to any|script line 2 column 7 UnknownWord
+add 1 setfib 1 ip from any to any|script line 2 column 7 UnknownWord
+add 1 allow tag 1 ip from any to any|script line 2 column 13 UnknownWord
+add 1 allow ip from any to any layer2|script line 2 column 32 UnknownWord
+add 1 allow ip from any to any mac any any|script line 2 column 32 UnknownWord
+add 1 allow ip from any to any antispoof|script line 2 column 32 UnknownWord
+add 1 allow ip from any to any verrevpath|script line 2 column 32 UnknownWord
+add 1 allow tcp from any to any lookup dst-port t|1.1 deny 00100 at 1
+add 1 allow tcp from any to any limit src-port 2|1.1 allow 00001 at 1
+\xef\xbb\xbf# why|script line 2 column 1 BadByte
+END
+
+# The rules of the FreeBSD Handbook's example, as its file has them, through the function of docs/RECIPES.md.
+cat >ipfw.rules <<'END'
+ipfw -q -f flush
+cmd="ipfw -q add"
+pif="em0"
+$cmd 00005 allow all from any to any via xl0
+$cmd 00010 allow all from any to any via lo0
+$cmd 00101 check-state
+$cmd 00110 allow tcp from any to 192.0.2.53 53 out via $pif setup keep-state
+$cmd 00111 allow udp from any to 192.0.2.53 53 out via $pif keep-state
+$cmd 00120 allow log udp from any to any 67 out via $pif keep-state
+$cmd 00200 allow tcp from any to any 80 out via $pif setup keep-state
+$cmd 00220 allow tcp from any to any 443 out via $pif setup keep-state
+$cmd 00230 allow tcp from any to any 25 out via $pif setup keep-state
+$cmd 00231 allow tcp from any to any 110 out via $pif setup keep-state
+$cmd 00250 allow icmp from any to any out via $pif keep-state
+$cmd 00260 allow udp from any to any 123 out via $pif keep-state
+$cmd 00280 allow tcp from any to any 22 out via $pif setup keep-state
+$cmd 00299 deny log all from any to any out via $pif
+$cmd 00300 deny all from 192.168.0.0/16 to any in via $pif     #RFC 1918 private IP
+$cmd 00301 deny all from 172.16.0.0/12 to any in via $pif      #RFC 1918 private IP
+$cmd 00302 deny all from 10.0.0.0/8 to any in via $pif         #RFC 1918 private IP
+$cmd 00303 deny all from 127.0.0.0/8 to any in via $pif        #loopback
+$cmd 00304 deny all from 0.0.0.0/8 to any in via $pif          #loopback
+$cmd 00305 deny all from 169.254.0.0/16 to any in via $pif     #DHCP auto-config
+$cmd 00306 deny all from 192.0.2.0/24 to any in via $pif       #reserved for docs
+$cmd 00307 deny all from 204.152.64.0/23 to any in via $pif    #Sun cluster interconnect
+$cmd 00308 deny all from 224.0.0.0/3 to any in via $pif        #Class D & E multicast
+$cmd 00310 deny icmp from any to any in via $pif
+$cmd 00315 deny tcp from any to any 113 in via $pif
+$cmd 00320 deny tcp from any to any 137 in via $pif
+$cmd 00321 deny tcp from any to any 138 in via $pif
+$cmd 00322 deny tcp from any to any 139 in via $pif
+$cmd 00323 deny tcp from any to any 81 in via $pif
+$cmd 00330 deny all from any to any frag in via $pif
+$cmd 00332 deny tcp from any to any established in via $pif
+$cmd 00400 allow tcp from any to me 80 in via $pif setup limit src-addr 2
+$cmd 00410 allow tcp from any to me 22 in via $pif setup limit src-addr 2
+$cmd 00499 deny log all from any to any in via $pif
+$cmd 00999 deny log all from any to any
+END
+(
+    # shellcheck disable=SC2317
+    ipfw() { while [ "${1#-}" != "$1" ]; do shift; done; echo "$@"; }
+    # shellcheck source=/dev/null
+    . ./ipfw.rules
+) >script
+check rules_of_the_handbook 0 serial script in:em0:syn.pcap out:em0:syn.pcap <<'END'
+1.1 deny 00302 at 1
+end 1 records 1
+2.1 allow 00200 at 1
+end 2 records 1
+END
 
 # 37,449 rules of this form, which are the most that a script has room for: 100, 200 and so on to 65500, and then
 # 65500 again.
