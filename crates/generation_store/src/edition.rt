@@ -6,16 +6,17 @@ ghost use Rattle.generation_store.specs.Jumps as jumps;
 ghost use Rattle.generation_store.specs.Placing.{ArePlaced, identity_of};
 ghost use Rattle.generation_store.specs.Published as spec;
 ghost use Rattle.generation_store.specs.Published.{AreFacts, IsEdition, IsBuilt};
+ghost use Rattle.rule_gates.specs.Cacheable as cacheable;
 ghost use Rattle.rule_gates.specs.Gates.{AreGates};
 
 use crate::Jump;
-use crate::gates::shared_gates;
+use crate::gates::{new_gates, shared_gates};
 use crate::index::{Index, index_of};
 use crate::jumps::first_from;
 use crate::placed::{Placed, by_identity, identities};
 use fw_base::{Numbered, OutOfMemory};
 use rule_chain::Config;
-use rule_gates::{Gate, gates_of};
+use rule_gates::Gates;
 use state_asks::{Facts, FlowName};
 use std::alloc::Global;
 use std::marker::Model;
@@ -51,8 +52,7 @@ impl Edition {
     pub fn build(alloc: Global, number: u64, config: Config) -> Result<Arc<Edition>, OutOfMemory>
         ensures { IfOk result (λ edition. IsBuilt number config (arc_value edition)) }
     {
-        let gates = gates_of(alloc, config.rules())?;
-        let gates = Arc::new(alloc, gates)?;
+        let gates = new_gates(alloc, config.rules())?;
         with_gates(alloc, number, config, gates)
     }
 
@@ -127,10 +127,18 @@ impl Edition {
 
     /// One gate for each rule, in their order: it admits each packet that an evaluation has to look at the
     /// rule for, whatever the tables, the host's addresses and the disabled sets.
-    pub fn gates(&self) -> &[Gate]
+    pub fn gates(&self) -> &Gates
         ensures { AreGates self.now.config.rules result.now }
     {
-        self.index.gates.as_slice()
+        &self.index.gates
+    }
+
+    /// Whether each of its rules ends the search where it matches, so that a verdict of one packet can be
+    /// kept for those that are like it. It takes constant time.
+    pub fn is_cacheable(&self) -> bool
+        ensures { result ≡ cacheable.is_cacheable self.now.config.rules }
+    {
+        self.index.is_cacheable
     }
 
     /// The place of the first rule numbered so or higher; the list's length where there is none.
@@ -165,9 +173,9 @@ fn with_gates(
     alloc: Global,
     number: u64,
     config: Config,
-    gates: Arc<Vec<Gate>>,
+    gates: Arc<Gates>,
 ) -> Result<Arc<Edition>, OutOfMemory>
-    requires { AreGates config.rules (arc_value gates).items }
+    requires { AreGates config.rules (arc_value gates) }
     ensures { IfOk result (λ edition. IsBuilt number config (arc_value edition)) }
 {
     let placed = by_identity(alloc, config.rules())?;

@@ -11,7 +11,7 @@ use crate::jumps::jumps_of;
 use crate::placed::{Placed, places};
 use fw_base::OutOfMemory;
 use rule_chain::Config;
-use rule_gates::Gate;
+use rule_gates::{Gates, is_cacheable};
 use state_asks::FlowName;
 use std::alloc::Global;
 use std::sync::Arc;
@@ -26,7 +26,9 @@ pub(crate) struct Index {
     /// The flow name that each rule looks up.
     pub(crate) names: Vec<FlowName>,
     /// Indices whose rules have the same gates may have one list of them.
-    pub(crate) gates: Arc<Vec<Gate>>,
+    pub(crate) gates: Arc<Gates>,
+    /// Each rule ends the search where it matches.
+    pub(crate) is_cacheable: bool,
 }
 
 /// The index of the configuration whose rules stand in these places, with these gates.
@@ -34,10 +36,10 @@ pub(crate) fn index_of(
     alloc: Global,
     config: &Config,
     placed: &[Placed],
-    gates: Arc<Vec<Gate>>,
+    gates: Arc<Gates>,
 ) -> Result<Arc<Index>, OutOfMemory>
     requires placed { ArePlaced config.now.rules placed.now }
-    requires gates { AreGates config.now.rules (arc_value gates).items }
+    requires gates { AreGates config.now.rules (arc_value gates) }
     ensures { IfOk result (λ index.
         IsIndexOf config.now.rules config.now.names (map identity_of placed.now) (arc_value index)) }
 {
@@ -49,6 +51,7 @@ pub(crate) fn index_of(
         places,
         names,
         gates,
+        is_cacheable: is_cacheable(config.rules()),
     };
     Ok(Arc::new(alloc, index)?)
 }

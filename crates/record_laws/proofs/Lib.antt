@@ -8,7 +8,6 @@ pub mod PrintedLines
 -- turns of captures
 pub mod KeptOrder
 -- one record and one report of a script and captures
-pub mod OneFacts
 pub mod OneEvaluation
 pub mod LawfulRun
 pub mod OneRun

@@ -18,7 +18,8 @@ use Rattle.fw_world.specs.Inputs.{Input, Other, Malformed, Packet}
 use Rattle.fw_world.specs.Lane.{LaneValue, with_docket_entry}
 use Rattle.fw_world.specs.Steps.{Judges, Publishes, question_under, with_asks}
 use Rattle.fw_world.specs.World.{WorldValue, published_count}
-use Rattle.generation_store.specs.Published.{Published, IsBuilt, has_identity}
+use Rattle.generation_store.proofs.OneEdition.{same_edition}
+use Rattle.generation_store.specs.Published.{Published, IsBuilt}
 use Rattle.ip6_headers.specs.Either.{total_of}
 use Rattle.ip6_headers.specs.declared.any_ip.AnyIp.{AnyIp}
 use Rattle.rule_edits.specs.Apply.{apply}
@@ -33,18 +34,11 @@ use Rattle.serial_schedule.specs.Schedule.{Event, Ran, Taken}
 use Rattle.state_journal.specs.Journal.{first_journal, with_publication}
 use Rattle.record_laws.proofs.LawfulRun.{GrowsTo, LeadsTo, grows_all, leads_event, judged_in_turn}
 use Rattle.record_laws.proofs.OneEvaluation.{AnswersInTurn, one_evaluation}
-use Rattle.record_laws.proofs.OneFacts.{same_facts}
 
 -- there is one edition of a number and a configuration
 one_edition : (number : ℕ) (config made : Configuration) (a b : Published) → config ≡ made → IsBuilt number config a → IsBuilt number made b → a ≡ b
 one_edition number config made a b same first second =
-    let numbered : a.number ≡ b.number = first.numbered ∙ sym second.numbered in
-    let configured : a.config ≡ b.config = first.configured ∙ same ∙ sym second.configured in
-    let facts : a.facts ≡ b.facts =
-    same_facts a.facts b.facts (first.factual.numbered ∙ numbered ∙ sym second.factual.numbered)
-    (λ id. first.factual.identified id ∙ ap (λ (c : Configuration). has_identity c.rules id) configured ∙ sym (second.factual.identified id))
-    (first.factual.set ∙ ap (λ (c : Configuration). c.values) configured ∙ sym second.factual.set) in
-    λ i. record { number = numbered i; config = configured i; facts = facts i }
+    same_edition a b (first.numbered ∙ sym second.numbered) (first.configured ∙ same ∙ sym second.configured) first.factual second.factual
 
 one_world : (a b : WorldValue) → a.editions ≡ b.editions → a.journal ≡ b.journal → a ≡ b
 one_world a b editions journal = λ i. record { editions = editions i; journal = journal i }

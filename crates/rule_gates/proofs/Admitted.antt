@@ -25,7 +25,7 @@ use Rattle.rule_gates.specs.declared.address_gate.AddressGate.{AddressGate}
 use Rattle.rule_gates.specs.declared.address_gate.ChosenWord.{ChosenWord}
 use Rattle.rule_gates.specs.declared.gate.Gate.{Gate}
 use Rattle.rule_gates.specs.declared.interval.Interval.{Interval}
-use Rattle.rule_gates.specs.declared.key.Key.{Key}
+use Rattle.rule_gates.specs.declared.gate_key.GateKey.{GateKey}
 use Rattle.rule_gates.specs.declared.gate.PortGate.{PortGate}
 
 -- every number of thirty-two bits
@@ -48,7 +48,7 @@ key_word : (words : List ℕ) (n place : ℕ) → words ≡ words_of n → place
 key_word words n place are within = ap (λ (ws : List ℕ). get_or ws place 0) are ∙ word_at n place within
 
 -- what a gate admits, part by part
-admits_by : (gate : Gate) (key : Key)
+pub admits_by : (gate : Gate) (key : GateKey)
     → is_within gate.source (slice_index key.source gate.source_word) ≡ true
     → is_within gate.destination (slice_index key.destination gate.destination_word) ≡ true
     → is_within gate.destination_ports key.destination_port ≡ true
@@ -166,7 +166,7 @@ body_admits body gate source destination sources destinations source_ports desti
         rw (numbers, at, key_word words n chosen.place are chosen.within) has
 
 -- what a gate tells by what it admits, part by part
-record IsAdmitted (gate : Gate) (key : Key) : Type 0 where
+record IsAdmitted (gate : Gate) (key : GateKey) : Type 0 where
   source : is_within gate.source (slice_index key.source gate.source_word) ≡ true
   destination : is_within gate.destination (slice_index key.destination gate.destination_word) ≡ true
   destination_ports : is_within gate.destination_ports key.destination_port ≡ true
@@ -174,7 +174,7 @@ record IsAdmitted (gate : Gate) (key : Key) : Type 0 where
   source_ports : is_within gate.source_ports key.source_port ≡ true
   version : admits_version gate.family key.is_six ≡ true
 
-admitted_by : (gate : Gate) (key : Key) → admits gate key ≡ true → IsAdmitted gate key
+admitted_by : (gate : Gate) (key : GateKey) → admits gate key ≡ true → IsAdmitted gate key
 unfolding admits
 admitted_by gate key admitted =
     let by_source = and_parts _ _ admitted in

@@ -4,3 +4,6 @@ pub mod Blocks
 pub mod Admitted
 -- lists of gates
 pub mod Gated
+-- gates over several, and searches by them
+pub mod Joined
+pub mod Hulled

@@ -26,7 +26,7 @@ use Rattle.rule_gates.specs.declared.address_gate.AddressGate.{AddressGate}
 use Rattle.rule_gates.specs.declared.address_gate.ChosenWord.{ChosenWord}
 use Rattle.rule_gates.specs.declared.gate.Gate.{Gate}
 use Rattle.rule_gates.specs.declared.interval.Interval.{Interval}
-use Rattle.rule_gates.specs.declared.key.Key.{Key}
+use Rattle.rule_gates.specs.declared.gate_key.GateKey.{GateKey}
 use Rattle.rule_gates.specs.declared.gate.PortGate.{PortGate}
 
 -- the chosen word of the address is one of the numbers
@@ -92,15 +92,15 @@ IsExactPorts asked gate = (port : Option ℕ) → gate.is_exact ≡ true → is_
 
 -- the gate admits the keys of all packets
 abbrev pub IsOpen : Gate → Type 0
-IsOpen gate = (packet : AnyIp) (key : Key) → IsKeyOf packet key → admits gate key ≡ true
+IsOpen gate = (packet : AnyIp) (key : GateKey) → IsKeyOf packet key → admits gate key ≡ true
 
 -- the packets whose keys the gate admits are among those that the body may hold of
 abbrev pub TellsBody : Body → Gate → Type 0
-TellsBody body gate = (packet : AnyIp) (key : Key) → IsKeyOf packet key → admits gate key ≡ true → MayHold body packet
+TellsBody body gate = (packet : AnyIp) (key : GateKey) → IsKeyOf packet key → admits gate key ≡ true → MayHold body packet
 
 -- the gate admits the keys of the packets that the body holds of
 abbrev pub IsGateOfBody : Body → Gate → Type 0
-IsGateOfBody body gate = (tables : NamedTables) (locals : List Addr) (packet : AnyIp) (port : Port) (key : Key)
+IsGateOfBody body gate = (tables : NamedTables) (locals : List Addr) (packet : AnyIp) (port : Port) (key : GateKey)
     → IsKeyOf packet key → holds body tables locals packet port ≡ true → admits gate key ≡ true
 
 -- the second version is every version, or IPv4 where the first version has IPv4
@@ -117,5 +117,5 @@ narrower family.Six other = family.Six
 
 -- where the gate tells all, the body holds of each packet whose key the gate admits
 abbrev pub IsExactGate : Body → Gate → Type 0
-IsExactGate body gate = (tables : NamedTables) (locals : List Addr) (packet : AnyIp) (port : Port) (key : Key)
+IsExactGate body gate = (tables : NamedTables) (locals : List Addr) (packet : AnyIp) (port : Port) (key : GateKey)
     → is_exact gate ≡ true → IsKeyOf packet key → HasAddresses packet → admits gate key ≡ true → holds body tables locals packet port ≡ true

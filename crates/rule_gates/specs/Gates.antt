@@ -15,7 +15,7 @@ use Rattle.rule_gates.specs.Telling.{MayHold}
 use Rattle.rule_gates.specs.Told.{is_told}
 use Rattle.rule_gates.specs.Within.{is_within}
 use Rattle.rule_gates.specs.declared.gate.Gate.{Gate}
-use Rattle.rule_gates.specs.declared.key.Key.{Key}
+use Rattle.rule_gates.specs.declared.gate_key.GateKey.{GateKey}
 
 -- the packet is of the version that the rule asks for, if it asks for one
 abbrev pub admits_version : Family → Bool → Bool
@@ -24,7 +24,7 @@ admits_version family.Four is_six = not is_six
 admits_version family.Six is_six = is_six
 
 -- one word of each address, each port, the protocol and the version are among those of the gate
-unfoldable pub admits : Gate → Key → Bool
+unfoldable pub admits : Gate → GateKey → Bool
 admits gate key =
     is_within gate.source (slice_index key.source gate.source_word)
     && (is_within gate.destination (slice_index key.destination gate.destination_word)
@@ -51,12 +51,12 @@ concerns rule tables locals packet port = looks_up rule || is_body_held rule.bod
 -- prefix of IPv4, the protocol or the version shuts out. It tells all of a rule that has no other parts:
 -- whose body then holds of each packet whose key is admitted, and of those alone, as `sound` says.
 pub record IsGateOf (rule : Rule) (gate : Gate) : Type 0 where
-  pub sound : (tables : NamedTables) (locals : List Addr) (packet : AnyIp) (port : Port) (key : Key)
+  pub sound : (tables : NamedTables) (locals : List Addr) (packet : AnyIp) (port : Port) (key : GateKey)
       → IsKeyOf packet key → concerns rule tables locals packet port ≡ true → admits gate key ≡ true
-  pub telling : (body : Body) (packet : AnyIp) (key : Key) → rule.body ≡ Some body → looks_up rule ≡ false → IsKeyOf packet key
+  pub telling : (body : Body) (packet : AnyIp) (key : GateKey) → rule.body ≡ Some body → looks_up rule ≡ false → IsKeyOf packet key
       → admits gate key ≡ true → MayHold body packet
   pub exact : is_exact gate ≡ is_told rule
-  pub whole : (tables : NamedTables) (locals : List Addr) (packet : AnyIp) (port : Port) (key : Key)
+  pub whole : (tables : NamedTables) (locals : List Addr) (packet : AnyIp) (port : Port) (key : GateKey)
       → is_exact gate ≡ true → IsKeyOf packet key → HasAddresses packet → admits gate key ≡ true → is_body_held rule.body tables locals packet port ≡ true
 
 -- one gate for each rule, in their order

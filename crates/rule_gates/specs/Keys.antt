@@ -6,7 +6,7 @@ use Rattle.ip6_headers.specs.Either.{protocol_of}
 use Rattle.rule_match.specs.Packet.{Address, V4, V6, source_address_of, destination_address_of}
 use Rattle.rule_match.specs.Ports.{source_port, destination_port}
 use Rattle.rule_gates.specs.Words.{address_number, words_of}
-use Rattle.rule_gates.specs.declared.key.Key.{Key}
+use Rattle.rule_gates.specs.declared.gate_key.GateKey.{GateKey}
 
 -- the packet is one of IPv6
 abbrev pub is_six : AnyIp → Bool
@@ -19,7 +19,7 @@ port_number None = 65536
 port_number (Some port) = port
 
 -- the key of this packet: the words of its addresses, its ports, its protocol and its version
-pub record IsKeyOf (packet : AnyIp) (key : Key) : Type 0 where
+pub record IsKeyOf (packet : AnyIp) (key : GateKey) : Type 0 where
   pub source : key.source ≡ words_of (address_number (source_address_of packet))
   pub destination : key.destination ≡ words_of (address_number (destination_address_of packet))
   pub source_port : key.source_port ≡ port_number (source_port packet)

@@ -1,9 +1,8 @@
-ghost use Rattle.std.specs.Prelude.{◌≡◌, ◌+◌, drop};
-ghost use Rattle.std.specs.List.{position_or_len};
+ghost use Rattle.std.specs.Prelude.{◌≡◌};
 ghost use Rattle.rule_gates.specs.Gates as spec;
 ghost use Rattle.rule_gates.specs.Within as within;
 
-use crate::{Gate, Interval, Key};
+use crate::{Gate, GateKey, Interval};
 use fw_rule::Family;
 
 /// Whether the interval has the number: one comparison, since a number below the low end wraps.
@@ -33,7 +32,7 @@ pub fn is_exact(gate: &Gate) -> bool
 
 /// Whether the gate admits the key. What most rules fail comes first.
 #[tactic(auto, unfolding(crate::specs::Gates::admits))]
-pub fn admits(gate: &Gate, key: &Key) -> bool
+pub fn admits(gate: &Gate, key: &GateKey) -> bool
     ensures { result ≡ spec.admits gate.now key.now }
 {
     is_within(&gate.source, key.source[usize::from(gate.source_word)])
@@ -44,16 +43,4 @@ pub fn admits(gate: &Gate, key: &Key) -> bool
             && ((gate.protocol == 0 || gate.protocol == key.protocol)
                 && (is_within(&gate.source_ports, key.source_port)
                     && admits_version(gate.family, key.is_six)))))
-}
-
-/// The first place from this one on whose gate admits the key; the number of gates where none does.
-pub fn next_admitted(gates: &[Gate], from: usize, key: &Key) -> usize
-    ensures { result ≡ from + position_or_len (λ gate. spec.admits gate key.now)
-        (drop from gates.now) }
-{
-    let mut place = from;
-    while place < gates.len() && !admits(&gates[place], key) {
-        place += 1;
-    }
-    place
 }

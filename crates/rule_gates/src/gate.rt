@@ -1,6 +1,7 @@
-ghost use Rattle.std.specs.Prelude.{◌<◌};
+ghost use Rattle.std.specs.Prelude.{◌≡◌, ◌<◌};
 
 use crate::Interval;
+use crate::address_gate::ChosenWord;
 use fw_rule::Family;
 
 /// What can be told of a rule by a few comparisons: a packet whose key it doesn't admit has nothing to do
@@ -26,6 +27,30 @@ pub struct Gate {
     /// It tells all: the rule looks nothing up, and its body holds of each packet whose key is admitted.
     pub(crate) is_exact: bool,
     ghost chosen: { (source_word < 4) × (destination_word < 4) },
+}
+
+impl Gate {
+    /// The chosen word of the source address, and its numbers.
+    pub(crate) fn source(&self) -> ChosenWord
+        ensures place { result.place ≡ self.now.source_word }
+        ensures numbers { result.numbers ≡ self.now.source }
+    {
+        ChosenWord {
+            place: self.source_word,
+            numbers: self.source,
+        }
+    }
+
+    /// Those of the destination address.
+    pub(crate) fn destination(&self) -> ChosenWord
+        ensures place { result.place ≡ self.now.destination_word }
+        ensures numbers { result.numbers ≡ self.now.destination }
+    {
+        ChosenWord {
+            place: self.destination_word,
+            numbers: self.destination,
+        }
+    }
 }
 
 /// What is told of the ports that a rule asks for.

@@ -5,7 +5,7 @@ ghost use Rattle.rule_gates.specs.Words.{address_number};
 ghost use Rattle.rule_match.specs.Packet.{source_address_of, destination_address_of};
 ghost use Rattle.rule_match.specs.Ports as ports;
 
-use crate::Key;
+use crate::GateKey;
 use crate::words::words_of;
 use ip6_headers::AnyIp;
 
@@ -56,12 +56,12 @@ fn port_numbers(packet: &AnyIp<'_>) -> (u32, u32)
 }
 
 /// The key of the packet.
-pub fn key_of(packet: &AnyIp<'_>) -> Key
+pub fn key_of(packet: &AnyIp<'_>) -> GateKey
     ensures key { IsKeyOf packet.now result }
     ensures addresses { HasAddresses packet.now }
 {
     let (source_port, destination_port) = port_numbers(packet);
-    Key {
+    GateKey {
         source: words_of(source_number(packet)),
         destination: words_of(destination_number(packet)),
         source_port,

@@ -15,4 +15,5 @@ returns c =
       placing = ap (λ (places : List ℕ). map some_place places) c.in_ok-places.ensures ∙ places_of_ids rules placed c.requires.placed.found;
       naming = rw (sym c.rules-2.ensures.value, sym c.names.ensures.value) c.in_ok-names.ensures;
       gating = c.requires.gates;
+      cacheable = rw (sym c.rules-3.ensures.value) c.is_cacheable.ensures;
     })

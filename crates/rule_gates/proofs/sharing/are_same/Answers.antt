@@ -8,7 +8,7 @@ use Rattle.rule_gates.specs.Gates.{AreGates, IsGateOf, admits}
 use Rattle.rule_gates.specs.contracts.gate.GatePartialEq.TheImpl.{eq-value}
 use Rattle.rule_gates.specs.declared.gate.Gate.{Gate}
 use Rattle.rule_gates.specs.declared.interval.Interval.{Interval}
-use Rattle.rule_gates.specs.declared.key.Key.{Key}
+use Rattle.rule_gates.specs.declared.gate_key.GateKey.{GateKey}
 use Rattle.rule_gates.proofs.sharing.are_same.Goals as goal
 
 record AreAlike (a b : Interval) : Type 0 where
@@ -40,7 +40,7 @@ same_fields g h same = record {
   is_exact = same_by_beq g.is_exact h.is_exact (grind (arith, common_steps));
 }
 
-same_admits : (g h : Gate) (key : Key) → HaveSame g h → admits g key ≡ admits h key
+same_admits : (g h : Gate) (key : GateKey) → HaveSame g h → admits g key ≡ admits h key
 unfolding admits
 same_admits g h key same =
     rw (same.source.low, same.source.span, same.source_word, same.destination.low, same.destination.span, same.destination_word, same.destination_ports.low, same.destination_ports.span, same.protocol, same.source_ports.low, same.source_ports.span, same.family) refl

@@ -1,8 +1,9 @@
 ghost use Rattle.std.specs.Prelude.{◌≤◌};
+ghost use Rattle.rule_gates.specs.Within.{AreWords};
 
 /// What gates ask of a packet.
 #[derive(Clone, Copy, Debug)]
-pub struct Key {
+pub struct GateKey {
     /// The words of its source address, the last one first.
     pub(crate) source: [u32; 4],
     /// Those of its destination address.
@@ -15,5 +16,6 @@ pub struct Key {
     pub(crate) protocol: u8,
     /// It is a packet of IPv6.
     pub(crate) is_six: bool,
+    ghost worded: { AreWords source × AreWords destination },
     ghost ported: { (source_port ≤ 65536) × (destination_port ≤ 65536) },
 }
