@@ -1,5 +1,5 @@
 -- The book given back, by a processor and by the operator.
-use Rattle.std.proofs.Common.{◌≡◌, inr, ℕ, false, Some, ◌∷◌, refl, sym, ◌∙◌, ap, subst}
+use Rattle.std.proofs.Common.{◌≡◌, inr, ℕ, Bool, false, Some, ◌∷◌, refl, sym, ◌∙◌, ap, subst}
 use Rattle.atomic_table.specs.Table.{Me, rest}
 use Rattle.atomic_table.specs.Seated.{TableId}
 use Rattle.rm_table.specs.declared.padded_slot.Slot.{Slot}
@@ -26,9 +26,9 @@ module _ {E B T L I : Type 0} (m : Meanings E B T L I) where
   gave token table s0 s1 s2 book is e1 step = ap (λ (s : Me (Slot E B) (View E B T L I)). s.0) (given s0 s1 s2 book e1 step) ∙ ap (λ (t : BookTokenState E B T L I). after_giving_book m t.view t.book) is
 
   -- a processor that gives the book back has it on top of its hand, with its own list alone changed
-  pub holder_has : (token : BookTokenState E B T L I) (table : TableId) (s0 s1 : Me (Slot E B) (View E B T L I)) (book : B) (place : ℕ) (edition : E) → record { table_id = table; view = s0.0; book = book } ≡ token → HoldsBy m.number place edition s0.0 s0.1
+  pub holder_has : (token : BookTokenState E B T L I) (table : TableId) (s0 s1 : Me (Slot E B) (View E B T L I)) (book : B) (place : ℕ) (refused : Bool) (edition : E) → record { table_id = table; view = s0.0; book = book } ≡ token → HoldsBy m.number place refused edition s0.0 s0.1
       → IsAsTaken m token.view token.book → s1 ≡ (s0.0, (0, Book (Some book)) ∷ rest s0.1) → HasBook m s1.0 s1.1
-  holder_has token table s0 s1 book place edition is h left e1 =
+  holder_has token table s0 s1 book place refused edition is h left e1 =
       let taken = some_of s0.0.book h.taken in
       let was : IsAsTaken m s0.0 book = subst (λ (t : BookTokenState E B T L I). IsAsTaken m t.view t.book) (sym is) left in
       subst (λ (s : Me (Slot E B) (View E B T L I)). HasBook m s.0 s.1) (sym e1) (record {
@@ -41,9 +41,9 @@ module _ {E B T L I : Type 0} (m : Meanings E B T L I) where
       })
 
   -- a processor that gave the book back is in its section as before
-  pub in_again : (s0 s1 s2 : Me (Slot E B) (View E B T L I)) (book : B) (place : ℕ) (edition : E) → HoldsBy m.number place edition s0.0 s0.1 → s1 ≡ (s0.0, (0, Book (Some book)) ∷ rest s0.1)
-      → ((b : B) → s1.1 ≡ (0, Book (Some b)) ∷ rest s1.1 → s2 ≡ (with_step (book_given m s1.0 b) book_index 0, rest s1.1)) → IsInBy m.number place edition s2.0 s2.1
-  in_again s0 s1 s2 book place edition h e1 step = subst (λ (s : Me (Slot E B) (View E B T L I)). IsInBy m.number place edition s.0 s.1) (sym (given s0 s1 s2 book e1 step)) (record {
+  pub in_again : (s0 s1 s2 : Me (Slot E B) (View E B T L I)) (book : B) (place : ℕ) (refused : Bool) (edition : E) → HoldsBy m.number place refused edition s0.0 s0.1 → s1 ≡ (s0.0, (0, Book (Some book)) ∷ rest s0.1)
+      → ((b : B) → s1.1 ≡ (0, Book (Some b)) ∷ rest s1.1 → s2 ≡ (with_step (book_given m s1.0 b) book_index 0, rest s1.1)) → IsInBy m.number place refused edition s2.0 s2.1
+  in_again s0 s1 s2 book place refused edition h e1 step = subst (λ (s : Me (Slot E B) (View E B T L I)). IsInBy m.number place refused edition s.0 s.1) (sym (given s0 s1 s2 book e1 step)) (record {
     processor = h.processor;
     inside = h.inside;
     unheld = h.unheld;
@@ -53,6 +53,7 @@ module _ {E B T L I : Type 0} (m : Meanings E B T L I) where
     place_is = h.place_is;
     number_is = h.number_is;
     told_is = h.told_is;
+    refused_is = h.refused_is;
   })
 
   -- the operator that has the book is at work

@@ -1,5 +1,6 @@
 -- The seats of all processors split off the opening seat, one by one.
-use Rattle.std.proofs.Common.{◌≡◌, ℕ, ◌+◌, ◌-◌, ◌<◌, ◌≤◌, Option, List, [], ◌∷◌, ◌++◌, refl, sym, ◌∙◌, ap, subst, arith}
+use Rattle.std.proofs.Common.{◌≡◌, ℕ, ◌+◌, ◌-◌, ◌<◌, ◌≤◌, Option, None, false, List, [], ◌∷◌, ◌++◌, refl, sym, ◌∙◌, ap, subst, arith}
+use Rattle.std.specs.Prelude.{is_some}
 use Rattle.atomic_table.specs.Table.{Me}
 use Rattle.atomic_table.specs.Seated.{TableId}
 use Rattle.rm_table.specs.declared.padded_slot.Slot.{Slot}
@@ -34,9 +35,9 @@ module _ {E B T L I : Type 0} where
   split_seat_is next parts s seat is within o = is ∙ ap (λ (k : Option (Option (Part E L I))). (right_of s.0 next k, [])) (o.kept next (omega arith) within)
 
   -- a seat that was split off is out, and has been told of no number
-  pub new_is_out : (next number : ℕ) (parts : ℕ → Part E L I) (s seat : Me (Slot E B) (View E B T L I)) → seat ≡ (right_of s.0 next (kept_at s.0 next), []) → next ≤ s.0.count → (parts next).held ≡ number → (parts next).pairs ≡ [] → IsOpening next parts s.0 s.1 → IsOutBy next number 0 seat.0 seat.1
-  new_is_out next number parts s seat is within held unseen o = subst (λ (z : Me (Slot E B) (View E B T L I)). IsOutBy next number 0 z.0 z.1) (sym (split_seat_is next parts s seat is within o))
-      (record { idle = record { processor = refl; out = refl; unheld = refl; bookless = refl; empty_hand = refl }; place_is = refl; number_is = held; told_is = ap (λ (pairs : List (ℕ × L)). greatest_pair_number pairs) unseen })
+  pub new_is_out : (next number : ℕ) (parts : ℕ → Part E L I) (s seat : Me (Slot E B) (View E B T L I)) → seat ≡ (right_of s.0 next (kept_at s.0 next), []) → next ≤ s.0.count → (parts next).held ≡ number → (parts next).pairs ≡ [] → (parts next).refusal ≡ None → IsOpening next parts s.0 s.1 → IsOutBy next number 0 false seat.0 seat.1
+  new_is_out next number parts s seat is within held unseen unrefused o = subst (λ (z : Me (Slot E B) (View E B T L I)). IsOutBy next number 0 false z.0 z.1) (sym (split_seat_is next parts s seat is within o))
+      (record { idle = record { processor = refl; out = refl; unheld = refl; bookless = refl; empty_hand = refl }; place_is = refl; number_is = held; told_is = ap (λ (pairs : List (ℕ × L)). greatest_pair_number pairs) unseen; refused_is = ap (λ (o : Option ℕ). is_some o) unrefused })
 
   -- one more
   pub splitting_one : (next : ℕ) (table at : TableId) (parts : ℕ → Part E L I) (old s new seat : Me (Slot E B) (View E B T L I)) (tokens : List (TokenState E B T L I)) → 0 < next → next ≤ s.0.count → at ≡ table → new ≡ (split_off s.0 next, s.1) → seat ≡ (right_of s.0 next (kept_at s.0 next), [])

@@ -1,5 +1,5 @@
 -- The greatest number among the pairs that a processor has seen, as it enters, hears, and otherwise stays.
-use Rattle.std.proofs.Common.{◌≡◌, ℕ, suc, ◌+◌, ◌≤◌, Some, List, [], ◌∷◌, ◌++◌, length, refl, sym, ◌∙◌, ap, subst, arith}
+use Rattle.std.proofs.Common.{◌≡◌, ℕ, suc, ◌+◌, ◌≤◌, Bool, Some, List, [], ◌∷◌, ◌++◌, length, refl, sym, ◌∙◌, ap, subst, arith}
 use Rattle.std.specs.Prelude.{slice_get, max}
 use Rattle.atomic_table.specs.Table.{Me}
 use Rattle.atomic_table.specs.Seated.{TableId}
@@ -49,11 +49,12 @@ module _ {E B T L I : Type 0} where
       ∙ ap (λ (u : TokenState E B T L I). max (told_number p.view) u.view.number) r_is
 
   -- it is out as before
-  pub hears : (place number told greater heard : ℕ) (s0 spent s1 : Me (Slot E B) (View E B T L I)) → IsOutBy place number told s0.0 s0.1 → IsReceiptBy heard spent.0 spent.1 → s1 ≡ (informed_view s0.0 spent.0, s0.1) → greater ≡ max told heard → IsOutBy place number greater s1.0 s1.1
-  hears place number told greater heard s0 spent s1 o receipt then is = subst (λ (s : Me (Slot E B) (View E B T L I)). IsOutBy place number greater s.0 s.1) (sym then) (record {
+  pub hears : (place number told greater heard : ℕ) (refused : Bool) (s0 spent s1 : Me (Slot E B) (View E B T L I)) → IsOutBy place number told refused s0.0 s0.1 → IsReceiptBy heard spent.0 spent.1 → s1 ≡ (informed_view s0.0 spent.0, s0.1) → greater ≡ max told heard → IsOutBy place number greater refused s1.0 s1.1
+  hears place number told greater heard refused s0 spent s1 o receipt then is = subst (λ (s : Me (Slot E B) (View E B T L I)). IsOutBy place number greater refused s.0 s.1) (sym then) (record {
     idle = record { processor = o.idle.processor; out = o.idle.out; unheld = o.idle.unheld; bookless = o.idle.bookless; empty_hand = o.idle.empty_hand };
     place_is = o.place_is;
     number_is = o.number_is;
+    refused_is = o.refused_is;
     told_is = told_informed s0.0 spent.0 heard spent.1 receipt ∙ ap (λ (n : ℕ). max n spent.0.number) o.told_is ∙ ap (λ (n : ℕ). max told n) receipt.number_is ∙ sym is;
   })
 

@@ -1,5 +1,5 @@
 -- Waiting: tries and looks at one word, of which only the last changes anything.
-use Rattle.std.proofs.Common.{◌≡◌, inl, inr, ℕ, ◌≤◌, Option, Some, None, List, [], ◌∷◌, refl, sym, ◌∙◌, ap, subst}
+use Rattle.std.proofs.Common.{◌≡◌, inl, inr, ℕ, ◌≤◌, Bool, Option, Some, None, List, [], ◌∷◌, refl, sym, ◌∙◌, ap, subst}
 use Rattle.atomic_table.specs.Table.{Me, rest}
 use Rattle.atomic_table.specs.Seated.{TableId}
 use Rattle.rm_core.specs.declared.event.Heard.TheVariants.{Drained}
@@ -69,9 +69,9 @@ module _ {E B T L I : Type 0} where
         subst (λ (u : TokenState E B T L I). (r : Regains u.view s4.0) × (r.others ≡ [])) is (regains, refl)
 
     -- One try that took the book.
-    pub takes_book_at_once : (token : TokenState E B T L I) (table : TableId) (s0 s1 s2 : Me (Slot E B) (View E B T L I)) (book : B) (place : ℕ) (edition : E) → record { table_id = table; view = s0.0 } ≡ token → IsInBy m.number place edition s0.0 s0.1
+    pub takes_book_at_once : (token : TokenState E B T L I) (table : TableId) (s0 s1 s2 : Me (Slot E B) (View E B T L I)) (book : B) (place : ℕ) (refused : Bool) (edition : E) → record { table_id = table; view = s0.0 } ≡ token → IsInBy m.number place refused edition s0.0 s0.1
         → AnswersBookTry m s0 Taken s1 → s1.1 ≡ (0, Book (Some book)) ∷ rest s1.1 → s2 ≡ (s1.0, (0, Book None) ∷ rest s1.1) → (t : TakesBook m token.view s2.0 book) × (t.others ≡ [])
-    takes_book_at_once token table s0 s1 s2 book place edition is i step was now =
+    takes_book_at_once token table s0 s1 s2 book place refused edition is i step was now =
         let same : step.0 ≡ book = ap (λ (h : Hand E B). book_on_top book h) (sym (ap (λ (s : Me (Slot E B) (View E B T L I)). s.1) step.1) ∙ was) in
         let found : FoundBy m s0.0 book = subst (λ (b : B). FoundBy m s0.0 b) same step.2 in
         let read = found.edition i.processor in

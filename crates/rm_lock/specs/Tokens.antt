@@ -1,5 +1,5 @@
 -- What contracts see of a lock's tokens, and where the seat of each stands.
-use Rattle.std.specs.Prelude.{◌≡◌, ℕ, ◌+◌, ◌-◌, ◌^◌, ◌<◌, ◌≤◌, max, true, false, IsSome, Some, None, List, [], ◌∷◌, length, slice_get}
+use Rattle.std.specs.Prelude.{◌≡◌, ℕ, ◌+◌, ◌-◌, ◌^◌, ◌<◌, ◌≤◌, max, Bool, true, false, is_some, IsSome, Some, None, List, [], ◌∷◌, length, slice_get}
 use Rattle.atomic_table.specs.Seated.{TableId}
 use Rattle.rm_core.specs.declared.processor_state.Phase.TheVariants.{In}
 use Rattle.rm_table.specs.declared.view.Role.TheVariants.{Processor}
@@ -34,15 +34,17 @@ module _ {E B T L I : Type 0} where
   abbrev pub told_number : View E B T L I → ℕ
   told_number v = greatest_pair_number v.part.pairs
 
-  -- a processor between two sections, that last held or regained this number, and was told of that one
-  pub record IsOutBy (place number told : ℕ) (v : View E B T L I) (hand : Hand E B) : Type 0 where
+  -- a processor between two sections, that last held or regained this number, and was told of that one; a
+  -- refusal stands or not
+  pub record IsOutBy (place number told : ℕ) (refused : Bool) (v : View E B T L I) (hand : Hand E B) : Type 0 where
     pub idle : IsIdle v hand
     pub place_is : v.place ≡ place
     pub number_is : v.part.held ≡ number
     pub told_is : told_number v ≡ told
+    pub refused_is : is_some v.part.refusal ≡ refused
 
   -- a processor in a section, that reads this edition, which it has taken out of its slot
-  pub record IsInBy (number : E → ℕ) (place : ℕ) (edition : E) (v : View E B T L I) (hand : Hand E B) : Type 0 where
+  pub record IsInBy (number : E → ℕ) (place : ℕ) (refused : Bool) (edition : E) (v : View E B T L I) (hand : Hand E B) : Type 0 where
     pub processor : v.role ≡ Processor
     pub inside : v.phase ≡ In
     pub unheld : v.behind ≡ false
@@ -52,9 +54,10 @@ module _ {E B T L I : Type 0} where
     pub place_is : v.place ≡ place
     pub number_is : number edition ≡ v.part.held
     pub told_is : told_number v ≡ v.part.held
+    pub refused_is : is_some v.part.refusal ≡ refused
 
   -- a processor in a section, that has the book too, which it has taken out of its slot
-  pub record HoldsBy (number : E → ℕ) (place : ℕ) (edition : E) (v : View E B T L I) (hand : Hand E B) : Type 0 where
+  pub record HoldsBy (number : E → ℕ) (place : ℕ) (refused : Bool) (edition : E) (v : View E B T L I) (hand : Hand E B) : Type 0 where
     pub processor : v.role ≡ Processor
     pub inside : v.phase ≡ In
     pub unheld : v.behind ≡ false
@@ -64,6 +67,7 @@ module _ {E B T L I : Type 0} where
     pub place_is : v.place ≡ place
     pub number_is : number edition ≡ v.part.held
     pub told_is : told_number v ≡ v.part.held
+    pub refused_is : is_some v.part.refusal ≡ refused
 
   -- a receipt, made when this number was published: it has the history from the opening to that number
   pub record IsReceiptBy (number : ℕ) (v : View E B T L I) (hand : Hand E B) : Type 0 where

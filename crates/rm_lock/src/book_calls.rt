@@ -23,6 +23,7 @@ impl<E: Numbered<Tag = B::Facts>, B: Kept> RmLock<E, B> {
             mut seat,
             edition,
             place,
+            refused,
         } = r;
         waits::take_book(&self.table, rt, &mut seat);
         let book = take_out_book(&self.table, &mut seat);
@@ -31,6 +32,7 @@ impl<E: Numbered<Tag = B::Facts>, B: Kept> RmLock<E, B> {
             edition,
             book,
             place,
+            refused,
         }
     }
 
@@ -44,6 +46,7 @@ impl<E: Numbered<Tag = B::Facts>, B: Kept> RmLock<E, B> {
             mut seat,
             edition,
             place,
+            refused,
         } = r;
         match self.table.take_book(&mut seat) {
             Tried::Taken => {
@@ -53,6 +56,7 @@ impl<E: Numbered<Tag = B::Facts>, B: Kept> RmLock<E, B> {
                     edition,
                     book,
                     place,
+                    refused,
                 })
             }
             Tried::HeldBy(holder) => Err(Busy {
@@ -60,6 +64,7 @@ impl<E: Numbered<Tag = B::Facts>, B: Kept> RmLock<E, B> {
                     seat,
                     edition,
                     place,
+                    refused,
                 },
                 holder: u64::from(holder),
             }),
@@ -83,6 +88,7 @@ impl<E: Numbered<Tag = B::Facts>, B: Kept> RmLock<E, B> {
             edition,
             book,
             place,
+            refused,
         } = h;
         put_book(&self.table, &mut seat, book);
         self.table.give_book(&mut seat);
@@ -90,6 +96,7 @@ impl<E: Numbered<Tag = B::Facts>, B: Kept> RmLock<E, B> {
             seat,
             edition,
             place,
+            refused,
         }
     }
 

@@ -28,6 +28,7 @@ impl<E: Numbered<Tag = B::Facts>, B: Kept> RmLock<E, B> {
                 place: _,
                 number: _,
                 told: _,
+                refused: _,
             } = processor;
             table.join_seat(&mut seat, spent);
         }

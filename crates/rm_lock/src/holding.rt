@@ -14,6 +14,7 @@ pub struct Holding<E: Numbered<Tag = B::Facts>, B: Kept> {
     pub(crate) edition: E,
     pub(crate) book: B,
     pub(crate) place: u32,
+    pub(crate) refused: bool,
 }
 
 impl<E: Numbered<Tag = B::Facts>, B: Kept> Model for Holding<E, B> {
@@ -23,7 +24,7 @@ impl<E: Numbered<Tag = B::Facts>, B: Kept> Model for Holding<E, B> {
 
     ghost view = { λ h. record { table_id = h.seat.table_id; view = h.seat.me.0; book = h.book } };
 
-    ghost invariant = { λ h. HoldsBy E.number h.place h.edition h.seat.me.0 h.seat.me.1 };
+    ghost invariant = { λ h. HoldsBy E.number h.place h.refused h.edition h.seat.me.0 h.seat.me.1 };
 }
 
 impl<E: Numbered<Tag = B::Facts>, B: Kept> Holding<E, B> {

@@ -1,4 +1,4 @@
-ghost use Rattle.std.specs.Prelude.{◌≡◌, ℕ, ◌+◌, ◌<◌, ◌≤◌, [], Some, IfOk, vec_len, slice_get};
+ghost use Rattle.std.specs.Prelude.{◌≡◌, ℕ, ◌+◌, ◌<◌, ◌≤◌, [], Some, None, IfOk, vec_len, slice_get};
 ghost use Rattle.rm_table.specs.declared.part.Part.{Part};
 ghost use Rattle.rm_table.specs.Meanings.{meanings, values_from};
 ghost use Rattle.rm_table.specs.Ends.{OpensTable};
@@ -23,7 +23,8 @@ fn split_all<E: Numbered<Tag = B::Facts>, B: Kept>(
     requires few { processors ≤ 64 }
     requires opening { (parts : ℕ → Part E E.Label B.Item)
         × IsOpening 1 parts seat.old.me.0 seat.old.me.1
-        × ((k : ℕ) → ((parts k).held ≡ number) × ((parts k).pairs ≡ [])) }
+        × ((k : ℕ) → ((parts k).held ≡ number) × ((parts k).pairs ≡ [])
+        × ((parts k).refusal ≡ None)) }
     ensures table { seat.new.table_id ≡ seat.old.table_id }
     ensures at_rest { IfOk result (λ _. IsAtRest seat.new.me.0 seat.new.me.1) }
     ensures same { IfOk result (λ _. unkept_view seat.new.me.0 ≡ unkept_view seat.old.me.0) }
@@ -39,6 +40,7 @@ fn split_all<E: Numbered<Tag = B::Facts>, B: Kept>(
             place,
             number,
             told: 0,
+            refused: false,
         })?;
     }
     Ok(tokens)

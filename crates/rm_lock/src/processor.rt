@@ -1,4 +1,4 @@
-ghost use Rattle.std.specs.Prelude.{◌≡◌};
+ghost use Rattle.std.specs.Prelude.{◌≡◌, is_some};
 ghost use Rattle.rm_lock.specs.Tokens.{told_number};
 
 use fw_base::{Kept, Numbered};
@@ -12,6 +12,7 @@ pub struct Processor<E: Numbered<Tag = B::Facts>, B: Kept> {
     pub(crate) place: u32,
     pub(crate) number: u64,
     pub(crate) told: u64,
+    pub(crate) refused: bool,
 }
 
 impl<E: Numbered<Tag = B::Facts>, B: Kept> Model for Processor<E, B> {
@@ -21,10 +22,24 @@ impl<E: Numbered<Tag = B::Facts>, B: Kept> Model for Processor<E, B> {
 
     ghost view = { λ p. record { table_id = p.seat.table_id; view = p.seat.me.0 } };
 
-    ghost invariant = { λ p. IsOutBy p.place p.number p.told p.seat.me.0 p.seat.me.1 };
+    ghost invariant = { λ p. IsOutBy p.place p.number p.told p.refused p.seat.me.0 p.seat.me.1 };
 }
 
 impl<E: Numbered<Tag = B::Facts>, B: Kept> Processor<E, B> {
+    /// Its place among the processors, from 1.
+    pub fn place(&self) -> u32
+        ensures { result ≡ self.now.view.place }
+    {
+        self.place
+    }
+
+    /// Whether it was refused since it last regained.
+    pub fn is_refused(&self) -> bool
+        ensures { result ≡ is_some self.now.view.part.refusal }
+    {
+        self.refused
+    }
+
     /// The number that it last held or regained.
     pub fn number(&self) -> u64
         ensures { result ≡ self.now.view.part.held }

@@ -13,6 +13,7 @@ use fw_base::{Kept, Numbered};
 use rm_table::{RmSeat, RmTable};
 use std::mem;
 use std::sync::Wait;
+use std::thread::yield_now;
 
 /// Revokes the token of each processor.
 pub(crate) fn revoke_all<E: Numbered<Tag = B::Facts>, B: Kept>(
@@ -154,4 +155,6 @@ pub(crate) fn publish_book<E: Numbered<Tag = B::Facts>, B: Kept>(
     table.publish(seat);
     table.give_book(seat);
     table.give_back(seat);
+    // Readers that it revoked wait for the lock behind: they come before the operator's next write.
+    yield_now();
 }

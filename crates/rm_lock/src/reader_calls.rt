@@ -42,6 +42,7 @@ impl<E: Numbered<Tag = B::Facts>, B: Kept> RmLock<E, B> {
             place,
             number,
             told,
+            refused,
         } = p;
         self.table.raise(&mut seat);
         match self.table.check(&mut seat) {
@@ -51,6 +52,7 @@ impl<E: Numbered<Tag = B::Facts>, B: Kept> RmLock<E, B> {
                     seat,
                     edition,
                     place,
+                    refused,
                 })
             }
             Heard::Revoked(refusal) => {
@@ -61,6 +63,7 @@ impl<E: Numbered<Tag = B::Facts>, B: Kept> RmLock<E, B> {
                         place,
                         number,
                         told,
+                        refused: true,
                     },
                     refusal,
                 )
@@ -79,6 +82,7 @@ impl<E: Numbered<Tag = B::Facts>, B: Kept> RmLock<E, B> {
             mut seat,
             edition,
             place,
+            refused,
         } = r;
         let number = edition.number();
         put_edition(&self.table, &mut seat, place, edition);
@@ -88,6 +92,7 @@ impl<E: Numbered<Tag = B::Facts>, B: Kept> RmLock<E, B> {
             place,
             number,
             told: number,
+            refused,
         }
     }
 
@@ -105,6 +110,7 @@ impl<E: Numbered<Tag = B::Facts>, B: Kept> RmLock<E, B> {
             place,
             number: _,
             told,
+            refused: _,
         } = p;
         waits::take_back(&self.table, rt, &mut seat);
         let number = self.table.read_number(&mut seat);
@@ -115,6 +121,7 @@ impl<E: Numbered<Tag = B::Facts>, B: Kept> RmLock<E, B> {
             place,
             number,
             told,
+            refused: false,
         }
     }
 
@@ -129,6 +136,7 @@ impl<E: Numbered<Tag = B::Facts>, B: Kept> RmLock<E, B> {
             place,
             number,
             told,
+            refused,
         } = p;
         match self.table.take_back(&mut seat) {
             Tried::Taken => {
@@ -140,6 +148,7 @@ impl<E: Numbered<Tag = B::Facts>, B: Kept> RmLock<E, B> {
                     place,
                     number: published,
                     told,
+                    refused: false,
                 })
             }
             Tried::HeldBy(holder) => Err(Busy {
@@ -148,6 +157,7 @@ impl<E: Numbered<Tag = B::Facts>, B: Kept> RmLock<E, B> {
                     place,
                     number,
                     told,
+                    refused,
                 },
                 holder: u64::from(holder),
             }),

@@ -11,6 +11,7 @@ pub struct Reading<E: Numbered<Tag = B::Facts>, B: Kept> {
     pub(crate) seat: RmSeat<E, B>,
     pub(crate) edition: E,
     pub(crate) place: u32,
+    pub(crate) refused: bool,
 }
 
 impl<E: Numbered<Tag = B::Facts>, B: Kept> Model for Reading<E, B> {
@@ -20,7 +21,7 @@ impl<E: Numbered<Tag = B::Facts>, B: Kept> Model for Reading<E, B> {
 
     ghost view = { λ r. record { table_id = r.seat.table_id; view = r.seat.me.0 } };
 
-    ghost invariant = { λ r. IsInBy E.number r.place r.edition r.seat.me.0 r.seat.me.1 };
+    ghost invariant = { λ r. IsInBy E.number r.place r.refused r.edition r.seat.me.0 r.seat.me.1 };
 }
 
 impl<E: Numbered<Tag = B::Facts>, B: Kept> Reading<E, B> {

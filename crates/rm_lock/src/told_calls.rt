@@ -43,6 +43,7 @@ impl<E: Numbered<Tag = B::Facts>, B: Kept> RmLock<E, B> {
             place,
             number,
             told,
+            refused,
         } = p;
         let Receipt {
             seat: spent,
@@ -54,6 +55,7 @@ impl<E: Numbered<Tag = B::Facts>, B: Kept> RmLock<E, B> {
             place,
             number,
             told: told.max(heard),
+            refused,
         }
     }
 }

@@ -6,7 +6,24 @@ ghost use Rattle.rm_lock.specs.Calls.{WaitsForBehind, WaitsForBook, WaitsForProc
 use fw_base::{Kept, Numbered};
 use rm_core::{Heard, Phase};
 use rm_table::{RmSeat, RmTable, Role, Tried};
+use std::hint::spin_loop;
 use std::sync::Wait;
+use std::thread::yield_now;
+
+/// Turns for which a wait spins before it yields its processor at each further one: sections are short, and
+/// with more threads than processors whoever is waited for may not be running.
+const SPINS: u32 = 128;
+
+/// Lets some time pass between two tries, behind so many turns; answers the turns then.
+fn give_way(turns: u32) -> u32 {
+    if turns < SPINS {
+        spin_loop();
+        turns + 1
+    } else {
+        yield_now();
+        turns
+    }
+}
 
 /// Tries for the lock behind until a try takes it.
 pub(crate) fn take_back<E: Numbered<Tag = B::Facts>, B: Kept, R: Wait>(
@@ -19,10 +36,11 @@ pub(crate) fn take_back<E: Numbered<Tag = B::Facts>, B: Kept, R: Wait>(
     ensures table { seat.new.table_id ≡ seat.old.table_id }
     ensures taken { WaitsForBehind seat.old.me seat.new.me }
 {
+    let mut turns = 0;
     for _ in rt.forever() {
         match table.take_back(seat) {
             Tried::Taken => return,
-            Tried::HeldBy(_) => (),
+            Tried::HeldBy(_) => turns = give_way(turns),
         }
     }
     unreachable!()
@@ -42,10 +60,11 @@ pub(crate) fn take_book<E: Numbered<Tag = B::Facts>, B: Kept, R: Wait>(
         (meanings E.number E.tag E.name B.number B.tag B.ready B.of B.facts_item) seat.old.me
         seat.new.me }
 {
+    let mut turns = 0;
     for _ in rt.forever() {
         match table.take_book(seat) {
             Tried::Taken => return,
-            Tried::HeldBy(_) => (),
+            Tried::HeldBy(_) => turns = give_way(turns),
         }
     }
     unreachable!()
@@ -68,10 +87,11 @@ pub(crate) fn drain<E: Numbered<Tag = B::Facts>, B: Kept, R: Wait>(
     ensures out { WaitsForProcessor (meanings E.number E.tag E.name B.number B.tag B.ready B.of B.facts_item)
         seat.old.me processor seat.new.me }
 {
+    let mut turns = 0;
     for _ in rt.forever() {
         match table.drain(seat, processor) {
             Heard::Drained => return,
-            Heard::NotOut => (),
+            Heard::NotOut => turns = give_way(turns),
             Heard::Held | Heard::Revoked(_) | Heard::Number(_) | Heard::Nothing => unreachable!(),
         }
     }

@@ -15,7 +15,7 @@ pub split_seat-seat-requires-clause-kept : goal.split_seat-seat-requires-clause-
 split_seat-seat-requires-clause-kept g c = λ _. may_be_split c.loop-place.place c.args.table.now c.requires.opening.0 c.args.seat.now.me c.loop-place.seat.me c.loop-place.tokens.items (let e = ap (λ v. v.count) (c.loop-place.invariant.3 c.requires.opening.0 c.requires.opening.1).same in let n = c.requires.count in let test = c.loop-place-test.true in may_count c.loop-place.place c.args.processors c.loop-place.seat.me.0.count c.args.seat.now.me.0.count (search rules) e n) (c.loop-place.invariant.3 c.requires.opening.0 c.requires.opening.1)
 
 pub invariant_of-push : goal.invariant_of-push
-invariant_of-push g c = new_is_out c.loop-place.place c.args.number c.requires.opening.0 c.loop-place.seat.me c.split_seat-seat.result.me (c.split_seat-seat.ensures.right (search rules)) (let e = ap (λ v. v.count) (c.loop-place.invariant.3 c.requires.opening.0 c.requires.opening.1).same in let n = c.requires.count in let test = c.loop-place-test.true in may_count c.loop-place.place c.args.processors c.loop-place.seat.me.0.count c.args.seat.now.me.0.count (search rules) e n) (c.requires.opening.2 c.loop-place.place).0 (c.requires.opening.2 c.loop-place.place).1 (c.loop-place.invariant.3 c.requires.opening.0 c.requires.opening.1).opening
+invariant_of-push g c = new_is_out c.loop-place.place c.args.number c.requires.opening.0 c.loop-place.seat.me c.split_seat-seat.result.me (c.split_seat-seat.ensures.right (search rules)) (let e = ap (λ v. v.count) (c.loop-place.invariant.3 c.requires.opening.0 c.requires.opening.1).same in let n = c.requires.count in let test = c.loop-place-test.true in may_count c.loop-place.place c.args.processors c.loop-place.seat.me.0.count c.args.seat.now.me.0.count (search rules) e n) (c.requires.opening.2 c.loop-place.place).0 (c.requires.opening.2 c.loop-place.place).1 (c.requires.opening.2 c.loop-place.place).2 (c.loop-place.invariant.3 c.requires.opening.0 c.requires.opening.1).opening
 
 pub loop-place-preserved : goal.loop-place-preserved
 loop-place-preserved g c = (

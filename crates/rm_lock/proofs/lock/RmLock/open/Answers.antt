@@ -14,7 +14,7 @@ split_all-requires-clause-count g c =
 pub split_all-requires-clause-opening : goal.split_all-requires-clause-opening
 split_all-requires-clause-opening g c =
     let e = c.requires.opens in
-    (first_part (meanings g.E.Numbered.number g.E.Numbered.tag g.E.Numbered.name g.B.Kept.number g.B.Kept.tag g.B.Kept.ready g.B.Kept.of g.B.Kept.facts_item) c.args.book, first_opening (meanings g.E.Numbered.number g.E.Numbered.tag g.E.Numbered.name g.B.Kept.number g.B.Kept.tag g.B.Kept.ready g.B.Kept.of g.B.Kept.facts_item) (vec_len c.args.editions) e.0 c.args.book c.in_ok-table.field-0.seat.me (let some = e.2.some_there in search rules) (c.in_ok-table.ensures.seat e.0 e.1), λ k. (sym c.current-number.ensures, refl))
+    (first_part (meanings g.E.Numbered.number g.E.Numbered.tag g.E.Numbered.name g.B.Kept.number g.B.Kept.tag g.B.Kept.ready g.B.Kept.of g.B.Kept.facts_item) c.args.book, first_opening (meanings g.E.Numbered.number g.E.Numbered.tag g.E.Numbered.name g.B.Kept.number g.B.Kept.tag g.B.Kept.ready g.B.Kept.of g.B.Kept.facts_item) (vec_len c.args.editions) e.0 c.args.book c.in_ok-table.field-0.seat.me (let some = e.2.some_there in search rules) (c.in_ok-table.ensures.seat e.0 e.1), λ k. (sym c.current-number.ensures, refl, refl))
 
 pub invariant_of-result : goal.invariant_of-result
 invariant_of-result g c =
