@@ -197,20 +197,24 @@ IsTallied-touch slots k y t was inside held still same =
     let kept : is_held y ≡ is_held (slot slots k) = still ∙ sym held in
     record {
       live = was.live ∙ sym (live-touch slots k y no_state inside kept);
-      by_source = Counts-touch SrcAddr slots k y no_state t.by_source was.by_source inside kept same.flow same.rule;
-      by_source_port = Counts-touch SrcPort slots k y no_state t.by_source_port was.by_source_port inside kept same.flow same.rule;
-      by_destination = Counts-touch DstAddr slots k y no_state t.by_destination was.by_destination inside kept same.flow same.rule;
-      by_destination_port = Counts-touch DstPort slots k y no_state t.by_destination_port was.by_destination_port inside kept same.flow same.rule;
+      limits = λ counting. let counts = was.limits counting in record {
+        by_source = Counts-touch SrcAddr slots k y no_state t.by_source counts.by_source inside kept same.flow same.rule;
+        by_source_port = Counts-touch SrcPort slots k y no_state t.by_source_port counts.by_source_port inside kept same.flow same.rule;
+        by_destination = Counts-touch DstAddr slots k y no_state t.by_destination counts.by_destination inside kept same.flow same.rule;
+        by_destination_port = Counts-touch DstPort slots k y no_state t.by_destination_port counts.by_destination_port inside kept same.flow same.rule;
+      };
     }
 
 -- the tallies stay where slots that hold no state are left out
 pub IsTallied-held : (slots : List State) (t : Tallies) → IsTallied slots t → IsTallied (held_states slots) t
 IsTallied-held slots t was = record {
   live = was.live ∙ sym (live-held slots);
-  by_source = Counts-held SrcAddr slots t.by_source was.by_source;
-  by_source_port = Counts-held SrcPort slots t.by_source_port was.by_source_port;
-  by_destination = Counts-held DstAddr slots t.by_destination was.by_destination;
-  by_destination_port = Counts-held DstPort slots t.by_destination_port was.by_destination_port;
+  limits = λ counting. let counts = was.limits counting in record {
+    by_source = Counts-held SrcAddr slots t.by_source counts.by_source;
+    by_source_port = Counts-held SrcPort slots t.by_source_port counts.by_source_port;
+    by_destination = Counts-held DstAddr slots t.by_destination counts.by_destination;
+    by_destination_port = Counts-held DstPort slots t.by_destination_port counts.by_destination_port;
+  };
 }
 
 -- a due entry that comes out is one less

@@ -14,7 +14,8 @@ use std::alloc::Global;
 use std::marker::Model;
 
 /// The dynamic states in a table: a flow and a name lead to their state, the states that die are given up
-/// by expiry, and what a limit counts is tallied. An ask walks over no states but once for many installs,
+/// by expiry, and what a limit counts is tallied from the first install
+/// with one on. An ask walks over no states but once for many installs,
 /// where the slots are compacted. It looks into a map, once for each flow name where it asks for any, and
 /// takes a logarithmic step in the queue of expiries for each state that dies and for each entry.
 #[derive(Drop)]
@@ -79,8 +80,8 @@ impl HashedStates {
         self.table.live() as usize
     }
 
-    /// The states in order of making, among slots of expiry 0, which hold none. Dead ones are among them
-    /// until the next ask.
+    /// The states in order of making, among slots of expiry 0, which hold none. No dead one is among them: an
+    /// ask that raises the clock gives up each that dies.
     pub fn slots(&self) -> &[State]
         ensures { held_states result.now ≡ self.now.object.states }
     {

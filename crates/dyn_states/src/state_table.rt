@@ -211,7 +211,8 @@ impl StateTable {
         requires held { is_held (slot (slots_of self.old) place) ≡ true }
         ensures tallied { IsTallied (take (place + 1) (slots_of self.old)) self.new.tallies }
         ensures room { HasRoom self.new }
-        ensures counted { self.new.tallies.counted ≡ self.old.tallies.counted + 1 }
+        ensures counting { self.new.tallies.is_counting ≡ self.old.tallies.is_counting }
+        ensures counted { self.new.tallies.counted ≤ self.old.tallies.counted + 1 }
         ensures pairs { self.new.tallies.room ≡ self.old.tallies.room }
         ensures slots { self.new.slots ≡ self.old.slots }
         ensures lines { self.new.lines ≡ self.old.lines }
@@ -221,12 +222,14 @@ impl StateTable {
         self.tallies.add(&self.slots[..place], &self.slots[place]);
     }
 
-    /// Makes the tallies anew, where each slot holds a state. It takes no memory.
-    fn recount(&mut self)
+    /// Makes the tallies anew, where each slot holds a state, and counts limits from now on or not. It takes
+    /// no memory.
+    fn recount(&mut self, is_counting: bool)
         requires held { states_of self.old ≡ slots_of self.old }
         requires room { HasRoom self.old }
         requires few { 2 * length (slots_of self.old) < self.old.most }
         ensures tallied { IsTallied (slots_of self.new) self.new.tallies }
+        ensures counting { self.new.tallies.is_counting ≡ is_counting }
         ensures room { HasRoom self.new }
         ensures pairs { self.new.tallies.counted < self.new.tallies.room }
         ensures slots { self.new.slots ≡ self.old.slots }
@@ -234,7 +237,7 @@ impl StateTable {
         ensures queue { self.new.queue ≡ self.old.queue }
         ensures most { self.new.most ≡ self.old.most }
     {
-        self.tallies.clear();
+        self.tallies.clear(is_counting);
         for place in 0..self.slots.len() {
             self.count(place);
         }
@@ -253,9 +256,26 @@ impl StateTable {
         if self.slots.is_empty() {
             return;
         }
+        let is_counting = self.tallies.is_counting();
         take_over(&mut self.slots, facts);
         self.compact();
-        self.recount();
+        self.recount(is_counting);
+    }
+
+    /// Counts limits from now on, if the install has one. It takes no memory.
+    pub fn count_limits(&mut self, is_limited: bool)
+        requires table { IsStateTable self.old }
+        requires few { 2 * length (states_of self.old) < self.old.most }
+        ensures states { states_of self.new ≡ states_of self.old }
+        ensures table { IsStateTable self.new }
+        ensures counting { is_limited ≡ true → self.new.tallies.is_counting ≡ true }
+        ensures most { self.new.most ≡ self.old.most }
+    {
+        if !is_limited || self.tallies.is_counting() {
+            return;
+        }
+        self.compact();
+        self.recount(true);
     }
 
     /// Leaves the slots that hold a state, and empties the lines and the queue.
@@ -281,6 +301,7 @@ impl StateTable {
         ensures states { states_of self.new ≡ states_of self.old }
         ensures table { IsStateTable self.new }
         ensures room { HasRoomForOne self.new }
+        ensures counting { self.new.tallies.is_counting ≡ self.old.tallies.is_counting }
         ensures most { self.new.most ≡ self.old.most }
     {
         let has_room = self.slots.len() < self.most
@@ -291,7 +312,8 @@ impl StateTable {
         }
         self.compact();
         if self.tallies.is_full() {
-            self.recount();
+            let is_counting = self.tallies.is_counting();
+            self.recount(is_counting);
         }
     }
 
@@ -312,7 +334,8 @@ impl StateTable {
 
     /// How many states a limit of the rule counts for the flow.
     pub fn count_of(&self, rule: RuleRef, mask: LimitMask, flow: &Flow) -> u32
-        requires { IsStateTable self.now }
+        requires table { IsStateTable self.now }
+        requires counting { self.now.tallies.is_counting ≡ true }
         ensures { result ≡ count_by (object.counts_for rule mask flow.now) (states_of self.now) }
     {
         self.tallies.amount_of(rule.id, mask, flow)

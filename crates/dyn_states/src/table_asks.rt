@@ -1,5 +1,5 @@
 //! What the asks do to a table of states.
-ghost use Rattle.std.specs.Prelude.{◌≡◌, ◌≢◌, ℕ, ◌+◌, ◌*◌, ◌<◌, ◌≤◌, ◌++◌, ◌∷◌, [], true, false, List, Some, length, slice_set};
+ghost use Rattle.std.specs.Prelude.{◌≡◌, ◌≢◌, ℕ, ◌+◌, ◌*◌, ◌<◌, ◌≤◌, ◌++◌, ◌∷◌, [], true, false, List, Some, is_some, length, slice_set};
 ghost use Rattle.std.specs.List.{list_any};
 ghost use Rattle.fw_rule.specs.Values.{values_of, default_values};
 ghost use Rattle.state_asks.specs.declared.op.FlowName.TheVariants.{Named};
@@ -70,7 +70,8 @@ fn limit_answer(
     rule: RuleRef,
     limit: Option<(LimitMask, u16)>,
 ) -> Option<Reply>
-    requires { IsStateTable table.now }
+    requires table { IsStateTable table.now }
+    requires counting { is_some limit ≡ true → table.now.tallies.is_counting ≡ true }
     ensures value { result
         ≡ limit_reply (object_of table.now 0 default_values) rule limit flow.now }
     ensures created { result ≢ Some Created }
@@ -120,7 +121,8 @@ fn install_answer(
     limit: Option<(LimitMask, u16)>,
     name: u8,
 ) -> Reply
-    requires { IsStateTable table.now }
+    requires table { IsStateTable table.now }
+    requires counting { is_some limit ≡ true → table.now.tallies.is_counting ≡ true }
     ensures reply { result
         ≡ install_reply (object_of table.now 0 (values_of settings.now)) flow.now rule limit name }
     ensures created { result ≡ Created → length (states_of table.now) < settings.now.max }
@@ -187,6 +189,7 @@ pub(crate) fn install(
     ensures most { table.new.most ≡ table.old.most }
     ensures count { 2 * length (states_of table.new) < table.new.most }
 {
+    table.count_limits(limit.is_some());
     table.make_room();
     let reply = install_answer(table, settings, flow, rule, limit, name);
     if let Reply::Created = reply {

@@ -2,7 +2,7 @@ ghost use Rattle.std.specs.Prelude.{◌≡◌, ℕ, ◌+◌, ◌-◌, ◌<◌, �
 ghost use Rattle.dyn_states.specs.declared.state.State.{State};
 ghost use Rattle.dyn_states.specs.LimitCounts.{Counts, HasPairRoom, is_counted_for, amount_of, pair_count, pair_of, pair_room};
 ghost use Rattle.dyn_states.specs.Slots.{is_held, given_up, slot, no_state};
-ghost use Rattle.dyn_states.specs.Tallies.{IsTallied, HasTallyRoom};
+ghost use Rattle.dyn_states.specs.Tallies.{IsTallied, CountsLimits, HasTallyRoom};
 ghost use Rattle.dyn_states.specs.StateObject as object;
 
 use crate::State;
@@ -13,11 +13,13 @@ use fw_rule::LimitMask;
 use packet_headers::Flow;
 use std::alloc::Global;
 
-/// How many states there are, and how many of a rule have the same parameter, by each of the four that a
-/// limit may count by.
+/// How many states there are, and from the first install with a limit on how many of a rule have the same
+/// parameter, by each of the four that a limit may count by.
 #[derive(Drop)]
 pub(crate) struct Tallies {
     live: u32,
+    /// Limits are counted: a rule has asked for one. Until then the four know no pair.
+    is_counting: bool,
     /// How many states were counted since the tallies were empty. So many pairs are known at most, since a
     /// pair stays known where its count falls to 0.
     counted: u32,
@@ -72,6 +74,7 @@ impl Tallies {
     {
         Ok(Tallies {
             live: 0,
+            is_counting: false,
             counted: 0,
             room,
             by_source: LimitCounts::open(alloc, room as usize)?,
@@ -88,6 +91,13 @@ impl Tallies {
         self.room <= self.counted
     }
 
+    /// Whether limits are counted.
+    pub fn is_counting(&self) -> bool
+        ensures { result ≡ self.now.is_counting }
+    {
+        self.is_counting
+    }
+
     /// How many states there are.
     pub fn live(&self) -> u32
         ensures { result ≡ self.now.live }
@@ -97,7 +107,7 @@ impl Tallies {
 
     /// How many states of the rule have the flow's parameter.
     pub fn amount_of(&self, id: u32, mask: LimitMask, flow: &Flow) -> u32
-        ensures { (slots : List State) → IsTallied slots self.now
+        ensures { (slots : List State) → CountsLimits slots self.now
             → result ≡ count_by (is_counted_for mask (id, object.parameter mask flow.now)) slots }
     {
         let pair = (id, parameter(mask, flow));
@@ -109,19 +119,20 @@ impl Tallies {
         }
     }
 
-    /// Counts a state that is made, behind these slots. It takes no memory.
-    pub fn add(&mut self, slots: &[State], state: &State)
-        requires tallied { IsTallied slots.now self.old }
+    /// Counts for limits a state that is made, behind these slots. It takes no memory.
+    fn add_pairs(&mut self, slots: &[State], state: &State)
+        requires limits { CountsLimits slots.now self.old }
         requires held { is_held state.now ≡ true }
         requires memory { HasTallyRoom self.old }
         requires room { self.old.counted < self.old.room }
         requires few { length slots.now < 2 ^ 32 - 1 }
-        ensures tallied { IsTallied (slots.now ++ state.now ∷ []) self.new }
+        ensures limits { CountsLimits (slots.now ++ state.now ∷ []) self.new }
         ensures memory { HasTallyRoom self.new }
+        ensures live { self.new.live ≡ self.old.live }
+        ensures counting { self.new.is_counting ≡ self.old.is_counting }
         ensures room { self.new.room ≡ self.old.room }
         ensures counted { self.new.counted ≡ self.old.counted + 1 }
     {
-        self.live += 1;
         self.counted += 1;
         add(&mut self.by_source, LimitMask::SrcAddr, slots, state);
         add(&mut self.by_source_port, LimitMask::SrcPort, slots, state);
@@ -131,6 +142,48 @@ impl Tallies {
             LimitMask::DstPort,
             slots,
             state,
+        );
+    }
+
+    /// Counts a state that is made, behind these slots. It takes no memory.
+    pub fn add(&mut self, slots: &[State], state: &State)
+        requires tallied { IsTallied slots.now self.old }
+        requires held { is_held state.now ≡ true }
+        requires memory { HasTallyRoom self.old }
+        requires room { self.old.counted < self.old.room }
+        requires few { length slots.now < 2 ^ 32 - 1 }
+        ensures tallied { IsTallied (slots.now ++ state.now ∷ []) self.new }
+        ensures memory { HasTallyRoom self.new }
+        ensures counting { self.new.is_counting ≡ self.old.is_counting }
+        ensures room { self.new.room ≡ self.old.room }
+        ensures counted { self.new.counted ≤ self.old.counted + 1 }
+    {
+        self.live += 1;
+        if self.is_counting {
+            self.add_pairs(slots, state);
+        }
+    }
+
+    /// Counts for limits the state in that place no longer.
+    fn take_pairs(&mut self, slots: &[State], place: usize)
+        requires limits { CountsLimits slots.now self.old }
+        requires place { place < length slots.now }
+        requires held { is_held (slot slots.now place) ≡ true }
+        ensures limits { CountsLimits (slice_set slots.now place (given_up (slot slots.now place)))
+            self.new }
+        ensures memory { HasTallyRoom self.old → HasTallyRoom self.new }
+        ensures live { self.new.live ≡ self.old.live }
+        ensures room { self.new.room ≡ self.old.room }
+        ensures counted { self.new.counted ≡ self.old.counted }
+    {
+        take(&mut self.by_source, LimitMask::SrcAddr, slots, place);
+        take(&mut self.by_source_port, LimitMask::SrcPort, slots, place);
+        take(&mut self.by_destination, LimitMask::DstAddr, slots, place);
+        take(
+            &mut self.by_destination_port,
+            LimitMask::DstPort,
+            slots,
+            place,
         );
     }
 
@@ -146,25 +199,21 @@ impl Tallies {
         ensures counted { self.new.counted ≡ self.old.counted }
     {
         self.live -= 1;
-        take(&mut self.by_source, LimitMask::SrcAddr, slots, place);
-        take(&mut self.by_source_port, LimitMask::SrcPort, slots, place);
-        take(&mut self.by_destination, LimitMask::DstAddr, slots, place);
-        take(
-            &mut self.by_destination_port,
-            LimitMask::DstPort,
-            slots,
-            place,
-        );
+        if self.is_counting {
+            self.take_pairs(slots, place);
+        }
     }
 
-    /// Counts no state.
-    pub fn clear(&mut self)
+    /// Counts no state, and limits from now on or not.
+    pub fn clear(&mut self, is_counting: bool)
         ensures none { IsTallied [] self.new }
         ensures memory { HasTallyRoom self.old → HasTallyRoom self.new }
+        ensures counting { self.new.is_counting ≡ is_counting }
         ensures room { self.new.room ≡ self.old.room }
         ensures counted { self.new.counted ≡ 0 }
     {
         self.live = 0;
+        self.is_counting = is_counting;
         self.counted = 0;
         self.by_source.clear();
         self.by_source_port.clear();

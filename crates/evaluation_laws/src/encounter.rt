@@ -13,7 +13,7 @@ use ip6_headers::AnyIp;
 use packet_headers::{Flow, flow};
 use rule_gates::looks_up;
 use rule_match::matches;
-use state_asks::{FlowName, Op, RuleRef};
+use state_asks::{FlowName, Op, RuleRef, kept_flags};
 
 /// The rule in that place; `None` behind the last.
 pub(crate) fn rule_at<'a>(question: &Question<'a, '_>, place: usize) -> Option<&'a Rule>
@@ -92,11 +92,11 @@ pub(crate) fn lookup_flow(
     }
 }
 
-/// TCP's flags, 0 where it isn't TCP.
+/// Of TCP's flags those that an ask has, 0 where it isn't TCP.
 fn flags_of(question: &Question<'_, '_>) -> u8
     ensures { result ≡ spec.flags_of question.now.packet.now }
 {
-    question.packet.tcp_flags().unwrap_or(0)
+    kept_flags(question.packet.tcp_flags().unwrap_or(0))
 }
 
 /// The rule, as states and judgements name it.

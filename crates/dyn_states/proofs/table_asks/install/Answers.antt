@@ -22,7 +22,7 @@ pub returns-in-Created-clause-reply : goal.returns-in-Created-clause-reply
 unfolding install_reply limit_count
 returns-in-Created-clause-reply c =
     c.install_answer-reply.ensures.reply
-    ∙ ap (λ (states : List State). install_reply (record { states = states; clock = 0; settings = values_of c.args.settings.now }) c.args.flow.now c.args.rule c.args.limit c.args.name) c.make_room.ensures.states
+    ∙ ap (λ (states : List State). install_reply (record { states = states; clock = 0; settings = values_of c.args.settings.now }) c.args.flow.now c.args.rule c.args.limit c.args.name) (c.make_room.ensures.states ∙ c.count_limits.ensures.states)
 
 pub returns-in-Created-clause-after : goal.returns-in-Created-clause-after
 unfolding after_install install_reply limit_count
@@ -30,12 +30,12 @@ returns-in-Created-clause-after c =
     let o : StateObject = object_of c.args.table.now c.args.clock (values_of c.args.settings.now) in
     let reply : c.install_answer-reply.result ≡ install_reply o c.args.flow.now c.args.rule c.args.limit c.args.name =
     c.install_answer-reply.ensures.reply
-    ∙ ap (λ (states : List State). install_reply (record { states = states; clock = 0; settings = values_of c.args.settings.now }) c.args.flow.now c.args.rule c.args.limit c.args.name) c.make_room.ensures.states in
+    ∙ ap (λ (states : List State). install_reply (record { states = states; clock = 0; settings = values_of c.args.settings.now }) c.args.flow.now c.args.rule c.args.limit c.args.name) (c.make_room.ensures.states ∙ c.count_limits.ensures.states) in
     let created : install_reply o c.args.flow.now c.args.rule c.args.limit c.args.name ≡ Created = sym reply ∙ c.in-Created.is in
     let states : states_of c.hold.new.self ≡ states_of c.args.table.now ++ new_state o c.args.flow.now c.args.flags c.args.rule c.args.limit c.args.name ∷ [] =
     ap (λ (xs : List State). held_states xs) c.hold.ensures.slots
     ∙ (held_states-push (slots_of c.make_room.new.self) c.new_state.result c.new_state.ensures.held
-    ∙ (ap (λ (xs : List State). xs ++ c.new_state.result ∷ []) c.make_room.ensures.states
+    ∙ (ap (λ (xs : List State). xs ++ c.new_state.result ∷ []) (c.make_room.ensures.states ∙ c.count_limits.ensures.states)
     ∙ ap (λ (s : State). states_of c.args.table.now ++ s ∷ []) (c.new_state.ensures.value (states_of c.args.table.now)))) in
     kept_or _ o _ (install_reply o c.args.flow.now c.args.rule c.args.limit c.args.name) created
     (ap (λ (xs : List State). let p : StateObject = record o { states = xs } in p) states)
@@ -49,14 +49,14 @@ returns-in_default c =
     let o : StateObject = object_of c.args.table.now c.args.clock (values_of c.args.settings.now) in
     let reply : c.install_answer-reply.result ≡ install_reply o c.args.flow.now c.args.rule c.args.limit c.args.name =
     c.install_answer-reply.ensures.reply
-    ∙ ap (λ (states : List State). install_reply (record { states = states; clock = 0; settings = values_of c.args.settings.now }) c.args.flow.now c.args.rule c.args.limit c.args.name) c.make_room.ensures.states in
-    let long = ap (λ (xs : List State). length xs) c.make_room.ensures.states in
+    ∙ ap (λ (states : List State). install_reply (record { states = states; clock = 0; settings = values_of c.args.settings.now }) c.args.flow.now c.args.rule c.args.limit c.args.name) (c.make_room.ensures.states ∙ c.count_limits.ensures.states) in
+    let long = ap (λ (xs : List State). length xs) (c.make_room.ensures.states ∙ c.count_limits.ensures.states) in
     record {
       reply = reply;
-      after = kept _ _ (record o { states = o.states ++ new_state o c.args.flow.now c.args.flags c.args.rule c.args.limit c.args.name ∷ [] }) (install_reply o c.args.flow.now c.args.rule c.args.limit c.args.name) (not_created _ (λ e. c.in_default.not-Created (reply ∙ e))) (ap (λ (xs : List State). let p : StateObject = record o { states = xs } in p) c.make_room.ensures.states);
+      after = kept _ _ (record o { states = o.states ++ new_state o c.args.flow.now c.args.flags c.args.rule c.args.limit c.args.name ∷ [] }) (install_reply o c.args.flow.now c.args.rule c.args.limit c.args.name) (not_created _ (λ e. c.in_default.not-Created (reply ∙ e))) (ap (λ (xs : List State). let p : StateObject = record o { states = xs } in p) (c.make_room.ensures.states ∙ c.count_limits.ensures.states));
       table = c.make_room.ensures.table;
-      most = c.make_room.ensures.most;
-      count = let h = c.requires.held in let m = c.make_room.ensures.most in omega arith;
+      most = c.make_room.ensures.most ∙ c.count_limits.ensures.most;
+      count = let h = c.requires.held in let m = c.make_room.ensures.most in let n = c.count_limits.ensures.most in let k = ap (λ (xs : List State). length xs) c.count_limits.ensures.states in omega arith;
     }
   where
     kept : (before after grown : StateObject) (r : Reply) → is_created r ≡ false → before ≡ after → before ≡ cond (is_created r) grown after

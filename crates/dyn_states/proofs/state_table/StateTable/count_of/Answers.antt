@@ -6,4 +6,4 @@ use Rattle.dyn_states.proofs.state_table.StateTable.count_of.Goals as goal
 
 pub returns : goal.returns
 unfolding same_pair
-returns c = c.amount_of.ensures c.args.self.now.slots.items c.requires.tallied ∙ sym (count_by-held (object.counts_for c.args.rule c.args.mask c.args.flow.now) c.args.self.now.slots.items)
+returns c = c.amount_of.ensures c.args.self.now.slots.items (c.requires.table.tallied.limits c.requires.counting) ∙ sym (count_by-held (object.counts_for c.args.rule c.args.mask c.args.flow.now) c.args.self.now.slots.items)

@@ -1,5 +1,5 @@
 -- The first slots are counted, each once.
-use Rattle.std.proofs.Common.{◌≡◌, take}
+use Rattle.std.proofs.Common.{◌≡◌, ◌≤◌, take}
 use Rattle.dyn_states.specs.StateTable.{slots_of, HasRoom}
 use Rattle.dyn_states.specs.Tallies.{IsTallied}
 use Rattle.dyn_states.proofs.state_table.StateTable.recount.Given as goal
@@ -8,7 +8,8 @@ abbrev pub invariant-loop-place : goal.invariant-loop-place
 invariant-loop-place l = record {
   tallied : IsTallied (take l.place (slots_of l.self)) l.self.tallies;
   room : HasRoom l.self;
-  counted : l.self.tallies.counted ≡ l.place;
+  counting : l.self.tallies.is_counting ≡ l.is_counting;
+  counted : l.self.tallies.counted ≤ l.place;
   pairs : l.self.tallies.room ≡ l.initial.self.tallies.room;
   slots : l.self.slots ≡ l.initial.self.slots;
   lines : l.self.lines ≡ l.initial.self.lines;
