@@ -9,7 +9,7 @@ use Rattle.rule_gates.specs.Gates.{admits, is_body_held, is_exact, IsGateOf, Are
 use Rattle.rule_gates.specs.Keys.{HasAddresses, IsKeyOf}
 use Rattle.rule_gates.specs.Told.{is_told_body}
 use Rattle.rule_gates.specs.declared.gate.Gate.{Gate}
-use Rattle.rule_gates.specs.declared.key.Key.{Key}
+use Rattle.rule_gates.specs.declared.gate_key.GateKey.{GateKey}
 use Rattle.eval_engine.specs.Encounter.{is_rule_met, looks_up}
 use Rattle.eval_engine.specs.Place.{IsRuleAt, IsTold}
 use Rattle.eval_engine.specs.Question.{Question}
@@ -47,14 +47,14 @@ unlooked true b is = cc
 unlooked false b is = refl
 
 -- what a gate that tells all, and admits the key, tells of its rule
-told_by : (q : Question) (key : Key) (rule : Rule) (gate : Gate) → IsKeyOf q.packet key → HasAddresses q.packet → IsGateOf rule gate → is_exact gate ≡ true → admits gate key ≡ true → IsTold q rule
+told_by : (q : Question) (key : GateKey) (rule : Rule) (gate : Gate) → IsKeyOf q.packet key → HasAddresses q.packet → IsGateOf rule gate → is_exact gate ≡ true → admits gate key ≡ true → IsTold q rule
 told_by q key rule gate is fit of exact admitted = record {
   plain = unlooked (looks_up rule) (is_told_body rule.body) (sym of.exact ∙ exact);
   held = held_is q rule rule.body refl (of.whole q.edition.config.tables q.edition.config.locals q.packet q.port key exact is fit admitted);
 }
 
 -- of the rule in the first place from another on whose gate admits the key
-pub told_there : (q : Question) (key : Key) (gates : List Gate) (gate : Gate) (from place : ℕ) → IsKeyOf q.packet key → HasAddresses q.packet → AreGates q.edition.config.rules gates
+pub told_there : (q : Question) (key : GateKey) (gates : List Gate) (gate : Gate) (from place : ℕ) → IsKeyOf q.packet key → HasAddresses q.packet → AreGates q.edition.config.rules gates
     → place ≡ from + position_or_len (λ gate. admits gate key) (drop from gates) → place < length gates → gate ≡ get_or gates place gate → is_exact gate ≡ true
     → (rule : Rule) → IsRuleAt q place rule → IsTold q rule
 told_there q key gates gate from place is fit are at within there exact rule in_place =

@@ -8,7 +8,7 @@ use Rattle.fw_rule.specs.declared.rule.Rule.{Rule}
 use Rattle.rule_gates.specs.Gates.{admits, is_body_held, concerns, IsGateOf, AreGates}
 use Rattle.rule_gates.specs.Keys.{IsKeyOf}
 use Rattle.rule_gates.specs.declared.gate.Gate.{Gate}
-use Rattle.rule_gates.specs.declared.key.Key.{Key}
+use Rattle.rule_gates.specs.declared.gate_key.GateKey.{GateKey}
 use Rattle.eval_engine.proofs.Walks.{walk_meets}
 use Rattle.eval_engine.specs.Encounter.{is_disabled, is_rule_met, is_check_state, looks_up}
 use Rattle.eval_engine.specs.Question.{Question}
@@ -43,7 +43,7 @@ module _ (q : Question) (seen : Seen) (callers : List ℕ) where
   held_is rule (Some body) is none = rw is none
 
   -- a rule whose gate doesn't admit the key
-  shut_passed : (key : Key) → IsKeyOf q.packet key → (rule : Rule) (gate : Gate) (rest : List Rule) → IsGateOf rule gate → admits gate key ≡ false
+  shut_passed : (key : GateKey) → IsKeyOf q.packet key → (rule : Rule) (gate : Gate) (rest : List Rule) → IsGateOf rule gate → admits gate key ≡ false
       → walk_from q seen callers (rule ∷ rest) 0 ≡ PassesOver (walk_from q seen callers rest 0)
   shut_passed key is rule gate rest sound shut =
       let neither = or_parts (looks_up rule) _ (unconcerned (concerns rule q.edition.config.tables q.edition.config.locals q.packet q.port) refl) in
@@ -68,7 +68,7 @@ module _ (q : Question) (seen : Seen) (callers : List ℕ) where
       longer less one = omega arith
 
   -- all rules before the first whose gate admits the key are passed over
-  pub shut_gates_passed : (key : Key) → IsKeyOf q.packet key → (rules : List Rule) (gates : List Gate) → AreGates rules gates
+  pub shut_gates_passed : (key : GateKey) → IsKeyOf q.packet key → (rules : List Rule) (gates : List Gate) → AreGates rules gates
       → PassesTo (walk_from q seen callers rules 0) (walk_from q seen callers (drop (position_or_len (λ gate. admits gate key) gates) rules) 0)
   shut_gates_passed key is [] [] are = passes_at_once _
   shut_gates_passed key is [] (gate ∷ gates) are = absurd are
@@ -84,7 +84,7 @@ module _ (q : Question) (seen : Seen) (callers : List ℕ) where
           rw (shut, one) (passes_one _ _ _ (shut_passed key is rule gate rules are.0 shut) passes)
 
   -- and so from a place on
-  pub shut_gates_passed_from : (key : Key) → IsKeyOf q.packet key → (gates : List Gate) (place next : ℕ) → AreGates q.edition.config.rules gates
+  pub shut_gates_passed_from : (key : GateKey) → IsKeyOf q.packet key → (gates : List Gate) (place next : ℕ) → AreGates q.edition.config.rules gates
       → next ≡ place + position_or_len (λ gate. admits gate key) (drop place gates)
       → PassesTo (walk_from q seen callers (drop place q.edition.config.rules) 0) (walk_from q seen callers (drop next q.edition.config.rules) 0)
   shut_gates_passed_from key is gates place next are at =

@@ -23,7 +23,7 @@ use crate::{Cause, Judgement, Paused, Stage, Verdict};
 use counter_book::Tally;
 use fw_rule::{Action, Rule, StateOpt};
 use packet_headers::Flow;
-use rule_gates::{Key, is_check_state, is_exact, next_admitted, state_of};
+use rule_gates::{GateKey, is_check_state, is_exact, next_admitted, state_of};
 use state_asks::{Op, RuleRef};
 
 /// The rule that each list ends with.
@@ -283,7 +283,7 @@ fn meet(
 
 /// Goes on behind the rules whose gates don't admit the packet's key: each of them is passed over. Whether
 /// the gate there tells all of its rule: it looks nothing up, and its body holds.
-fn pass_shut_gates(search: &Search<'_, '_>, key: &Key, at: &mut Position) -> bool
+fn pass_shut_gates(search: &Search<'_, '_>, key: &GateKey, at: &mut Position) -> bool
     requires key { IsKeyOf search.now.packet.now key.now }
     requires addresses { HasAddresses search.now.packet.now }
     ensures passes { (seen : Seen)
@@ -296,13 +296,14 @@ fn pass_shut_gates(search: &Search<'_, '_>, key: &Key, at: &mut Position) -> boo
     let gates = search.edition.gates();
     let place = next_admitted(gates, at.place, key);
     at.place = place;
-    place < gates.len() && is_exact(&gates[place])
+    let all = gates.as_slice();
+    place < all.len() && is_exact(&all[place])
 }
 
 /// The next rule whose gate admits the packet's key, or the end of the rules.
 fn step(
     search: &Search<'_, '_>,
-    key: &Key,
+    key: &GateKey,
     searched: &Searched,
     at: &mut Position,
     tally: &mut Tally,
@@ -373,7 +374,7 @@ pub(crate) fn waiting(searched: &Searched, at: &Position) -> Stage
 /// From there to the next ask or to the end. Of the packet gates ask its key.
 pub(crate) fn walk(
     search: &Search<'_, '_>,
-    key: &Key,
+    key: &GateKey,
     searched: &Searched,
     at: &mut Position,
     tally: &mut Tally,
