@@ -8,8 +8,8 @@ use crate::admission::admits;
 use crate::gates::BLOCK;
 use crate::{Gate, GateKey, Gates};
 
-/// So many blocks of gates are looked through before a hull is asked: in a list that is no longer no hull is.
-const NEAR: usize = 2;
+/// So many gates are looked through before a hull is asked: in a list that is no longer no hull is.
+const NEAR: usize = 64;
 
 /// At most so many blocks are looked through before the next hull is asked.
 const FAR: usize = 32;
@@ -104,6 +104,15 @@ fn next_by_hulls(gates: &Gates, from: usize, key: &GateKey) -> usize
     place
 }
 
+/// Where the gates end that are looked through before a hull is asked.
+fn near_end(from: usize, len: usize) -> usize
+    requires { from < len }
+    ensures further { from < result }
+    ensures end { result ≤ len }
+{
+    from.saturating_add(NEAR).min(len)
+}
+
 /// The first place from this one on whose gate admits the key; the number of gates where none does.
 pub fn next_admitted(gates: &Gates, from: usize, key: &GateKey) -> usize
     ensures { result ≡ from + position_or_len (λ gate. spec.admits gate key.now)
@@ -113,7 +122,7 @@ pub fn next_admitted(gates: &Gates, from: usize, key: &GateKey) -> usize
     if from >= all.len() {
         return from;
     }
-    let (_, end) = stretch(from, 0, NEAR, all.len());
+    let end = near_end(from, all.len());
     let found = scan(all, from, end, key);
     if found < end {
         return found;
