@@ -122,10 +122,10 @@ fn rule(alloc: Global, numbers: &mut Numbers) -> Result<Rule, Fail> {
     })
 }
 
-/// A list of twenty-four rules.
+/// A list of rules, longer than what is searched before hulls are asked.
 pub fn random_rules(alloc: Global, numbers: &mut Numbers) -> Result<Vec<Arc<Rule>>, Fail> {
     let mut rules = Vec::new(alloc);
-    for _ in 0..24 {
+    for _ in 0..150 {
         rules.push(Arc::new(alloc, rule(alloc, numbers)?)?)?;
     }
     Ok(rules)
