@@ -1,6 +1,6 @@
 use super::Turn;
 use crate::drafts::{Deed, Parts};
-use crate::frames::{DATAGRAM, FRAGMENT, SIX, SYN};
+use crate::frames::{DATAGRAM, FIN_ACK, FRAGMENT, SIX, SYN};
 use eval_engine::{Cause, Verdict};
 use fw_base::Addr;
 use fw_rule::LimitMask;
@@ -174,6 +174,24 @@ pub const STATEFUL: &[Row] = &[
                 name: FlowName::Named(1),
             },
             reply: Reply::Found(Way::Reverse, RuleRef { id: 2, number: 200 }),
+        }],
+        verdict: Verdict::Allow,
+        rule: RuleRef { id: 2, number: 200 },
+        cause: Cause::Rule,
+        packets: &[0, 1, 0],
+    },
+    Row {
+        name: "ask_has_three_flags",
+        rules: &[(100, 0, Deed::Check(b'1')), (200, 0, Deed::Keep(b'1'))],
+        packet: FIN_ACK,
+        turns: &[Turn {
+            op: Op::Lookup {
+                flow: SYN_FLOW,
+                flags: 1,
+                second: 9,
+                name: FlowName::Named(1),
+            },
+            reply: Reply::Found(Way::Forward, RuleRef { id: 2, number: 200 }),
         }],
         verdict: Verdict::Allow,
         rule: RuleRef { id: 2, number: 200 },
