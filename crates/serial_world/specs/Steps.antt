@@ -1,5 +1,5 @@
 -- The steps of a serial world: each is one relation, whichever call makes it.
-use Rattle.std.specs.Prelude.{◌≡◌, ◌≢◌, ℕ, ◌+◌, true, false, Result, IfOk, OnOk, IfErr, OnErr, List, [], ◌∷◌, ◌++◌, length}
+use Rattle.std.specs.Prelude.{◌≡◌, ◌≢◌, ℕ, ◌+◌, true, false, Result, is_ok, IfOk, OnOk, IfErr, OnErr, List, [], ◌∷◌, ◌++◌, length}
 use Rattle.counter_book.specs.declared.tally.Count.{Count}
 use Rattle.state_asks.specs.declared.op.Op.{Op}
 use Rattle.state_asks.specs.declared.reply.Reply.{Reply}
@@ -21,7 +21,7 @@ use Rattle.fw_world.specs.Editions.{IsLastOf, IsNextEdition}
 use Rattle.fw_world.specs.Entries.{question_under}
 use Rattle.fw_world.specs.CommitFaults.{IsCauseOf}
 use Rattle.fw_world.specs.Inputs.{Input, Packet}
-use Rattle.fw_world.specs.Lane.{LaneValue, with_docket_entry}
+use Rattle.fw_world.specs.Lane.{LaneValue, lane_after_admission, lane_after_leave, with_docket_entry}
 use Rattle.fw_world.specs.Skips.{entry_for, skipped_input}
 use Rattle.fw_world.specs.World.{WorldValue, published_count, IsLaneOf, LaneStandsFor, DeskStandsFor}
 use Rattle.fw_world.specs.declared.commit_fault.CommitFault.{CommitFault}
@@ -83,6 +83,11 @@ pub record JudgesNext (old new : WorldValue) (before after : LaneValue) (packet 
   pub begun : BeginsJudging old new before.place (length before.docket.entries + 1) packet port second
   -- other lanes' asks are as they were
   pub asks : ChangesAsksOf before.place old new
+
+-- The next record of a lane was judged in a section of its own: the lane is admitted, judges and leaves.
+abbrev pub JudgesAdmitted : WorldValue → WorldValue → LaneValue → LaneValue → AnyIp → Port → ℕ → Result Judgement OutOfMemory → Type 0
+JudgesAdmitted old new before after packet port second result =
+    (inside : LaneValue) × JudgesNext old new (lane_after_admission (published_count old) before) inside packet port second result × (after ≡ lane_after_leave (record { lane = inside; judged = is_ok result }))
 
 -- A record of a lane was entered that isn't judged, or memory was wanted.
 pub record SkipsNext (world : WorldValue) (before after : LaneValue) (entry : Skipped) (result : Result (Unit {0}) OutOfMemory) : Type 0 where

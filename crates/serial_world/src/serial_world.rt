@@ -13,7 +13,7 @@ ghost use Rattle.state_journal.specs.Journal.{first_journal};
 ghost use Rattle.fw_world.specs.Inputs.{Input};
 ghost use Rattle.fw_world.specs.Lane as lanes;
 ghost use Rattle.fw_world.specs.Lane.{LaneValue, first_lanes, lane_after_regain, lane_after_admission};
-ghost use Rattle.serial_world.specs.Steps.{JudgesNext, SkipsNext, Commits};
+ghost use Rattle.serial_world.specs.Steps.{JudgesNext, JudgesAdmitted, SkipsNext, Commits};
 ghost use Rattle.fw_world.specs.LaneKept.{IsLane, pending_of};
 ghost use Rattle.serial_world.specs.SerialEntries.{entry_of};
 ghost use Rattle.fw_world.specs.World.{WorldValue, published_count, IsLaneOf, DeskStandsFor};
@@ -217,10 +217,8 @@ impl SerialWorld {
     ) -> Result<Judgement, OutOfMemory>
         requires of_world { IsLaneOf self.old lane.old }
         requires heeded { lane.old.refusal ≡ None }
-        ensures next { (inside : LaneValue)
-            × JudgesNext self.old self.new (lane_after_admission (published_count self.old) lane.old)
-            inside packet.now port.now second result
-            × (lane.new ≡ lanes.lane_after_leave (record { lane = inside; judged = is_ok result })) }
+        ensures next { JudgesAdmitted self.old self.new lane.old lane.new packet.now port.now second
+            result }
         ensures of_world { IsLaneOf self.new lane.new }
         ensures heeded { lane.new.refusal ≡ None }
     {
