@@ -8,6 +8,9 @@ use Rattle.eval_engine.specs.Dockets.{judged_entry}
 use Rattle.eval_engine.specs.declared.judgement.Judgement.{Judgement}
 use Rattle.fw_world.specs.Lane.{LaneValue, with_docket_entry, lane_after_admission}
 use Rattle.fw_world.specs.LaneKept.{IsLane, pending_of}
+use Rattle.fw_base.specs.declared.port.Port.{Port}
+use Rattle.ip6_headers.specs.declared.any_ip.AnyIp.{AnyIp}
+use Rattle.serial_world.specs.Steps.{JudgesNext}
 use Rattle.fw_world.specs.Sections.{judged_editions}
 use Rattle.fw_world.specs.World.{WorldValue, published_count, IsLaneOf}
 use Rattle.fw_world.proofs.LaneSteps.{judged_editions-judged, IsLane-judged, IsLane-failed}
@@ -59,3 +62,8 @@ IsLane-after (Ok judgement) old before after numbered lane failed of_world is =
     let below = subst (λ (n : ℕ). All (λ number. number ≤ n) (judged_editions before.docket.entries)) (sym numbered) of_world.judged in
     subst (λ (l : LaneValue). IsLane 0 l) (sym lane) (IsLane-judged before judgement after.tally is below)
 IsLane-after (Err fault) old before after numbered lane failed of_world is = subst (λ (l : LaneValue). IsLane 1 l) (sym failed) (IsLane-failed 1 before after.tally is)
+
+-- judging leaves its refusal, if there is one
+pub refusal-next : (old new : WorldValue) (before after : LaneValue) (packet : AnyIp) (port : Port) (second : ℕ) (result : Result Judgement OutOfMemory) → JudgesNext old new before after packet port second result → after.refusal ≡ before.refusal
+refusal-next old new before after packet port second (Ok judgement) next = ap (λ (l : LaneValue). l.refusal) next.lane
+refusal-next old new before after packet port second (Err fault) next = ap (λ (l : LaneValue). l.refusal) next.failed

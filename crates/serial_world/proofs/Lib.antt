@@ -4,5 +4,6 @@ pub mod LastEdition
 pub mod WorldSteps
 pub mod BookAsks
 pub mod LanesOf
+pub mod Admitted
 -- lanes that stand aside while the world goes on
 pub mod Keeping

@@ -5,7 +5,6 @@ ghost use Rattle.generation_store.specs.Published.{IsEdition};
 ghost use Rattle.rule_edits.specs.Changing.{IsChanging};
 ghost use Rattle.state_journal.specs.Journal.{first_journal};
 ghost use Rattle.fw_world.specs.CommitFaults.{IsCauseOf};
-ghost use Rattle.fw_world.specs.Editions.{IsLastOf};
 ghost use Rattle.fw_world.specs.World.{published_count};
 ghost use Rattle.serial_world.specs.Steps.{Publishes};
 ghost use Rattle.serial_world.specs.WorldKept.{IsWorld};

@@ -1,4 +1,4 @@
-ghost use Rattle.std.specs.Prelude.{◌≡◌, ◌-◌, Some, length, slice_get};
+ghost use Rattle.std.specs.Prelude.{◌≡◌, ◌-◌, length};
 ghost use Rattle.generation_store.specs.Published.{Published};
 ghost use Rattle.fw_world.specs.Editions.{IsLastOf};
 

@@ -1,4 +1,4 @@
-ghost use Rattle.std.specs.Prelude.{◌≡◌, ◌<◌, ℕ, ◌+◌, ◌≤◌, ◌++◌, ◌∷◌, [], length, true, false, IfOk, OnOk, OnErr, IfErr, IsSome, None, List, is_ok, is_err, map};
+ghost use Rattle.std.specs.Prelude.{◌≡◌, ◌<◌, ℕ, ◌≤◌, ◌∷◌, [], length, false, IfOk, OnOk, IsSome, None, List, is_ok, is_err, map};
 ghost use Rattle.std.specs.Arc.{arc_value};
 ghost use Rattle.std.specs.List.{list_any, AllByRecursion};
 ghost use Rattle.fw_rule.specs.declared.command.Command.{Command};
@@ -6,20 +6,17 @@ ghost use Rattle.rule_chain.specs.Configuration.{Configuration};
 ghost use Rattle.fw_world.specs.Closing.{AreLanesFrom, by_place, EachStandsFor, record_of_world};
 ghost use Rattle.fw_world.specs.Legal.{IsLegalButSections, IsLegal};
 ghost use Rattle.fw_world.specs.Columns.{no_columns, with_lane};
-ghost use Rattle.eval_engine.specs.Dockets.{judged_entry};
 ghost use Rattle.fw_rule.specs.WellFormed.{IsWellFormed};
 ghost use Rattle.generation_store.specs.Published.{IsEdition};
 ghost use Rattle.rule_edits.specs.Changing.{IsChanging};
 ghost use Rattle.state_journal.specs.Journal.{first_journal};
-ghost use Rattle.fw_world.specs.Inputs.{Input, Packet};
+ghost use Rattle.fw_world.specs.Inputs.{Input};
 ghost use Rattle.fw_world.specs.Lane as lanes;
-ghost use Rattle.fw_world.specs.Lane.{LaneValue, first_lanes, lane_after_regain, lane_after_admission, with_docket_entry};
-ghost use Rattle.fw_world.specs.Skips.{entry_for, skipped_input};
-ghost use Rattle.serial_world.specs.Steps.{Judges, BeginsJudging, ChangesAsksOf, Publishes};
-ghost use Rattle.fw_world.specs.CommitFaults.{IsCauseOf};
+ghost use Rattle.fw_world.specs.Lane.{LaneValue, first_lanes, lane_after_regain, lane_after_admission};
+ghost use Rattle.serial_world.specs.Steps.{JudgesNext, JudgesAdmitted, SkipsNext, Commits};
 ghost use Rattle.fw_world.specs.LaneKept.{IsLane, pending_of};
 ghost use Rattle.serial_world.specs.SerialEntries.{entry_of};
-ghost use Rattle.fw_world.specs.World.{WorldValue, published_count, IsLaneOf, LaneStandsFor, DeskStandsFor};
+ghost use Rattle.fw_world.specs.World.{WorldValue, published_count, IsLaneOf, DeskStandsFor};
 ghost use Rattle.serial_world.specs.WorldKept.{IsNewWorld};
 
 use crate::lane_state::LaneState;
@@ -131,22 +128,8 @@ impl SerialWorld {
         second: u32,
     ) -> Result<Judgement, OutOfMemory>
         requires place { (1 ≤ lane.old.place) × (lane.old.place ≤ self.old.journal.lanes) }
-        ensures judged { IfOk result (λ judgement.
-            Judges self.old self.new lane.old.place (length lane.old.docket.entries + 1) packet.now
-            port.now second lane.old.tally lane.new.tally judgement) }
-        ensures lane { IfOk result (λ judgement. lane.new
-            ≡ record (with_docket_entry (judged_entry judgement) lane.old) { tally = lane.new.tally }) }
-        ensures working { OnOk result (lane.old.failed ≡ false) }
-        ensures asks { ChangesAsksOf lane.old.place self.old self.new }
-        ensures begun { BeginsJudging self.old self.new lane.old.place
-            (length lane.old.docket.entries + 1) packet.now port.now second }
-        ensures stands { OnOk result ((inputs : List Input) → LaneStandsFor self.old lane.old inputs
-            → LaneStandsFor self.new lane.new (inputs ++ Packet packet.now port.now second ∷ [])) }
-        ensures failed { OnErr result (lane.new ≡ record lane.old {
-          tally = lane.new.tally;
-          failed = true;
-        }) }
-        ensures idle { lane.old.failed ≡ true → self.new ≡ self.old }
+        ensures next { JudgesNext self.old self.new lane.old lane.new packet.now port.now second
+            result }
         ensures of_world { IsLaneOf self.old lane.old → IsLaneOf self.new lane.new }
         ensures kept { IsLaneOf self.old lane.old → IsLane 1 lane.old
             → IsLane (pending_of (is_ok result)) lane.new }
@@ -209,26 +192,10 @@ impl SerialWorld {
     ) -> (SerialInside, Result<Judgement, OutOfMemory>)
         requires of_world { IsLaneOf self.old inside.lane }
         requires fresh { inside.judged ≡ false }
-        ensures judged { IfOk result.1 (λ judgement.
-            Judges self.old self.new inside.lane.place (length inside.lane.docket.entries + 1)
-            packet.now port.now second inside.lane.tally result.0.lane.tally judgement) }
-        ensures lane { IfOk result.1 (λ judgement. result.0
-            ≡ record { lane = record (with_docket_entry (judged_entry judgement) inside.lane) { tally = result.0.lane.tally }; judged = true }) }
-        ensures working { OnOk result.1 (inside.lane.failed ≡ false) }
-        ensures stands { OnOk result.1 ((inputs : List Input)
-            → LaneStandsFor self.old inside.lane inputs
-            → LaneStandsFor self.new result.0.lane (inputs ++ Packet packet.now port.now second
-            ∷ [])) }
-        ensures asks { ChangesAsksOf inside.lane.place self.old self.new }
-        ensures begun { BeginsJudging self.old self.new inside.lane.place
-            (length inside.lane.docket.entries + 1) packet.now port.now second }
+        ensures next { JudgesNext self.old self.new inside.lane result.0.lane packet.now port.now
+            second result.1 }
+        ensures section { result.0.judged ≡ is_ok result.1 }
         ensures of_world { IsLaneOf self.new result.0.lane }
-        ensures failed { OnErr result.1 (result.0
-            ≡ record {
-              lane = record inside.lane { tally = result.0.lane.tally; failed = true };
-              judged = false;
-            }) }
-        ensures idle { inside.lane.failed ≡ true → self.new ≡ self.old }
     {
         let SerialInside {
             mut state,
@@ -250,27 +217,10 @@ impl SerialWorld {
     ) -> Result<Judgement, OutOfMemory>
         requires of_world { IsLaneOf self.old lane.old }
         requires heeded { lane.old.refusal ≡ None }
-        ensures judged { IfOk result (λ judgement.
-            Judges self.old self.new lane.old.place (length lane.old.docket.entries + 1) packet.now
-            port.now second lane.old.tally lane.new.tally judgement) }
-        ensures lane { IfOk result (λ judgement. lane.new
-            ≡ record (with_docket_entry (judged_entry judgement) (lane_after_admission (published_count self.old)
-            lane.old)) { tally = lane.new.tally }) }
-        ensures working { OnOk result (lane.old.failed ≡ false) }
-        ensures stands { OnOk result ((inputs : List Input) → LaneStandsFor self.old lane.old inputs
-            → LaneStandsFor self.new lane.new (inputs ++ Packet packet.now port.now second ∷ [])) }
-        ensures asks { ChangesAsksOf lane.old.place self.old self.new }
-        ensures begun { BeginsJudging self.old self.new lane.old.place
-            (length lane.old.docket.entries + 1) packet.now port.now second }
+        ensures next { JudgesAdmitted self.old self.new lane.old lane.new packet.now port.now second
+            result }
         ensures of_world { IsLaneOf self.new lane.new }
         ensures heeded { lane.new.refusal ≡ None }
-        ensures failed { OnErr result (lane.new
-            ≡ record (lane_after_admission (published_count self.old) lane.old) {
-              tally = lane.new.tally;
-              failed = true;
-              loose = lanes.one_looser true lane.old.loose;
-            }) }
-        ensures idle { lane.old.failed ≡ true → self.new ≡ self.old }
     {
         let published = self.published();
         lane.state.admit(published);
@@ -291,17 +241,7 @@ impl SerialWorld {
         requires desk { desk ≡ self.old.editions }
         requires command { IsWellFormed command.now }
         requires changing { IsChanging command.now }
-        ensures published { OnOk result.1 (Publishes self.old self.new command.now) }
-        ensures number { IfOk result.1 (λ number. number ≡ published_count self.new) }
-        ensures desk { result.0 ≡ self.new.editions }
-        ensures lanes { OnOk result.1 ((lane : LaneValue)
-            → IsLaneOf self.old lane → IsLaneOf self.new lane) }
-        ensures stands { OnOk result.1 ((lane : LaneValue) (inputs : List Input)
-            → LaneStandsFor self.old lane inputs → LaneStandsFor self.new lane inputs) }
-        ensures accepts { OnOk result.1 ((first : Configuration) (commands : List Command)
-            → DeskStandsFor desk first commands → DeskStandsFor result.0 first (commands ++ command.now ∷ [])) }
-        ensures cause { IfErr result.1 (IsCauseOf self.old.editions command.now) }
-        ensures unchanged { OnErr result.1 (self.new ≡ self.old) }
+        ensures { Commits self.old self.new desk result.0 command.now result.1 }
     {
         let mut desk = desk;
         let outcome = self.edit(alloc, &mut desk, command);
@@ -318,17 +258,7 @@ impl SerialWorld {
         requires desk { desk.old ≡ self.old.editions }
         requires command { IsWellFormed command.now }
         requires changing { IsChanging command.now }
-        ensures published { OnOk result (Publishes self.old self.new command.now) }
-        ensures number { IfOk result (λ number. number ≡ published_count self.new) }
-        ensures desk { desk.new ≡ self.new.editions }
-        ensures lanes { OnOk result ((lane : LaneValue)
-            → IsLaneOf self.old lane → IsLaneOf self.new lane) }
-        ensures stands { OnOk result ((lane : LaneValue) (inputs : List Input)
-            → LaneStandsFor self.old lane inputs → LaneStandsFor self.new lane inputs) }
-        ensures accepts { OnOk result ((first : Configuration) (commands : List Command)
-            → DeskStandsFor desk.old first commands → DeskStandsFor desk.new first (commands ++ command.now ∷ [])) }
-        ensures cause { IfErr result (IsCauseOf self.old.editions command.now) }
-        ensures unchanged { OnErr result (self.new ≡ self.old) }
+        ensures { Commits self.old self.new desk.old desk.new command.now result }
     {
         self.held.publish(alloc, &mut desk.store, command)
     }
@@ -339,12 +269,7 @@ impl SerialWorld {
         lane: SerialLane,
         entry: Skipped,
     ) -> (SerialLane, Result<(), OutOfMemory>)
-        ensures lane { OnOk result.1 (result.0 ≡ with_docket_entry (entry_for entry) lane) }
-        ensures working { OnOk result.1 (lane.failed ≡ false) }
-        ensures stands { OnOk result.1 ((inputs : List Input) → LaneStandsFor self.old lane inputs
-            → LaneStandsFor self.old result.0 (inputs ++ skipped_input entry ∷ [])) }
-        ensures of_world { IsLaneOf self.old lane → IsLaneOf self.old result.0 }
-        ensures failed { OnErr result.1 (result.0 ≡ record lane { failed = true }) }
+        ensures entered { SkipsNext self.old lane result.0 entry result.1 }
         ensures world { self.new ≡ self.old }
     {
         let mut lane = lane;
@@ -354,12 +279,7 @@ impl SerialWorld {
 
     /// The same, where the lane stays in its place.
     pub fn pass_over(&mut self, lane: &mut SerialLane, entry: Skipped) -> Result<(), OutOfMemory>
-        ensures lane { OnOk result (lane.new ≡ with_docket_entry (entry_for entry) lane.old) }
-        ensures working { OnOk result (lane.old.failed ≡ false) }
-        ensures stands { OnOk result ((inputs : List Input) → LaneStandsFor self.old lane.old inputs
-            → LaneStandsFor self.old lane.new (inputs ++ skipped_input entry ∷ [])) }
-        ensures of_world { IsLaneOf self.old lane.old → IsLaneOf self.old lane.new }
-        ensures failed { OnErr result (lane.new ≡ record lane.old { failed = true }) }
+        ensures entered { SkipsNext self.old lane.old lane.new entry result }
         ensures world { self.new ≡ self.old }
     {
         lane.state.skip(skipped_entry(entry))

@@ -1,9 +1,10 @@
 use Rattle.std.proofs.Common.{◌≡◌, ◌≤◌, ◌<◌, ◌^◌, ℕ, Bool, None, ◌∙◌, sym, ap, subst, arith}
-use Rattle.fw_world.specs.Lane.{LaneValue, lane_after_admission}
+use Rattle.fw_world.specs.Lane.{LaneValue, lane_after_admission, lane_after_leave}
 use Rattle.fw_world.specs.LaneKept.{IsLane, IsInside, pending_of}
 use Rattle.fw_world.specs.World.{published_count, IsLaneOf}
 use Rattle.fw_world.proofs.LaneSteps.{IsLane-admitted, IsLane-left}
-use Rattle.serial_world.proofs.LanesOf.{IsLaneOf-admitted}
+use Rattle.serial_world.specs.Steps.{JudgesNext}
+use Rattle.serial_world.proofs.LanesOf.{IsLaneOf-admitted, refusal-next}
 use Rattle.serial_world.proofs.serial_world.SerialWorld.judge.Goals as goal
 
 pub invariant_of-lane : goal.invariant_of-lane
@@ -21,3 +22,18 @@ invariant_of-lane c =
     let inside : IsInside (record { lane = c.judge_record-outcome.new.lane; judged = c.is_ok.result }) =
     subst (λ (b : Bool). IsLane (pending_of b) c.judge_record-outcome.new.lane) (sym c.is_ok.ensures.value) kept in
     subst (λ (l : LaneValue). IsLane 0 l) (sym c.leave.ensures) (IsLane-left (record { lane = c.judge_record-outcome.new.lane; judged = c.is_ok.result }) inside)
+
+pub returns-clause-next : goal.returns-clause-next
+returns-clause-next c =
+    let world = c.args.self.now in
+    let in_it : c.admit.new.self ≡ lane_after_admission (published_count world) c.args.lane.now =
+    c.admit.ensures ∙ ap (λ (n : ℕ). lane_after_admission n c.lane.inside.state) c.published-published.ensures ∙ ap (λ (l : LaneValue). lane_after_admission (published_count world) l) c.lane.view_is in (
+      c.judge_record-outcome.new.lane,
+      subst (λ (l : LaneValue). JudgesNext world c.judge_record-outcome.new.self l c.judge_record-outcome.new.lane c.args.packet.now c.args.port.now c.args.second c.judge_record-outcome.result) in_it c.judge_record-outcome.ensures.next,
+      c.leave.ensures ∙ ap (λ (b : Bool). lane_after_leave (record { lane = c.judge_record-outcome.new.lane; judged = b })) c.is_ok.ensures.value,
+    )
+
+pub returns-clause-heeded : goal.returns-clause-heeded
+returns-clause-heeded c =
+    let next = returns-clause-next c in
+    ap (λ (l : LaneValue). l.refusal) next.2 ∙ refusal-next _ _ _ _ _ _ _ _ next.1

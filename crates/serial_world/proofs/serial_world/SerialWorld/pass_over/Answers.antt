@@ -15,11 +15,20 @@ entered c = subst (λ (e : DocketEntry). OnOk c.skip.result (c.skip.new.self ≡
 pub invariant_of-lane : goal.invariant_of-lane
 invariant_of-lane c = IsLane-passed c.skip.result c.args.entry c.lane.inside.state c.skip.new.self (entered c) c.skip.ensures.failed c.lane.invariant
 
-pub returns-clause-stands : goal.returns-clause-stands
-returns-clause-stands c =
+stands : (c : After-skip) → OnOk c.skip.result ((inputs : List Input) → LaneStandsFor c.args.self.now c.args.lane.now inputs → LaneStandsFor c.args.self.now c.skip.new.self (inputs ++ skipped_input c.args.entry ∷ []))
+stands c =
     subst (λ (l : LaneValue). OnOk c.skip.result ((inputs : List Input) → LaneStandsFor c.args.self.now l inputs → LaneStandsFor c.args.self.now c.skip.new.self (inputs ++ skipped_input c.args.entry ∷ []))) c.lane.view_is
     (LaneStandsFor-passed c.args.self.now c.skip.result c.args.entry c.lane.inside.state c.skip.new.self (entered c))
 
-pub returns-clause-of_world : goal.returns-clause-of_world
-returns-clause-of_world c = λ is.
+of_world : (c : After-skip) → IsLaneOf c.args.self.now c.args.lane.now → IsLaneOf c.args.self.now c.skip.new.self
+of_world c = λ is.
     IsLaneOf-passed c.args.self.now c.skip.result c.args.entry c.lane.inside.state c.skip.new.self (entered c) c.skip.ensures.failed (subst (λ (l : LaneValue). IsLaneOf c.args.self.now l) (sym c.lane.view_is) is)
+
+pub returns-clause-entered : goal.returns-clause-entered
+returns-clause-entered c = record {
+  lane = rw c.lane.view_is at (entered c);
+  stands = stands c;
+  working = rw c.lane.view_is at c.skip.ensures.working;
+  failed = rw c.lane.view_is at c.skip.ensures.failed;
+  of_world = of_world c;
+}
