@@ -5,9 +5,11 @@ use Rattle.fw_base.specs.Faults.{Rose}
 use Rattle.buffered_io.specs.declared.whole_source.ReadError.{ReadError}
 use Rattle.buffered_io.specs.declared.whole_source.ReadError.TheVariants.{Failed, OutOfMemory}
 
--- these bytes were taken: all that were left, or as many as the limit
-pub record ReadsAll (left leftAfter : Option (List ℕ)) (most : ℕ) (bytes : List ℕ) : Type 0 where
+-- These bytes were taken: all that were left, or as many as the limit. The source's count of faults stood
+-- still: none of its reads failed.
+pub record ReadsAll (left leftAfter : Option (List ℕ)) (before now most : ℕ) (bytes : List ℕ) : Type 0 where
   pub taken : Consumes left leftAfter bytes
+  pub steady : now ≡ before
   pub within : length bytes ≤ most
   pub end : length bytes < most → IsAtEnd leftAfter
 

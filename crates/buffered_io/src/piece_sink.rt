@@ -9,9 +9,6 @@ use fw_base::{Failed, Sink};
 use std::marker::Model;
 use std::snapshot::Snapshot;
 
-/// How much text the sink is handed at a time: 64 KiB.
-pub const PIECE_BYTES: usize = 65_536;
-
 /// A sink before another one, which is given text in pieces as large as the buffer. Contracts see the other one, what
 /// it was not given yet, and the other one as it was at first.
 #[derive(Drop)]

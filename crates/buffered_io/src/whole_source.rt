@@ -1,12 +1,10 @@
-ghost use Rattle.std.specs.Prelude.{◌≡◌, ◌≤◌, ◌<◌, IfOk, IfErr, length, vec_len};
+ghost use Rattle.std.specs.Prelude.{◌≡◌, ◌≤◌, ◌<◌, IfOk, IfErr, OnOk, length, vec_len};
 ghost use Rattle.buffered_io.specs.declared.whole_source.ReadError.TheVariants as errors;
 ghost use Rattle.buffered_io.specs.WholeSource.{ReadsAll, ReadsPart, TakesPiece, TakesNone};
 
+use crate::PIECE_BYTES;
 use fw_base::{Failed, OutOfMemory, Source};
 use std::alloc::{AllocError, Global};
-
-/// How many bytes are asked of a source at once: 64 KiB.
-const PIECE_BYTES: usize = 65_536;
 
 /// Why a source was not read to its end.
 #[derive(Clone, Copy, Debug, PartialEq, Eq)]
@@ -54,6 +52,7 @@ fn read_piece<S: Source>(
     ensures failed { IfErr result (λ error.
         TakesNone (S.left source.old) (S.left source.new) (S.faults source.old)
         (S.faults source.new) error) }
+    ensures steady { OnOk result (S.faults source.new ≡ S.faults source.old) }
     ensures later { S.faults source.old ≤ S.faults source.new }
 {
     let count = source.read(buffer)?;
@@ -61,14 +60,16 @@ fn read_piece<S: Source>(
     Ok(count)
 }
 
-/// Reads a source to its end, or to so many bytes. Where it fails, those that were read before are lost.
+/// Reads a source to its end, or to so many bytes, where none of its reads fails. At the first that fails it
+/// is read no further, and what was read before is lost.
 pub fn read_up_to<S: Source>(
     alloc: Global,
     source: &mut S,
     most: usize,
 ) -> Result<Vec<u8>, ReadError>
     ensures all { IfOk result (λ bytes.
-        ReadsAll (S.left source.old) (S.left source.new) most bytes.items) }
+        ReadsAll (S.left source.old) (S.left source.new) (S.faults source.old)
+        (S.faults source.new) most bytes.items) }
     ensures part { IfErr result (λ error.
         ReadsPart (S.left source.old) (S.left source.new) (S.faults source.old)
         (S.faults source.new) most error) }

@@ -9,6 +9,7 @@ pub mod Commands
 -- what a line says, and the script of all lines
 pub mod Statements
 pub mod Scripts
+pub mod Steps
 pub mod Drafts
 pub mod DraftViews
 -- what is promised of each script

@@ -6,7 +6,7 @@ use Rattle.load_maker.specs.declared.load.TheConstants.{MOST_RECORDS}
 use Rattle.load_maker.specs.Load as load
 use Rattle.pcap_read.specs.Reading.{Captured, HasFront, Open, AtBoundary}
 use Rattle.rule_chain.specs.First.{first_configuration}
-use Rattle.serial_schedule.specs.Agenda.{all_lines}
+use Rattle.fw_command.specs.Steps.{all_lines}
 use Rattle.load_laws.specs.Acceptance.{AreAccepted}
 use Rattle.load_laws.specs.MadeScript.{made_script}
 

@@ -23,7 +23,7 @@ use Rattle.rule_chain.specs.Configuration.{Configuration}
 use Rattle.rule_edits.specs.declared.apply_fault.ApplyFault.TheVariants.{NoSuchTable}
 use Rattle.serial_replay.specs.Commands.{Standing, Listing, Rules, Entries, listing_of, line_answer, listed_answer, after_applied, after_command, after_line, after_lines, first_standing}
 use Rattle.serial_replay.specs.Replay.{lines_outcome}
-use Rattle.serial_schedule.specs.Agenda.{all_lines}
+use Rattle.fw_command.specs.Steps.{all_lines}
 use Rattle.state_journal.specs.declared.entry.Entry.{Entry}
 use Rattle.state_journal.specs.declared.entry.Entry.TheVariants.{Publish, Ask}
 use Rattle.record_laws.specs.Listings.{IsPublished, NamesPublished, ListingsNamePublishedEditions}

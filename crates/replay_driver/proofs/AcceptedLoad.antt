@@ -13,7 +13,7 @@ use Rattle.rule_chain.specs.Configuration.{Configuration}
 use Rattle.rule_chain.specs.First.{first_configuration}
 use Rattle.serial_replay.specs.Commands.{Standing, listing_of, first_standing, after_line, after_lines}
 use Rattle.serial_replay.proofs.Listed.{changing-of}
-use Rattle.serial_schedule.specs.Agenda.{all_lines}
+use Rattle.fw_command.specs.Steps.{all_lines}
 use Rattle.replay_driver.specs.FirstEdition.{configuration_behind, listings_of, first_edition}
 use Rattle.replay_driver.specs.Promises.{IsAccepted}
 use Rattle.replay_driver.specs.RunResult.{is_refused}

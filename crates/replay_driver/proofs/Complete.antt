@@ -63,9 +63,9 @@ took_from (Some qs) b name left ps p rest took is stands =
     subst (λ (r : Option (Pair × List Pair)). MatchOption r ⊥ (λ f. (left ≡ Some f.0.1) × (b ≡ Some f.1))) found took
 
 -- all of a script that isn't too long was read
-all_bytes : (script bytes : List ℕ) (left : Option (List ℕ)) → ReadsAll (Some script) left 1048577 bytes → length script ≤ 1048576 → bytes ≡ script
-all_bytes script bytes None reads short = absurd reads.taken
-all_bytes script bytes (Some ys) reads short =
+all_bytes : (script bytes : List ℕ) (left : Option (List ℕ)) (before now : ℕ) → ReadsAll (Some script) left before now 1048577 bytes → length script ≤ 1048576 → bytes ≡ script
+all_bytes script bytes None before now reads short = absurd reads.taken
+all_bytes script bytes (Some ys) before now reads short =
     let split : script ≡ bytes ++ ys = reads.taken in
     let size : length script ≡ length bytes + length ys = ap length split ∙ length-append bytes ys in
     let none : ys ≡ [] = reads.end (omega arith) in
@@ -237,7 +237,8 @@ module _ {K S L : Type 0} (written : K → Option (List ℕ)) (sink_faults : K �
       → ReadsScript pairs faults refused left failures library between names.script script bytes → (bytes ≡ complete.script) × (pairs between ≡ Some complete.behind)
   reads_told names complete between script bytes reads =
       let opened = took_from _ _ names.script _ complete.before _ _ reads.opens.took complete.told complete.script_stands in
-      (all_bytes complete.script bytes (left script) (subst (λ (l : Option (List ℕ)). ReadsAll l (left script) 1048577 bytes) opened.0 reads.reads) complete.script_short, opened.1)
+      (all_bytes complete.script bytes (left script) (failures reads.opened) (failures script)
+      (subst (λ (l : Option (List ℕ)). ReadsAll l (left script) (failures reads.opened) (failures script) 1048577 bytes) opened.0 reads.reads) complete.script_short, opened.1)
 
   replay_status : (names : ReplayNames) → IsComplete written sink_faults pairs faults refused left failures names library libraryAfter sink sinkAfter outcome → (result : RunResult)
       → FindsReplay pairs faults refused left failures names library libraryAfter result outcome.sources.items → result_status result ≡ 0

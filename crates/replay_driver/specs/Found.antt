@@ -41,11 +41,11 @@ module _ {S : Type 0} (left : S → Option (List ℕ)) (failures : S → ℕ) wh
     pub given_back : sources ≡ replayed.sources.items
 
 module _ {L S : Type 0} (pairs : L → Option (List Pair)) (faults : L → ℕ) (refused : L → Option (List ℕ)) (left : S → Option (List ℕ)) (failures : S → ℕ) where
-  -- the script was opened and read to its end, or to its 1,048,577th byte
+  -- the script was opened and read to its end, or to its 1,048,577th byte, and none of its reads failed
   pub record ReadsScript (old new : L) (name : List ℕ) (script : S) (bytes : List ℕ) : Type 0 where
     pub opened : S
     pub opens : Opens pairs faults refused left failures old new name opened
-    pub reads : ReadsAll (left opened) (left script) 1048577 bytes
+    pub reads : ReadsAll (left opened) (left script) (failures opened) (failures script) 1048577 bytes
 
   -- the script was opened and read, and then these captures were opened, in the order of the words
   pub record ReadsNames (name : List ℕ) (captures : List CaptureNames) (old new : L) (script : S) (bytes : List ℕ) (opened : List (OpenedCapture S)) : Type 0 where

@@ -22,15 +22,11 @@ front_of zero (byte ∷ bytes) rest within end = absurd (omega arith)
 front_of (suc most) (byte ∷ bytes) rest within end = ap (λ (l : List ℕ). byte ∷ l) (front_of most bytes rest (omega arith) (λ less. end (omega arith)))
 
 -- what was read of a file is its front
-read_front : (most : ℕ) (file bytes : List ℕ) (after : Option (List ℕ)) → ReadsAll (Some file) after most bytes → bytes ≡ take most file
-read_front most file bytes None reads = absurd reads.taken
-read_front most file bytes (Some rest) reads =
+read_front : (most : ℕ) (file bytes : List ℕ) (after : Option (List ℕ)) (before now : ℕ) → ReadsAll (Some file) after before now most bytes → bytes ≡ take most file
+read_front most file bytes None before now reads = absurd reads.taken
+read_front most file bytes (Some rest) before now reads =
     let split : file ≡ bytes ++ rest = reads.taken in
     sym (ap (take most) split ∙ front_of most bytes rest reads.within reads.end)
-
--- two that read the same file to the same limit read the same bytes
-same_bytes : (most : ℕ) (file bytes others : List ℕ) (after otherAfter : Option (List ℕ)) → ReadsAll (Some file) after most bytes → ReadsAll (Some file) otherAfter most others → bytes ≡ others
-same_bytes most file bytes others after otherAfter reads otherReads = read_front most file bytes after reads ∙ sym (read_front most file others otherAfter otherReads)
 
 -- ---- opening names
 
@@ -74,8 +70,7 @@ module _ {L S : Type 0} (pairs : L → Option (List Pair)) (faults : L → ℕ) 
     file : List ℕ
     contents : List (List ℕ)
     stand : contents_of (name ∷ file_names captures) told ≡ Some (file ∷ contents)
-    after : Option (List ℕ)
-    reads : ReadsAll (Some file) after 1048577 bytes
+    read : bytes ≡ take 1048577 file
     tells : TellContents captures opened contents
 
   -- what was read of names is what stands under them
@@ -90,8 +85,8 @@ module _ {L S : Type 0} (pairs : L → Option (List Pair)) (faults : L → ℕ) 
         file = found.0.1;
         contents = contents;
         stand = contents_first name (file_names captures) told found contents stands tells;
-        after = left script;
-        reads = subst (λ (l : Option (List ℕ)). ReadsAll l (left script) 1048577 bytes) gives names.script_read.reads;
+        read = read_front 1048577 found.0.1 bytes (left script) (failures source) (failures script)
+            (subst (λ (l : Option (List ℕ)). ReadsAll l (left script) (failures source) (failures script) 1048577 bytes) gives names.script_read.reads);
         tells = others;
       }
 
@@ -115,7 +110,7 @@ module _ {L S K M T N : Type 0} (out : Outside L S K) (other : Outside M T N) wh
       let yours = files_read other.pairs other.faults other.refused other.left other.failures names.script names.captures otherLibrary otherLibraryAfter otherScript otherBytes others same.other_before otherReads same.other_tells in
       let (file, contents) = same_first mine.file yours.file mine.contents yours.contents (sym mine.stand ∙ same.same ∙ yours.stand) in
       record {
-        script = same_bytes 1048577 yours.file bytes otherBytes mine.after yours.after (subst (λ (l : List ℕ). ReadsAll (Some l) mine.after 1048577 bytes) file mine.reads) yours.reads;
+        script = mine.read ∙ ap (take 1048577) file ∙ sym yours.read;
         captures = record {
           contents = yours.contents;
           ports = mine.tells.ports ∙ sym yours.tells.ports;

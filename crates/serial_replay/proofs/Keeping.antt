@@ -14,7 +14,8 @@ use Rattle.serial_replay.specs.Live.{run_state, IsSound, IsLive, RunsALine}
 use Rattle.serial_replay.specs.Running.{IsReady, Keeps, HaveTracks, inputs_of, first_capture_of}
 use Rattle.serial_replay.specs.Tracks.{AreTracks, held_record_of, rooms_of}
 use Rattle.serial_replay.specs.declared.running.Running.{Running}
-use Rattle.serial_schedule.specs.Agenda.{all_lines, AreLast, GivesDue, NoneIsDue, GivesRest, NoneIsLeft}
+use Rattle.serial_schedule.specs.Agenda.{AreLast, GivesDue, NoneIsDue, GivesRest, NoneIsLeft}
+use Rattle.fw_command.specs.Steps.{all_lines}
 use Rattle.serial_schedule.specs.Order.{in_order, next_record_of, next_moment, first_capture, moment_of}
 use Rattle.serial_schedule.specs.Schedule.{Ran, events_from}
 use Rattle.serial_schedule.specs.Steps.{steps_of}

@@ -21,7 +21,8 @@ use Rattle.serial_replay.specs.declared.replay.OpenedCapture.{OpenedCapture}
 use Rattle.serial_replay.specs.declared.track.Track.{Track}
 use Rattle.serial_replay.specs.declared.track.Track.TheVariants.{Open, Refused}
 use Rattle.serial_replay.specs.declared.running.Running.{Running}
-use Rattle.serial_schedule.specs.Agenda.{all_lines, NoneIsDue}
+use Rattle.serial_schedule.specs.Agenda.{NoneIsDue}
+use Rattle.fw_command.specs.Steps.{all_lines}
 use Rattle.serial_schedule.specs.Order.{Turn, first_capture, in_order, moment_of, next_moment, next_record_of}
 use Rattle.serial_schedule.specs.Schedule.{events_from, schedule}
 use Rattle.serial_schedule.specs.Steps.{steps_of}

@@ -28,7 +28,7 @@ use Rattle.serial_replay.specs.declared.replay.OpenedCapture.{OpenedCapture}
 use Rattle.serial_replay.specs.declared.replay.Replayed.{Replayed}
 use Rattle.serial_replay.specs.declared.running.Running.{Running}
 use Rattle.serial_replay.specs.declared.track.Track.{Track}
-use Rattle.serial_schedule.specs.Agenda.{all_lines}
+use Rattle.fw_command.specs.Steps.{all_lines}
 use Rattle.serial_schedule.specs.Order.{in_order, next_record_of}
 use Rattle.serial_schedule.specs.Schedule.{events_from, schedule}
 use Rattle.serial_schedule.specs.Steps.{steps_of}

@@ -11,7 +11,7 @@ use Rattle.serial_replay.specs.Events.{RunState, ReplaysAll}
 use Rattle.serial_replay.specs.Reading.{Track, track_inputs, origin_of, AllRead}
 use Rattle.serial_replay.specs.declared.replay.OpenedCapture.{OpenedCapture}
 use Rattle.serial_replay.specs.declared.replay.Replayed.{Replayed}
-use Rattle.serial_schedule.specs.Agenda.{all_lines}
+use Rattle.fw_command.specs.Steps.{all_lines}
 use Rattle.serial_schedule.specs.Schedule.{schedule}
 use Rattle.state_journal.specs.Journal.{first_journal}
 

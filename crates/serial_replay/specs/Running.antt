@@ -21,7 +21,8 @@ use Rattle.fw_world.specs.World.{DeskStandsFor}
 use Rattle.serial_replay.specs.declared.replay.Replayed.{Replayed}
 use Rattle.serial_replay.specs.declared.running.Running.{Running}
 use Rattle.serial_replay.specs.declared.track.Track.{Track}
-use Rattle.serial_schedule.specs.Agenda.{all_lines, NoneIsDue}
+use Rattle.serial_schedule.specs.Agenda.{NoneIsDue}
+use Rattle.fw_command.specs.Steps.{all_lines}
 use Rattle.serial_schedule.specs.Order.{first_capture, in_order, moment_of, next_record_of}
 use Rattle.serial_schedule.specs.Schedule.{events_from, schedule}
 use Rattle.serial_schedule.specs.Steps.{steps_of}

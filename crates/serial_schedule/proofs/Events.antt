@@ -4,7 +4,8 @@ use Rattle.fw_command.specs.declared.script.Line.{Line}
 use Rattle.fw_command.specs.declared.script.Step.{Step}
 use Rattle.fw_command.specs.declared.script.Step.TheVariants.{Run, After}
 use Rattle.pcap_read.specs.Reading.{Captured}
-use Rattle.serial_schedule.specs.Agenda.{due_lines, waiting_steps, all_lines, GivesDue, NoneIsDue, GivesRest}
+use Rattle.serial_schedule.specs.Agenda.{due_lines, waiting_steps, GivesDue, NoneIsDue, GivesRest}
+use Rattle.fw_command.specs.Steps.{all_lines}
 use Rattle.serial_schedule.specs.Order.{Turn, next_moment, first_capture, in_order}
 use Rattle.serial_schedule.specs.Schedule.{Ran, Taken, events_from}
 use Rattle.serial_schedule.proofs.Turns.{with_next, in_order-turn, in_order-none}

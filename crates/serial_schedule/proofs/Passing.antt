@@ -3,7 +3,8 @@ use Rattle.std.proofs.Common.{◌≡◌, ℕ, ◌≤◌, true, cond, nat_le, Lis
 use Rattle.std.proofs.lemmas.Bool.Decides.{nat_tests}
 use Rattle.fw_command.specs.declared.script.Step.{Step}
 use Rattle.fw_command.specs.declared.script.Step.TheVariants.{After}
-use Rattle.serial_schedule.specs.Agenda.{due_lines, waiting_steps, all_lines, AreLast}
+use Rattle.serial_schedule.specs.Agenda.{due_lines, waiting_steps, AreLast}
+use Rattle.fw_command.specs.Steps.{all_lines}
 
 -- No line stands among the steps that were passed over, and none of them waits.
 pub record Passes (taken : ℕ) (old new : List Step) : Type 0 where

@@ -4,6 +4,7 @@ use Rattle.std.specs.Prelude.{◌≡◌, ℕ, nat_le, if◌then◌else◌, Optio
 use Rattle.fw_command.specs.declared.script.Line.{Line}
 use Rattle.fw_command.specs.declared.script.Step.{Step}
 use Rattle.fw_command.specs.declared.script.Step.TheVariants.{Run, After}
+use Rattle.fw_command.specs.Steps.{all_lines}
 
 -- the lines that run before the next record where so many were taken
 abbrev pub due_lines : ℕ → List Step → List Line
@@ -16,12 +17,6 @@ abbrev pub waiting_steps : ℕ → List Step → List Step
 waiting_steps taken [] = []
 waiting_steps taken (Run line ∷ steps) = waiting_steps taken steps
 waiting_steps taken (After count ∷ steps) = if nat_le count taken then waiting_steps taken steps else After count ∷ steps
-
--- all lines, whatever they wait for
-abbrev pub all_lines : List Step → List Line
-all_lines [] = []
-all_lines (Run line ∷ steps) = line ∷ all_lines steps
-all_lines (After count ∷ steps) = all_lines steps
 
 -- these steps are the last ones of those
 abbrev pub AreLast : List Step → List Step → Type 0

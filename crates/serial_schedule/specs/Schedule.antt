@@ -4,7 +4,8 @@ use Rattle.std.specs.Prelude.{ℕ, ◌+◌, List, [], ◌∷◌, ◌++◌, map}
 use Rattle.fw_command.specs.declared.script.Line.{Line}
 use Rattle.fw_command.specs.declared.script.Step.{Step}
 use Rattle.pcap_read.specs.Reading.{Captured}
-use Rattle.serial_schedule.specs.Agenda.{due_lines, waiting_steps, all_lines}
+use Rattle.serial_schedule.specs.Agenda.{due_lines, waiting_steps}
+use Rattle.fw_command.specs.Steps.{all_lines}
 use Rattle.serial_schedule.specs.Order.{Turn, in_order}
 
 -- a command runs, or a capture gives a record

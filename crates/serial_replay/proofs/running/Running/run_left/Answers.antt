@@ -1,6 +1,6 @@
 use Rattle.std.proofs.Common.{refl, ap, ◌∙◌}
 use Rattle.serial_replay.specs.Running.{first_capture_of}
-use Rattle.serial_schedule.specs.Agenda.{all_lines}
+use Rattle.fw_command.specs.Steps.{all_lines}
 use Rattle.serial_replay.proofs.Keeping.{keeps-both, keeps-left, keeps-ended, line-formed}
 use Rattle.serial_replay.proofs.running.Running.run_left.Goals as goal
 
