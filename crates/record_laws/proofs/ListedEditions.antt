@@ -21,8 +21,8 @@ use Rattle.rule_edits.specs.Answers.{Answer as Applied}
 use Rattle.rule_edits.specs.Apply.{apply}
 use Rattle.rule_chain.specs.Configuration.{Configuration}
 use Rattle.rule_edits.specs.declared.apply_fault.ApplyFault.TheVariants.{NoSuchTable}
-use Rattle.serial_replay.specs.Commands.{Standing, Listing, Rules, Entries, listing_of, line_answer, listed_answer, after_applied, after_command, after_line, after_lines, first_standing}
-use Rattle.serial_replay.specs.Replay.{lines_outcome}
+use Rattle.capture_tracks.specs.Commands.{Standing, Listing, Rules, Entries, listing_of, line_answer, listed_answer, after_applied, after_command, after_line, after_lines, first_standing}
+use Rattle.capture_tracks.specs.Commands.{lines_outcome}
 use Rattle.fw_command.specs.Steps.{all_lines}
 use Rattle.state_journal.specs.declared.entry.Entry.{Entry}
 use Rattle.state_journal.specs.declared.entry.Entry.TheVariants.{Publish, Ask}

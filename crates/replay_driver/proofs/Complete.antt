@@ -11,7 +11,9 @@ use Rattle.command_words.specs.Words.{CaptureNames}
 use Rattle.fw_base.specs.Faults.{Rose}
 use Rattle.fw_base.specs.Pairs.{Pair, take_named, TakesOut}
 use Rattle.fw_command.specs.declared.script.Line.{Line}
-use Rattle.fw_command.specs.declared.script.Pace.TheVariants.{Serial}
+use Rattle.command_words.specs.declared.invocation.Mode.{Mode}
+use Rattle.command_words.specs.declared.invocation.Mode.TheVariants.{Serial}
+use Rattle.fw_command.specs.declared.script.Pace.{Pace}
 use Rattle.fw_command.specs.declared.script.Script.{Script}
 use Rattle.fw_command.specs.Scripts.{script_of}
 use Rattle.fw_report.specs.CaptureEnds.{is_unread}
@@ -29,17 +31,18 @@ use Rattle.pcap_read.specs.declared.capture_fault.CaptureFault.TheVariants.{Read
 use Rattle.pcap_read.proofs.OneFront.{front_unique, front_stays}
 use Rattle.rule_chain.specs.Configuration.{Configuration}
 use Rattle.rule_chain.specs.First.{first_configuration}
-use Rattle.serial_replay.specs.Commands.{Listing, Rules, Entries, listing_of}
-use Rattle.serial_replay.specs.Reading.{Track, IsRead, AllRead, IsEnd}
-use Rattle.serial_replay.specs.Replay.{limit_for, lines_outcome}
-use Rattle.serial_replay.specs.declared.replay.OpenedCapture.{OpenedCapture}
+use Rattle.capture_tracks.specs.Commands.{Listing, Rules, Entries, listing_of}
+use Rattle.capture_tracks.specs.Reading.{Track, IsRead, AllRead, IsEnd}
+use Rattle.capture_tracks.specs.Commands.{lines_outcome}
+use Rattle.capture_tracks.specs.Replay.{limit_for}
+use Rattle.capture_tracks.specs.declared.opened.OpenedCapture.{OpenedCapture}
 use Rattle.replay_driver.specs.FirstEdition.{◌>>=◌, first_edition, configuration_behind, listings_of, listed_first, table_shown, first_edition_answer, with_answer, read_script}
 use Rattle.replay_driver.specs.Found.{ReadsScript, FindsReplay, FindsLoad, IsReplayOf, known_left, no_failures, made_capture}
 use Rattle.replay_driver.specs.Openings.{OpensAll}
 use Rattle.replay_driver.specs.Promises.{AllWhole, IsAccepted, IsComplete, IsCompleteJob}
 use Rattle.replay_driver.specs.Run.{IsRunOf}
 use Rattle.replay_driver.specs.RunResult.{result_status, report_status, is_stopped, is_refused}
-use Rattle.replay_driver.specs.Served.{ReplayNames, Job, Replays, Loads}
+use Rattle.replay_driver.specs.Served.{ReplayNames, Job, Replays, Loads, pace_of}
 use Rattle.buffered_io.specs.WholeSource.{ReadsAll}
 use Rattle.replay_driver.specs.declared.first_edition.FirstEdition.{FirstEdition}
 use Rattle.replay_driver.specs.declared.outcome.Outcome.{Outcome}
@@ -143,9 +146,9 @@ listed_well config (line ∷ lines) answers is = by_first (listed_first config l
     by_first (Err e) one is behind = absurd (cc)
     by_first (Ok a) one is behind = by_rest a (listings_of config lines) behind (first_well config line.line (listing_of line.command) a one) refl is
 
-edition_well : (bytes : List ℕ) (edition : FirstEdition) → first_edition bytes ≡ Ok edition → list_any is_refused edition.answers ≡ false
+edition_well : (pace : Pace) (bytes : List ℕ) (edition : FirstEdition) → first_edition pace bytes ≡ Ok edition → list_any is_refused edition.answers ≡ false
 unfolding first_edition
-edition_well bytes edition is = by_script (read_script (script_of Serial bytes)) is
+edition_well pace bytes edition is = by_script (read_script (script_of pace bytes)) is
   where
     by_listings : (script : Script) (config : Configuration) (r : Result (List LineAnswer) ScriptError) → listings_of config script.before ≡ r
         → (r >>= λ (answers : List LineAnswer). let q : Result FirstEdition ScriptError = Ok (record { config = config; answers = answers; live = script.live }) in q) ≡ Ok edition → list_any is_refused edition.answers ≡ false
@@ -200,9 +203,9 @@ module _ {S : Type 0} (left : S → Option (List ℕ)) (failures : S → ℕ) wh
       (or_from (is_unread end) (list_any is_unread ends) one.0 others.0, or_from (is_stopped end) (list_any is_stopped ends) one.1 others.1)
 
   -- a replay of whole captures beside an accepted script has status 0
-  replayed_well : (script : List ℕ) (opened : List (OpenedCapture S)) (kept : RecordValue) (ends : Ends) (sources : List S) → IsAccepted script → AllByRecursion (IsWhole (limit_for (length opened))) opened
-      → IsReplayOf left failures script opened kept ends sources → AllByRecursion (λ s. failures s ≡ 0) sources → report_status ends.captures ends.answers ≡ 0
-  replayed_well script opened kept ends sources accepted whole of quiet =
+  replayed_well : (mode : Mode) (script : List ℕ) (opened : List (OpenedCapture S)) (kept : RecordValue) (ends : Ends) (sources : List S) → IsAccepted (pace_of mode) script → AllByRecursion (IsWhole (limit_for (length opened))) opened
+      → IsReplayOf left failures mode script opened kept ends sources → AllByRecursion (λ s. failures s ≡ 0) sources → report_status ends.captures ends.answers ≡ 0
+  replayed_well mode script opened kept ends sources accepted whole of quiet =
       let still : AllByRecursion (λ s. failures s ≡ 0) of.replayed.sources.items = subst (AllByRecursion (λ s. failures s ≡ 0)) of.given_back quiet in
       let read = all_read_well (limit_for (length opened)) opened of.replayed.sources.items of.replay.tracks of.replayed.ends.captures whole of.replay.read still in
       let is : ◌≡◌ {A = Result FirstEdition ScriptError} (Ok of.edition) (Ok accepted.edition) = sym of.first ∙ accepted.first in
@@ -210,7 +213,7 @@ module _ {S : Type 0} (left : S → Option (List ℕ)) (failures : S → ℕ) wh
       let live : list_any is_refused of.replayed.ends.answers ≡ false =
       ap (list_any is_refused) (of.replay.answered ∙ ap (λ (e : FirstEdition). (lines_outcome e.config e.live).answers) same) ∙ accepted.accepted in
       let answers : list_any is_refused ends.answers ≡ false =
-      ap (list_any is_refused) of.lines_answered ∙ none_of_both is_refused of.edition.answers of.replayed.ends.answers (edition_well script of.edition of.first) live in
+      ap (list_any is_refused) of.lines_answered ∙ none_of_both is_refused of.edition.answers of.replayed.ends.answers (edition_well (pace_of mode) script of.edition of.first) live in
       all_well ends.captures ends.answers (ap (list_any is_unread) of.captures_ended ∙ read.0) (ap (list_any is_stopped) of.captures_ended ∙ read.1) answers
 
 -- no read of a made capture failed
@@ -252,15 +255,15 @@ module _ {K S L : Type 0} (written : K → Option (List ℕ)) (sink_faults : K �
       absurd (complete.library_quiet (subst (λ (n : ℕ). Rose n (faults libraryAfter)) still found.refuses.rose))
   replay_status names complete (Unready error) found =
       let read = reads_told names complete found.reads.between found.script found.bytes found.reads.script_read in
-      let ok : first_edition found.bytes ≡ Ok complete.accepted.edition = ap first_edition read.0 ∙ complete.accepted.first in
-      let bad : first_edition found.bytes ≡ Err error = found.first in
+      let ok : first_edition (pace_of names.mode) found.bytes ≡ Ok complete.accepted.edition = ap (first_edition (pace_of names.mode)) read.0 ∙ complete.accepted.first in
+      let bad : first_edition (pace_of names.mode) found.bytes ≡ Err error = found.first in
       absurd (cc)
   replay_status names complete (Reported kept ends journal) (asked, found) =
       let read = reads_told names complete found.reads.between found.script found.bytes found.reads.script_read in
       let quiet = subst (AllByRecursion (λ s. failures s ≡ 0)) found.given_back complete.sources_quiet in
       let many = opens_length pairs faults refused left failures found.reads.between libraryAfter names.captures found.opened found.reads.captures_opened in
       let whole = all_whole pairs faults refused left failures (limit_for (length names.captures)) found.reads.between libraryAfter names.captures found.opened complete.behind found.reads.captures_opened read.1 complete.captures_whole in
-      replayed_well left failures found.bytes found.opened kept ends found.captures (subst IsAccepted (sym read.0) complete.accepted)
+      replayed_well left failures names.mode found.bytes found.opened kept ends found.captures (subst (IsAccepted (pace_of names.mode)) (sym read.0) complete.accepted)
       (subst (λ (n : ℕ). AllByRecursion (IsWhole left failures (limit_for n)) found.opened) (sym many) whole) found.replay quiet.1
   replay_status names complete (Summed kept ends) finds = absurd finds
 
@@ -271,7 +274,7 @@ module _ {K S L : Type 0} (written : K → Option (List ℕ)) (sink_faults : K �
   load_status n few (Reported kept ends journal) finds = absurd finds
   load_status n few (Summed kept ends) found =
       let (records, many, front) = captures_whole n (limit_for 1) (omega (arith, few)) in
-      replayed_well known_left no_failures (load.load_script n) (made_capture (load.load_capture n) ∷ []) kept ends found.sources (load_accepted n few)
+      replayed_well known_left no_failures Serial (load.load_script n) (made_capture (load.load_capture n) ∷ []) kept ends found.sources (load_accepted n few)
       ((load.load_capture n, refl, refl, (records, front)), tt) found.replay (none_failed found.sources)
 
   -- a run of what is complete ends with status 0, or 6

@@ -7,7 +7,7 @@ use Rattle.command_words.specs.Invocation.{capture_names}
 use Rattle.command_words.specs.declared.capture_word.CaptureWord.{CaptureWord}
 use Rattle.fw_base.specs.Pairs.{Pair}
 use Rattle.replay_driver.specs.Openings.{Opens, OpensAll, port_of}
-use Rattle.serial_replay.specs.declared.replay.OpenedCapture.{OpenedCapture}
+use Rattle.capture_tracks.specs.declared.opened.OpenedCapture.{OpenedCapture}
 
 module _ {L S : Type 0} (pairs : L → Option (List Pair)) (faults : L → ℕ) (refused : L → Option (List ℕ)) (left : S → Option (List ℕ)) (failures : S → ℕ) where
   -- one more capture was opened

@@ -12,8 +12,10 @@ use Rattle.fw_report.specs.declared.capture_end.CaptureEnd.{CaptureEnd}
 use Rattle.fw_report.specs.declared.ends.Ends.{Ends}
 use Rattle.fw_report.specs.declared.ends.LineAnswer.{LineAnswer}
 use Rattle.fw_world.specs.RecordValue.{RecordValue}
-use Rattle.serial_replay.specs.Reading.{Track, AllRead}
-use Rattle.serial_replay.specs.declared.replay.OpenedCapture.{OpenedCapture}
+use Rattle.command_words.specs.declared.invocation.Mode.{Mode}
+use Rattle.command_words.specs.declared.invocation.Mode.TheVariants.{Serial}
+use Rattle.capture_tracks.specs.Reading.{Track, AllRead}
+use Rattle.capture_tracks.specs.declared.opened.OpenedCapture.{OpenedCapture}
 use Rattle.replay_driver.specs.Found.{FindsJob, FindsWords, FindsReplay, IsReplayOf, ReplaysLoad, known_left, no_failures}
 use Rattle.replay_driver.specs.Openings.{pairs_without, sources_of}
 use Rattle.replay_driver.specs.Promises.{IsKept, IsReported, IsSummed, IsUnreadJob, IsUnreadyJob, IsQuiet, HasRefusedCommand, IsFaulty, HasFailedRead, opening_order}
@@ -85,9 +87,9 @@ as_read left failures limit (o ∷ os) (s ∷ ss) [] ends read = absurd read
 as_read left failures limit (o ∷ os) (s ∷ ss) (t ∷ ts) [] read = absurd read
 as_read left failures limit (o ∷ os) (s ∷ ss) (t ∷ ts) (e ∷ es) read = let (port, here, behind) = read in ap suc (as_read left failures limit os ss ts es behind)
 
-as_many : {T : Type 0} (left : T → Option (List ℕ)) (failures : T → ℕ) (script : List ℕ) (opened : List (OpenedCapture T)) (kept : RecordValue) (ends : Ends) (sources : List T)
-    → IsReplayOf left failures script opened kept ends sources → length sources ≡ length opened
-as_many left failures script opened kept ends sources of = ap length of.given_back ∙ as_read left failures _ opened of.replayed.sources.items of.replay.tracks of.replayed.ends.captures of.replay.read
+as_many : {T : Type 0} (left : T → Option (List ℕ)) (failures : T → ℕ) (mode : Mode) (script : List ℕ) (opened : List (OpenedCapture T)) (kept : RecordValue) (ends : Ends) (sources : List T)
+    → IsReplayOf left failures mode script opened kept ends sources → length sources ≡ length opened
+as_many left failures mode script opened kept ends sources of = ap length of.given_back ∙ as_read left failures _ opened of.replayed.sources.items of.replay.tracks of.replayed.ends.captures of.replay.read
 
 module _ {K S L : Type 0} (written : K → Option (List ℕ)) (sink_faults : K → ℕ) (pairs : L → Option (List Pair)) (faults : L → ℕ) (refused : L → Option (List ℕ)) (left : S → Option (List ℕ)) (failures : S → ℕ) where
   module _ (library libraryAfter : L) (sink sinkAfter : K) where
@@ -162,7 +164,7 @@ module _ {K S L : Type 0} (written : K → Option (List ℕ)) (sink_faults : K �
           opened = found.opened;
           reads = found.reads;
           captures = found.captures;
-          replay = subst (λ (f : Ends). IsReplayOf left failures found.bytes found.opened k f found.captures) ended found.replay;
+          replay = subst (λ (f : Ends). IsReplayOf left failures names.mode found.bytes found.opened k f found.captures) ended found.replay;
           given_back = found.given_back;
           writes = subst (λ (b : Bool). Writes written sink_faults sink sinkAfter (report_status outcome.ends.captures outcome.ends.answers) outcome.status (report_text (report_record k) outcome.ends.captures outcome.ends.answers b)) told
               (subst (λ (f : Ends). Writes written sink_faults sink sinkAfter (report_status f.captures f.answers) outcome.status (report_text (report_record k) f.captures f.answers journal)) ended w.writes);
@@ -233,9 +235,9 @@ module _ {K S L : Type 0} (written : K → Option (List ℕ)) (sink_faults : K �
             record { begun = IsSome-from outcome.kept k w.kept; read = ap (list_any is_unread) w.ends ∙ read; stopped = ap (list_any is_stopped) w.ends ∙ stopped }
 
     -- the end of a capture that was unread, where its source was opened in this run
-    failed_by : {T : Type 0} (left : T → Option (List ℕ)) (failures : T → ℕ) (script : List ℕ) (opened : List (OpenedCapture T)) (kept : RecordValue) (ends : Ends) (sources : List T)
-        → IsReplayOf left failures script opened kept ends sources → AreFresh left failures opened → list_any is_unread ends.captures ≡ true → HasFailedRead ends.captures
-    failed_by left failures script opened kept ends sources of fresh e =
+    failed_by : {T : Type 0} (left : T → Option (List ℕ)) (failures : T → ℕ) (mode : Mode) (script : List ℕ) (opened : List (OpenedCapture T)) (kept : RecordValue) (ends : Ends) (sources : List T)
+        → IsReplayOf left failures mode script opened kept ends sources → AreFresh left failures opened → list_any is_unread ends.captures ≡ true → HasFailedRead ends.captures
+    failed_by left failures mode script opened kept ends sources of fresh e =
         subst HasFailedRead (sym of.captures_ended)
         (failed_read left failures _ opened of.replayed.sources.items of.replay.tracks of.replayed.ends.captures of.replay.read fresh (ap (list_any is_unread) (sym of.captures_ended) ∙ e))
 
@@ -248,12 +250,12 @@ module _ {K S L : Type 0} (written : K → Option (List ℕ)) (sink_faults : K �
         go job (Unread name) finds w e = let no = w.kept in absurd (cc)
         go job (Unready error) finds w e = let no = w.kept in absurd (cc)
         go (Replays names) (Reported k ends journal) (told, found) w e =
-            subst HasFailedRead (sym w.ends) (failed_by left failures found.bytes found.opened k ends found.captures found.replay
+            subst HasFailedRead (sym w.ends) (failed_by left failures names.mode found.bytes found.opened k ends found.captures found.replay
             (all_fresh pairs faults refused left failures found.reads.between libraryAfter names.captures found.opened found.reads.captures_opened) (unread_ends ends.captures ends.answers e))
         go (Replays names) (Summed k ends) finds w e = absurd finds
         go (Loads n) (Reported k ends journal) (same, none, found) w e = absurd found
         go (Loads n) (Summed k ends) (same, none, found) w e =
-            subst HasFailedRead (sym w.ends) (failed_by known_left no_failures _ _ k ends found.sources found.replay (refl, tt) (unread_ends ends.captures ends.answers e))
+            subst HasFailedRead (sym w.ends) (failed_by known_left no_failures Serial _ _ k ends found.sources found.replay (refl, tt) (unread_ends ends.captures ends.answers e))
 
     -- ---- before a replay
 
@@ -339,7 +341,7 @@ module _ {K S L : Type 0} (written : K → Option (List ℕ)) (sink_faults : K �
         go (Replays names) (Unready error) sources found =
             rw (found.given_back) (all_named pairs faults refused left failures names.script names.captures library libraryAfter found.script found.bytes found.opened (sources_of found.opened) told found.reads is (length-map found.opened (λ o. o.source)))
         go (Replays names) (Reported k ends journal) sources (asked, found) =
-            rw (found.given_back) (all_named pairs faults refused left failures names.script names.captures library libraryAfter found.script found.bytes found.opened found.captures told found.reads is (as_many left failures found.bytes found.opened k ends found.captures found.replay))
+            rw (found.given_back) (all_named pairs faults refused left failures names.script names.captures library libraryAfter found.script found.bytes found.opened found.captures told found.reads is (as_many left failures names.mode found.bytes found.opened k ends found.captures found.replay))
         go (Replays names) (Summed k ends) sources finds = absurd finds
 
     -- no opening failed where the run went on

@@ -10,7 +10,7 @@ use Rattle.replay_driver.specs.Openings.{Opens, OpensAll, sources_of, file_names
 use Rattle.replay_driver.specs.Served.{ReplayNames}
 use Rattle.replay_driver.proofs.Openings.{opens_length}
 use Rattle.replay_driver.proofs.Statuses.{AreFresh}
-use Rattle.serial_replay.specs.declared.replay.OpenedCapture.{OpenedCapture}
+use Rattle.capture_tracks.specs.declared.opened.OpenedCapture.{OpenedCapture}
 
 -- the list behind one opening
 one_out : (a b : Option (List Pair)) (name : List ℕ) (names : List (List ℕ)) (left : Option (List ℕ)) (told : List Pair) (last : Option (List Pair)) → TakesOut a b name left → a ≡ Some told

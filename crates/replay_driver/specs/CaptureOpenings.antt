@@ -7,7 +7,7 @@ use Rattle.replay_driver.specs.declared.capture_openings.CaptureOpening.{Capture
 use Rattle.replay_driver.specs.declared.capture_openings.CaptureOpening.TheVariants as one
 use Rattle.replay_driver.specs.declared.capture_openings.CaptureOpenings.{CaptureOpenings}
 use Rattle.replay_driver.specs.declared.capture_openings.CaptureOpenings.TheVariants as many
-use Rattle.serial_replay.specs.declared.replay.OpenedCapture.{OpenedCapture}
+use Rattle.capture_tracks.specs.declared.opened.OpenedCapture.{OpenedCapture}
 
 module _ {L S : Type 0} (pairs : L → Option (List Pair)) (faults : L → ℕ) (refused : L → Option (List ℕ)) (left : S → Option (List ℕ)) (failures : S → ℕ) where
   -- the capture was opened, or its name refused

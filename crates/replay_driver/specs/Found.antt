@@ -1,5 +1,5 @@
 -- What a run finds of a command before a byte is written, and which sources it hands back.
-use Rattle.std.specs.Prelude.{◌≡◌, ℕ, ◌<◌, List, [], ◌∷◌, ◌++◌, length, codes, Option, Some, None, Ok, Err, ◌⊎◌}
+use Rattle.std.specs.Prelude.{◌≡◌, ℕ, ◌<◌, ⊤, List, [], ◌∷◌, ◌++◌, length, codes, Option, Some, None, Ok, Err, ◌⊎◌}
 use Rattle.std.specs.Io.KnownBytes.{Consumes}
 use Rattle.command_words.specs.Words.{CaptureNames}
 use Rattle.fw_base.specs.Faults.{Rose}
@@ -8,17 +8,28 @@ use Rattle.fw_base.specs.declared.port.Direction.TheVariants.{In}
 use Rattle.fw_report.specs.declared.ends.Ends.{Ends}
 use Rattle.fw_world.specs.RecordValue.{RecordValue}
 use Rattle.load_maker.specs.Load.{load_script, load_capture}
-use Rattle.serial_replay.specs.Replay.{IsReplay}
-use Rattle.serial_replay.specs.declared.replay.OpenedCapture.{OpenedCapture}
-use Rattle.serial_replay.specs.declared.replay.Replayed.{Replayed}
+use Rattle.command_words.specs.declared.invocation.Mode.{Mode}
+use Rattle.command_words.specs.declared.invocation.Mode.TheVariants as mode
+use Rattle.fw_command.specs.declared.script.Step.{Step}
+use Rattle.rule_chain.specs.Configuration.{Configuration}
+use Rattle.capture_tracks.specs.Reading.{Track}
+use Rattle.capture_tracks.specs.Replay.{IsReplay}
+use Rattle.serial_replay.specs.Replay.{ComesOf}
+use Rattle.capture_tracks.specs.declared.opened.OpenedCapture.{OpenedCapture}
+use Rattle.capture_tracks.specs.declared.replayed.Replayed.{Replayed}
 use Rattle.replay_driver.specs.FirstEdition.{first_edition}
 use Rattle.replay_driver.specs.Openings.{Opens, RefusesToOpen, OpensAll, sources_of}
-use Rattle.replay_driver.specs.Served.{ReplayNames, Job, Replays, Loads}
+use Rattle.replay_driver.specs.Served.{ReplayNames, Job, Replays, Loads, pace_of}
 use Rattle.buffered_io.specs.WholeSource.{ReadsAll}
 use Rattle.replay_driver.specs.declared.first_edition.FirstEdition.{FirstEdition}
 use Rattle.replay_driver.specs.declared.run_result.RunResult.{RunResult}
 use Rattle.replay_driver.specs.declared.run_result.RunResult.TheVariants.{Usage, Unread, Unready, Reported, Summed}
 use Rattle.replay_driver.specs.declared.script_error.ScriptError.{ScriptError}
+
+-- in serial mode the record comes of going through records and commands in the order of the schedule
+abbrev pub IsOrderedIn : Mode → Configuration → List Step → List Track → RecordValue → Type 0
+IsOrderedIn mode.Serial config steps tracks kept = ComesOf config steps tracks kept
+IsOrderedIn mode.Live config steps tracks kept = ⊤
 
 module _ {S : Type 0} (left : S → Option (List ℕ)) (failures : S → ℕ) where
   -- A source failed with at most 1,048,576 of its bytes taken.
@@ -28,13 +39,14 @@ module _ {S : Type 0} (left : S → Option (List ℕ)) (failures : S → ℕ) wh
     pub took : Consumes (left opened) (left now) taken
     pub few : length taken < 1048577
 
-  -- Captures were replayed beside a script: its edition 1 stands first, then comes what it has behind `live`.
-  -- The answers are those of the listings before `live` and then those of the lines behind it.
-  pub record IsReplayOf (script : List ℕ) (opened : List (OpenedCapture S)) (kept : RecordValue) (ends : Ends) (sources : List S) : Type 0 where
+  -- Captures were replayed beside a script in this mode: its edition 1 stands first, then comes what it has behind
+  -- `live`. The answers are those of the listings before `live` and then those of the lines behind it.
+  pub record IsReplayOf (m : Mode) (script : List ℕ) (opened : List (OpenedCapture S)) (kept : RecordValue) (ends : Ends) (sources : List S) : Type 0 where
     pub edition : FirstEdition
-    pub first : first_edition script ≡ Ok edition
+    pub first : first_edition (pace_of m) script ≡ Ok edition
     pub replayed : Replayed S
     pub replay : IsReplay left failures edition.config edition.live opened replayed
+    pub ordered : IsOrderedIn m edition.config edition.live replay.tracks replayed.record
     pub recorded : kept ≡ replayed.record
     pub captures_ended : ends.captures ≡ replayed.ends.captures
     pub lines_answered : ends.answers ≡ edition.answers ++ replayed.ends.answers
@@ -89,7 +101,7 @@ module _ {L S : Type 0} (pairs : L → Option (List Pair)) (faults : L → ℕ) 
     pub bytes : List ℕ
     pub opened : List (OpenedCapture S)
     pub reads : ReadsNames names.script names.captures old new script bytes opened
-    pub first : first_edition bytes ≡ Err error
+    pub first : first_edition (pace_of names.mode) bytes ≡ Err error
     pub given_back : sources ≡ script ∷ sources_of opened
 
   -- all names were opened, and the captures were replayed beside the script
@@ -99,7 +111,7 @@ module _ {L S : Type 0} (pairs : L → Option (List Pair)) (faults : L → ℕ) 
     pub opened : List (OpenedCapture S)
     pub reads : ReadsNames names.script names.captures old new script bytes opened
     pub captures : List S
-    pub replay : IsReplayOf left failures bytes opened kept ends captures
+    pub replay : IsReplayOf left failures names.mode bytes opened kept ends captures
     pub given_back : sources ≡ script ∷ captures
 
   -- This is found of the words of a replay, and these sources are handed back.
@@ -129,13 +141,13 @@ no_failures bytes = 0
 -- the made capture of so many records was replayed beside the made script
 pub record ReplaysLoad (n : ℕ) (kept : RecordValue) (ends : Ends) : Type 0 where
   pub sources : List (List ℕ)
-  pub replay : IsReplayOf known_left no_failures (load_script n) (made_capture (load_capture n) ∷ []) kept ends sources
+  pub replay : IsReplayOf known_left no_failures mode.Serial (load_script n) (made_capture (load_capture n) ∷ []) kept ends sources
 
 -- this is found of a load of so many records
 abbrev pub FindsLoad : ℕ → RunResult → Type 0
 FindsLoad n Usage = ⊥
 FindsLoad n (Unread name) = ⊥
-FindsLoad n (Unready error) = first_edition (load_script n) ≡ Err error
+FindsLoad n (Unready error) = first_edition (pace_of mode.Serial) (load_script n) ≡ Err error
 FindsLoad n (Reported kept ends journal) = ⊥
 FindsLoad n (Summed kept ends) = ReplaysLoad n kept ends
 

@@ -4,7 +4,7 @@ use Rattle.fw_base.specs.Faults.{Rose}
 use Rattle.fw_base.specs.Pairs.{Pair, TakesOut, take_named}
 use Rattle.fw_base.specs.declared.port.Port.{Port}
 use Rattle.command_words.specs.Words.{CaptureNames}
-use Rattle.serial_replay.specs.declared.replay.OpenedCapture.{OpenedCapture}
+use Rattle.capture_tracks.specs.declared.opened.OpenedCapture.{OpenedCapture}
 
 -- where a capture was taken
 abbrev pub port_of : CaptureNames → Port

@@ -2,9 +2,9 @@ ghost use Rattle.std.specs.Prelude.{◌≡◌, IfOk, OnErr, map, vec_len, length
 ghost use Rattle.command_words.specs.Invocation.{capture_names};
 ghost use Rattle.replay_driver.specs.CaptureOpenings.{OpensCapture, OpensCaptures};
 
+use capture_tracks::OpenedCapture;
 use command_words::CaptureWord;
 use fw_base::{Library, Name, OutOfMemory, Port};
-use serial_replay::OpenedCapture;
 use std::alloc::Global;
 
 /// What the openings of captures come to.

@@ -132,7 +132,7 @@ fn run_words<L: Library, K: Sink>(
 /// The status is 0; 1 where the words are no command; 2 where a script line isn't read or its command is
 /// refused; 3 where a capture has a fault; 4 where a name could not be opened or read, or a capture's source
 /// failed; 5 where the sink failed; 6 where memory ran out.
-pub fn run<R: Threads + Wait, L: Library, K: Sink, G: Gate + Sync>(
+pub fn run<R: Threads + Wait + Sync, L: Library, K: Sink, G: Gate + Sync>(
     _rt: &R,
     alloc: Global,
     words: &[String],
@@ -150,7 +150,7 @@ where
         job library.old library.new out.old out.new result) }
 
     // The headline: where a record is kept, it is the legal one of the script and the captures that the words
-    // name, in the order of the schedule, and its report is what the sink took; of a load, its summary.
+    // name, in serial mode in the order of the schedule, and its report is what the sink took; of a load, its summary.
     ensures report { IfSome result.kept (λ kept.
         IfSome (job_of (map string_bytes words.now)) (λ job.
         IsKept K.written K.faults L.pairs L.faults L.refused L.Reader.left L.Reader.faults

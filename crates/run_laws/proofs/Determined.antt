@@ -11,12 +11,13 @@ use Rattle.load_maker.specs.Load.{load_script, load_capture}
 use Rattle.record_laws.specs.OneReplay.{IsSameRecord}
 use Rattle.record_laws.specs.VerdictLines.{recorded_with}
 use Rattle.replay_driver.specs.FirstEdition.{first_edition}
-use Rattle.replay_driver.specs.Found.{made_capture, known_left, no_failures}
+use Rattle.command_words.specs.declared.invocation.Mode.{Mode}
+use Rattle.replay_driver.specs.Found.{IsReplayOf, made_capture, known_left, no_failures}
 use Rattle.replay_driver.specs.Promises.{IsKept, IsUnreadyJob}
 use Rattle.replay_driver.specs.Run.{Writes}
 use Rattle.replay_driver.specs.RunResult.{summary_of}
 use Rattle.replay_driver.specs.ScriptTexts.{error_text}
-use Rattle.replay_driver.specs.Served.{Job, Replays, Loads}
+use Rattle.replay_driver.specs.Served.{Job, Replays, Loads, IsSerialJob, pace_of}
 use Rattle.replay_driver.specs.declared.outcome.Outcome.{Outcome}
 use Rattle.run_laws.specs.TwoRuns.{Outside, HaveSameFiles, IsSameKept, ComeToTheSame, IsPromisedRun, RunsAreDetermined}
 use Rattle.run_laws.proofs.SameNames.{same_read}
@@ -97,22 +98,23 @@ module _ {L S K M T N : Type 0} (out : Outside L S K) (other : Outside M T N) wh
   not_one_kept (Replays names) library libraryAfter otherLibrary otherLibraryAfter sink sinkAfter otherSink otherSinkAfter outcome otherOutcome r mine yours files =
       let cause = yours.cause in
       let read = same_read out other names library libraryAfter otherLibrary otherLibraryAfter mine.script cause.script mine.bytes cause.bytes mine.opened cause.opened mine.reads cause.reads files in
-      not_both (first_edition cause.bytes) mine.replay.edition yours.error (ap first_edition (sym read.script) ∙ mine.replay.first) cause.first
+      not_both (first_edition (pace_of names.mode) cause.bytes) mine.replay.edition yours.error (ap (first_edition (pace_of names.mode)) (sym read.script) ∙ mine.replay.first) cause.first
 
 module _ {L S K M T N : Type 0} (out : Outside L S K) (other : Outside M T N) where
   module _ (library libraryAfter : L) (otherLibrary otherLibraryAfter : M) (sink sinkAfter : K) (otherSink otherSinkAfter : N) (outcome : Outcome S) (otherOutcome : Outcome T) where
     -- both runs kept a record
-    both_kept : (job : Job) (r s : RecordValue) → outcome.kept ≡ Some r → otherOutcome.kept ≡ Some s
+    both_kept : (job : Job) (r s : RecordValue) → IsSerialJob job → outcome.kept ≡ Some r → otherOutcome.kept ≡ Some s
         → IsKept out.written out.sink_faults out.pairs out.faults out.refused out.left out.failures job library libraryAfter sink sinkAfter outcome r
         → IsKept other.written other.sink_faults other.pairs other.faults other.refused other.left other.failures job otherLibrary otherLibraryAfter otherSink otherSinkAfter otherOutcome s
         → HaveSameFiles job (out.pairs library) (other.pairs otherLibrary) → outcome.status ≤ 3 → otherOutcome.status ≤ 3
         → ComeToTheSame out.written other.written outcome otherOutcome sink sinkAfter otherSink otherSinkAfter
-    both_kept (Replays names) r s p q mine yours files few otherFew =
+    both_kept (Replays names) r s serial p q mine yours files few otherFew =
         let (status, took) = written_whole out.written out.sink_faults sink sinkAfter _ outcome.status _ mine.writes few in
         let (otherStatus, otherTook) = written_whole other.written other.sink_faults otherSink otherSinkAfter _ otherOutcome.status _ yours.writes otherFew in
         let read = same_read out other names library libraryAfter otherLibrary otherLibraryAfter mine.script yours.script mine.bytes yours.bytes mine.opened yours.opened mine.reads yours.reads files in
         let alike = same_replay out.left out.failures other.left other.failures mine.bytes yours.bytes mine.opened yours.opened r s outcome.ends otherOutcome.ends mine.captures yours.captures
-        mine.replay yours.replay read.script read.captures
+        (subst (λ (m : Mode). IsReplayOf out.left out.failures m mine.bytes mine.opened r outcome.ends mine.captures) serial mine.replay)
+        (subst (λ (m : Mode). IsReplayOf other.left other.failures m yours.bytes yours.opened s otherOutcome.ends yours.captures) serial yours.replay) read.script read.captures
         (no_failed_read outcome.ends.captures outcome.ends.answers (subst (λ (n : ℕ). n ≤ 3) status few))
         (no_failed_read otherOutcome.ends.captures otherOutcome.ends.answers (subst (λ (n : ℕ). n ≤ 3) otherStatus otherFew)) in
         record {
@@ -124,7 +126,7 @@ module _ {L S K M T N : Type 0} (out : Outside L S K) (other : Outside M T N) wh
           took = took;
           other_took = subst (λ (text : List ℕ). Appends (other.written otherSink) (other.written otherSinkAfter) text) (sym (alike.text names.journal)) otherTook;
         }
-    both_kept (Loads n) r s p q mine yours files few otherFew =
+    both_kept (Loads n) r s serial p q mine yours files few otherFew =
         let (status, took) = written_whole out.written out.sink_faults sink sinkAfter _ outcome.status _ mine.writes few in
         let (otherStatus, otherTook) = written_whole other.written other.sink_faults otherSink otherSinkAfter _ otherOutcome.status _ yours.writes otherFew in
         let made = made_capture (load_capture n) ∷ [] in
@@ -153,7 +155,7 @@ module _ {L S K M T N : Type 0} (out : Outside L S K) (other : Outside M T N) wh
         let a = mine.cause in
         let b = yours.cause in
         let read = same_read out other names library libraryAfter otherLibrary otherLibraryAfter a.script b.script a.bytes b.bytes a.opened b.opened a.reads b.reads files in
-        let error : mine.error ≡ yours.error = err_one (first_edition b.bytes) mine.error yours.error (ap first_edition (sym read.script) ∙ a.first) b.first in
+        let error : mine.error ≡ yours.error = err_one (first_edition (pace_of names.mode) b.bytes) mine.error yours.error (ap (first_edition (pace_of names.mode)) (sym read.script) ∙ a.first) b.first in
         record {
           status = two ∙ sym otherTwo;
           kept = kept_none outcome.kept otherOutcome.kept p q;
@@ -166,12 +168,12 @@ module _ {L S K M T N : Type 0} (out : Outside L S K) (other : Outside M T N) wh
 
   -- two runs of one job come to the same
   pub runs_are_determined : RunsAreDetermined out other
-  runs_are_determined job library libraryAfter otherLibrary otherLibraryAfter sink sinkAfter otherSink otherSinkAfter outcome otherOutcome run otherRun files few otherFew =
+  runs_are_determined job library libraryAfter otherLibrary otherLibraryAfter sink sinkAfter otherSink otherSinkAfter outcome otherOutcome serial run otherRun files few otherFew =
       by_kept outcome.kept otherOutcome.kept refl refl
     where
       by_kept : (a b : Option RecordValue) → outcome.kept ≡ a → otherOutcome.kept ≡ b → ComeToTheSame out.written other.written outcome otherOutcome sink sinkAfter otherSink otherSinkAfter
       by_kept (Some r) (Some s) p q =
-          both_kept library libraryAfter otherLibrary otherLibraryAfter sink sinkAfter otherSink otherSinkAfter outcome otherOutcome job r s p q
+          both_kept library libraryAfter otherLibrary otherLibraryAfter sink sinkAfter otherSink otherSinkAfter outcome otherOutcome job r s serial p q
           (if_some outcome.kept _ r p run.report) (if_some otherOutcome.kept _ s q otherRun.report) files few otherFew
       by_kept (Some r) None p q =
           absurd (not_one_kept out other job library libraryAfter otherLibrary otherLibraryAfter sink sinkAfter otherSink otherSinkAfter outcome otherOutcome r

@@ -10,7 +10,7 @@ use Rattle.replay_driver.specs.Promises.{opening_order}
 use Rattle.replay_driver.specs.Served.{ReplayNames, Replays}
 use Rattle.buffered_io.specs.WholeSource.{ReadsAll}
 use Rattle.run_laws.specs.TwoRuns.{Outside, TellSameContents, contents_of}
-use Rattle.serial_replay.specs.declared.replay.OpenedCapture.{OpenedCapture}
+use Rattle.capture_tracks.specs.declared.opened.OpenedCapture.{OpenedCapture}
 
 -- ---- reading a file
 

@@ -7,7 +7,7 @@ use Rattle.fw_world.specs.RecordValue.{RecordValue}
 use Rattle.record_laws.specs.OneReplay.{IsSameRecord}
 use Rattle.record_laws.specs.SameCaptures.{printed_end}
 use Rattle.replay_driver.specs.Promises.{IsKept, IsUnreadyJob, IsQuiet, IsFaulty, opening_order}
-use Rattle.replay_driver.specs.Served.{Job, Replays, Loads}
+use Rattle.replay_driver.specs.Served.{Job, Replays, Loads, IsSerialJob}
 use Rattle.replay_driver.specs.declared.outcome.Outcome.{Outcome}
 
 -- What contracts see of a run's outside. Of a library: the list that it tells, its count of faults, and the name
@@ -75,10 +75,10 @@ module _ {L S K : Type 0} (out : Outside L S K) where
     pub status_3_cause : outcome.status ≡ 3 → IsFaulty outcome
 
 module _ {L S K M T N : Type 0} (out : Outside L S K) (other : Outside M T N) where
-  -- Two runs of one job, over libraries that tell the same bytes under the names that it opens, come to the same,
-  -- where neither ends with the status of a failed opening or read, 4, of a failed write, 5, or of want of memory, 6.
+  -- Two runs of one job that isn't of live mode, over libraries that tell the same bytes under the names that it
+  -- opens, come to the same, where neither ends with the status of a failed opening or read, 4, of a failed write, 5, or of want of memory, 6.
   abbrev pub RunsAreDetermined : Type 0
   RunsAreDetermined = (job : Job) (library libraryAfter : L) (otherLibrary otherLibraryAfter : M) (sink sinkAfter : K) (otherSink otherSinkAfter : N) (outcome : Outcome S) (otherOutcome : Outcome T)
-      → IsPromisedRun out job library libraryAfter sink sinkAfter outcome → IsPromisedRun other job otherLibrary otherLibraryAfter otherSink otherSinkAfter otherOutcome
+      → IsSerialJob job → IsPromisedRun out job library libraryAfter sink sinkAfter outcome → IsPromisedRun other job otherLibrary otherLibraryAfter otherSink otherSinkAfter otherOutcome
       → HaveSameFiles job (out.pairs library) (other.pairs otherLibrary) → outcome.status ≤ 3 → otherOutcome.status ≤ 3
       → ComeToTheSame out.written other.written outcome otherOutcome sink sinkAfter otherSink otherSinkAfter

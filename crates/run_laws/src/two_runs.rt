@@ -12,7 +12,7 @@ use std::thread::Threads;
 /// Runs the same words twice, over one library and sink and over others, and answers both outcomes, the first one
 /// first. Of words that are a command they come to the same, where the libraries tell the same bytes and no status is
 /// above 3.
-pub fn run_both<R: Threads + Wait, L: Library, M: Library, K: Sink, N: Sink, G: Gate + Sync>(
+pub fn run_both<R: Threads + Wait + Sync, L: Library, M: Library, K: Sink, N: Sink, G: Gate + Sync>(
     rt: &R,
     alloc: Global,
     words: &[String],
