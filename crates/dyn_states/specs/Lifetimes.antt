@@ -1,12 +1,9 @@
 -- How long a state lives from its last packet on (ipfw(8), "SYSCTL VARIABLES"). The choice by the flags
 -- seen is this project's own: it has no keepalive packets.
-use Rattle.std.specs.Prelude.{ℕ, Bool, bit_and, not, ◌==◌, ◌&&◌, ◌||◌, if◌then◌else◌}
+use Rattle.std.specs.Prelude.{ℕ, Bool, not, ◌==◌, ◌&&◌, ◌||◌, if◌then◌else◌}
 use Rattle.fw_rule.specs.Bits.{has_bit}
 use Rattle.fw_rule.specs.Values.{Values}
-
--- the flags that a state keeps, of a TCP header's flag byte: FIN 1, SYN 2, RST 4 (RFC 9293 section 3.1)
-abbrev pub kept_flags : ℕ → ℕ
-kept_flags flags = bit_and flags 7
+pub use Rattle.state_asks.specs.Flags.{kept_flags}
 
 -- FIN was seen
 abbrev pub has_fin : ℕ → Bool

@@ -5,13 +5,6 @@ ghost use Rattle.dyn_states.specs.Lifetimes as lifetimes;
 use fw_rule::{Settings, has_bit};
 use packet_headers::{TCP, UDP};
 
-/// Of a TCP header's flags those that a state keeps: FIN, SYN and RST.
-pub(crate) fn kept_flags(flags: u8) -> u8
-    ensures { result ≡ lifetimes.kept_flags flags }
-{
-    flags & 7
-}
-
 fn is_opening(forward: u8, reverse: u8) -> bool
     ensures { result ≡ lifetimes.is_opening forward reverse }
 {

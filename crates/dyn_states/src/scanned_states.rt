@@ -9,12 +9,11 @@ ghost use Rattle.dyn_states.specs.StateObject.{StateObject, after_lookup, lookup
 
 use crate::State;
 use crate::flows::way_of;
-use crate::lifetimes::kept_flags;
 use crate::state_rules::{is_considered, parameter, renewed, take_over, with_flags};
 use fw_base::OutOfMemory;
 use fw_rule::{LimitMask, Settings};
 use packet_headers::Flow;
-use state_asks::{Facts, FlowName, Op, Reply, RuleRef};
+use state_asks::{Facts, FlowName, Op, Reply, RuleRef, kept_flags};
 use std::alloc::Global;
 use std::marker::Model;
 

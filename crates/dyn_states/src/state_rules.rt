@@ -6,10 +6,10 @@ ghost use Rattle.dyn_states.specs.StateObject as object;
 
 use crate::State;
 use crate::flows::is_matching;
-use crate::lifetimes::{kept_flags, lifetime};
+use crate::lifetimes::lifetime;
 use fw_rule::{LimitMask, Settings};
 use packet_headers::Flow;
-use state_asks::{Facts, FlowName, RuleRef, Way};
+use state_asks::{Facts, FlowName, RuleRef, Way, kept_flags};
 
 /// Whether the flow name asked for is the state's.
 fn is_named(asked: FlowName, name: u8) -> bool

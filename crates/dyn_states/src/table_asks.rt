@@ -13,12 +13,11 @@ ghost use Rattle.dyn_states.specs.StateTable.{slots_of, states_of, object_of, Ha
 
 use crate::State;
 use crate::flows::way_of;
-use crate::lifetimes::kept_flags;
 use crate::state_rules::{renewed, with_flags};
 use crate::state_table::StateTable;
 use fw_rule::{LimitMask, Settings};
 use packet_headers::Flow;
-use state_asks::{FlowName, Reply, RuleRef};
+use state_asks::{FlowName, Reply, RuleRef, kept_flags};
 
 /// The state as a packet of the flow leaves it.
 fn touched(settings: &Settings, clock: u32, flow: &Flow, flags: u8, state: State) -> State

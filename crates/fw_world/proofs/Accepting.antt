@@ -1,13 +1,11 @@
--- A desk that stands for some commands stands for one more once that was published.
+-- Editions that stand for some commands stand for one more once that was published.
 use Rattle.std.proofs.Common.{◌≡◌, ℕ, ◌+◌, List, [], ◌∷◌, ◌++◌, length, Some, Ok, sym, ap, ◌∙◌, subst, arith}
 use Rattle.fw_rule.specs.declared.command.Command.{Command}
 use Rattle.generation_store.specs.Published.{Published, IsBuilt}
 use Rattle.rule_edits.specs.Apply.{apply}
 use Rattle.rule_chain.specs.Configuration.{Configuration}
-use Rattle.fw_world.specs.Editions.{AreEditionsFrom, IsLastOf}
-use Rattle.fw_world.specs.Steps.{Publishes}
-use Rattle.fw_world.specs.World.{WorldValue, DeskStandsFor}
-use Rattle.fw_world.proofs.WorldSteps.{IsLastOf-tail}
+use Rattle.fw_world.specs.Editions.{AreEditions, AreEditionsFrom, IsLastOf, IsNextEdition}
+use Rattle.fw_world.proofs.Numbering.{IsLastOf-tail}
 
 same_value : {X : Type 0} (x y : X) → Some x ≡ Some y → x ≡ y
 same_value x y is = cc
@@ -27,11 +25,9 @@ more_editions number config (first ∷ commands) (one ∷ next ∷ editions) com
     let count : number + length (one ∷ next ∷ editions) ≡ number + 1 + length (next ∷ editions) = omega arith in
     (are.0, are.1, are.2, more_editions (number + 1) are.1 commands (next ∷ editions) command before made edition are.3 (IsLastOf-tail one next editions before last) is (rw count at built))
 
--- one command more
-pub accepts_one_more : (old new : WorldValue) (command : Command) (first : Configuration) (commands : List Command) → Publishes old new command
-    → DeskStandsFor old.editions first commands → DeskStandsFor new.editions first (commands ++ command ∷ [])
-accepts_one_more old new command first commands publishes stands =
-    let next = publishes.next in
-    let count : length old.editions + 1 ≡ 1 + length old.editions = omega arith in
-    subst (λ (editions : List Published). DeskStandsFor editions first (commands ++ command ∷ [])) (sym publishes.editions)
-    (more_editions 1 first commands old.editions command next.before next.made publishes.edition stands next.last next.applied (rw count at next.built))
+-- one command more, which made the next edition
+pub accepts_one_more : (editions : List Published) (command : Command) (edition : Published) (first : Configuration) (commands : List Command) → IsNextEdition editions command edition
+    → AreEditions first commands editions → AreEditions first (commands ++ command ∷ []) (editions ++ edition ∷ [])
+accepts_one_more editions command edition first commands next stands =
+    let count : length editions + 1 ≡ 1 + length editions = omega arith in
+    more_editions 1 first commands editions command next.before next.made edition stands next.last next.applied (rw count at next.built)

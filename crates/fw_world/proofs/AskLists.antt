@@ -12,10 +12,8 @@ use Rattle.state_journal.specs.declared.entry.Entry.TheVariants.{Publish, Ask}
 use Rattle.state_journal.specs.declared.entry.Item.{Item}
 use Rattle.state_journal.specs.declared.entry.Item.TheVariants.{Lanes, Published, Asked}
 use Rattle.fw_world.specs.AskRuns.{EntersEach}
-use Rattle.fw_world.specs.Asks.{LaneAsk, asks_in, ops_of, replies_of, AreOfLanes}
-use Rattle.fw_world.specs.Legal.{lane_asks}
+use Rattle.fw_world.specs.Asks.{LaneAsk, asks_in, ops_of, replies_of, AreOfLanes, lane_asks, with_asks}
 use Rattle.fw_world.specs.Publications.{publications}
-use Rattle.fw_world.specs.Steps.{with_asks}
 
 -- the number of the last publication among these entries, or this one where there is none
 abbrev pub last_number : ℕ → List Entry → ℕ

@@ -6,7 +6,7 @@ use Rattle.fw_base.specs.declared.failure.OutOfMemory.{OutOfMemory}
 use Rattle.fw_world.specs.Inputs.{Input}
 use Rattle.fw_world.specs.Lane.{LaneValue, with_docket_entry}
 use Rattle.fw_world.specs.LaneKept.{IsLane}
-use Rattle.fw_world.specs.Legal.{lane_asks}
+use Rattle.fw_world.specs.Asks.{lane_asks}
 use Rattle.fw_world.specs.Sections.{judged_editions}
 use Rattle.fw_world.specs.Skips.{entry_for, skipped_input}
 use Rattle.fw_world.specs.declared.skipped.Skipped.{Skipped}

@@ -1,24 +1,27 @@
 -- The record of a world and its lanes is legal.
 use Rattle.std.proofs.Common.{◌≡◌, ℕ, suc, ◌+◌, ◌-◌, ◌≤◌, List, [], ◌∷◌, length, map, Option, Some, None, refl, sym, ap, ◌∙◌, subst, arith}
-use Rattle.std.specs.Prelude.{IfSome, unwrap_or}
+use Rattle.std.specs.Prelude.{IfSome, unwrap_or, ⊤}
 use Rattle.std.specs.List.{AllByRecursion}
 use Rattle.counter_book.specs.declared.tally.Count.{Count}
 use Rattle.eval_engine.specs.Dockets.{DocketValue}
 use Rattle.state_asks.specs.declared.facts.Facts.{Facts}
 use Rattle.fw_rule.specs.declared.command.Command.{Command}
 use Rattle.rule_chain.specs.Configuration.{Configuration}
-use Rattle.state_journal.specs.Journal.{IsJournal}
-use Rattle.fw_world.specs.Asks.{AreOfLanes}
-use Rattle.fw_world.specs.Closing.{AreLanesFrom, EachStandsFor, record_of_world, LaneRises, IsLegalButSections}
+use Rattle.generation_store.specs.Published.{Published}
+use Rattle.state_journal.specs.Journal.{Journal, IsJournal}
+use Rattle.fw_world.specs.Asks.{AreOfLanes, lane_asks}
+use Rattle.fw_world.specs.Closing.{AreLanesFrom, EachStandsFor, record_of_world}
+use Rattle.fw_world.specs.Lanes.{LaneRises, EachLane, LaneStands, LaneCounts}
+use Rattle.fw_world.specs.Legal.{IsLegalButSections, IsLegal}
 use Rattle.fw_world.specs.Editions.{AreEditions}
 use Rattle.fw_world.specs.Inputs.{Input}
 use Rattle.fw_world.specs.Lane.{LaneValue}
 use Rattle.fw_world.specs.LaneKept.{IsLane}
-use Rattle.fw_world.specs.Legal.{EachLane, LaneStands, LaneCounts, IsLegal, StandFor, lane_asks}
-use Rattle.fw_world.specs.Publications.{IsLawful, facts_of}
+use Rattle.fw_world.specs.Standing.{StandFor}
+use Rattle.fw_world.specs.Publications.{IsLawful, IsPublished, facts_of}
+use Rattle.fw_world.specs.RecordValue.{RecordValue}
 use Rattle.fw_world.specs.Sections.{AreSections, judged_editions, tracker_after}
 use Rattle.fw_world.specs.World.{WorldValue, published_count, IsLaneOf}
-use Rattle.fw_world.specs.WorldKept.{IsWorld}
 use Rattle.state_journal.specs.Journal as journal
 
 -- a fact of each lane's columns
@@ -34,11 +37,16 @@ each_lane P Q world place (lane ∷ lanes) (met ∷ inputs) are stands one all =
   each_lane P Q world (place + 1) lanes inputs are.2 stands.1 one all.1,
 )
 
+of_any : (lanes : List LaneValue) → AllByRecursion (λ (lane : LaneValue). ⊤) lanes
+of_any [] = tt
+of_any (lane ∷ lanes) = (tt, of_any lanes)
+
 both : (P Q : LaneValue → Type 0) (lanes : List LaneValue) → AllByRecursion P lanes → AllByRecursion Q lanes → AllByRecursion (λ lane. P lane × Q lane) lanes
 both P Q [] first second = tt
 both P Q (lane ∷ lanes) first second = ((first.0, second.0), both P Q lanes first.1 second.1)
 
-as_many : (world : WorldValue) (lanes : List LaneValue) (inputs : List (List Input)) → EachStandsFor world lanes inputs → length inputs ≡ length lanes
+-- as many lanes as lists of inputs
+pub as_many : (world : WorldValue) (lanes : List LaneValue) (inputs : List (List Input)) → EachStandsFor world lanes inputs → length inputs ≡ length lanes
 as_many world [] [] stands = refl
 as_many world [] (met ∷ inputs) stands = absurd stands
 as_many world (lane ∷ lanes) [] stands = absurd stands
@@ -56,45 +64,67 @@ AreSections-lane world lane of_world is none = record {
     few None heard most = omega (arith, of_world.held, most)
     few (Some number) heard most = omega (arith, heard, most)
 
-module _ (world : WorldValue) (lanes : List LaneValue) (first : Configuration) (commands : List Command) (inputs : List (List Input))
-    (is : IsWorld world) (book : IsJournal world.journal) (are : AreLanesFrom world 1 lanes) (all : length lanes ≡ world.journal.lanes) (kept : AllByRecursion (IsLane 0) lanes)
-    (editions : AreEditions first commands world.editions) (stands : EachStandsFor world lanes inputs) where
-  lawful : IsLawful world.editions world.journal.entries
+-- the record of these parts
+abbrev pub record_of : List Published → Journal → List DocketValue → List (List Count) → List ℕ → RecordValue
+record_of editions journal dockets tallies trackers = record { editions = editions; journal = journal; dockets = dockets; tallies = tallies; trackers = trackers }
+
+-- records of the same parts are the same
+pub same_record : (editions other : List Published) (journal same : Journal) (dockets entered : List DocketValue) (tallies counted : List (List Count)) (trackers words : List ℕ)
+    → editions ≡ other → journal ≡ same → dockets ≡ entered → tallies ≡ counted → trackers ≡ words → record_of editions journal dockets tallies trackers ≡ record_of other same entered counted words
+same_record editions other journal same dockets entered tallies counted trackers words e j d t k = rw (e, j, d, t, k) refl
+
+module _ (world : WorldValue) (lanes : List LaneValue) (inputs : List (List Input)) (are : AreLanesFrom world 1 lanes) (stands : EachStandsFor world lanes inputs) where
+  -- each lane of a world stands for its inputs in the world's record
+  pub lanes-stand : EachLane (LaneStands (record_of_world world lanes)) 1 inputs (record_of_world world lanes).dockets (record_of_world world lanes).tallies (record_of_world world lanes).trackers
+  lanes-stand = each_lane (LaneStands (record_of_world world lanes)) (λ lane. ⊤) world 1 lanes inputs are stands (λ lane met of_world one stand. stand) (of_any lanes)
+
+  module _ (kept : AllByRecursion (IsLane 0) lanes) where
+    -- its sections are counted where none is loose
+    pub lanes-count : AllByRecursion (λ (lane : LaneValue). lane.loose ≡ 0) lanes
+        → EachLane (LaneCounts (record_of_world world lanes)) 1 inputs (record_of_world world lanes).dockets (record_of_world world lanes).tallies (record_of_world world lanes).trackers
+    lanes-count none =
+        each_lane (LaneCounts (record_of_world world lanes)) (λ lane. IsLane 0 lane × (lane.loose ≡ 0)) world 1 lanes inputs are stands (λ lane met of_world one stand. AreSections-lane world lane of_world one.0 one.1)
+        (both (IsLane 0) (λ lane. lane.loose ≡ 0) lanes kept none)
+
+    -- its editions never fall
+    pub lanes-rise : EachLane LaneRises 1 inputs (record_of_world world lanes).dockets (record_of_world world lanes).tallies (record_of_world world lanes).trackers
+    lanes-rise = each_lane LaneRises (IsLane 0) world 1 lanes inputs are stands (λ lane met of_world one stand. one.rising) kept
+
+-- what a record takes of its editions and its journal
+module _ (r : RecordValue) (first : Configuration) (commands : List Command) (inputs : List (List Input)) (is : IsPublished r.editions r.journal) (book : IsJournal r.journal)
+    (editions : AreEditions first commands r.editions) (all : length inputs ≡ r.journal.lanes) (stands : EachLane (LaneStands r) 1 inputs r.dockets r.tallies r.trackers) where
+  lawful : IsLawful r.editions r.journal.entries
   lawful = record {
     begins = book.begins;
-    replied = subst (λ (facts : List Facts). journal.IsLawfulFrom journal.no_states facts world.journal.entries) (sym is.factual) book.lawful;
+    replied = subst (λ (facts : List Facts). journal.IsLawfulFrom journal.no_states facts r.journal.entries) (sym is.factual) book.lawful;
   }
 
-  object : world.journal.object ≡ journal.object_from journal.no_states (facts_of world.editions) world.journal.entries
-  object = book.object ∙ ap (λ (facts : List Facts). journal.object_from journal.no_states facts world.journal.entries) (sym is.factual)
+  object : r.journal.object ≡ journal.object_from journal.no_states (facts_of r.editions) r.journal.entries
+  object = book.object ∙ ap (λ (facts : List Facts). journal.object_from journal.no_states facts r.journal.entries) (sym is.factual)
 
-  lane_stands : EachLane (LaneStands (record_of_world world lanes)) 1 inputs (record_of_world world lanes).dockets (record_of_world world lanes).tallies (record_of_world world lanes).trackers
-  lane_stands = each_lane (LaneStands (record_of_world world lanes)) (IsLane 0) world 1 lanes inputs are stands (λ lane met of_world one stand. stand) kept
+  of_lanes : AreOfLanes (length inputs) r.journal.entries
+  of_lanes = subst (λ (n : ℕ). AreOfLanes n r.journal.entries) (sym all) is.asked
 
-  of_lanes : AreOfLanes (length inputs) world.journal.entries
-  of_lanes = subst (λ (n : ℕ). AreOfLanes n world.journal.entries) (sym (as_many world lanes inputs stands ∙ all)) is.asked
-
-  -- the record is legal where no lane is loose
-  pub IsLegal-record : AllByRecursion (λ (lane : LaneValue). lane.loose ≡ 0) lanes → IsLegal first commands inputs (record_of_world world lanes)
-  IsLegal-record none = record {
+  -- a record of a world's editions, of its journal and of lanes that stand for their inputs is legal
+  pub IsLegal-record : EachLane (LaneCounts r) 1 inputs r.dockets r.tallies r.trackers → IsLegal first commands inputs r
+  IsLegal-record sections = record {
     editions = editions;
-    published = is.published_once;
+    published = is.once;
     lawful = lawful;
     object = object;
-    lanes = lane_stands;
+    lanes = stands;
     asked = of_lanes;
-    sections = each_lane (LaneCounts (record_of_world world lanes)) (λ lane. IsLane 0 lane × (lane.loose ≡ 0)) world 1 lanes inputs are stands (λ lane met of_world one stand. AreSections-lane world lane of_world one.0 one.1)
-        (both (IsLane 0) (λ lane. lane.loose ≡ 0) lanes kept none);
+    sections = sections;
   }
 
-  -- and but for the count of sections in any case
-  pub IsLegalButSections-record : IsLegalButSections first commands inputs (record_of_world world lanes)
-  IsLegalButSections-record = record {
+  -- and but for its sections in any case
+  pub IsLegalButSections-record : EachLane LaneRises 1 inputs r.dockets r.tallies r.trackers → IsLegalButSections first commands inputs r
+  IsLegalButSections-record rising = record {
     editions = editions;
-    published = is.published_once;
+    published = is.once;
     lawful = lawful;
     object = object;
-    lanes = lane_stands;
+    lanes = stands;
     asked = of_lanes;
-    rising = each_lane LaneRises (IsLane 0) world 1 lanes inputs are stands (λ lane met of_world one stand. one.rising) kept;
+    rising = rising;
   }

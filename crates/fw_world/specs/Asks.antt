@@ -6,6 +6,8 @@ use Rattle.state_asks.specs.declared.op.Op.{Op}
 use Rattle.state_asks.specs.declared.reply.Reply.{Reply}
 use Rattle.eval_engine.specs.Dockets.{judgement_in}
 use Rattle.eval_engine.specs.declared.docket_entry.DocketEntry.{DocketEntry}
+use Rattle.state_journal.specs.Items.{asks_of}
+use Rattle.state_journal.specs.Journal.{Journal, with_ask}
 use Rattle.state_journal.specs.declared.entry.Entry.{Entry}
 use Rattle.state_journal.specs.declared.entry.Entry.TheVariants.{Publish, Ask}
 use Rattle.state_journal.specs.declared.entry.Item.{Item}
@@ -25,6 +27,10 @@ asks_in (Lanes count ∷ items) = asks_in items
 asks_in (Published facts ∷ items) = asks_in items
 asks_in (Asked after (Publish number) ∷ items) = asks_in items
 asks_in (Asked after (Ask lane op reply at) ∷ items) = record { after = after; at = at; op = op; reply = reply } ∷ asks_in items
+
+-- the asks of a lane in a journal
+abbrev pub lane_asks : ℕ → List Entry → List LaneAsk
+lane_asks lane entries = asks_in (asks_of lane 0 entries)
 
 -- the asks of one record
 abbrev pub asks_of_record : ℕ → List LaneAsk → List LaneAsk
@@ -61,3 +67,9 @@ IsOfLanes lanes (Ask lane op reply at) = (1 ≤ lane) × (lane ≤ lanes)
 -- each ask of the journal is of one of so many lanes
 abbrev pub AreOfLanes : ℕ → List Entry → Type 0
 AreOfLanes lanes entries = AllByRecursion (IsOfLanes lanes) entries
+
+-- the journal after these asks of one record, each with its reply
+abbrev pub with_asks : Journal → ℕ → ℕ → List Op → List Reply → Journal
+with_asks j lane at [] replies = j
+with_asks j lane at (op ∷ ops) [] = j
+with_asks j lane at (op ∷ ops) (reply ∷ replies) = with_asks (with_ask j lane at op reply) lane at ops replies

@@ -2,7 +2,6 @@
 use Rattle.std.specs.Prelude.{ℕ, ◌-◌, List, [], ◌∷◌, ◌++◌}
 use Rattle.counter_book.specs.declared.tally.Count.{Count}
 use Rattle.eval_engine.specs.Dockets.{DocketValue}
-use Rattle.fw_world.specs.Lane.{LaneValue}
 
 -- dockets, tallies and tracker words in the order of the lanes, and room for so many lanes more
 pub record ColumnsValue : Type 0 where
@@ -16,10 +15,10 @@ abbrev pub no_columns : ℕ → ColumnsValue
 no_columns room = record { dockets = []; tallies = []; trackers = []; room = room }
 
 -- the columns with one lane more, which takes up the room of one
-abbrev pub with_lane : LaneValue → ColumnsValue → ColumnsValue
-with_lane lane columns = record {
-  dockets = columns.dockets ++ lane.docket ∷ [];
-  tallies = columns.tallies ++ lane.tally ∷ [];
-  trackers = columns.trackers ++ lane.tracker ∷ [];
+abbrev pub with_lane : DocketValue → List Count → ℕ → ColumnsValue → ColumnsValue
+with_lane docket tally tracker columns = record {
+  dockets = columns.dockets ++ docket ∷ [];
+  tallies = columns.tallies ++ tally ∷ [];
+  trackers = columns.trackers ++ tracker ∷ [];
   room = columns.room - 1;
 }

@@ -1,9 +1,9 @@
 -- The editions of a run: each command that was accepted made the next one.
-use Rattle.std.specs.Prelude.{◌≡◌, ℕ, ◌+◌, ◌-◌, Option, Some, Ok, List, [], ◌∷◌, length, slice_get, option_and_then}
+use Rattle.std.specs.Prelude.{◌≡◌, ⊤, ℕ, ◌+◌, ◌-◌, Option, Some, Ok, List, [], ◌∷◌, length, slice_get, option_and_then}
 use Rattle.eval_engine.specs.Dockets.{judgement_in}
 use Rattle.eval_engine.specs.declared.docket_entry.DocketEntry.{DocketEntry}
 use Rattle.fw_rule.specs.declared.command.Command.{Command}
-use Rattle.generation_store.specs.Published.{Published, IsBuilt}
+use Rattle.generation_store.specs.Published.{Published, IsEdition, IsBuilt}
 use Rattle.rule_edits.specs.Apply.{apply}
 use Rattle.rule_chain.specs.Configuration.{Configuration}
 
@@ -31,3 +31,16 @@ judging_edition editions entry = option_and_then (λ judgement. edition_numbered
 -- this edition is the last of these
 abbrev pub IsLastOf : List Published → Published → Type 0
 IsLastOf editions edition = slice_get editions (length editions - 1) ≡ Some edition
+
+-- the edition is what the command makes of the last of these, and numbered next
+pub record IsNextEdition (editions : List Published) (command : Command) (edition : Published) : Type 0 where
+  pub before : Published
+  pub last : IsLastOf editions before
+  pub made : Configuration
+  pub applied : apply before.config command ≡ Ok made
+  pub built : IsBuilt (length editions + 1) made edition
+
+-- the first of these editions has this number, each next one the next number, and each its own facts
+abbrev pub AreNumbered : ℕ → List Published → Type 0
+AreNumbered number [] = ⊤
+AreNumbered number (edition ∷ editions) = (edition.number ≡ number) × IsEdition edition × AreNumbered (number + 1) editions

@@ -2,9 +2,10 @@
 use Rattle.std.specs.Prelude.{◌≡◌, ℕ, List, [], ◌∷◌, map}
 use Rattle.state_asks.specs.declared.facts.Facts.{Facts}
 use Rattle.generation_store.specs.Published.{Published}
-use Rattle.state_journal.specs.Journal.{no_states, IsLawfulFrom, BeginsWithOne}
+use Rattle.state_journal.specs.Journal.{Journal, no_states, IsLawfulFrom, BeginsWithOne}
 use Rattle.state_journal.specs.declared.entry.Entry.{Entry}
 use Rattle.state_journal.specs.declared.entry.Entry.TheVariants.{Publish, Ask}
+use Rattle.fw_world.specs.Asks.{AreOfLanes}
 
 -- the numbers of the publications, in order
 abbrev pub publications : List Entry → List ℕ
@@ -25,3 +26,10 @@ facts_of editions = map (λ edition. edition.facts) editions
 pub record IsLawful (editions : List Published) (entries : List Entry) : Type 0 where
   pub begins : BeginsWithOne entries
   pub replied : IsLawfulFrom no_states (facts_of editions) entries
+
+-- The journal is that of these editions: it tells the states their facts, publishes each of them once, and
+-- each of its asks is of one of its lanes.
+pub record IsPublished (editions : List Published) (journal : Journal) : Type 0 where
+  pub factual : facts_of editions ≡ journal.facts
+  pub once : PublishesEach editions journal.entries
+  pub asked : AreOfLanes journal.lanes journal.entries

@@ -4,10 +4,11 @@ use Rattle.fw_rule.specs.declared.command.Command.{Command}
 use Rattle.generation_store.specs.Published.{Published}
 use Rattle.rule_chain.specs.Configuration.{Configuration}
 use Rattle.state_journal.specs.Journal.{Journal}
+use Rattle.fw_world.specs.Asks.{lane_asks}
 use Rattle.fw_world.specs.Editions.{AreEditions}
 use Rattle.fw_world.specs.Inputs.{Input}
 use Rattle.fw_world.specs.Lane.{LaneValue}
-use Rattle.fw_world.specs.Legal.{lane_asks, StandFor}
+use Rattle.fw_world.specs.Standing.{StandFor}
 use Rattle.fw_world.specs.Sections.{judged_editions}
 
 -- The editions from the first on, and the journal of all asks.

@@ -9,7 +9,7 @@ use state_asks::{Op, Reply};
 
 /// Who asks the dynamic states for a lane: the book where one thread has it, or the way to it where it is
 /// shared.
-pub(crate) trait AsksBook {
+pub trait AsksBook {
     // the identities of the rules of the last publication
     ghost rules: { Self → List ℕ };
     // the lane is one of the book

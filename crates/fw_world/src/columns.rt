@@ -1,8 +1,7 @@
 ghost use Rattle.std.specs.Prelude.{◌≡◌, ◌<◌, IfOk};
 ghost use Rattle.fw_world.specs.Columns.{no_columns, with_lane};
-ghost use Rattle.fw_world.specs.LaneKept.{IsLane};
 
-use crate::SerialLane;
+use crate::LaneWork;
 use counter_book::Tally;
 use eval_engine::Docket;
 use fw_base::OutOfMemory;
@@ -11,7 +10,7 @@ use std::marker::Model;
 
 /// Dockets, tallies and tracker words of lanes, with the memory for those that are still to come.
 #[derive(Drop)]
-pub(crate) struct Columns {
+pub struct Columns {
     dockets: Vec<Docket>,
     tallies: Vec<Tally>,
     trackers: Vec<u64>,
@@ -38,7 +37,7 @@ impl Model for Columns {
 
 impl Columns {
     /// Those of no lane, with room for so many.
-    pub(crate) fn with_room(alloc: Global, room: u32) -> Result<Columns, OutOfMemory>
+    pub fn with_room(alloc: Global, room: u32) -> Result<Columns, OutOfMemory>
         ensures { IfOk result (λ columns. columns ≡ no_columns room) }
     {
         let lanes = room as usize;
@@ -51,12 +50,16 @@ impl Columns {
     }
 
     /// Adds those of the lane as the last ones. It takes no memory.
-    pub(crate) fn add(&mut self, lane: SerialLane)
+    pub fn add(&mut self, work: LaneWork, tracker: u64)
         requires room { 0 < self.old.room }
-        ensures added { self.new ≡ with_lane lane self.old }
-        ensures lane { IsLane 0 lane }
+        ensures { self.new ≡ with_lane work.docket work.tally tracker self.old }
     {
-        let (docket, tally, tracker) = lane.state.into_parts();
+        let LaneWork {
+            docket,
+            tally,
+            failed: _,
+            loose: _,
+        } = work;
         self.dockets.push_reserved(docket);
         self.tallies.push_reserved(tally);
         self.trackers.push_reserved(tracker);
@@ -64,7 +67,7 @@ impl Columns {
     }
 
     /// The dockets, tallies and tracker words, in the order of the lanes.
-    pub(crate) fn into_parts(self) -> (Vec<Docket>, Vec<Tally>, Vec<u64>)
+    pub fn into_parts(self) -> (Vec<Docket>, Vec<Tally>, Vec<u64>)
         ensures dockets { result.0.items ≡ self.dockets }
         ensures tallies { result.1.items ≡ self.tallies }
         ensures trackers { result.2.items ≡ self.trackers }

@@ -5,8 +5,7 @@ ghost use Rattle.generation_store.specs.Published.{IsBuilt};
 ghost use Rattle.rule_edits.specs.Apply.{apply};
 ghost use Rattle.rule_edits.specs.Changing.{IsChanging};
 ghost use Rattle.fw_world.specs.CommitFaults.{IsCauseOf};
-ghost use Rattle.fw_world.specs.Editions.{IsLastOf};
-ghost use Rattle.fw_world.specs.Steps.{IsNextEdition};
+ghost use Rattle.fw_world.specs.Editions.{IsLastOf, IsNextEdition};
 
 use crate::CommitFault;
 use crate::commit_fault::refusal;
@@ -19,7 +18,7 @@ use std::alloc::Global;
 use std::sync::Arc;
 
 /// The last of these editions.
-pub(crate) fn last_edition(editions: &[Arc<Edition>]) -> &Edition
+pub fn last_edition(editions: &[Arc<Edition>]) -> &Edition
     requires { 1 ≤ length editions.now }
     ensures { IsLastOf (map arc_value editions.now) result.now }
 {
@@ -27,7 +26,7 @@ pub(crate) fn last_edition(editions: &[Arc<Edition>]) -> &Edition
 }
 
 /// A store of this edition alone.
-pub(crate) fn store_of(alloc: Global, edition: Arc<Edition>) -> Result<Store, OutOfMemory>
+pub fn store_of(alloc: Global, edition: Arc<Edition>) -> Result<Store, OutOfMemory>
     ensures { IfOk result (λ store. store.editions ≡ arc_value edition ∷ []) }
 {
     let mut store = Store::new(alloc);
@@ -55,7 +54,7 @@ fn edition_after(
 }
 
 /// What the command makes of the last of these editions, as the next one.
-pub(crate) fn next_edition(
+pub fn next_edition(
     alloc: Global,
     editions: &[Arc<Edition>],
     command: &Command,
@@ -76,7 +75,7 @@ pub(crate) fn next_edition(
 }
 
 /// The same edition, and not a copy of it.
-pub(crate) fn share(edition: &Arc<Edition>) -> Result<Arc<Edition>, OutOfMemory>
+pub fn share_edition(edition: &Arc<Edition>) -> Result<Arc<Edition>, OutOfMemory>
     ensures { IfOk result (λ shared. arc_value shared ≡ arc_value edition.now) }
 {
     Ok(Arc::try_clone(edition)?)

@@ -13,7 +13,7 @@ use ip6_headers::AnyIp;
 
 /// Evaluates a packet for a record of a lane, and asks the states as often as the evaluation does. Where
 /// memory is wanted the asks that were made stay.
-pub(crate) fn evaluate_packet<B: AsksBook>(
+pub fn evaluate_packet<B: AsksBook>(
     book: &mut B,
     lane: u32,
     at: u64,

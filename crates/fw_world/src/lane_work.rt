@@ -16,17 +16,20 @@ use std::alloc::Global;
 
 /// What a lane does with its records, in whatever world.
 #[derive(Debug, Drop)]
-pub(crate) struct LaneWork {
-    pub(crate) docket: Docket,
-    pub(crate) tally: Tally,
+pub struct LaneWork {
+    /// What was entered for each of its records.
+    pub docket: Docket,
+    /// What was counted under each counter.
+    pub tally: Tally,
     /// Memory was wanted: nothing more is entered.
-    pub(crate) failed: bool,
+    pub failed: bool,
     /// How many sections were left without a judgement or tried while a refusal stood.
-    pub(crate) loose: u64,
+    pub loose: u64,
 }
 
 impl LaneWork {
-    pub(crate) fn new(alloc: Global) -> LaneWork
+    /// That of a lane that has judged nothing.
+    pub fn new(alloc: Global) -> LaneWork
         ensures { result ≡ record {
           docket = record { entries = []; refused = 0 };
           tally = [];
@@ -43,7 +46,7 @@ impl LaneWork {
     }
 
     /// Counts a section as loose where it is one; the count stands still at the end of 64 bits.
-    pub(crate) fn loosen(&mut self, is_loose: bool)
+    pub fn loosen(&mut self, is_loose: bool)
         ensures { self.new ≡ record self.old { loose = one_looser is_loose self.old.loose } }
     {
         if is_loose {
@@ -52,7 +55,7 @@ impl LaneWork {
     }
 
     /// Enters a record. Where memory is wanted the lane has failed.
-    pub(crate) fn enter(&mut self, entry: DocketEntry) -> Result<(), OutOfMemory>
+    pub fn enter(&mut self, entry: DocketEntry) -> Result<(), OutOfMemory>
         ensures entered { OnOk result (self.new
             ≡ record self.old {
               docket = record self.old.docket {
@@ -73,7 +76,7 @@ impl LaneWork {
 
     /// Judges the next record, a packet that was captured there at that second, under this edition. Where
     /// memory is wanted the lane has failed, no entry is made, and the asks that were made stay.
-    pub(crate) fn judge<B: AsksBook>(
+    pub fn judge<B: AsksBook>(
         &mut self,
         book: &mut B,
         lane: u32,

@@ -1,27 +1,21 @@
-//! The world that packets are judged in: editions, the one book of the states, and the lanes.
+//! What a lane does in whichever world: inputs, entries, asks, counts and sections, and the record of a run.
 #![tactic(auto)]
 
+pub use asks_book::AsksBook;
+pub use columns::Columns;
 pub use commit_fault::CommitFault;
-pub use open_serial::OpenSerial;
+pub use editions::{last_edition, next_edition, share_edition, store_of};
+pub use evaluating::evaluate_packet;
+pub use lane_work::LaneWork;
 pub use record::Record;
-pub use serial_desk::SerialDesk;
-pub use serial_inside::SerialInside;
-pub use serial_lane::{SerialEntry, SerialLane};
-pub use serial_world::{MOST_LANES, SerialWorld};
-pub use skipped::Skipped;
+pub use skipped::{Skipped, skipped_entry};
 
 mod asks_book;
 mod columns;
 mod commit_fault;
 mod editions;
 mod evaluating;
-mod lane_state;
 mod lane_work;
-mod open_serial;
 mod record;
 mod serial_book;
-mod serial_desk;
-mod serial_inside;
-mod serial_lane;
-mod serial_world;
 mod skipped;

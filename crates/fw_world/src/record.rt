@@ -1,6 +1,14 @@
-ghost use Rattle.std.specs.Prelude.{◌≡◌, map};
+ghost use Rattle.std.specs.Prelude.{◌≡◌, List, length, map};
 ghost use Rattle.std.specs.Arc.{arc_value};
+ghost use Rattle.fw_rule.specs.declared.command.Command.{Command};
+ghost use Rattle.rule_chain.specs.Configuration.{Configuration};
+ghost use Rattle.fw_world.specs.Editions.{AreEditions};
+ghost use Rattle.fw_world.specs.Inputs.{Input};
+ghost use Rattle.fw_world.specs.Lanes.{EachLane, LaneStands, LaneCounts, LaneRises};
+ghost use Rattle.fw_world.specs.Legal.{IsLegal, IsLegalButSections};
+ghost use Rattle.fw_world.specs.Publications.{IsPublished};
 
+use crate::Columns;
 use counter_book::Tally;
 use eval_engine::Docket;
 use generation_store::Edition;
@@ -11,11 +19,11 @@ use std::sync::Arc;
 /// What a run leaves: its editions, its book, and what each lane entered and counted.
 #[derive(Drop)]
 pub struct Record {
-    pub(crate) editions: Vec<Arc<Edition>>,
-    pub(crate) book: Book,
-    pub(crate) dockets: Vec<Docket>,
-    pub(crate) tallies: Vec<Tally>,
-    pub(crate) trackers: Vec<u64>,
+    editions: Vec<Arc<Edition>>,
+    book: Book,
+    dockets: Vec<Docket>,
+    tallies: Vec<Tally>,
+    trackers: Vec<u64>,
 }
 
 impl Model for Record {
@@ -35,6 +43,41 @@ impl Model for Record {
 }
 
 impl Record {
+    /// The record of a run: its editions in the order of their publication, its book, and the columns of
+    /// its lanes in the order of their places. It is legal for whatever editions and lanes stand for, and
+    /// takes no memory.
+    pub fn new(editions: Vec<Arc<Edition>>, book: Book, columns: Columns) -> Record
+        requires { IsPublished (map arc_value editions.items) book }
+        ensures exact { result ≡ record {
+          editions = map arc_value editions.items;
+          journal = book;
+          dockets = columns.dockets;
+          tallies = columns.tallies;
+          trackers = columns.trackers;
+        } }
+        ensures legal { (first : Configuration) (commands : List Command) (inputs : List (List Input))
+            → AreEditions first commands result.editions → length inputs ≡ result.journal.lanes
+            → EachLane (LaneStands result) 1 inputs result.dockets result.tallies result.trackers
+            → EachLane (LaneCounts result) 1 inputs result.dockets result.tallies result.trackers
+            → IsLegal first commands inputs result }
+        ensures nearly { (first : Configuration) (commands : List Command) (inputs : List (List Input))
+            → AreEditions first commands result.editions → length inputs ≡ result.journal.lanes
+            → EachLane (LaneStands result) 1 inputs result.dockets result.tallies result.trackers
+            → EachLane LaneRises 1 inputs result.dockets result.tallies result.trackers
+            → IsLegalButSections first commands inputs result }
+    {
+        // This call's clause `lawful` says that the journal is lawful and leaves the states that there are.
+        let _entries = book.entries();
+        let (dockets, tallies, trackers) = columns.into_parts();
+        Record {
+            editions,
+            book,
+            dockets,
+            tallies,
+            trackers,
+        }
+    }
+
     /// The editions in the order of their publication.
     pub fn editions(&self) -> &[Arc<Edition>]
         ensures { map arc_value result.now ≡ self.now.editions }

@@ -1,4 +1,5 @@
 ghost use Rattle.std.specs.Prelude.{ℕ, List};
+ghost use Rattle.state_asks.specs.Flags.{HasKeptFlags};
 ghost use Rattle.state_journal.specs.Journal.{NamesRuleOf};
 
 use anyhow::{Result, bail};
@@ -50,7 +51,8 @@ fn docket(alloc: Global, records: u32) -> Result<Docket, OutOfMemory> {
 
 /// Whether there is a state for a datagram of one of a thousand hosts to a name server.
 fn lookup(record: u32) -> Op
-    ensures { (rules : List ℕ) → NamesRuleOf rules result }
+    ensures rule { (rules : List ℕ) → NamesRuleOf rules result }
+    ensures flags { HasKeptFlags result }
 {
     Op::Lookup {
         flow: Flow {

@@ -1,3 +1,5 @@
 -- what a publication tells the states
 pub mod Facts
 pub mod RuleLists
+-- what an ask has of a packet
+pub mod Flags

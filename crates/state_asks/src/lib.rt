@@ -2,12 +2,14 @@
 #![tactic(auto)]
 
 pub use facts::{Facts, is_ordered};
+pub use flags::kept_flags;
 pub use identities::Identities;
 pub use op::{FlowName, Op};
 pub use reply::{Reply, Way};
 pub use rule_ref::RuleRef;
 
 mod facts;
+mod flags;
 mod identities;
 mod op;
 mod reply;

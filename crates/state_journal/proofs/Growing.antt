@@ -1,5 +1,7 @@
 -- Journals that grow by an entry.
-use Rattle.std.proofs.Common.{◌≡◌, ℕ, ◌+◌, List, [], ◌∷◌, ◌++◌, length, refl, sym, ap, ◌∙◌, subst, arith}
+use Rattle.std.proofs.Common.{◌≡◌, ℕ, ◌+◌, ◌≤◌, List, [], ◌∷◌, ◌++◌, length, map, refl, sym, ap, ◌∙◌, subst, arith}
+use Rattle.std.proofs.lemmas.List.{length-append, map-append}
+use Rattle.state_asks.specs.Flags.{HasKeptFlags}
 use Rattle.state_asks.specs.declared.facts.Facts.{Facts}
 use Rattle.state_asks.specs.declared.op.Op.{Op}
 use Rattle.state_asks.specs.declared.reply.Reply.{Reply}
@@ -7,6 +9,8 @@ use Rattle.dyn_states.specs.StateObject.{StateObject, reply_of, after_ask, after
 use Rattle.state_journal.specs.declared.entry.Entry.{Entry}
 use Rattle.state_journal.specs.declared.entry.Entry.TheVariants.{Publish, Ask}
 use Rattle.state_journal.specs.Journal.{Journal, IsJournal, IsLawfulFrom, object_from, object_after_publication, no_states, AreNumberedFrom, last_rules, BeginsWithOne, NamesRuleOf, IsFoundOf, with_ask, with_publication, first_journal}
+use Rattle.state_journal.specs.Entries.{IsOfLanes, AsksKeptFlags}
+use Rattle.state_journal.proofs.EntryLists.{AllByRecursion-append, last_number-ask, last_number-publication, publications-ask, publications-publication}
 use Rattle.state_journal.proofs.Ruled.{AreRuled, found_of_ask, AreRuled-after_ask, AreRuled-publication, has_id-zero}
 
 -- an ask behind lawful entries, with the state object's answer, leaves them lawful
@@ -64,14 +68,19 @@ BeginsWithOne-append [] more is = absurd is
 BeginsWithOne-append (Publish number ∷ entries) more is = is
 BeginsWithOne-append (Ask lane op reply at ∷ entries) more is = absurd is
 
--- a book after an ask is one
-pub IsJournal-ask : (j : Journal) (lane at : ℕ) (op : Op) → IsJournal j → NamesRuleOf (last_rules j.facts) op → IsJournal (with_ask j lane at op (reply_of j.object op))
-IsJournal-ask j lane at op is names = record {
+-- a book after an ask of one of its lanes is one
+pub IsJournal-ask : (j : Journal) (lane at : ℕ) (op : Op) → IsJournal j → NamesRuleOf (last_rules j.facts) op → 1 ≤ lane → lane ≤ j.lanes → HasKeptFlags op
+    → IsJournal (with_ask j lane at op (reply_of j.object op))
+IsJournal-ask j lane at op is names first within flags = record {
   begins = BeginsWithOne-append j.entries _ is.begins;
   lawful = IsLawfulFrom-ask no_states j.facts j.entries lane at op _ is.lawful (ap (λ (o : StateObject). reply_of o op) is.object);
   object = ap (λ (o : StateObject). after_ask o op) is.object ∙ sym (object_from-ask no_states j.facts j.entries lane at op _ is.lawful);
   numbered = is.numbered;
+  published = publications-ask lane at op _ j.entries ∙ is.published;
+  current = last_number-ask 0 lane at op _ j.entries ∙ is.current;
   ruled = AreRuled-after_ask (last_rules j.facts) j.object op names is.ruled;
+  asked = AllByRecursion-append (IsOfLanes j.lanes) j.entries (Ask lane op (reply_of j.object op) at) is.asked (first, within);
+  flagged = AllByRecursion-append AsksKeptFlags j.entries (Ask lane op (reply_of j.object op) at) is.flagged flags;
 }
 
 -- what it answers has a rule of the last publication
@@ -86,8 +95,16 @@ IsJournal-publication j facts is next = record {
   lawful = IsLawfulFrom-publication no_states j.facts j.entries facts is.lawful;
   object = ap (λ (o : StateObject). object_after_publication o facts) is.object ∙ sym (object_from-publication no_states j.facts j.entries facts is.lawful);
   numbered = AreNumberedFrom-append 1 j.facts facts is.numbered (omega arith);
+  published =
+      publications-publication facts.number j.entries
+      ∙ ap (λ (numbers : List ℕ). numbers ++ facts.number ∷ []) is.published
+      ∙ sym (map-append (λ (f : Facts). f.number) j.facts (facts ∷ []));
+  current = let more : length (j.facts ++ facts ∷ []) ≡ length j.facts + 1 = omega (arith, length-append j.facts (facts ∷ [])) in
+      last_number-publication 0 facts.number j.entries ∙ next ∙ sym more;
   ruled = subst (λ (rules : List ℕ). AreRuled rules (with_publication j facts).object.states) (sym (last_rules-append j.facts facts))
       (AreRuled-publication facts.rules facts.settings.keep j.object.states (has_id-zero facts.rules facts.ordered));
+  asked = AllByRecursion-append (IsOfLanes j.lanes) j.entries (Publish facts.number) is.asked tt;
+  flagged = AllByRecursion-append AsksKeptFlags j.entries (Publish facts.number) is.flagged tt;
 }
 
 -- the book of the first facts is one
@@ -98,5 +115,9 @@ IsJournal-first lanes facts one = record {
   lawful = (refl, tt);
   object = refl;
   numbered = (one, tt);
+  published = refl;
+  current = one;
   ruled = AreRuled-publication facts.rules facts.settings.keep [] (has_id-zero facts.rules facts.ordered);
+  asked = (tt, tt);
+  flagged = (tt, tt);
 }

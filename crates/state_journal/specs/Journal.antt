@@ -1,5 +1,5 @@
 -- The journal: what the one state object met, in order.
-use Rattle.std.specs.Prelude.{◌≡◌, ℕ, ◌+◌, Bool, false, IsTrue, ⊤, List, [], ◌∷◌, ◌++◌}
+use Rattle.std.specs.Prelude.{◌≡◌, ℕ, ◌+◌, Bool, false, IsTrue, ⊤, List, [], ◌∷◌, ◌++◌, length, map}
 use Rattle.std.specs.List.{AllByRecursion}
 use Rattle.fw_rule.specs.Values.{values_of, default_values}
 use Rattle.state_asks.specs.declared.facts.Facts.{Facts}
@@ -11,6 +11,7 @@ use Rattle.dyn_states.specs.StateObject.{StateObject, first_object, reply_of, af
 use Rattle.state_asks.specs.RuleLists.{has_id}
 use Rattle.state_journal.specs.declared.entry.Entry.{Entry}
 use Rattle.state_journal.specs.declared.entry.Entry.TheVariants.{Publish, Ask}
+use Rattle.state_journal.specs.Entries.{AreOfLanes, AsksKeptFlags, publications, last_number}
 
 -- a book: its lanes, the facts of its publications in order, its entries, the state object, and whether
 -- there is room for one publication more
@@ -65,13 +66,18 @@ BeginsWithOne (Publish number ∷ entries) = number ≡ 1
 BeginsWithOne (Ask lane op reply at ∷ entries) = ⊥
 
 -- The journal is lawful from no state and the clock at 0, its publications are those of the editions 1,
--- 2, .. in order, and the rule of each state is one of the last publication.
+-- 2, .. in order, of which the last stands before the next ask, and the rule of each state is one of the
+-- last publication. Each ask is of one of its lanes, and has no flags but FIN, SYN and RST.
 pub record IsJournal (j : Journal) : Type 0 where
   pub begins : BeginsWithOne j.entries
   pub lawful : IsLawfulFrom no_states j.facts j.entries
   pub object : j.object ≡ object_from no_states j.facts j.entries
   pub numbered : AreNumberedFrom 1 j.facts
+  pub published : publications j.entries ≡ map (λ facts. facts.number) j.facts
+  pub current : last_number 0 j.entries ≡ length j.facts
   pub ruled : AllByRecursion (λ s. IsTrue (has_rule_among (last_rules j.facts) s)) j.object.states
+  pub asked : AreOfLanes j.lanes j.entries
+  pub flagged : AllByRecursion AsksKeptFlags j.entries
 
 -- an install names a rule of these
 abbrev pub NamesRuleOf : List ℕ → Op → Type 0

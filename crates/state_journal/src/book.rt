@@ -3,6 +3,7 @@ ghost use Rattle.state_journal.specs.Items.{items_of, last_facts};
 ghost use Rattle.state_journal.specs.declared.entry.Item.TheVariants.{Published};
 ghost use Rattle.state_journal.specs.Journal as journal;
 ghost use Rattle.state_journal.specs.Journal.{IsJournal, first_journal, with_ask, with_publication, NamesRuleOf, IsFoundOf, last_rules};
+ghost use Rattle.state_asks.specs.Flags.{HasKeptFlags};
 ghost use Rattle.state_asks.specs.RuleLists.{has_id};
 ghost use Rattle.dyn_states.specs.StateObject.{reply_of};
 
@@ -113,11 +114,12 @@ impl Book {
         &self.states
     }
 
-    /// Asks the states and enters the ask with its answer. Where memory is wanted nothing has changed; the
-    /// room that was made for a publication stays.
+    /// Asks the states, of TCP's flags with FIN, SYN and RST alone, and enters the ask with its answer.
+    /// Where memory is wanted nothing has changed; the room that was made for a publication stays.
     pub fn ask(&mut self, lane: u32, at: u64, op: Op) -> Result<Reply, OutOfMemory>
         requires lane { (1 ≤ lane) × (lane ≤ self.old.lanes) }
         requires rule { NamesRuleOf (last_rules self.old.facts) op }
+        requires flags { HasKeptFlags op }
         ensures reply { IfOk result (λ reply. reply ≡ reply_of self.old.object op) }
         ensures entered { IfOk result (λ reply. self.new ≡ with_ask self.old lane at op reply) }
         ensures found { IfOk result (IsFoundOf (last_rules self.old.facts)) }

@@ -1,5 +1,6 @@
 ghost use Rattle.std.specs.Prelude.{ℕ, List};
 ghost use Rattle.fw_rule.specs.Settings.{IsLifetime};
+ghost use Rattle.state_asks.specs.Flags.{HasKeptFlags};
 ghost use Rattle.state_journal.specs.Journal.{NamesRuleOf};
 
 use fw_base::Addr;
@@ -38,7 +39,8 @@ fn flow(host: u32) -> Flow {
 
 /// Whether there is a state for a datagram of that host.
 pub fn lookup(host: u32, second: u32) -> Op
-    ensures { (rules : List ℕ) → NamesRuleOf rules result }
+    ensures rule { (rules : List ℕ) → NamesRuleOf rules result }
+    ensures flags { HasKeptFlags result }
 {
     Op::Lookup {
         flow: flow(host),

@@ -1,4 +1,5 @@
 ghost use Rattle.std.specs.Prelude.{◌≡◌, ℕ, List, IsTrue};
+ghost use Rattle.state_asks.specs.Flags.{HasKeptFlags};
 ghost use Rattle.state_asks.specs.RuleLists.{has_id};
 ghost use Rattle.state_journal.specs.Journal.{NamesRuleOf};
 
@@ -24,7 +25,8 @@ fn datagram(port: u16) -> Flow {
 }
 
 fn lookup(second: u32) -> Op
-    ensures { (rules : List ℕ) → NamesRuleOf rules result }
+    ensures rule { (rules : List ℕ) → NamesRuleOf rules result }
+    ensures flags { HasKeptFlags result }
 {
     Op::Lookup {
         flow: datagram(5),
@@ -35,7 +37,8 @@ fn lookup(second: u32) -> Op
 }
 
 fn install(second: u32) -> Op
-    ensures { (rules : List ℕ) → IsTrue (has_id rules 2) → NamesRuleOf rules result }
+    ensures rule { (rules : List ℕ) → IsTrue (has_id rules 2) → NamesRuleOf rules result }
+    ensures flags { HasKeptFlags result }
 {
     Op::Install {
         flow: datagram(5),

@@ -1,4 +1,5 @@
-ghost use Rattle.std.specs.Prelude.{ℕ, List, IsTrue};
+ghost use Rattle.std.specs.Prelude.{ℕ, ◌<◌, List, IsTrue};
+ghost use Rattle.state_asks.specs.Flags.{HasKeptFlags};
 ghost use Rattle.state_asks.specs.RuleLists.{has_id};
 ghost use Rattle.state_journal.specs.Journal.{NamesRuleOf};
 
@@ -29,7 +30,8 @@ const BACK: Flow = Flow {
 };
 
 fn lookup(flow: Flow, flags: u8, second: u32) -> Op
-    ensures { (rules : List ℕ) → NamesRuleOf rules result }
+    ensures rule { (rules : List ℕ) → NamesRuleOf rules result }
+    ensures flags { flags < 8 → HasKeptFlags result }
 {
     Op::Lookup {
         flow,
@@ -40,7 +42,8 @@ fn lookup(flow: Flow, flags: u8, second: u32) -> Op
 }
 
 fn install() -> Op
-    ensures { (rules : List ℕ) → IsTrue (has_id rules 2) → NamesRuleOf rules result }
+    ensures rule { (rules : List ℕ) → IsTrue (has_id rules 2) → NamesRuleOf rules result }
+    ensures flags { HasKeptFlags result }
 {
     Op::Install {
         flow: FORTH,
@@ -61,7 +64,7 @@ fn ask_lookup(
     flags: u8,
 ) -> Result<(), Fail> {
     assert!(rt; book.lanes() == 2);
-    assert!(rt; at < 100);
+    assert!(rt; at < 100 && flags < 8);
     book.ask(1, at, lookup(flow, flags, at as u32 + 99))?;
     Ok(())
 }
@@ -71,7 +74,7 @@ fn ask_all(rt: &impl Abort, book: &mut Book) -> Result<(), Fail> {
     ask_lookup(rt, book, 1, FORTH, 2)?;
     assert!(rt; book.lanes() == 2 && book.has_rule(2));
     book.ask(1, 1, install())?;
-    for (at, flow, flags) in [(2, BACK, 18), (3, FORTH, 17), (4, BACK, 17), (5, FORTH, 16)] {
+    for (at, flow, flags) in [(2, BACK, 2), (3, FORTH, 1), (4, BACK, 1), (5, FORTH, 0)] {
         ask_lookup(rt, book, at, flow, flags)?;
     }
     Ok(())

@@ -1,4 +1,4 @@
-use Rattle.std.proofs.Common.{◌≡◌, List, ap, sym, subst, arith}
+use Rattle.std.proofs.Common.{◌≡◌, ℕ, ◌≤◌, List, ap, sym, subst, arith}
 use Rattle.state_asks.specs.declared.facts.Facts.{Facts}
 use Rattle.dyn_states.specs.StateObject.{reply_of}
 use Rattle.state_journal.specs.Journal.{Journal, NamesRuleOf, IsFoundOf, last_rules}
@@ -8,9 +8,11 @@ use Rattle.state_journal.proofs.book.Book.ask.Goals as goal
 pub invariant_of-self-2 : goal.invariant_of-self-2
 invariant_of-self-2 c =
     let facts : c.args.self.now.facts ≡ c.self.inside.facts.items = sym (ap (λ (j : Journal). j.facts) c.self.view_is) in
+    let lanes : c.args.self.now.lanes ≡ c.self.inside.lanes = sym (ap (λ (j : Journal). j.lanes) c.self.view_is) in
+    let within = subst (λ (n : ℕ). c.args.lane ≤ n) lanes c.requires.lane.1 in
     let names = subst (λ (all : List Facts). NamesRuleOf (last_rules all) c.args.op) facts c.requires.rule in (
       rw (c.push_reserved.ensures.items, c.in_ok-reserve.ensures.items, c.step-reply.ensures.after, c.step-reply.ensures.reply)
-          (IsJournal-ask _ c.args.lane c.args.at c.args.op c.self.invariant.0 names),
+          (IsJournal-ask _ c.args.lane c.args.at c.args.op c.self.invariant.0 names c.requires.lane.0 within c.requires.flags),
       omega (arith, c.step-reply.ensures.room, c.self.invariant.1),
       λ ready. (
         (c.self.invariant.2 ready).0,

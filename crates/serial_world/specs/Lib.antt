@@ -1,0 +1,5 @@
+-- what holds of every serial world, and how one is opened
+pub mod WorldKept
+-- what its calls do
+pub mod Steps
+pub mod SerialEntries

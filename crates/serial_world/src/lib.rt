@@ -1,0 +1,16 @@
+//! The world for one thread: editions, the one book of the states, and lanes whose numbers, refusals and
+//! trackers are plain fields.
+#![tactic(auto)]
+
+pub use open_serial::OpenSerial;
+pub use serial_desk::SerialDesk;
+pub use serial_inside::SerialInside;
+pub use serial_lane::{SerialEntry, SerialLane};
+pub use serial_world::{MOST_LANES, SerialWorld};
+
+mod lane_state;
+mod open_serial;
+mod serial_desk;
+mod serial_inside;
+mod serial_lane;
+mod serial_world;

@@ -1,0 +1,475 @@
+ghost use Rattle.std.specs.Prelude.{◌≡◌, ℕ, ◌+◌, ◌≤◌, ◌++◌, ◌∷◌, [], length, true, false, IfOk, OnOk, OnErr, IfErr, IsSome, None, List, is_ok, is_err, map};
+ghost use Rattle.std.specs.Arc.{arc_value};
+ghost use Rattle.std.specs.List.{list_any, AllByRecursion};
+ghost use Rattle.fw_rule.specs.declared.command.Command.{Command};
+ghost use Rattle.rule_chain.specs.Configuration.{Configuration};
+ghost use Rattle.fw_world.specs.Closing.{AreLanesFrom, by_place, EachStandsFor, record_of_world};
+ghost use Rattle.fw_world.specs.Legal.{IsLegalButSections, IsLegal};
+ghost use Rattle.fw_world.specs.Columns.{no_columns, with_lane};
+ghost use Rattle.eval_engine.specs.Dockets.{judged_entry};
+ghost use Rattle.fw_rule.specs.WellFormed.{IsWellFormed};
+ghost use Rattle.generation_store.specs.Published.{IsEdition};
+ghost use Rattle.rule_edits.specs.Changing.{IsChanging};
+ghost use Rattle.state_journal.specs.Journal.{first_journal};
+ghost use Rattle.fw_world.specs.Inputs.{Input, Packet};
+ghost use Rattle.fw_world.specs.Lane as lanes;
+ghost use Rattle.fw_world.specs.Lane.{LaneValue, first_lanes, lane_after_regain, lane_after_admission, with_docket_entry};
+ghost use Rattle.fw_world.specs.Skips.{entry_for, skipped_input};
+ghost use Rattle.serial_world.specs.Steps.{Judges, ChangesAsksOf, Publishes};
+ghost use Rattle.fw_world.specs.CommitFaults.{IsCauseOf};
+ghost use Rattle.fw_world.specs.LaneKept.{IsLane, pending_of};
+ghost use Rattle.serial_world.specs.SerialEntries.{entry_of};
+ghost use Rattle.fw_world.specs.World.{WorldValue, published_count, IsLaneOf, LaneStandsFor, DeskStandsFor};
+ghost use Rattle.serial_world.specs.WorldKept.{IsNewWorld};
+
+use crate::lane_state::LaneState;
+use crate::{OpenSerial, SerialDesk, SerialEntry, SerialInside, SerialLane};
+use eval_engine::Judgement;
+use fw_base::{Kept, OutOfMemory, Port};
+use fw_rule::Command;
+use fw_world::{Columns, CommitFault, Record, Skipped, last_edition, next_edition, share_edition, skipped_entry, store_of};
+use generation_store::{Edition, Store};
+use ip6_headers::AnyIp;
+use rule_chain::Config;
+use state_journal::Book;
+use std::alloc::Global;
+use std::marker::Model;
+use std::sync::Arc;
+
+/// How many lanes a serial world may have.
+pub const MOST_LANES: u32 = 16;
+
+/// The world for one thread: the editions, and the one book of the states.
+#[derive(Drop)]
+pub struct SerialWorld {
+    pub(crate) book: Book,
+    pub(crate) store: Store,
+    pub(crate) columns: Columns,
+}
+
+impl Model for SerialWorld {
+    ghost use Rattle.std.specs.Prelude.{◌≡◌};
+    ghost use Rattle.fw_world.specs.Columns.{no_columns};
+    ghost use Rattle.fw_world.specs.World.{WorldValue};
+    ghost use Rattle.serial_world.specs.WorldKept.{IsWorld};
+
+    ghost Value = { WorldValue };
+
+    ghost view = { λ w. record { editions = w.store.editions; journal = w.book } };
+
+    ghost invariant = { λ w. IsWorld (record { editions = w.store.editions; journal = w.book })
+        × (w.columns ≡ no_columns w.book.lanes) };
+}
+
+/// The lanes of a world that is opened.
+fn open_lanes(alloc: Global, lanes: u32) -> Result<Vec<SerialLane>, OutOfMemory>
+    requires { lanes ≤ MOST_LANES }
+    ensures { IfOk result (λ opened. opened.items ≡ first_lanes 1 lanes) }
+{
+    let mut opened = Vec::with_capacity(alloc, lanes as usize)?;
+    for place in 1..=lanes {
+        opened.push(SerialLane {
+            state: LaneState::new(alloc, place),
+        })?;
+    }
+    Ok(opened)
+}
+
+/// The desk of a world that shows this edition alone.
+fn open_desk(alloc: Global, edition: &Arc<Edition>) -> Result<SerialDesk, OutOfMemory>
+    ensures { IfOk result (λ desk. desk ≡ arc_value edition.now ∷ []) }
+{
+    Ok(SerialDesk {
+        store: store_of(alloc, share_edition(edition)?)?,
+    })
+}
+
+/// The book of so many lanes that begins with the publication of edition 1.
+fn open_book(alloc: Global, edition: &Edition, lanes: u32) -> Result<Book, OutOfMemory>
+    requires number { edition.now.facts.number ≡ 1 }
+    requires lanes { (1 ≤ lanes) × (lanes ≤ MOST_LANES) }
+    ensures { IfOk result (λ book. book ≡ first_journal lanes edition.now.facts) }
+{
+    Book::open(alloc, lanes, edition.facts().share()?)
+}
+
+/// The world of so many lanes that shows edition 1 alone.
+fn open_world(alloc: Global, edition: Arc<Edition>, lanes: u32) -> Result<SerialWorld, OutOfMemory>
+    requires number { (arc_value edition).number ≡ 1 }
+    requires factual { IsEdition (arc_value edition) }
+    requires lanes { (1 ≤ lanes) × (lanes ≤ MOST_LANES) }
+    ensures editions { IfOk result (λ world. world.editions ≡ arc_value edition ∷ []) }
+    ensures journal { IfOk result (λ world.
+        world.journal ≡ first_journal lanes (arc_value edition).facts) }
+{
+    let book = open_book(alloc, &edition, lanes)?;
+    let columns = Columns::with_room(alloc, lanes)?;
+    let store = store_of(alloc, edition)?;
+    Ok(SerialWorld {
+        book,
+        store,
+        columns,
+    })
+}
+
+impl SerialWorld {
+    /// A world of so many lanes that shows the configuration as edition 1, with its lanes and its desk.
+    /// The memory that closing it needs is taken here.
+    pub fn open(alloc: Global, config: Config, lanes: u32) -> Result<OpenSerial, OutOfMemory>
+        requires least { 1 ≤ lanes }
+        requires most { lanes ≤ MOST_LANES }
+        ensures world { IfOk result (λ opened. IsNewWorld config lanes opened.world) }
+        ensures lanes { IfOk result (λ opened. opened.lanes.items ≡ first_lanes 1 lanes) }
+        ensures desk { IfOk result (λ opened. opened.desk ≡ opened.world.editions) }
+    {
+        let edition = Edition::build(alloc, 1, config)?;
+        let desk = open_desk(alloc, &edition)?;
+        let world = open_world(alloc, edition, lanes)?;
+        let lanes = open_lanes(alloc, lanes)?;
+        Ok(OpenSerial { world, lanes, desk })
+    }
+
+    /// The number of the last edition.
+    fn published(&self) -> u64
+        ensures { result ≡ published_count self.now }
+    {
+        self.store.all().len() as u64
+    }
+
+    /// Judges the next record of a lane under the last edition.
+    fn judge_record(
+        &mut self,
+        lane: &mut LaneState,
+        packet: &AnyIp<'_>,
+        port: &Port,
+        second: u32,
+    ) -> Result<Judgement, OutOfMemory>
+        requires place { (1 ≤ lane.old.place) × (lane.old.place ≤ self.old.journal.lanes) }
+        ensures judged { IfOk result (λ judgement.
+            Judges self.old self.new lane.old.place (length lane.old.docket.entries + 1) packet.now
+            port.now second lane.old.tally lane.new.tally judgement) }
+        ensures lane { IfOk result (λ judgement. lane.new
+            ≡ record (with_docket_entry (judged_entry judgement) lane.old) { tally = lane.new.tally }) }
+        ensures working { OnOk result (lane.old.failed ≡ false) }
+        ensures asks { ChangesAsksOf lane.old.place self.old self.new }
+        ensures stands { OnOk result ((inputs : List Input) → LaneStandsFor self.old lane.old inputs
+            → LaneStandsFor self.new lane.new (inputs ++ Packet packet.now port.now second ∷ [])) }
+        ensures failed { OnErr result (lane.new ≡ record lane.old {
+          tally = lane.new.tally;
+          failed = true;
+        }) }
+        ensures idle { lane.old.failed ≡ true → self.new ≡ self.old }
+        ensures of_world { IsLaneOf self.old lane.old → IsLaneOf self.new lane.new }
+        ensures kept { IsLaneOf self.old lane.old → IsLane 1 lane.old
+            → IsLane (pending_of (is_ok result)) lane.new }
+    {
+        let edition = last_edition(self.store.all());
+        lane.judge(&mut self.book, edition, packet, port, second)
+    }
+
+    /// Begins a section of the lane: it is in where it holds the last edition, and is refused where it
+    /// holds an earlier one.
+    pub fn enter(&mut self, lane: SerialLane) -> SerialEntry
+        requires { IsLaneOf self.old lane }
+        ensures entry { result ≡ entry_of (published_count self.old) lane }
+        ensures world { self.new ≡ self.old }
+    {
+        let published = self.published();
+        let SerialLane { mut state } = lane;
+        if state.enter(published) {
+            SerialEntry::In(SerialInside {
+                state,
+                judged: false,
+            })
+        } else {
+            SerialEntry::Revoked(SerialLane { state }, published)
+        }
+    }
+
+    /// Ends the section.
+    pub fn leave(&mut self, inside: SerialInside) -> SerialLane
+        ensures lane { result ≡ lanes.lane_after_leave inside }
+        ensures world { self.new ≡ self.old }
+    {
+        let SerialInside { mut state, judged } = inside;
+        state.leave(judged);
+        SerialLane { state }
+    }
+
+    /// The lane, which was refused, takes up the last edition.
+    pub fn regain(&mut self, lane: SerialLane) -> SerialLane
+        requires of_world { IsLaneOf self.old lane }
+        requires refused { IsSome lane.refusal }
+        ensures lane { result ≡ lane_after_regain (published_count self.old) lane }
+        ensures world { self.new ≡ self.old }
+    {
+        let published = self.published();
+        let SerialLane { mut state } = lane;
+        state.regain(published);
+        SerialLane { state }
+    }
+
+    /// Judges the next record of the lane, a packet that was captured there at that second, under the last
+    /// edition. Where memory is wanted the lane has failed, and answers so from then on; the asks that were
+    /// made stay.
+    pub fn judge_in(
+        &mut self,
+        inside: SerialInside,
+        packet: &AnyIp<'_>,
+        port: &Port,
+        second: u32,
+    ) -> (SerialInside, Result<Judgement, OutOfMemory>)
+        requires of_world { IsLaneOf self.old inside.lane }
+        requires fresh { inside.judged ≡ false }
+        ensures judged { IfOk result.1 (λ judgement.
+            Judges self.old self.new inside.lane.place (length inside.lane.docket.entries + 1)
+            packet.now port.now second inside.lane.tally result.0.lane.tally judgement) }
+        ensures lane { IfOk result.1 (λ judgement. result.0
+            ≡ record { lane = record (with_docket_entry (judged_entry judgement) inside.lane) { tally = result.0.lane.tally }; judged = true }) }
+        ensures working { OnOk result.1 (inside.lane.failed ≡ false) }
+        ensures stands { OnOk result.1 ((inputs : List Input)
+            → LaneStandsFor self.old inside.lane inputs
+            → LaneStandsFor self.new result.0.lane (inputs ++ Packet packet.now port.now second
+            ∷ [])) }
+        ensures asks { ChangesAsksOf inside.lane.place self.old self.new }
+        ensures of_world { IsLaneOf self.new result.0.lane }
+        ensures failed { OnErr result.1 (result.0
+            ≡ record {
+              lane = record inside.lane { tally = result.0.lane.tally; failed = true };
+              judged = false;
+            }) }
+        ensures idle { inside.lane.failed ≡ true → self.new ≡ self.old }
+    {
+        let SerialInside {
+            mut state,
+            judged: _,
+        } = inside;
+        let outcome = self.judge_record(&mut state, packet, port, second);
+        let judged = outcome.is_ok();
+        (SerialInside { state, judged }, outcome)
+    }
+
+    /// Judges the next record of the lane in a section of its own. Where the lane holds an earlier edition
+    /// it is refused, regains and begins another section. Where memory is wanted the lane has failed.
+    pub fn judge(
+        &mut self,
+        lane: &mut SerialLane,
+        packet: &AnyIp<'_>,
+        port: &Port,
+        second: u32,
+    ) -> Result<Judgement, OutOfMemory>
+        requires of_world { IsLaneOf self.old lane.old }
+        requires heeded { lane.old.refusal ≡ None }
+        ensures judged { IfOk result (λ judgement.
+            Judges self.old self.new lane.old.place (length lane.old.docket.entries + 1) packet.now
+            port.now second lane.old.tally lane.new.tally judgement) }
+        ensures lane { IfOk result (λ judgement. lane.new
+            ≡ record (with_docket_entry (judged_entry judgement) (lane_after_admission (published_count self.old)
+            lane.old)) { tally = lane.new.tally }) }
+        ensures working { OnOk result (lane.old.failed ≡ false) }
+        ensures stands { OnOk result ((inputs : List Input) → LaneStandsFor self.old lane.old inputs
+            → LaneStandsFor self.new lane.new (inputs ++ Packet packet.now port.now second ∷ [])) }
+        ensures asks { ChangesAsksOf lane.old.place self.old self.new }
+        ensures of_world { IsLaneOf self.new lane.new }
+        ensures heeded { lane.new.refusal ≡ None }
+        ensures failed { OnErr result (lane.new
+            ≡ record (lane_after_admission (published_count self.old) lane.old) {
+              tally = lane.new.tally;
+              failed = true;
+              loose = lanes.one_looser true lane.old.loose;
+            }) }
+        ensures idle { lane.old.failed ≡ true → self.new ≡ self.old }
+    {
+        let published = self.published();
+        lane.state.admit(published);
+        let outcome = self.judge_record(&mut lane.state, packet, port, second);
+        lane.state.leave(outcome.is_ok());
+        outcome
+    }
+
+    /// Publishes what the command makes of the last edition as the next one, and answers its number. Each
+    /// lane of the world is one of it still and stands for its inputs, and the desk stands for one command
+    /// more. All memory is taken before.
+    pub fn commit(
+        &mut self,
+        alloc: Global,
+        desk: SerialDesk,
+        command: &Command,
+    ) -> (SerialDesk, Result<u64, CommitFault>)
+        requires desk { desk ≡ self.old.editions }
+        requires command { IsWellFormed command.now }
+        requires changing { IsChanging command.now }
+        ensures published { OnOk result.1 (Publishes self.old self.new command.now) }
+        ensures number { IfOk result.1 (λ number. number ≡ published_count self.new) }
+        ensures desk { result.0 ≡ self.new.editions }
+        ensures lanes { OnOk result.1 ((lane : LaneValue)
+            → IsLaneOf self.old lane → IsLaneOf self.new lane) }
+        ensures stands { OnOk result.1 ((lane : LaneValue) (inputs : List Input)
+            → LaneStandsFor self.old lane inputs → LaneStandsFor self.new lane inputs) }
+        ensures accepts { OnOk result.1 ((first : Configuration) (commands : List Command)
+            → DeskStandsFor desk first commands → DeskStandsFor result.0 first (commands ++ command.now ∷ [])) }
+        ensures cause { IfErr result.1 (IsCauseOf self.old.editions command.now) }
+        ensures unchanged { OnErr result.1 (self.new ≡ self.old) }
+    {
+        let mut desk = desk;
+        let outcome = self.edit(alloc, &mut desk, command);
+        (desk, outcome)
+    }
+
+    /// The same, where the desk stays in its place.
+    pub fn edit(
+        &mut self,
+        alloc: Global,
+        desk: &mut SerialDesk,
+        command: &Command,
+    ) -> Result<u64, CommitFault>
+        requires desk { desk.old ≡ self.old.editions }
+        requires command { IsWellFormed command.now }
+        requires changing { IsChanging command.now }
+        ensures published { OnOk result (Publishes self.old self.new command.now) }
+        ensures number { IfOk result (λ number. number ≡ published_count self.new) }
+        ensures desk { desk.new ≡ self.new.editions }
+        ensures lanes { OnOk result ((lane : LaneValue)
+            → IsLaneOf self.old lane → IsLaneOf self.new lane) }
+        ensures stands { OnOk result ((lane : LaneValue) (inputs : List Input)
+            → LaneStandsFor self.old lane inputs → LaneStandsFor self.new lane inputs) }
+        ensures accepts { OnOk result ((first : Configuration) (commands : List Command)
+            → DeskStandsFor desk.old first commands → DeskStandsFor desk.new first (commands ++ command.now ∷ [])) }
+        ensures cause { IfErr result (IsCauseOf self.old.editions command.now) }
+        ensures unchanged { OnErr result (self.new ≡ self.old) }
+    {
+        self.publish(alloc, &mut desk.store, command)
+    }
+
+    fn publish(
+        &mut self,
+        alloc: Global,
+        shown: &mut Store,
+        command: &Command,
+    ) -> Result<u64, CommitFault>
+        requires shown { shown.old.editions ≡ self.old.editions }
+        requires command { IsWellFormed command.now }
+        requires changing { IsChanging command.now }
+        ensures published { OnOk result (Publishes self.old self.new command.now) }
+        ensures number { IfOk result (λ number. number ≡ published_count self.new) }
+        ensures shown { shown.new.editions ≡ self.new.editions }
+        ensures more { length shown.old.editions ≤ length shown.new.editions }
+        ensures cause { IfErr result (IsCauseOf self.old.editions command.now) }
+        ensures unchanged { OnErr result (self.new ≡ self.old) }
+    {
+        let edition = next_edition(alloc, self.store.all(), command)?;
+        let facts = edition.facts().share()?;
+        let number = edition.number();
+        let shared = share_edition(&edition)?;
+        self.store.ready()?;
+        shown.ready()?;
+        self.book.ready()?;
+        self.book.publish(facts);
+        self.store.push(edition);
+        shown.push(shared);
+        Ok(number)
+    }
+
+    /// Enters a record of the lane that isn't judged. Where memory is wanted the lane has failed.
+    pub fn skip(
+        &mut self,
+        lane: SerialLane,
+        entry: Skipped,
+    ) -> (SerialLane, Result<(), OutOfMemory>)
+        ensures lane { OnOk result.1 (result.0 ≡ with_docket_entry (entry_for entry) lane) }
+        ensures working { OnOk result.1 (lane.failed ≡ false) }
+        ensures stands { OnOk result.1 ((inputs : List Input) → LaneStandsFor self.old lane inputs
+            → LaneStandsFor self.old result.0 (inputs ++ skipped_input entry ∷ [])) }
+        ensures of_world { IsLaneOf self.old lane → IsLaneOf self.old result.0 }
+        ensures failed { OnErr result.1 (result.0 ≡ record lane { failed = true }) }
+        ensures world { self.new ≡ self.old }
+    {
+        let mut lane = lane;
+        let outcome = self.pass_over(&mut lane, entry);
+        (lane, outcome)
+    }
+
+    /// The same, where the lane stays in its place.
+    pub fn pass_over(&mut self, lane: &mut SerialLane, entry: Skipped) -> Result<(), OutOfMemory>
+        ensures lane { OnOk result (lane.new ≡ with_docket_entry (entry_for entry) lane.old) }
+        ensures working { OnOk result (lane.old.failed ≡ false) }
+        ensures stands { OnOk result ((inputs : List Input) → LaneStandsFor self.old lane.old inputs
+            → LaneStandsFor self.old lane.new (inputs ++ skipped_input entry ∷ [])) }
+        ensures of_world { IsLaneOf self.old lane.old → IsLaneOf self.old lane.new }
+        ensures failed { OnErr result (lane.new ≡ record lane.old { failed = true }) }
+        ensures world { self.new ≡ self.old }
+    {
+        lane.state.skip(skipped_entry(entry))
+    }
+
+    /// The record of the world and of its lanes, each once and in any order: dockets, tallies and tracker
+    /// words come in the order of the lanes' places. Want of memory comes exactly where a lane has failed.
+    pub fn close(self, lanes: Vec<SerialLane>, desk: SerialDesk) -> Result<Record, OutOfMemory>
+        requires lanes { AreLanesFrom self 1 (by_place lanes.items) }
+        requires all { length lanes.items ≡ self.journal.lanes }
+        requires desk { desk ≡ self.editions }
+        ensures failed { is_err result ≡ list_any (λ lane. lane.failed) lanes.items }
+        ensures exact { IfOk result (λ r. r ≡ record_of_world self (by_place lanes.items)) }
+        ensures legal { OnOk result
+            ((first : Configuration) (commands : List Command) (inputs : List (List Input))
+            → DeskStandsFor desk first commands → EachStandsFor self (by_place lanes.items) inputs
+            → AllByRecursion (λ lane. lane.loose ≡ 0) lanes.items
+            → IsLegal first commands inputs (record_of_world self (by_place lanes.items))) }
+        ensures nearly { OnOk result
+            ((first : Configuration) (commands : List Command) (inputs : List (List Input))
+            → DeskStandsFor desk first commands → EachStandsFor self (by_place lanes.items) inputs
+            → IsLegalButSections first commands inputs (record_of_world self (by_place lanes.items))) }
+    {
+        if any_failed(&lanes) {
+            return Err(OutOfMemory);
+        }
+        let SerialWorld {
+            book,
+            store,
+            columns,
+        } = self;
+        let columns = filled(columns, ordered(lanes));
+        Ok(Record::new(store.into_all(), book, columns))
+    }
+}
+
+/// The lanes of a world in the order of their places.
+fn ordered(mut lanes: Vec<SerialLane>) -> Vec<SerialLane>
+    ensures lanes { (world : WorldValue) (place : ℕ)
+        → AreLanesFrom world place (by_place lanes.items) → result.items ≡ by_place lanes.items }
+    ensures all { length result.items ≡ length lanes.items }
+{
+    lanes.sort_unstable_by_key(|lane| lane.place());
+    lanes
+}
+
+/// Whether memory has failed one of the lanes.
+fn any_failed(lanes: &[SerialLane]) -> bool
+    ensures { result ≡ list_any (λ lane. lane.failed) lanes.now }
+{
+    lanes.iter().any(|lane| lane.has_failed())
+}
+
+/// Adds the lane to the columns as the last one.
+fn add_lane(columns: &mut Columns, lane: SerialLane)
+    requires room { 0 < columns.old.room }
+    ensures added { columns.new ≡ with_lane lane.docket lane.tally lane.tracker columns.old }
+    ensures lane { IsLane 0 lane }
+{
+    let (work, tracker) = lane.state.into_parts();
+    columns.add(work, tracker);
+}
+
+/// The columns of these lanes, for which there is room.
+fn filled(mut columns: Columns, lanes: Vec<SerialLane>) -> Columns
+    requires { columns ≡ no_columns (length lanes.items) }
+    ensures dockets { result.dockets ≡ map (λ lane. lane.docket) lanes.items }
+    ensures tallies { result.tallies ≡ map (λ lane. lane.tally) lanes.items }
+    ensures trackers { result.trackers ≡ map (λ lane. lane.tracker) lanes.items }
+    ensures lanes { AllByRecursion (IsLane 0) lanes.items }
+{
+    for lane in lanes {
+        add_lane(&mut columns, lane);
+    }
+    columns
+}

@@ -1,0 +1,2 @@
+-- the flags that a state keeps are below 8
+pub mod FewFlags
