@@ -7,8 +7,7 @@ use Rattle.fw_report.specs.declared.ends.Answer.TheVariants.{Refused}
 use Rattle.fw_report.specs.declared.ends.LineAnswer.{LineAnswer}
 use Rattle.fw_rule.specs.declared.command.Command.{Command}
 use Rattle.fw_world.specs.CommitFaults.{RefusesCommand}
-use Rattle.fw_world.specs.Editions.{IsLastOf}
-use Rattle.fw_world.specs.Steps.{IsNextEdition}
+use Rattle.fw_world.specs.Editions.{IsLastOf, IsNextEdition}
 use Rattle.fw_world.specs.World.{DeskStandsFor}
 use Rattle.generation_store.specs.Published.{Published}
 use Rattle.rule_chain.specs.Configuration.{Configuration}

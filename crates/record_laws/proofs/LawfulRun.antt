@@ -13,7 +13,9 @@ use Rattle.eval_engine.specs.declared.judgement.Judgement.{Judgement}
 use Rattle.fw_rule.specs.declared.command.Command.{Command}
 use Rattle.fw_world.specs.Inputs.{Input, Other, Malformed, Packet}
 use Rattle.fw_world.specs.Publications.{IsLawful, facts_of}
-use Rattle.fw_world.specs.Steps.{Judges, Publishes, question_under, with_asks}
+use Rattle.serial_world.specs.Steps.{Judges, Publishes}
+use Rattle.fw_world.specs.Entries.{question_under}
+use Rattle.fw_world.specs.Asks.{with_asks}
 use Rattle.fw_world.specs.World.{WorldValue}
 use Rattle.generation_store.specs.Published.{Published}
 use Rattle.ip6_headers.specs.declared.any_ip.AnyIp.{AnyIp}

@@ -13,7 +13,7 @@ use Rattle.fw_report.specs.declared.ends.LineAnswer.{LineAnswer}
 use Rattle.fw_rule.specs.declared.command.Command.{Command}
 use Rattle.fw_world.specs.Editions.{AreEditionsFrom}
 use Rattle.fw_world.specs.Legal.{IsLegal}
-use Rattle.fw_world.specs.Publications.{publications}
+use Rattle.state_journal.specs.Entries.{publications}
 use Rattle.fw_world.specs.RecordValue.{RecordValue}
 use Rattle.generation_store.specs.Published.{Published}
 use Rattle.lookup_tables.specs.Tables.{table_named}

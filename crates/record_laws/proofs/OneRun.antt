@@ -16,7 +16,9 @@ use Rattle.fw_world.specs.AskRuns.{raised_by}
 use Rattle.fw_world.specs.Editions.{IsLastOf}
 use Rattle.fw_world.specs.Inputs.{Input, Other, Malformed, Packet}
 use Rattle.fw_world.specs.Lane.{LaneValue, with_docket_entry}
-use Rattle.fw_world.specs.Steps.{Judges, Publishes, question_under, with_asks}
+use Rattle.serial_world.specs.Steps.{Judges, Publishes}
+use Rattle.fw_world.specs.Entries.{question_under}
+use Rattle.fw_world.specs.Asks.{with_asks}
 use Rattle.fw_world.specs.World.{WorldValue, published_count}
 use Rattle.generation_store.specs.Published.{Published, IsBuilt, has_identity}
 use Rattle.ip6_headers.specs.Either.{total_of}

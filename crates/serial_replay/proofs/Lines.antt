@@ -11,7 +11,7 @@ use Rattle.fw_world.specs.Closing.{AreLanesFrom, EachStandsFor}
 use Rattle.fw_world.specs.CommitFaults.{RefusesCommand}
 use Rattle.fw_world.specs.Inputs.{Input}
 use Rattle.fw_world.specs.Lane.{LaneValue}
-use Rattle.fw_world.specs.Steps.{IsNextEdition}
+use Rattle.fw_world.specs.Editions.{IsNextEdition}
 use Rattle.fw_world.specs.World.{WorldValue, IsLaneOf, LaneStandsFor}
 use Rattle.generation_store.specs.Published.{Published}
 use Rattle.state_journal.specs.Journal.{Journal}

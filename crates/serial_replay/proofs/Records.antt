@@ -11,9 +11,9 @@ use Rattle.state_journal.specs.Items.{asks_of}
 use Rattle.fw_world.specs.Closing.{AreLanesFrom, EachStandsFor}
 use Rattle.fw_world.specs.Inputs.{Input, Packet}
 use Rattle.fw_world.specs.Lane.{LaneValue, with_docket_entry}
-use Rattle.fw_world.specs.Steps.{Judges, ChangesAsksOf}
+use Rattle.serial_world.specs.Steps.{Judges, ChangesAsksOf}
 use Rattle.fw_world.specs.World.{WorldValue, published_count, IsLaneOf, LaneStandsFor}
-use Rattle.fw_world.proofs.Keeping.{is_lane_beside, stands_beside}
+use Rattle.serial_world.proofs.Keeping.{is_lane_beside, stands_beside}
 use Rattle.rule_chain.specs.Configuration.{Configuration}
 use Rattle.capture_tracks.specs.Commands.{Standing}
 use Rattle.capture_tracks.specs.Operator.{OperatorStandsFor}

@@ -8,10 +8,12 @@ use Rattle.fw_command.specs.declared.script.Step.{Step}
 use Rattle.fw_world.specs.Closing.{AreLanesFrom, EachStandsFor}
 use Rattle.fw_world.specs.Editions.{IsLastOf}
 use Rattle.fw_world.specs.Lane.{LaneValue, first_lanes}
-use Rattle.fw_world.specs.Legal.{IsLegal, lane_asks, StandFor}
+use Rattle.fw_world.specs.Legal.{IsLegal}
+use Rattle.fw_world.specs.Asks.{lane_asks}
+use Rattle.fw_world.specs.Standing.{StandFor}
 use Rattle.fw_world.specs.RecordValue.{RecordValue}
 use Rattle.fw_world.specs.World.{WorldValue, published_count, DeskStandsFor}
-use Rattle.fw_world.specs.WorldKept.{IsNewWorld}
+use Rattle.serial_world.specs.WorldKept.{IsNewWorld}
 use Rattle.generation_store.specs.Published.{Published}
 use Rattle.pcap_read.specs.Reading.{Captured}
 use Rattle.rule_chain.specs.Configuration.{Configuration}

@@ -9,7 +9,7 @@ use crate::tracks::Tracks;
 use capture_tracks::{OpenedCapture, Replayed, limit_for};
 use fw_base::{OutOfMemory, Source};
 use fw_command::Step;
-use fw_world::{MOST_LANES, OpenSerial, SerialWorld};
+use serial_world::{MOST_LANES, OpenSerial, SerialWorld};
 use rule_chain::Config;
 use serial_schedule::Agenda;
 use std::alloc::Global;

@@ -9,7 +9,7 @@ use fw_base::{Direction, Link, MemorySink, Name, Port};
 use fw_command::{Line, Pace, Script, parse_script};
 use fw_report::{CaptureEnd, Ends};
 use fw_rule::Items;
-use fw_world::{OpenSerial, SerialDesk, SerialLane, SerialWorld};
+use serial_world::{OpenSerial, SerialDesk, SerialLane, SerialWorld};
 use ip6_headers::{AnyIp, AnyPacket, read_any};
 use std::alloc::Global;
 use std::process::Abort;
