@@ -55,6 +55,7 @@ use Rattle.replay_driver.proofs.Openings.{opens_length}
 use Rattle.replay_driver.proofs.Promised.{IfSome-both}
 use Rattle.replay_driver.proofs.Statuses.{all_well}
 use Rattle.replay_driver.proofs.Told.{names_steady}
+use Rattle.replay_driver.specs.Outside.{Files, Output}
 
 -- what an opening takes out of a told list
 took_from : (a b : Option (List Pair)) (name : List ℕ) (left : Option (List ℕ)) (ps : List Pair) (p : Pair) (rest : List Pair) → TakesOut a b name left
@@ -221,38 +222,38 @@ none_failed : (sources : List (List ℕ)) → AllByRecursion (λ source. no_fail
 none_failed [] = tt
 none_failed (source ∷ sources) = (refl, none_failed sources)
 
-module _ {L S : Type 0} (pairs : L → Option (List Pair)) (faults : L → ℕ) (refused : L → Option (List ℕ)) (left : S → Option (List ℕ)) (failures : S → ℕ) where
+module _ {L S : Type 0} (files : Files L S) where
   -- the captures of a told list are whole where their names stand
-  all_whole : (limit : ℕ) (old new : L) (captures : List CaptureNames) (opened : List (OpenedCapture S)) (told : List Pair) → OpensAll pairs faults refused left failures old new captures opened
-      → pairs old ≡ Some told → AllWhole limit captures told → AllByRecursion (IsWhole left failures limit) opened
+  all_whole : (limit : ℕ) (old new : L) (captures : List CaptureNames) (opened : List (OpenedCapture S)) (told : List Pair) → OpensAll files old new captures opened
+      → files.pairs old ≡ Some told → AllWhole limit captures told → AllByRecursion (IsWhole files.left files.failures limit) opened
   all_whole limit old new [] [] told all is whole = tt
   all_whole limit old new [] (o ∷ os) told all is whole = absurd all
   all_whole limit old new (c ∷ cs) [] told all is whole = absurd all
   all_whole limit old new (c ∷ cs) (o ∷ os) told all is (bytes, behind, stands, front, others) =
       let (port, between, opens, more) = all in
-      let took = took_from (pairs old) (pairs between) c.name (left o.source) told (c.name, bytes) behind opens.took is stands in
+      let took = took_from (files.pairs old) (files.pairs between) c.name (files.left o.source) told (c.name, bytes) behind opens.took is stands in
       ((bytes, took.0, opens.fresh, front), all_whole limit between new cs os behind more took.1 others)
 
-module _ {K S L : Type 0} (written : K → Option (List ℕ)) (sink_faults : K → ℕ) (pairs : L → Option (List Pair)) (faults : L → ℕ) (refused : L → Option (List ℕ)) (left : S → Option (List ℕ)) (failures : S → ℕ)
+module _ {K S L : Type 0} (output : Output K) (files : Files L S)
     (library libraryAfter : L) (sink sinkAfter : K) (outcome : Outcome S) where
   -- a script that was opened and read has the told bytes
-  reads_told : (names : ReplayNames) (complete : IsComplete written sink_faults pairs faults refused left failures names library libraryAfter sink sinkAfter outcome) (between : L) (script : S) (bytes : List ℕ)
-      → ReadsScript pairs faults refused left failures library between names.script script bytes → (bytes ≡ complete.script) × (pairs between ≡ Some complete.behind)
+  reads_told : (names : ReplayNames) (complete : IsComplete output files names library libraryAfter sink sinkAfter outcome) (between : L) (script : S) (bytes : List ℕ)
+      → ReadsScript files library between names.script script bytes → (bytes ≡ complete.script) × (files.pairs between ≡ Some complete.behind)
   reads_told names complete between script bytes reads =
       let opened = took_from _ _ names.script _ complete.before _ _ reads.opens.took complete.told complete.script_stands in
-      (all_bytes complete.script bytes (left script) (failures reads.opened) (failures script)
-      (subst (λ (l : Option (List ℕ)). ReadsAll l (left script) (failures reads.opened) (failures script) 1048577 bytes) opened.0 reads.reads) complete.script_short, opened.1)
+      (all_bytes complete.script bytes (files.left script) (files.failures reads.opened) (files.failures script)
+      (subst (λ (l : Option (List ℕ)). ReadsAll l (files.left script) (files.failures reads.opened) (files.failures script) 1048577 bytes) opened.0 reads.reads) complete.script_short, opened.1)
 
-  replay_status : (names : ReplayNames) → IsComplete written sink_faults pairs faults refused left failures names library libraryAfter sink sinkAfter outcome → (result : RunResult)
-      → FindsReplay pairs faults refused left failures names library libraryAfter result outcome.sources.items → result_status result ≡ 0
+  replay_status : (names : ReplayNames) → IsComplete output files names library libraryAfter sink sinkAfter outcome → (result : RunResult)
+      → FindsReplay files names library libraryAfter result outcome.sources.items → result_status result ≡ 0
   replay_status names complete Usage finds = absurd finds
   replay_status names complete (Unread name) (inl found) = absurd (complete.library_quiet found.refuses.rose)
   replay_status names complete (Unread name) (inr (inl found)) =
-      let quiet = subst (AllByRecursion (λ s. failures s ≡ 0)) found.given_back complete.sources_quiet in
-      absurd (not_risen (failures found.opened) (failures found.script) found.opens.fresh quiet.0 found.fails.rose)
+      let quiet = subst (AllByRecursion (λ s. files.failures s ≡ 0)) found.given_back complete.sources_quiet in
+      absurd (not_risen (files.failures found.opened) (files.failures found.script) found.opens.fresh quiet.0 found.fails.rose)
   replay_status names complete (Unread name) (inr (inr found)) =
-      let still = names_steady pairs faults refused left failures names.script found.before library found.between found.script found.bytes found.opened found.reads in
-      absurd (complete.library_quiet (subst (λ (n : ℕ). Rose n (faults libraryAfter)) still found.refuses.rose))
+      let still = names_steady files names.script found.before library found.between found.script found.bytes found.opened found.reads in
+      absurd (complete.library_quiet (subst (λ (n : ℕ). Rose n (files.faults libraryAfter)) still found.refuses.rose))
   replay_status names complete (Unready error) found =
       let read = reads_told names complete found.reads.between found.script found.bytes found.reads.script_read in
       let ok : first_edition (pace_of names.mode) found.bytes ≡ Ok complete.accepted.edition = ap (first_edition (pace_of names.mode)) read.0 ∙ complete.accepted.first in
@@ -260,11 +261,11 @@ module _ {K S L : Type 0} (written : K → Option (List ℕ)) (sink_faults : K �
       absurd (cc)
   replay_status names complete (Reported kept ends journal) (asked, found) =
       let read = reads_told names complete found.reads.between found.script found.bytes found.reads.script_read in
-      let quiet = subst (AllByRecursion (λ s. failures s ≡ 0)) found.given_back complete.sources_quiet in
-      let many = opens_length pairs faults refused left failures found.reads.between libraryAfter names.captures found.opened found.reads.captures_opened in
-      let whole = all_whole pairs faults refused left failures (limit_for (length names.captures)) found.reads.between libraryAfter names.captures found.opened complete.behind found.reads.captures_opened read.1 complete.captures_whole in
-      replayed_well left failures names.mode found.bytes found.opened kept ends found.captures (subst (IsAccepted (pace_of names.mode)) (sym read.0) complete.accepted)
-      (subst (λ (n : ℕ). AllByRecursion (IsWhole left failures (limit_for n)) found.opened) (sym many) whole) found.replay quiet.1
+      let quiet = subst (AllByRecursion (λ s. files.failures s ≡ 0)) found.given_back complete.sources_quiet in
+      let many = opens_length files found.reads.between libraryAfter names.captures found.opened found.reads.captures_opened in
+      let whole = all_whole files (limit_for (length names.captures)) found.reads.between libraryAfter names.captures found.opened complete.behind found.reads.captures_opened read.1 complete.captures_whole in
+      replayed_well files.left files.failures names.mode found.bytes found.opened kept ends found.captures (subst (IsAccepted (pace_of names.mode)) (sym read.0) complete.accepted)
+      (subst (λ (n : ℕ). AllByRecursion (IsWhole files.left files.failures (limit_for n)) found.opened) (sym many) whole) found.replay quiet.1
   replay_status names complete (Summed kept ends) finds = absurd finds
 
   load_status : (n : ℕ) → n ≤ MOST_RECORDS → (result : RunResult) → FindsLoad n result → result_status result ≡ 0
@@ -278,8 +279,8 @@ module _ {K S L : Type 0} (written : K → Option (List ℕ)) (sink_faults : K �
       ((load.load_capture n, refl, refl, (records, front)), tt) found.replay (none_failed found.sources)
 
   -- a run of what is complete ends with status 0, or 6
-  pub ends_0 : (job : Job) → CanBeMade job → IsRunOf written sink_faults pairs faults refused left failures job library libraryAfter sink sinkAfter outcome
-      → IsCompleteJob written sink_faults pairs faults refused left failures job library libraryAfter sink sinkAfter outcome → (outcome.status ≡ 0) ⊎ (outcome.status ≡ 6)
+  pub ends_0 : (job : Job) → CanBeMade job → IsRunOf output files job library libraryAfter sink sinkAfter outcome
+      → IsCompleteJob output files job library libraryAfter sink sinkAfter outcome → (outcome.status ≡ 0) ⊎ (outcome.status ≡ 6)
   ends_0 job few (inl memory) complete = inr memory.status
   ends_0 (Replays names) few (inr a) complete = elim a.written_result.writes.answered [
     | inl h ↦ inl (h.0 ∙ replay_status names complete a.result a.finds)
@@ -291,6 +292,6 @@ module _ {K S L : Type 0} (written : K → Option (List ℕ)) (sink_faults : K �
   ]
 
   -- where all is as it should be a command's run answers 0, or 6 for want of memory
-  pub all_complete : (command : Option Job) → IfSome command CanBeMade → IfSome command (λ job. IsRunOf written sink_faults pairs faults refused left failures job library libraryAfter sink sinkAfter outcome)
-      → IfSome command (λ job. IsCompleteJob written sink_faults pairs faults refused left failures job library libraryAfter sink sinkAfter outcome → (outcome.status ≡ 0) ⊎ (outcome.status ≡ 6))
+  pub all_complete : (command : Option Job) → IfSome command CanBeMade → IfSome command (λ job. IsRunOf output files job library libraryAfter sink sinkAfter outcome)
+      → IfSome command (λ job. IsCompleteJob output files job library libraryAfter sink sinkAfter outcome → (outcome.status ≡ 0) ⊎ (outcome.status ≡ 6))
   all_complete command few found = IfSome-both command _ _ _ (λ job few run complete. ends_0 job few run complete) few found

@@ -2,18 +2,18 @@
 use Rattle.std.proofs.Common.{◌≡◌, ℕ, Bool, List, ◌∷◌, Option, None, refl, ap, inl, inr}
 use Rattle.command_words.specs.Words.{CaptureNames}
 use Rattle.command_words.specs.declared.invocation.Mode.{Mode}
-use Rattle.fw_base.specs.Pairs.{Pair}
 use Rattle.replay_driver.specs.Found.{ReadsScript, FindsReplay}
 use Rattle.replay_driver.specs.ReplayFiles.{FindsCaptures}
 use Rattle.replay_driver.specs.declared.run_result.RunResult.{RunResult}
 use Rattle.replay_driver.specs.declared.run_result.RunResult.TheVariants.{Usage, Unread, Unready, Reported, Summed}
+use Rattle.replay_driver.specs.Outside.{Files}
 
-module _ {L S : Type 0} (pairs : L → Option (List Pair)) (faults : L → ℕ) (refused : L → Option (List ℕ)) (left : S → Option (List ℕ)) (failures : S → ℕ) where
+module _ {L S : Type 0} (files : Files L S) where
   -- a script that was read, and what is found of the captures beside it
   found_behind : (mode : Mode) (journal : Bool) (name : List ℕ) (captures : List CaptureNames) (old between new : L) (script : S) (bytes : List ℕ) (result : RunResult) (sources : List S)
-      → ReadsScript pairs faults refused left failures old between name script bytes
-      → FindsCaptures pairs faults refused left failures mode journal captures between new bytes result sources
-      → FindsReplay pairs faults refused left failures (record { mode = mode; journal = journal; cache = None; script = name; captures = captures }) old new result (script ∷ sources)
+      → ReadsScript files old between name script bytes
+      → FindsCaptures files mode journal captures between new bytes result sources
+      → FindsReplay files (record { mode = mode; journal = journal; cache = None; script = name; captures = captures }) old new result (script ∷ sources)
   found_behind mode journal name captures old between new script bytes Usage sources reads (inl (opened, opens, none)) = absurd none
   found_behind mode journal name captures old between new script bytes (Unread other) sources reads (inl (opened, opens, none)) = absurd none
   found_behind mode journal name captures old between new script bytes (Unready error) sources reads (inl (opened, opens, (first, back))) = record {
@@ -54,9 +54,9 @@ module _ {L S : Type 0} (pairs : L → Option (List Pair)) (faults : L → ℕ) 
 
   -- the same of a result that equals what was found, and of sources that are the script's and then the captures'
   pub finds_behind : (mode : Mode) (journal : Bool) (name : List ℕ) (captures : List CaptureNames) (old between new : L) (script : S) (bytes : List ℕ) (result with : RunResult) (sources all : List S)
-      → ReadsScript pairs faults refused left failures old between name script bytes
-      → FindsCaptures pairs faults refused left failures mode journal captures between new bytes result sources
+      → ReadsScript files old between name script bytes
+      → FindsCaptures files mode journal captures between new bytes result sources
       → with ≡ result → all ≡ script ∷ sources
-      → FindsReplay pairs faults refused left failures (record { mode = mode; journal = journal; cache = None; script = name; captures = captures }) old new with all
+      → FindsReplay files (record { mode = mode; journal = journal; cache = None; script = name; captures = captures }) old new with all
   finds_behind mode journal name captures old between new script bytes result with sources all reads finds same stands =
       rw (same, stands) (found_behind mode journal name captures old between new script bytes result sources reads finds)

@@ -3,7 +3,6 @@ use Rattle.std.specs.Prelude.{◌≡◌, ℕ, ◌<◌, ⊤, List, [], ◌∷◌,
 use Rattle.std.specs.Io.KnownBytes.{Consumes}
 use Rattle.command_words.specs.Words.{CaptureNames}
 use Rattle.fw_base.specs.Faults.{Rose}
-use Rattle.fw_base.specs.Pairs.{Pair}
 use Rattle.fw_base.specs.declared.port.Direction.TheVariants.{In}
 use Rattle.fw_report.specs.declared.ends.Ends.{Ends}
 use Rattle.fw_world.specs.RecordValue.{RecordValue}
@@ -25,6 +24,7 @@ use Rattle.replay_driver.specs.declared.first_edition.FirstEdition.{FirstEdition
 use Rattle.replay_driver.specs.declared.run_result.RunResult.{RunResult}
 use Rattle.replay_driver.specs.declared.run_result.RunResult.TheVariants.{Usage, Unread, Unready, Reported, Summed}
 use Rattle.replay_driver.specs.declared.script_error.ScriptError.{ScriptError}
+use Rattle.replay_driver.specs.Outside.{Files}
 
 -- in serial mode the record comes of going through records and commands in the order of the schedule
 abbrev pub IsOrderedIn : Mode → Configuration → List Step → List Track → RecordValue → Type 0
@@ -52,32 +52,32 @@ module _ {S : Type 0} (left : S → Option (List ℕ)) (failures : S → ℕ) wh
     pub lines_answered : ends.answers ≡ edition.answers ++ replayed.ends.answers
     pub given_back : sources ≡ replayed.sources.items
 
-module _ {L S : Type 0} (pairs : L → Option (List Pair)) (faults : L → ℕ) (refused : L → Option (List ℕ)) (left : S → Option (List ℕ)) (failures : S → ℕ) where
+module _ {L S : Type 0} (files : Files L S) where
   -- the script was opened and read to its end, or to its 1,048,577th byte, and none of its reads failed
   pub record ReadsScript (old new : L) (name : List ℕ) (script : S) (bytes : List ℕ) : Type 0 where
     pub opened : S
-    pub opens : Opens pairs faults refused left failures old new name opened
-    pub reads : ReadsAll (left opened) (left script) (failures opened) (failures script) 1048577 bytes
+    pub opens : Opens files old new name opened
+    pub reads : ReadsAll (files.left opened) (files.left script) (files.failures opened) (files.failures script) 1048577 bytes
 
   -- the script was opened and read, and then these captures were opened, in the order of the words
   pub record ReadsNames (name : List ℕ) (captures : List CaptureNames) (old new : L) (script : S) (bytes : List ℕ) (opened : List (OpenedCapture S)) : Type 0 where
     pub between : L
     pub script_read : ReadsScript old between name script bytes
-    pub captures_opened : OpensAll pairs faults refused left failures between new captures opened
+    pub captures_opened : OpensAll files between new captures opened
 
   -- the script's name was refused
   pub record RefusesScript (names : ReplayNames) (old new : L) (name : List ℕ) (sources : List S) : Type 0 where
     pub named : name ≡ names.script
-    pub refuses : RefusesToOpen pairs faults refused old new name
+    pub refuses : RefusesToOpen files old new name
     pub nothing_opened : sources ≡ []
 
   -- the script was opened, and its source failed
   pub record FailsScript (names : ReplayNames) (old new : L) (name : List ℕ) (sources : List S) : Type 0 where
     pub named : name ≡ names.script
     pub opened : S
-    pub opens : Opens pairs faults refused left failures old new name opened
+    pub opens : Opens files old new name opened
     pub script : S
-    pub fails : FailsEarly left failures opened script
+    pub fails : FailsEarly files.left files.failures opened script
     pub given_back : sources ≡ script ∷ []
 
   -- the script was read, the captures before this one were opened, and its name was refused
@@ -92,7 +92,7 @@ module _ {L S : Type 0} (pairs : L → Option (List Pair)) (faults : L → ℕ) 
     pub bytes : List ℕ
     pub opened : List (OpenedCapture S)
     pub reads : ReadsNames names.script before old between script bytes opened
-    pub refuses : RefusesToOpen pairs faults refused between new name
+    pub refuses : RefusesToOpen files between new name
     pub given_back : sources ≡ script ∷ sources_of opened
 
   -- all names were opened, and the script gives no edition
@@ -111,7 +111,7 @@ module _ {L S : Type 0} (pairs : L → Option (List Pair)) (faults : L → ℕ) 
     pub opened : List (OpenedCapture S)
     pub reads : ReadsNames names.script names.captures old new script bytes opened
     pub captures : List S
-    pub replay : IsReplayOf left failures names.mode bytes opened kept ends captures
+    pub replay : IsReplayOf files.left files.failures names.mode bytes opened kept ends captures
     pub given_back : sources ≡ script ∷ captures
 
   -- This is found of the words of a replay, and these sources are handed back.
@@ -151,10 +151,10 @@ FindsLoad n (Unready error) = first_edition (pace_of mode.Serial) (load_script n
 FindsLoad n (Reported kept ends journal) = ⊥
 FindsLoad n (Summed kept ends) = ReplaysLoad n kept ends
 
-module _ {L S : Type 0} (pairs : L → Option (List Pair)) (faults : L → ℕ) (refused : L → Option (List ℕ)) (left : S → Option (List ℕ)) (failures : S → ℕ) where
+module _ {L S : Type 0} (files : Files L S) where
   -- this is found of a command; a load opens nothing
   abbrev pub FindsJob : Job → L → L → RunResult → List S → Type 0
-  FindsJob (Replays names) old new result sources = FindsReplay pairs faults refused left failures names old new result sources
+  FindsJob (Replays names) old new result sources = FindsReplay files names old new result sources
   FindsJob (Loads n) old new result sources = (new ≡ old) × (sources ≡ []) × FindsLoad n result
 
   -- The words are no command, and nothing is opened; or this is found of the command that they are.

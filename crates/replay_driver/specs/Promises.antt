@@ -27,6 +27,7 @@ use Rattle.replay_driver.specs.declared.first_edition.FirstEdition.{FirstEdition
 use Rattle.replay_driver.specs.declared.outcome.Outcome.{Outcome}
 use Rattle.replay_driver.specs.declared.run_result.RunResult.TheVariants.{Unread}
 use Rattle.replay_driver.specs.declared.script_error.ScriptError.{ScriptError}
+use Rattle.replay_driver.specs.Outside.{Files, Output}
 
 -- the names of a command in the order in which they are opened; a load opens none
 abbrev pub opening_order : Job → List (List ℕ)
@@ -77,7 +78,7 @@ pub record IsAccepted (pace : Pace) (script : List ℕ) : Type 0 where
   pub first : first_edition pace script ≡ Ok edition
   pub accepted : list_any is_refused (lines_outcome edition.config edition.live).answers ≡ false
 
-module _ {K S L : Type 0} (written : K → Option (List ℕ)) (sink_faults : K → ℕ) (pairs : L → Option (List Pair)) (faults : L → ℕ) (refused : L → Option (List ℕ)) (left : S → Option (List ℕ)) (failures : S → ℕ) where
+module _ {K S L : Type 0} (output : Output K) (files : Files L S) where
   -- ---- the headline
 
   -- The names were opened in the order of the words. The script's bytes give edition 1 and the lines behind
@@ -87,11 +88,11 @@ module _ {K S L : Type 0} (written : K → Option (List ℕ)) (sink_faults : K �
     pub script : S
     pub bytes : List ℕ
     pub opened : List (OpenedCapture S)
-    pub reads : ReadsNames pairs faults refused left failures names.script names.captures library libraryAfter script bytes opened
+    pub reads : ReadsNames files names.script names.captures library libraryAfter script bytes opened
     pub captures : List S
-    pub replay : IsReplayOf left failures names.mode bytes opened kept outcome.ends captures
+    pub replay : IsReplayOf files.left files.failures names.mode bytes opened kept outcome.ends captures
     pub given_back : outcome.sources.items ≡ script ∷ captures
-    pub writes : Writes written sink_faults sink sinkAfter (report_status outcome.ends.captures outcome.ends.answers) outcome.status
+    pub writes : Writes output sink sinkAfter (report_status outcome.ends.captures outcome.ends.answers) outcome.status
         (report_text (report_record kept) outcome.ends.captures outcome.ends.answers names.journal)
 
   -- The made script and the made capture were replayed, and what the sink took is the record's summary.
@@ -99,7 +100,7 @@ module _ {K S L : Type 0} (written : K → Option (List ℕ)) (sink_faults : K �
     pub replay : ReplaysLoad n kept outcome.ends
     pub library_kept : libraryAfter ≡ library
     pub nothing_opened : outcome.sources.items ≡ []
-    pub writes : Writes written sink_faults sink sinkAfter (report_status outcome.ends.captures outcome.ends.answers) outcome.status (summary_of kept)
+    pub writes : Writes output sink sinkAfter (report_status outcome.ends.captures outcome.ends.answers) outcome.status (summary_of kept)
 
   -- the record and what the sink took, by the job: a replay writes its report, a load its summary
   abbrev pub IsKept : Job → L → L → K → K → Outcome S → RecordValue → Type 0
@@ -111,8 +112,8 @@ module _ {K S L : Type 0} (written : K → Option (List ℕ)) (sink_faults : K �
   -- A name could not be opened or, for the script, read; the text names it.
   pub record IsUnread (names : ReplayNames) (library libraryAfter : L) (sink sinkAfter : K) (outcome : Outcome S) : Type 0 where
     pub name : List ℕ
-    pub cause : FindsReplay pairs faults refused left failures names library libraryAfter (Unread name) outcome.sources.items
-    pub text : Appends (written sink) (written sinkAfter) (unread_text name)
+    pub cause : FindsReplay files names library libraryAfter (Unread name) outcome.sources.items
+    pub text : Appends (output.written sink) (output.written sinkAfter) (unread_text name)
 
   -- a load reads nothing from outside
   abbrev pub IsUnreadJob : Job → L → L → K → K → Outcome S → Type 0
@@ -123,8 +124,8 @@ module _ {K S L : Type 0} (written : K → Option (List ℕ)) (sink_faults : K �
   -- command that is refused.
   pub record IsUnready (names : ReplayNames) (library libraryAfter : L) (sink sinkAfter : K) (outcome : Outcome S) : Type 0 where
     pub error : ScriptError
-    pub cause : HasNoEdition pairs faults refused left failures names library libraryAfter error outcome.sources.items
-    pub text : Appends (written sink) (written sinkAfter) (error_text error)
+    pub cause : HasNoEdition files names library libraryAfter error outcome.sources.items
+    pub text : Appends (output.written sink) (output.written sinkAfter) (error_text error)
 
   -- a load's script always gives an edition
   abbrev pub IsUnreadyJob : Job → L → L → K → K → Outcome S → Type 0
@@ -137,20 +138,20 @@ module _ {K S L : Type 0} (written : K → Option (List ℕ)) (sink_faults : K �
   -- no count rose.
   pub record IsComplete (names : ReplayNames) (library libraryAfter : L) (sink sinkAfter : K) (outcome : Outcome S) : Type 0 where
     pub before : List Pair
-    pub told : pairs library ≡ Some before
+    pub told : files.pairs library ≡ Some before
     pub script : List ℕ
     pub behind : List Pair
     pub script_stands : take_named names.script before ≡ Some ((names.script, script), behind)
     pub script_short : length script ≤ 1048576
     pub accepted : IsAccepted (pace_of names.mode) script
     pub captures_whole : AllWhole (limit_for (length names.captures)) names.captures behind
-    pub library_quiet : Rose (faults library) (faults libraryAfter) → ⊥
-    pub sources_quiet : AllByRecursion (λ source. failures source ≡ 0) outcome.sources.items
-    pub sink_quiet : Rose (sink_faults sink) (sink_faults sinkAfter) → ⊥
+    pub library_quiet : Rose (files.faults library) (files.faults libraryAfter) → ⊥
+    pub sources_quiet : AllByRecursion (λ source. files.failures source ≡ 0) outcome.sources.items
+    pub sink_quiet : Rose (output.faults sink) (output.faults sinkAfter) → ⊥
 
   -- no write failed; its script is always accepted, and its capture whole
   pub record IsCompleteLoad (sink sinkAfter : K) : Type 0 where
-    pub sink_quiet : Rose (sink_faults sink) (sink_faults sinkAfter) → ⊥
+    pub sink_quiet : Rose (output.faults sink) (output.faults sinkAfter) → ⊥
 
   -- all is as it should be, by the job
   abbrev pub IsCompleteJob : Job → L → L → K → K → Outcome S → Type 0

@@ -2,7 +2,6 @@
 use Rattle.std.specs.Prelude.{◌≡◌, ℕ, Bool, List, Option, Err, ◌⊎◌}
 use Rattle.command_words.specs.Words.{CaptureNames}
 use Rattle.command_words.specs.declared.invocation.Mode.{Mode}
-use Rattle.fw_base.specs.Pairs.{Pair}
 use Rattle.replay_driver.specs.CaptureOpenings.{OpensUpTo}
 use Rattle.replay_driver.specs.FirstEdition.{first_edition}
 use Rattle.replay_driver.specs.Found.{IsReplayOf}
@@ -11,6 +10,7 @@ use Rattle.replay_driver.specs.Served.{pace_of}
 use Rattle.replay_driver.specs.declared.run_result.RunResult.{RunResult}
 use Rattle.replay_driver.specs.declared.run_result.RunResult.TheVariants.{Usage, Unread, Unready, Reported, Summed}
 use Rattle.capture_tracks.specs.declared.opened.OpenedCapture.{OpenedCapture}
+use Rattle.replay_driver.specs.Outside.{Files}
 
 module _ {S : Type 0} (left : S → Option (List ℕ)) (failures : S → ℕ) where
   -- the captures that were opened, beside the script that was read, in this mode
@@ -21,10 +21,10 @@ module _ {S : Type 0} (left : S → Option (List ℕ)) (failures : S → ℕ) wh
   ReplaysOpened mode journal script opened (Reported kept ends told) sources = (told ≡ journal) × IsReplayOf left failures mode script opened kept ends sources
   ReplaysOpened mode journal script opened (Summed kept ends) sources = ⊥
 
-module _ {L S : Type 0} (pairs : L → Option (List Pair)) (faults : L → ℕ) (refused : L → Option (List ℕ)) (left : S → Option (List ℕ)) (failures : S → ℕ) where
+module _ {L S : Type 0} (files : Files L S) where
   -- all captures were opened and replayed beside the script that was read, or one of their names was refused
   abbrev pub FindsCaptures : Mode → Bool → List CaptureNames → L → L → List ℕ → RunResult → List S → Type 0
   FindsCaptures mode journal captures old new script result sources =
-      ((opened : List (OpenedCapture S)) × OpensAll pairs faults refused left failures old new captures opened × ReplaysOpened left failures mode journal script opened result sources)
-      ⊎ ((name : List ℕ) × (opened : List (OpenedCapture S)) × OpensUpTo pairs faults refused left failures old new captures name opened
+      ((opened : List (OpenedCapture S)) × OpensAll files old new captures opened × ReplaysOpened files.left files.failures mode journal script opened result sources)
+      ⊎ ((name : List ℕ) × (opened : List (OpenedCapture S)) × OpensUpTo files old new captures name opened
       × (result ≡ Unread name) × (sources ≡ sources_of opened))

@@ -5,6 +5,7 @@ ghost use Rattle.replay_driver.specs.Found.{FindsReplay};
 ghost use Rattle.replay_driver.specs.RunResult.{IsWritable};
 ghost use Rattle.replay_driver.specs.ReplayFiles.{FindsCaptures, ReplaysOpened};
 
+use crate::LibraryView;
 use crate::capture_openings::{CaptureOpenings, open_captures};
 use crate::run_result::{Found, RunResult, without_sources};
 use crate::script_replay::{ScriptReplay, into_sources, replay_script};
@@ -70,7 +71,7 @@ fn find_captures<L: Library>(
     requires { (1 ≤ length captures.now) × (length captures.now ≤ MOST_CAPTURES) }
     ensures writable { IfOk result (λ found. IsWritable found.result) }
     ensures finds { IfOk result (λ found.
-        FindsCaptures L.pairs L.faults L.refused L.Reader.left L.Reader.faults
+        FindsCaptures ⟦<L as LibraryView>⟧.files
         mode.Serial journal (map capture_names captures.now) library.old library.new script.now
         found.result found.sources.items) }
 {
@@ -94,7 +95,7 @@ pub(crate) fn replay_files<L: Library>(
     requires { (1 ≤ length captures.now) × (length captures.now ≤ MOST_CAPTURES) }
     ensures writable { IfOk result (λ found. IsWritable found.result) }
     ensures finds { IfOk result (λ found.
-        FindsReplay L.pairs L.faults L.refused L.Reader.left L.Reader.faults
+        FindsReplay ⟦<L as LibraryView>⟧.files
         (record {
           mode = mode.Serial;
           journal = journal;
