@@ -64,7 +64,7 @@ impl<S: Source> OpenTrack<S> {
     }
 
     /// Its source, and how it ended; one that goes on would end with the records that it gave.
-    pub fn close(self) -> (S, CaptureEnd)
+    pub(crate) fn close(self) -> (S, CaptureEnd)
         ensures source { result.0 ≡ source_of self.capture }
         ensures end { result.1 ≡ unwrap_or self.end (Read self.records) }
     {

@@ -8,7 +8,7 @@ use Rattle.fw_report.specs.declared.ends.Ends.{Ends}
 use Rattle.fw_world.specs.RecordValue.{RecordValue}
 use Rattle.load_maker.specs.Load.{load_script, load_capture}
 use Rattle.command_words.specs.declared.invocation.Mode.{Mode}
-use Rattle.command_words.specs.declared.invocation.Mode.TheVariants as mode
+use Rattle.command_words.specs.declared.invocation.Mode.TheVariants as modes
 use Rattle.fw_command.specs.declared.script.Step.{Step}
 use Rattle.rule_chain.specs.Configuration.{Configuration}
 use Rattle.capture_tracks.specs.Reading.{Track}
@@ -28,8 +28,8 @@ use Rattle.replay_driver.specs.Outside.{Files}
 
 -- in serial mode the record comes of going through records and commands in the order of the schedule
 abbrev pub IsOrderedIn : Mode → Configuration → List Step → List Track → RecordValue → Type 0
-IsOrderedIn mode.Serial config steps tracks kept = ComesOf config steps tracks kept
-IsOrderedIn mode.Live config steps tracks kept = ⊤
+IsOrderedIn modes.Serial config steps tracks kept = ComesOf config steps tracks kept
+IsOrderedIn modes.Live config steps tracks kept = ⊤
 
 module _ {S : Type 0} (left : S → Option (List ℕ)) (failures : S → ℕ) where
   -- A source failed with at most 1,048,576 of its bytes taken.
@@ -141,13 +141,13 @@ no_failures bytes = 0
 -- the made capture of so many records was replayed beside the made script
 pub record ReplaysLoad (n : ℕ) (kept : RecordValue) (ends : Ends) : Type 0 where
   pub sources : List (List ℕ)
-  pub replay : IsReplayOf known_left no_failures mode.Serial (load_script n) (made_capture (load_capture n) ∷ []) kept ends sources
+  pub replay : IsReplayOf known_left no_failures modes.Serial (load_script n) (made_capture (load_capture n) ∷ []) kept ends sources
 
 -- this is found of a load of so many records
 abbrev pub FindsLoad : ℕ → RunResult → Type 0
 FindsLoad n Usage = ⊥
 FindsLoad n (Unread name) = ⊥
-FindsLoad n (Unready error) = first_edition (pace_of mode.Serial) (load_script n) ≡ Err error
+FindsLoad n (Unready error) = first_edition (pace_of modes.Serial) (load_script n) ≡ Err error
 FindsLoad n (Reported kept ends journal) = ⊥
 FindsLoad n (Summed kept ends) = ReplaysLoad n kept ends
 

@@ -1,6 +1,6 @@
 ghost use Rattle.std.specs.Prelude.{◌≡◌, ◌≤◌, ◌∷◌, IfOk, None, map, length};
 ghost use Rattle.command_words.specs.Invocation.{capture_names};
-ghost use Rattle.command_words.specs.declared.invocation.Mode.TheVariants as mode;
+ghost use Rattle.command_words.specs.declared.invocation.Mode.TheVariants as modes;
 ghost use Rattle.replay_driver.specs.Found.{FindsReplay};
 ghost use Rattle.replay_driver.specs.RunResult.{IsWritable};
 ghost use Rattle.replay_driver.specs.ReplayFiles.{FindsCaptures, ReplaysOpened};
@@ -37,7 +37,7 @@ fn replay_opened<S: Source>(
 ) -> Result<Found<S>, OutOfMemory>
     requires { (1 ≤ length opened.items) × (length opened.items ≤ MOST_CAPTURES) }
     ensures writable { IfOk result (λ found. IsWritable found.result) }
-    ensures replays { IfOk result (λ found. ReplaysOpened S.left S.faults mode.Serial journal script.now
+    ensures replays { IfOk result (λ found. ReplaysOpened S.left S.faults modes.Serial journal script.now
         opened.items found.result found.sources.items) }
 {
     match replay_script(alloc, script, opened)? {
@@ -72,7 +72,7 @@ fn find_captures<L: Library>(
     ensures writable { IfOk result (λ found. IsWritable found.result) }
     ensures finds { IfOk result (λ found.
         FindsCaptures ⟦<L as LibraryView>⟧.files
-        mode.Serial journal (map capture_names captures.now) library.old library.new script.now
+        modes.Serial journal (map capture_names captures.now) library.old library.new script.now
         found.result found.sources.items) }
 {
     match open_captures(alloc, captures, library)? {
@@ -97,7 +97,7 @@ pub(crate) fn replay_files<L: Library>(
     ensures finds { IfOk result (λ found.
         FindsReplay ⟦<L as LibraryView>⟧.files
         (record {
-          mode = mode.Serial;
+          mode = modes.Serial;
           journal = journal;
           cache = None;
           script = script.now;

@@ -1,5 +1,5 @@
 ghost use Rattle.std.specs.Prelude.{◌≡◌, ◌≤◌, ◌∷◌, ◌++◌, IfOk, vec_len};
-ghost use Rattle.command_words.specs.declared.invocation.Mode.TheVariants as mode;
+ghost use Rattle.command_words.specs.declared.invocation.Mode.TheVariants as modes;
 ghost use Rattle.replay_driver.specs.Openings.{sources_of};
 ghost use Rattle.replay_driver.specs.ScriptReplay.{CanReport, ReplaysScript};
 
@@ -62,7 +62,7 @@ pub(crate) fn replay_script<S: Source>(
     opened: Vec<OpenedCapture<S>>,
 ) -> Result<ScriptReplay<S>, OutOfMemory>
     requires { (1 ≤ vec_len opened) × (vec_len opened ≤ MOST_CAPTURES) }
-    ensures replays { IfOk result (ReplaysScript S.left S.faults mode.Serial script.now opened.items) }
+    ensures replays { IfOk result (ReplaysScript S.left S.faults modes.Serial script.now opened.items) }
     ensures reportable { IfOk result CanReport }
 {
     let FirstEdition {
