@@ -1,5 +1,5 @@
 -- Where a track's capture was taken.
-use Rattle.std.proofs.Common.{◌≡◌, ℕ, Option, Some, None, List, sym, ap, subst, ◌∙◌}
+use Rattle.std.proofs.Common.{◌≡◌, ℕ, Option, Some, None, List, refl, sym, ap, subst, ◌∙◌}
 use Rattle.std.specs.Prelude.{MatchOption}
 use Rattle.fw_base.specs.declared.port.Port.{Port}
 use Rattle.fw_report.specs.declared.capture_end.CaptureEnd.{CaptureEnd}

@@ -240,9 +240,11 @@ module _ {K S L : Type 0} (output : Output K) (files : Files L S)
   reads_told : (names : ReplayNames) (complete : IsComplete output files names library libraryAfter sink sinkAfter outcome) (between : L) (script : S) (bytes : List ℕ)
       → ReadsScript files library between names.script script bytes → (bytes ≡ complete.script) × (files.pairs between ≡ Some complete.behind)
   reads_told names complete between script bytes reads =
-      let opened = took_from _ _ names.script _ complete.before _ _ reads.opens.took complete.told complete.script_stands in
-      (all_bytes complete.script bytes (files.left script) (files.failures reads.opened) (files.failures script)
-      (subst (λ (l : Option (List ℕ)). ReadsAll l (files.left script) (files.failures reads.opened) (files.failures script) 1048577 bytes) opened.0 reads.reads) complete.script_short, opened.1)
+      let opened = took_from _ _ names.script _ complete.before _ _ reads.opens.took complete.told complete.script_stands in (
+        all_bytes complete.script bytes (files.left script) (files.failures reads.opened) (files.failures script)
+            (subst (λ (l : Option (List ℕ)). ReadsAll l (files.left script) (files.failures reads.opened) (files.failures script) 1048577 bytes) opened.0 reads.reads) complete.script_short,
+        opened.1,
+      )
 
   replay_status : (names : ReplayNames) → IsComplete output files names library libraryAfter sink sinkAfter outcome → (result : RunResult)
       → FindsReplay files names library libraryAfter result outcome.sources.items → result_status result ≡ 0

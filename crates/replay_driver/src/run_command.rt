@@ -9,11 +9,11 @@ ghost use Rattle.replay_driver.specs.Run.{IsNoCommand, IsRunOf, IsFoundRun, stat
 ghost use Rattle.replay_driver.specs.RunResult as results;
 ghost use Rattle.replay_driver.specs.Served.{job_of};
 
-use crate::{LibraryView, Outcome, SinkView};
 use crate::pieced_text::write_pieced;
 use crate::replay_files::replay_files;
 use crate::replay_load::replay_load;
 use crate::run_result::{Found, RunResult, no_ends, without_sources};
+use crate::{LibraryView, Outcome, SinkView};
 use buffered_io::PIECE_BYTES;
 use command_words::{Invocation, Mode, read_words};
 use core::mem::replace_with;

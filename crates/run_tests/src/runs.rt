@@ -175,7 +175,11 @@ fn library_of_row(alloc: Global, row: &Row) -> Result<MemoryLibrary, Fail> {
 }
 
 /// Runs the row, and compares the status and the text.
-fn check_row<R: Threads + Wait + Sync + Abort>(rt: &R, alloc: Global, row: &Row) -> Result<(), Fail> {
+fn check_row<R: Threads + Wait + Sync + Abort>(
+    rt: &R,
+    alloc: Global,
+    row: &Row,
+) -> Result<(), Fail> {
     let mut library = library_of_row(alloc, row)?;
     let seen = run_over(rt, alloc, row.words, &mut library, ROOM)?;
     assert_seen(rt, &seen, row.name, row.status, row.text.as_bytes());
@@ -183,7 +187,11 @@ fn check_row<R: Threads + Wait + Sync + Abort>(rt: &R, alloc: Global, row: &Row)
 }
 
 /// Runs each row, and compares the status and the text.
-fn check<R: Threads + Wait + Sync + Abort>(rt: &R, alloc: Global, rows: &[Row]) -> Result<(), Fail> {
+fn check<R: Threads + Wait + Sync + Abort>(
+    rt: &R,
+    alloc: Global,
+    rows: &[Row],
+) -> Result<(), Fail> {
     for row in rows {
         check_row(rt, alloc, row)?;
     }

@@ -9,9 +9,9 @@ use crate::tracks::Tracks;
 use capture_tracks::{OpenedCapture, Replayed, limit_for};
 use fw_base::{OutOfMemory, Source};
 use fw_command::Step;
-use serial_world::{MOST_LANES, OpenSerial, SerialWorld};
 use rule_chain::Config;
 use serial_schedule::Agenda;
+use serial_world::{MOST_LANES, OpenSerial, SerialWorld};
 use std::alloc::Global;
 
 /// Replays 1 to 16 captures beside the commands behind `live`: of the captures that still have a record, the one

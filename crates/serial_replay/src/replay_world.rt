@@ -13,9 +13,9 @@ use fw_base::{Link, OutOfMemory, Port};
 use fw_command::Line;
 use fw_report::{Answer, LineAnswer};
 use fw_world::{CommitFault, Skipped};
-use serial_world::{SerialDesk, SerialLane, SerialWorld};
 use ip6_headers::{AnyPacket, read_any};
 use pcap_read::Record;
+use serial_world::{SerialDesk, SerialLane, SerialWorld};
 use std::alloc::Global;
 
 /// A world with its desk and its lanes, and the answers to the lines that ran.

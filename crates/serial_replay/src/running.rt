@@ -45,7 +45,8 @@ impl<S: Source> Running<'_, S> {
         if let Some(track) = self.tracks.open_track(capture) {
             if let Some(taken) = track.capture.current() {
                 let link = track.capture.link();
-                self.replay.replay_record(capture, link, &track.port, taken)?;
+                self.replay
+                    .replay_record(capture, link, &track.port, taken)?;
                 self.tracks.advance(capture);
                 self.taken += 1;
             }

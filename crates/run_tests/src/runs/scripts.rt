@@ -28,7 +28,11 @@ fn check_over<R: Threads + Wait + Sync + Abort>(
     Ok(())
 }
 
-fn check<R: Threads + Wait + Sync + Abort>(rt: &R, alloc: Global, rows: &[Row]) -> Result<(), Fail> {
+fn check<R: Threads + Wait + Sync + Abort>(
+    rt: &R,
+    alloc: Global,
+    rows: &[Row],
+) -> Result<(), Fail> {
     let capture = syns(alloc, 1)?;
     for row in rows {
         check_over(rt, alloc, row, &capture)?;
