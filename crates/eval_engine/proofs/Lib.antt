@@ -16,6 +16,8 @@ pub mod ShutGates
 pub mod OpenGates
 -- how far an evaluation is behind one reply more
 pub mod Progressing
+-- evaluations with some replies, and with more
+pub mod Fronts
 -- entries and the judgements that they are of
 pub mod Dockets
 -- laws

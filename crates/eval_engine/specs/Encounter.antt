@@ -8,6 +8,7 @@ use Rattle.fw_rule.specs.declared.state_opt.LimitMask.{LimitMask}
 use Rattle.fw_rule.specs.declared.rule.Rule.{Rule}
 use Rattle.fw_rule.specs.declared.state_opt.StateOpt.{StateOpt}
 use Rattle.fw_rule.specs.declared.state_opt.StateOpt.TheVariants.{Keep, Limit}
+use Rattle.state_asks.specs.Flags.{kept_flags}
 use Rattle.state_asks.specs.declared.op.FlowName.{FlowName}
 use Rattle.state_asks.specs.declared.op.Op.{Op}
 use Rattle.state_asks.specs.declared.op.Op.TheVariants.{Lookup, Install}
@@ -65,9 +66,9 @@ abbrev pub any_flow_of : AnyIp → Option Flow
 any_flow_of (Four packet) = flow_of packet
 any_flow_of (Six packet) = None
 
--- the flags of a packet of TCP, 0 where the packet isn't TCP
+-- FIN, SYN and RST of a packet of TCP, 0 where the packet isn't TCP
 abbrev pub flags_of : AnyIp → ℕ
-flags_of packet = unwrap_or (any_tcp_flags_of packet) 0
+flags_of packet = kept_flags (unwrap_or (any_tcp_flags_of packet) 0)
 
 -- the flow name that the rule looks up
 abbrev pub name_at : Question → Rule → FlowName

@@ -2,6 +2,7 @@
 use Rattle.std.specs.Prelude.{◌≡◌, ℕ, Bool, true, if◌then◌else◌, IsTrue, ⊤, List, [], ◌∷◌, ◌++◌, drop, slice_set}
 use Rattle.counter_book.specs.Counts.{counted_under, count_after_packet}
 use Rattle.counter_book.specs.declared.tally.Count.{Count}
+use Rattle.state_asks.specs.Flags.{HasKeptFlags}
 use Rattle.state_asks.specs.declared.op.FlowName.{FlowName}
 use Rattle.state_asks.specs.declared.op.FlowName.TheVariants.{Any, Named}
 use Rattle.state_asks.specs.declared.op.Op.{Op}
@@ -83,10 +84,11 @@ pub record AnswersOpenAsk (q : Question) (paused : Paused) (reply : Reply) : Typ
   pub waiting : IsOpenAt q op paused
   pub fits : is_reply_to q.edition.config.rules op reply ≡ true
 
--- a stage asks what its pause waits for, and an install names a rule of the edition
+-- a stage asks what its pause waits for, an install names a rule of the edition, and of TCP's flags the ask
+-- has FIN, SYN and RST alone
 abbrev pub IsAskOf : Question → Stage → Type 0
 IsAskOf q (Judged judgement) = ⊤
-IsAskOf q (Asks op paused) = IsOpenAt q op paused × InstallsRuleOf q.edition.config.rules op
+IsAskOf q (Asks op paused) = IsOpenAt q op paused × InstallsRuleOf q.edition.config.rules op × HasKeptFlags op
 
 -- With these replies to the asks before it the evaluation has come to this stage, and the tally has risen
 -- from its start by exactly the hits so far.

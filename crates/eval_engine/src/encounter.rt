@@ -16,7 +16,7 @@ use ip6_headers::AnyIp;
 use packet_headers::Flow;
 use rule_gates::looks_up;
 use rule_match::matches;
-use state_asks::{FlowName, Op, RuleRef};
+use state_asks::{FlowName, Op, RuleRef, kept_flags};
 
 /// The packet, there and at that second, under those rules.
 pub(crate) fn search_for<'a, 'p>(
@@ -108,10 +108,11 @@ pub(crate) fn lookup_flow(
     }
 }
 
+/// Of TCP's flags those that an ask has, 0 where the packet isn't TCP.
 fn flags_of(search: &Search<'_, '_>) -> u8
     ensures { result ≡ spec.flags_of search.now.packet.now }
 {
-    search.packet.tcp_flags().unwrap_or(0)
+    kept_flags(search.packet.tcp_flags().unwrap_or(0))
 }
 
 /// The rule, as states and judgements name it.

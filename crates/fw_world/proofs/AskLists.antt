@@ -1,25 +1,18 @@
 -- The lists of asks in journals that grow.
-use Rattle.std.proofs.Common.{◌≡◌, ◌≢◌, ℕ, ◌≤◌, Bool, true, false, T, List, [], ◌∷◌, ◌++◌, length, refl, sym, ap, ◌∙◌, subst, cond, arith, eq-eqb, append_assoc}
-use Rattle.std.proofs.Math.Facts.{eqb_yes}
+use Rattle.std.proofs.Common.{◌≡◌, ◌≢◌, ℕ, List, [], ◌∷◌, ◌++◌, length, refl, sym, ap, ◌∙◌, arith, append_assoc}
 use Rattle.std.proofs.lemmas.List.{append-nil}
-use Rattle.std.specs.Prelude.{◌==◌}
 use Rattle.state_asks.specs.declared.op.Op.{Op}
 use Rattle.state_asks.specs.declared.reply.Reply.{Reply}
+use Rattle.state_journal.proofs.EntryLists.{last_number-ask, publications-ask}
+use Rattle.state_journal.proofs.ItemLists.{own_ask, other_ask}
+use Rattle.state_journal.specs.Entries.{publications, last_number}
 use Rattle.state_journal.specs.Items.{asks_of}
 use Rattle.state_journal.specs.Journal.{Journal, with_ask}
-use Rattle.state_journal.specs.declared.entry.Entry.{Entry}
 use Rattle.state_journal.specs.declared.entry.Entry.TheVariants.{Publish, Ask}
 use Rattle.state_journal.specs.declared.entry.Item.{Item}
 use Rattle.state_journal.specs.declared.entry.Item.TheVariants.{Lanes, Published, Asked}
 use Rattle.fw_world.specs.AskRuns.{EntersEach}
-use Rattle.fw_world.specs.Asks.{LaneAsk, asks_in, ops_of, replies_of, AreOfLanes, lane_asks, with_asks}
-use Rattle.fw_world.specs.Publications.{publications}
-
--- the number of the last publication among these entries, or this one where there is none
-abbrev pub last_number : ℕ → List Entry → ℕ
-last_number after [] = after
-last_number after (Publish number ∷ entries) = last_number number entries
-last_number after (Ask lane op reply at ∷ entries) = last_number after entries
+use Rattle.fw_world.specs.Asks.{LaneAsk, asks_in, ops_of, replies_of, lane_asks, with_asks}
 
 -- the asks of one record, all behind the same publication
 abbrev pub record_asks : ℕ → ℕ → List Op → List Reply → List LaneAsk
@@ -40,43 +33,13 @@ replies-record_asks after at [] (reply ∷ replies) same = absurd (omega arith)
 replies-record_asks after at (op ∷ ops) [] same = absurd (omega arith)
 replies-record_asks after at (op ∷ ops) (reply ∷ replies) same = ap (λ rest. reply ∷ rest) (replies-record_asks after at ops replies (omega arith))
 
--- an ask of the lane behind the entries is the last one of its asks
-own_ask : (lane after at : ℕ) (op : Op) (reply : Reply) (entries : List Entry) → asks_of lane after (entries ++ Ask lane op reply at ∷ []) ≡ asks_of lane after entries ++ Asked (last_number after entries) (Ask lane op reply at) ∷ []
-own_ask lane after at op reply [] = decided (lane == lane) (eq-eqb lane lane refl)
-  where
-    decided : (b : Bool) → b ≡ true → cond b (Asked after (Ask lane op reply at) ∷ []) [] ≡ Asked after (Ask lane op reply at) ∷ []
-    decided true is = refl
-    decided false is = cc
-own_ask lane after at op reply (Publish number ∷ entries) = own_ask lane number at op reply entries
-own_ask lane after at op reply (Ask by asked told when ∷ entries) = decided (by == lane) (own_ask lane after at op reply entries)
-  where
-    decided : (b : Bool) → asks_of lane after (entries ++ Ask lane op reply at ∷ []) ≡ asks_of lane after entries ++ Asked (last_number after entries) (Ask lane op reply at) ∷ []
-        → cond b (Asked after (Ask by asked told when) ∷ asks_of lane after (entries ++ Ask lane op reply at ∷ [])) (asks_of lane after (entries ++ Ask lane op reply at ∷ []))
-        ≡ cond b (Asked after (Ask by asked told when) ∷ asks_of lane after entries) (asks_of lane after entries) ++ Asked (last_number after entries) (Ask lane op reply at) ∷ []
-    decided true rest = ap (λ items. Asked after (Ask by asked told when) ∷ items) rest
-    decided false rest = rest
-
--- an ask of another lane behind the entries is none of its asks
-other_ask : (k lane after at : ℕ) (op : Op) (reply : Reply) (entries : List Entry) → k ≢ lane → asks_of k after (entries ++ Ask lane op reply at ∷ []) ≡ asks_of k after entries
-other_ask k lane after at op reply [] other = decided (lane == k) refl
-  where
-    decided : (b : Bool) → b ≡ (lane == k) → cond b (Asked after (Ask lane op reply at) ∷ []) [] ≡ []
-    decided true is = absurd (other (sym (eqb_yes (subst T is tt))))
-    decided false is = refl
-other_ask k lane after at op reply (Publish number ∷ entries) other = other_ask k lane number at op reply entries other
-other_ask k lane after at op reply (Ask by asked told when ∷ entries) other = rw (other_ask k lane after at op reply entries other) refl
-
-asks_in-append : (xs ys : List Item) → asks_in (xs ++ ys) ≡ asks_in xs ++ asks_in ys
+-- the asks of two lists stand one behind the other
+pub asks_in-append : (xs ys : List Item) → asks_in (xs ++ ys) ≡ asks_in xs ++ asks_in ys
 asks_in-append [] ys = refl
 asks_in-append (Lanes count ∷ xs) ys = asks_in-append xs ys
 asks_in-append (Published facts ∷ xs) ys = asks_in-append xs ys
 asks_in-append (Asked after (Publish number) ∷ xs) ys = asks_in-append xs ys
 asks_in-append (Asked after (Ask lane op reply at) ∷ xs) ys = ap (λ rest. record { after = after; at = at; op = op; reply = reply } ∷ rest) (asks_in-append xs ys)
-
-last_number-ask : (after lane at : ℕ) (op : Op) (reply : Reply) (entries : List Entry) → last_number after (entries ++ Ask lane op reply at ∷ []) ≡ last_number after entries
-last_number-ask after lane at op reply [] = refl
-last_number-ask after lane at op reply (Publish number ∷ entries) = last_number-ask number lane at op reply entries
-last_number-ask after lane at op reply (Ask by asked told when ∷ entries) = last_number-ask after lane at op reply entries
 
 -- a lane's asks after those of one record
 pub lane_asks-record : (j : Journal) (lane at : ℕ) (ops : List Op) (replies : List Reply)
@@ -97,48 +60,24 @@ asks_of-others j k lane at [] replies other = refl
 asks_of-others j k lane at (op ∷ ops) [] other = refl
 asks_of-others j k lane at (op ∷ ops) (reply ∷ replies) other = asks_of-others (with_ask j lane at op reply) k lane at ops replies other ∙ other_ask k lane 0 at op reply j.entries other
 
-publications-ask : (lane at : ℕ) (op : Op) (reply : Reply) (entries : List Entry) → publications (entries ++ Ask lane op reply at ∷ []) ≡ publications entries
-publications-ask lane at op reply [] = refl
-publications-ask lane at op reply (Publish number ∷ entries) = ap (λ rest. number ∷ rest) (publications-ask lane at op reply entries)
-publications-ask lane at op reply (Ask by asked told when ∷ entries) = publications-ask lane at op reply entries
-
--- a publication behind the entries is the last one
-pub publications-publication : (number : ℕ) (entries : List Entry) → publications (entries ++ Publish number ∷ []) ≡ publications entries ++ number ∷ []
-publications-publication number [] = refl
-publications-publication number (Publish earlier ∷ entries) = ap (λ rest. earlier ∷ rest) (publications-publication number entries)
-publications-publication number (Ask by asked told when ∷ entries) = publications-publication number entries
-
-AreOfLanes-ask : (lanes lane at : ℕ) (op : Op) (reply : Reply) (entries : List Entry) → 1 ≤ lane → lane ≤ lanes → AreOfLanes lanes entries → AreOfLanes lanes (entries ++ Ask lane op reply at ∷ [])
-AreOfLanes-ask lanes lane at op reply [] first last are = ((first, last), tt)
-AreOfLanes-ask lanes lane at op reply (Publish number ∷ entries) first last are = (tt, AreOfLanes-ask lanes lane at op reply entries first last are.1)
-AreOfLanes-ask lanes lane at op reply (Ask by asked told when ∷ entries) first last are = (are.0, AreOfLanes-ask lanes lane at op reply entries first last are.1)
-
--- a publication behind the entries leaves each ask one of a lane of the world
-pub AreOfLanes-publication : (lanes number : ℕ) (entries : List Entry) → AreOfLanes lanes entries → AreOfLanes lanes (entries ++ Publish number ∷ [])
-AreOfLanes-publication lanes number [] are = (tt, tt)
-AreOfLanes-publication lanes number (Publish earlier ∷ entries) are = (tt, AreOfLanes-publication lanes number entries are.1)
-AreOfLanes-publication lanes number (Ask by asked told when ∷ entries) are = (are.0, AreOfLanes-publication lanes number entries are.1)
-
 -- Asks of one record leave all of a journal but its entries and its states.
-pub record KeepsAround (most : ℕ) (old new : Journal) : Type 0 where
+pub record KeepsAround (old new : Journal) : Type 0 where
   pub lanes : new.lanes ≡ old.lanes
   pub facts : new.facts ≡ old.facts
   pub ready : new.ready ≡ old.ready
   pub publications : publications new.entries ≡ publications old.entries
-  pub asked : AreOfLanes most old.entries → AreOfLanes most new.entries
 
--- asks of a record of one of the lanes leave all of the journal but its entries and its states
-pub KeepsAround-asks : (j : Journal) (lanes lane at : ℕ) (ops : List Op) (replies : List Reply) → 1 ≤ lane → lane ≤ lanes → KeepsAround lanes j (with_asks j lane at ops replies)
-KeepsAround-asks j lanes lane at [] replies first last = record { lanes = refl; facts = refl; ready = refl; publications = refl; asked = λ are. are }
-KeepsAround-asks j lanes lane at (op ∷ ops) [] first last = record { lanes = refl; facts = refl; ready = refl; publications = refl; asked = λ are. are }
-KeepsAround-asks j lanes lane at (op ∷ ops) (reply ∷ replies) first last =
-    let rest = KeepsAround-asks (with_ask j lane at op reply) lanes lane at ops replies first last in
+-- asks of a record leave all of the journal but its entries and its states
+pub KeepsAround-asks : (j : Journal) (lane at : ℕ) (ops : List Op) (replies : List Reply) → KeepsAround j (with_asks j lane at ops replies)
+KeepsAround-asks j lane at [] replies = record { lanes = refl; facts = refl; ready = refl; publications = refl }
+KeepsAround-asks j lane at (op ∷ ops) [] = record { lanes = refl; facts = refl; ready = refl; publications = refl }
+KeepsAround-asks j lane at (op ∷ ops) (reply ∷ replies) =
+    let rest = KeepsAround-asks (with_ask j lane at op reply) lane at ops replies in
     record {
       lanes = rest.lanes;
       facts = rest.facts;
       ready = rest.ready;
       publications = rest.publications ∙ publications-ask lane at op reply j.entries;
-      asked = λ are. rest.asked (AreOfLanes-ask lanes lane at op reply j.entries first last are);
     }
 
 -- a run of asks of the book is the journal after them

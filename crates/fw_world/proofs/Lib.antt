@@ -10,6 +10,7 @@ pub mod Results
 pub mod Numbering
 pub mod Accepting
 pub mod MoreEditions
+pub mod Seen
 -- lanes that go on
 pub mod Judging
 pub mod LaneSteps

@@ -1,14 +1,14 @@
 -- What the numbers of editions tell.
-use Rattle.std.proofs.Common.{◌≡◌, ℕ, suc, ◌+◌, ◌-◌, List, [], ◌∷◌, ◌++◌, length, map, ap, ◌∙◌, subst, arith}
+use Rattle.std.proofs.Common.{◌≡◌, ℕ, suc, ◌+◌, ◌-◌, List, [], ◌∷◌, ◌++◌, length, map, refl, ap, ◌∙◌, subst, arith}
 use Rattle.std.specs.Prelude.{Some, slice_get}
 use Rattle.state_asks.specs.RuleLists.{has_id}
 use Rattle.generation_store.specs.Published.{Published, has_identity, IsEdition}
+use Rattle.state_journal.specs.Entries.{publications, last_number}
 use Rattle.state_journal.specs.Journal.{last_rules}
 use Rattle.state_journal.specs.declared.entry.Entry.{Entry}
 use Rattle.state_journal.specs.declared.entry.Entry.TheVariants.{Publish, Ask}
 use Rattle.fw_world.specs.Editions.{IsLastOf, AreNumbered}
-use Rattle.fw_world.specs.Publications.{publications, PublishesEach, facts_of}
-use Rattle.fw_world.proofs.AskLists.{last_number}
+use Rattle.fw_world.specs.Publications.{PublishesEach, facts_of}
 
 -- the last of several is the last of all but the first
 pub IsLastOf-tail : (first next : Published) (rest : List Published) (edition : Published) → IsLastOf (first ∷ next ∷ rest) edition → IsLastOf (next ∷ rest) edition
@@ -17,7 +17,7 @@ IsLastOf-tail first next rest edition is =
     subst (λ (k : ℕ). slice_get (first ∷ next ∷ rest) k ≡ Some edition) same is
 
 -- the one edition is the last
-IsLastOf-one : (first edition : Published) → IsLastOf (first ∷ []) edition → first ≡ edition
+pub IsLastOf-one : (first edition : Published) → IsLastOf (first ∷ []) edition → first ≡ edition
 IsLastOf-one first edition is = cc
 
 -- the rules of the last facts are those of the last edition

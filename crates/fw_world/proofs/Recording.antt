@@ -8,8 +8,9 @@ use Rattle.state_asks.specs.declared.facts.Facts.{Facts}
 use Rattle.fw_rule.specs.declared.command.Command.{Command}
 use Rattle.rule_chain.specs.Configuration.{Configuration}
 use Rattle.generation_store.specs.Published.{Published}
+use Rattle.state_journal.specs.Entries.{AreOfLanes}
 use Rattle.state_journal.specs.Journal.{Journal, IsJournal}
-use Rattle.fw_world.specs.Asks.{AreOfLanes, lane_asks}
+use Rattle.fw_world.specs.Asks.{lane_asks}
 use Rattle.fw_world.specs.Closing.{AreLanesFrom, EachStandsFor, record_of_world}
 use Rattle.fw_world.specs.Lanes.{LaneRises, EachLane, LaneStands, LaneCounts}
 use Rattle.fw_world.specs.Legal.{IsLegalButSections, IsLegal}
@@ -103,7 +104,7 @@ module _ (r : RecordValue) (first : Configuration) (commands : List Command) (in
   object = book.object ∙ ap (λ (facts : List Facts). journal.object_from journal.no_states facts r.journal.entries) (sym is.factual)
 
   of_lanes : AreOfLanes (length inputs) r.journal.entries
-  of_lanes = subst (λ (n : ℕ). AreOfLanes n r.journal.entries) (sym all) is.asked
+  of_lanes = subst (λ (n : ℕ). AreOfLanes n r.journal.entries) (sym all) book.asked
 
   -- a record of a world's editions, of its journal and of lanes that stand for their inputs is legal
   pub IsLegal-record : EachLane (LaneCounts r) 1 inputs r.dockets r.tallies r.trackers → IsLegal first commands inputs r

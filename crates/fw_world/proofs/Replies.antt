@@ -1,6 +1,6 @@
 -- The replies of the state object fit their asks.
-use Rattle.std.proofs.Common.{◌≡◌, ℕ, Bool, true, false, List, length, Option, Some, None, cond, refl, sym, ◌∙◌}
-use Rattle.std.specs.Prelude.{nat_le}
+use Rattle.std.proofs.Common.{◌≡◌, ℕ, Bool, true, false, List, length, Option, Some, None, cond, refl, sym, subst, ◌∙◌}
+use Rattle.std.specs.Prelude.{nat_le, ⊤}
 use Rattle.std.specs.List.{list_any}
 use Rattle.packet_headers.specs.declared.flows.Flow.{Flow}
 use Rattle.state_asks.specs.RuleLists.{has_id}
@@ -16,7 +16,21 @@ use Rattle.eval_engine.specs.Standing.{is_reply_to, InstallsRuleOf}
 use Rattle.fw_rule.specs.declared.rule.Rule.{Rule}
 use Rattle.generation_store.specs.Published.{has_identity}
 use Rattle.state_journal.specs.Journal.{NamesRuleOf, IsFoundOf}
-use Rattle.fw_world.specs.AskRuns.{Answers}
+
+-- a reply to a lookup, or one to an install
+abbrev pub Answers : Op → Reply → Type 0
+Answers (Lookup flags flow second name) (Found way rule) = ⊤
+Answers (Lookup flags flow second name) NotFound = ⊤
+Answers (Lookup flags flow second name) Created = ⊥
+Answers (Lookup flags flow second name) Exists = ⊥
+Answers (Lookup flags flow second name) (LimitReached count) = ⊥
+Answers (Lookup flags flow second name) (TableFull count) = ⊥
+Answers (Install flags flow second rule limit name) (Found way found) = ⊥
+Answers (Install flags flow second rule limit name) NotFound = ⊥
+Answers (Install flags flow second rule limit name) Created = ⊤
+Answers (Install flags flow second rule limit name) Exists = ⊤
+Answers (Install flags flow second rule limit name) (LimitReached count) = ⊤
+Answers (Install flags flow second rule limit name) (TableFull count) = ⊤
 
 found_answers : (flow asked : Flow) (flags second : ℕ) (name : FlowName) (s : Option State) → Answers (Lookup flags asked second name) (found_reply flow s)
 found_answers flow asked flags second name None = tt
@@ -68,3 +82,7 @@ is_reply rules all (Install flags flow second rule limit name) (TableFull count)
 pub names_rule : (rules : List ℕ) (all : List Rule) (op : Op) → ((id : ℕ) → has_id rules id ≡ has_identity all id) → InstallsRuleOf all op → NamesRuleOf rules op
 names_rule rules all (Lookup flags flow second name) same installs = tt
 names_rule rules all (Install flags flow second rule limit name) same installs = same rule.id ∙ installs
+
+-- what the state object replies fits an evaluation, where a state that was found has a rule of the list
+pub reply_fits : (o : StateObject) (rules : List ℕ) (all : List Rule) (op : Op) (reply : Reply) → ((id : ℕ) → has_id rules id ≡ has_identity all id) → reply ≡ reply_of o op → IsFoundOf rules reply → is_reply_to all op reply ≡ true
+reply_fits o rules all op reply same is found = is_reply rules all op reply same (subst (λ (r : Reply). Answers op r) (sym is) (reply_answers o op)) found

@@ -1,5 +1,5 @@
 -- Runs of asks that grow by one, and what a tally counts over them.
-use Rattle.std.proofs.Common.{◌≡◌, ◌≢◌, ℕ, suc, ◌<◌, ◌≤◌, Bool, true, false, List, [], ◌∷◌, ◌++◌, length, refl, sym, ap, ◌∙◌, subst, cond, arith, eq-eqb}
+use Rattle.std.proofs.Common.{◌≡◌, ◌≢◌, ℕ, suc, ◌<◌, ◌≤◌, Bool, true, false, List, [], ◌∷◌, ◌++◌, length, inl, inr, refl, sym, ap, ◌∙◌, subst, cond, arith, eq-eqb}
 use Rattle.std.proofs.lemmas.List.{length-set, get_or-set_same, get_or-set_other, append-nil}
 use Rattle.std.proofs.lemmas.List.Elements.{All-weaker}
 use Rattle.std.proofs.lemmas.Option.{unwrap_or-slice_get}
@@ -15,12 +15,12 @@ use Rattle.ip6_headers.specs.Either.{total_of}
 use Rattle.eval_engine.proofs.Hits.{hits_are_given_out}
 use Rattle.eval_engine.specs.Evaluation.{evaluate}
 use Rattle.eval_engine.specs.Question.{Question}
-use Rattle.eval_engine.specs.Standing.{StandsAt, counts_after}
+use Rattle.eval_engine.specs.Standing.{StandsAt, asks_at, counts_after}
 use Rattle.eval_engine.specs.declared.judgement.Judgement.{Judgement}
 use Rattle.eval_engine.specs.declared.paused.Paused.{Paused}
 use Rattle.eval_engine.specs.declared.stage.Stage.{Stage}
 use Rattle.eval_engine.specs.declared.stage.Stage.TheVariants.{Judged, Asks}
-use Rattle.fw_world.specs.AskRuns.{EntersEach, RisesBy, Evaluates, AsksSome, raised_by}
+use Rattle.fw_world.specs.AskRuns.{EntersEach, RisesBy, Evaluates, AsksFront, raised_by}
 
 -- one ask more behind others
 pub EntersEach-append : {B : Type 0} (enters : B → Op → Reply → B → Type 0) (old : B) (ops : List Op) (replies : List Reply) (next : B) (op : Op) (reply : Reply) (new : B)
@@ -92,10 +92,17 @@ IsReached-ended enters old now q counts tally judgement lawful fitted reached = 
       (RisesBy-after (total_of q.packet) (evaluate q reached.replies).hits counts (All-weaker (λ (k : ℕ). k ≤ q.edition.config.greatest_counter) (λ (k : ℕ). k < length counts) (λ k below. omega arith) _ (hits_are_given_out q reached.replies lawful)));
 }
 
--- the asks so far are some
-pub AsksSome-reached : {B : Type 0} (enters : B → Op → Reply → B → Type 0) (old now : B) (q : Question) (counts tally : List Count) (stage : Stage)
-    → IsReached enters old now q counts tally stage → AsksSome enters old now
-AsksSome-reached enters old now q counts tally stage reached = record { ops = reached.asks; replies = reached.replies; entered = reached.entered }
+-- the asks so far are a beginning of the evaluation's
+pub AsksFront-reached : {B : Type 0} (enters : B → Op → Reply → B → Type 0) (misses : B → B → Type 0) (old now : B) (q : Question) (counts tally : List Count) (stage : Stage)
+    → IsReached enters old now q counts tally stage → AsksFront enters misses old now q
+AsksFront-reached enters misses old now q counts tally stage reached =
+    record { ops = reached.asks; replies = reached.replies; between = now; entered = reached.entered; begins = (asks_at stage, reached.stands.asked); missed = inl refl }
+
+-- and stay one where the next wanted memory
+pub AsksFront-missed : {B : Type 0} (enters : B → Op → Reply → B → Type 0) (misses : B → B → Type 0) (old now new : B) (q : Question) (counts tally : List Count) (stage : Stage)
+    → IsReached enters old now q counts tally stage → misses now new → AsksFront enters misses old new q
+AsksFront-missed enters misses old now new q counts tally stage reached missed =
+    record { ops = reached.asks; replies = reached.replies; between = now; entered = reached.entered; begins = (asks_at stage, reached.stands.asked); missed = inr missed }
 
 -- a tally that was fitted counts as before
 pub Evaluates-fitted : {B : Type 0} (enters : B → Op → Reply → B → Type 0) (old new : B) (q : Question) (counts fitted tally : List Count) (judgement : Judgement)
@@ -107,6 +114,6 @@ Evaluates-fitted enters old new q counts fitted tally judgement same ran = recor
   counted = λ id. ran.counted id ∙ ap (raised_by (total_of q.packet) (evaluate q ran.replies).hits id) (same id);
 }
 
--- no ask is one of some
-pub AsksSome-none : {B : Type 0} (enters : B → Op → Reply → B → Type 0) (now : B) → AsksSome enters now now
-AsksSome-none enters now = record { ops = []; replies = []; entered = refl }
+-- no ask is a beginning
+pub AsksFront-none : {B : Type 0} (enters : B → Op → Reply → B → Type 0) (misses : B → B → Type 0) (now : B) (q : Question) → AsksFront enters misses now now q
+AsksFront-none enters misses now q = record { ops = []; replies = []; between = now; entered = refl; begins = ((evaluate q []).asks, refl); missed = inl refl }

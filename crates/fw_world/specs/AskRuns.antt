@@ -1,31 +1,14 @@
 -- The asks of one record, one after the other, of whoever asks the states for a lane.
-use Rattle.std.specs.Prelude.{◌≡◌, ℕ, ⊤, ◌==◌, if◌then◌else◌, List, [], ◌∷◌}
+use Rattle.std.specs.Prelude.{◌≡◌, ℕ, ◌==◌, ◌⊎◌, if◌then◌else◌, List, [], ◌∷◌, ◌++◌}
 use Rattle.counter_book.specs.Counts.{counted_under, count_after_packet}
 use Rattle.counter_book.specs.declared.tally.Count.{Count}
 use Rattle.state_asks.specs.declared.op.Op.{Op}
-use Rattle.state_asks.specs.declared.op.Op.TheVariants.{Lookup, Install}
 use Rattle.state_asks.specs.declared.reply.Reply.{Reply}
-use Rattle.state_asks.specs.declared.reply.Reply.TheVariants.{Found, NotFound, Created, Exists, LimitReached, TableFull}
 use Rattle.eval_engine.specs.Evaluated.{Whole}
 use Rattle.eval_engine.specs.Evaluation.{evaluate}
 use Rattle.eval_engine.specs.Question.{Question}
 use Rattle.eval_engine.specs.declared.judgement.Judgement.{Judgement}
 use Rattle.ip6_headers.specs.Either.{total_of}
-
--- a reply to a lookup, or one to an install
-abbrev pub Answers : Op → Reply → Type 0
-Answers (Lookup flags flow second name) (Found way rule) = ⊤
-Answers (Lookup flags flow second name) NotFound = ⊤
-Answers (Lookup flags flow second name) Created = ⊥
-Answers (Lookup flags flow second name) Exists = ⊥
-Answers (Lookup flags flow second name) (LimitReached count) = ⊥
-Answers (Lookup flags flow second name) (TableFull count) = ⊥
-Answers (Install flags flow second rule limit name) (Found way found) = ⊥
-Answers (Install flags flow second rule limit name) NotFound = ⊥
-Answers (Install flags flow second rule limit name) Created = ⊤
-Answers (Install flags flow second rule limit name) Exists = ⊤
-Answers (Install flags flow second rule limit name) (LimitReached count) = ⊤
-Answers (Install flags flow second rule limit name) (TableFull count) = ⊤
 
 -- each of these asks was entered with its reply, in order, and nothing happened between them
 abbrev pub EntersEach : {B : Type 0} → (B → Op → Reply → B → Type 0) → B → List Op → List Reply → B → Type 0
@@ -51,8 +34,16 @@ pub record Evaluates {B : Type 0} (enters : B → Op → Reply → B → Type 0)
   pub entered : EntersEach enters old (evaluate question replies).asks replies new
   pub counted : RisesBy (total_of question.packet) (evaluate question replies).hits counts countsAfter
 
--- some asks were entered
-pub record AsksSome {B : Type 0} (enters : B → Op → Reply → B → Type 0) (old new : B) : Type 0 where
+-- these are a beginning of those
+abbrev pub IsFrontOf : List Op → List Op → Type 0
+IsFrontOf front all = (rest : List Op) × (all ≡ front ++ rest)
+
+-- Asks of one evaluation were entered, a beginning of those that it makes with their replies: all that it
+-- came to, or those before an ask that wanted memory.
+pub record AsksFront {B : Type 0} (enters : B → Op → Reply → B → Type 0) (misses : B → B → Type 0) (old new : B) (question : Question) : Type 0 where
   pub ops : List Op
   pub replies : List Reply
-  pub entered : EntersEach enters old ops replies new
+  pub between : B
+  pub entered : EntersEach enters old ops replies between
+  pub begins : IsFrontOf ops (evaluate question replies).asks
+  pub missed : (new ≡ between) ⊎ misses between new

@@ -59,15 +59,6 @@ pub record AreAsksOf (entries : List DocketEntry) (asks : List LaneAsk) : Type 0
   pub numbered : AllByRecursion (λ ask. 1 ≤ ask.at) asks
   pub entered : AllByRecursion (IsAskOfEntry entries) asks
 
--- each ask of the journal is of one of so many lanes
-abbrev pub IsOfLanes : ℕ → Entry → Type 0
-IsOfLanes lanes (Publish number) = ⊤
-IsOfLanes lanes (Ask lane op reply at) = (1 ≤ lane) × (lane ≤ lanes)
-
--- each ask of the journal is of one of so many lanes
-abbrev pub AreOfLanes : ℕ → List Entry → Type 0
-AreOfLanes lanes entries = AllByRecursion (IsOfLanes lanes) entries
-
 -- the journal after these asks of one record, each with its reply
 abbrev pub with_asks : Journal → ℕ → ℕ → List Op → List Reply → Journal
 with_asks j lane at [] replies = j

@@ -3,8 +3,8 @@
 use Rattle.std.specs.Prelude.{◌≡◌, List, length}
 use Rattle.fw_rule.specs.declared.command.Command.{Command}
 use Rattle.rule_chain.specs.Configuration.{Configuration}
+use Rattle.state_journal.specs.Entries.{AreOfLanes}
 use Rattle.state_journal.specs.Journal.{no_states, object_from}
-use Rattle.fw_world.specs.Asks.{AreOfLanes}
 use Rattle.fw_world.specs.Editions.{AreEditions}
 use Rattle.fw_world.specs.Inputs.{Input}
 use Rattle.fw_world.specs.Lanes.{EachLane, LaneStands, LaneCounts, LaneRises}

@@ -1,17 +1,10 @@
 -- The publications of a journal, and when the journal is lawful beside the editions.
-use Rattle.std.specs.Prelude.{◌≡◌, ℕ, List, [], ◌∷◌, map}
+use Rattle.std.specs.Prelude.{◌≡◌, List, map}
 use Rattle.state_asks.specs.declared.facts.Facts.{Facts}
 use Rattle.generation_store.specs.Published.{Published}
+use Rattle.state_journal.specs.Entries.{publications}
 use Rattle.state_journal.specs.Journal.{Journal, no_states, IsLawfulFrom, BeginsWithOne}
 use Rattle.state_journal.specs.declared.entry.Entry.{Entry}
-use Rattle.state_journal.specs.declared.entry.Entry.TheVariants.{Publish, Ask}
-use Rattle.fw_world.specs.Asks.{AreOfLanes}
-
--- the numbers of the publications, in order
-abbrev pub publications : List Entry → List ℕ
-publications [] = []
-publications (Publish number ∷ entries) = number ∷ publications entries
-publications (Ask lane op reply at ∷ entries) = publications entries
 
 -- one publication for each edition, in order: 1, 2, ..
 abbrev pub PublishesEach : List Published → List Entry → Type 0
@@ -27,9 +20,7 @@ pub record IsLawful (editions : List Published) (entries : List Entry) : Type 0 
   pub begins : BeginsWithOne entries
   pub replied : IsLawfulFrom no_states (facts_of editions) entries
 
--- The journal is that of these editions: it tells the states their facts, publishes each of them once, and
--- each of its asks is of one of its lanes.
+-- The journal is that of these editions: it tells the states their facts, and publishes each of them once.
 pub record IsPublished (editions : List Published) (journal : Journal) : Type 0 where
   pub factual : facts_of editions ≡ journal.facts
   pub once : PublishesEach editions journal.entries
-  pub asked : AreOfLanes journal.lanes journal.entries

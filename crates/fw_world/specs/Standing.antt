@@ -1,9 +1,11 @@
 -- What a lane stands for.
-use Rattle.std.specs.Prelude.{List}
+use Rattle.std.specs.Prelude.{◌≡◌, ℕ, List, Some, IsSomeAnd, slice_get}
 use Rattle.counter_book.specs.declared.tally.Count.{Count}
 use Rattle.eval_engine.specs.Dockets.{DocketValue}
-use Rattle.generation_store.specs.Published.{Published}
+use Rattle.generation_store.specs.Published.{Published, IsBuilt}
+use Rattle.rule_chain.specs.Configuration.{Configuration}
 use Rattle.fw_world.specs.Asks.{LaneAsk, AreAsksOf}
+use Rattle.fw_world.specs.Editions.{edition_numbered}
 use Rattle.fw_world.specs.Entries.{EachRecord, IsEntryFor, IsEvaluated}
 use Rattle.fw_world.specs.Inputs.{Input}
 use Rattle.fw_world.specs.Tallies.{lane_hits, IsTallyOf}
@@ -15,3 +17,13 @@ pub record StandFor (editions : List Published) (asks : List LaneAsk) (docket : 
   pub evaluated : EachRecord (IsEvaluated editions asks) 1 inputs docket.entries
   pub tallied : IsTallyOf (lane_hits editions asks 1 inputs docket.entries) tally
   pub asked : AreAsksOf docket.entries asks
+
+-- Under each number that was seen these editions have one of the configuration that was seen there.
+abbrev pub AreSeenOf : List Published → List (ℕ × Configuration) → Type 0
+AreSeenOf editions seen =
+    (j number : ℕ) (config : Configuration) → slice_get seen j ≡ Some (number, config) → IsSomeAnd (edition_numbered editions number) (IsBuilt number config)
+
+-- The same said by what the lane saw, without the editions of its world: for every list of editions that has
+-- what it saw at its numbers.
+abbrev pub StandForSeen : List (ℕ × Configuration) → List LaneAsk → DocketValue → List Count → List Input → Type 0
+StandForSeen seen asks docket tally inputs = (editions : List Published) → AreSeenOf editions seen → StandFor editions asks docket tally inputs

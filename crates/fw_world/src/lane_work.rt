@@ -1,8 +1,7 @@
-ghost use Rattle.std.specs.Prelude.{◌≡◌, ◌+◌, ◌<◌, ℕ, [], ◌∷◌, ◌++◌, length, true, false, IfOk, OnOk, OnErr};
-ghost use Rattle.state_asks.specs.RuleLists.{has_id};
+ghost use Rattle.std.specs.Prelude.{◌≡◌, ◌+◌, ◌<◌, [], ◌∷◌, ◌++◌, length, true, false, IfOk, OnOk, OnErr};
 ghost use Rattle.eval_engine.specs.Dockets.{judged_entry};
-ghost use Rattle.generation_store.specs.Published.{has_identity};
-ghost use Rattle.fw_world.specs.AskRuns.{Evaluates, AsksSome};
+ghost use Rattle.fw_world.specs.AskRuns.{Evaluates, AsksFront};
+ghost use Rattle.fw_world.specs.Entries.{question_under};
 ghost use Rattle.fw_world.specs.Lane.{one_looser};
 
 use crate::asks_book::AsksBook;
@@ -10,7 +9,6 @@ use crate::evaluating::evaluate_packet;
 use counter_book::Tally;
 use eval_engine::{Docket, DocketEntry, Judgement};
 use fw_base::{OutOfMemory, Port};
-use generation_store::Edition;
 use ip6_headers::AnyIp;
 use std::alloc::Global;
 
@@ -74,31 +72,30 @@ impl LaneWork {
         entered
     }
 
-    /// Judges the next record, a packet that was captured there at that second, under this edition. Where
-    /// memory is wanted the lane has failed, no entry is made, and the asks that were made stay.
+    /// Judges the next record, a packet that was captured there at that second, under the edition
+    /// that the asker lends. Where memory is wanted the lane has failed, no entry is made, and the asks that were made stay.
     pub fn judge<B: AsksBook>(
         &mut self,
         book: &mut B,
         lane: u32,
-        edition: &Edition,
         packet: &AnyIp<'_>,
         port: &Port,
         second: u32,
     ) -> Result<Judgement, OutOfMemory>
         requires lane { B.serves book.old lane }
-        requires rules { (id : ℕ)
-            → has_id (B.rules book.old) id ≡ has_identity edition.now.config.rules id }
         ensures judged { IfOk result
             (Evaluates (λ old op reply new.
             B.enters old lane (length self.old.docket.entries + 1) op reply new) book.old book.new
-            (record { edition = edition.now; packet = packet.now; port = port.now; second = second }) self.old.tally self.new.tally) }
+            (question_under (B.edition book.old) packet.now port.now second) self.old.tally self.new.tally) }
         ensures entered { IfOk result (λ judgement. self.new ≡ record self.old {
           docket = record self.old.docket { entries = self.old.docket.entries ++ judged_entry judgement ∷ [] };
           tally = self.new.tally;
         }) }
         ensures working { OnOk result (self.old.failed ≡ false) }
-        ensures asked { AsksSome (λ old op reply new.
-            B.enters old lane (length self.old.docket.entries + 1) op reply new) book.old book.new }
+        ensures asked { AsksFront (λ old op reply new.
+            B.enters old lane (length self.old.docket.entries + 1) op reply new)
+            (λ old new. B.misses old new) book.old book.new
+            (question_under (B.edition book.old) packet.now port.now second) }
         ensures failed { OnErr result (self.new ≡ record self.old {
           tally = self.new.tally;
           failed = true;
@@ -108,7 +105,7 @@ impl LaneWork {
         if self.failed {
             return Err(OutOfMemory);
         }
-        let judged = self.try_judge(book, lane, edition, packet, port, second);
+        let judged = self.try_judge(book, lane, packet, port, second);
         self.failed = judged.is_err();
         judged
     }
@@ -117,33 +114,32 @@ impl LaneWork {
         &mut self,
         book: &mut B,
         lane: u32,
-        edition: &Edition,
         packet: &AnyIp<'_>,
         port: &Port,
         second: u32,
     ) -> Result<Judgement, OutOfMemory>
         requires lane { B.serves book.old lane }
-        requires rules { (id : ℕ)
-            → has_id (B.rules book.old) id ≡ has_identity edition.now.config.rules id }
         ensures judged { IfOk result
             (Evaluates (λ old op reply new.
             B.enters old lane (length self.old.docket.entries + 1) op reply new) book.old book.new
-            (record { edition = edition.now; packet = packet.now; port = port.now; second = second }) self.old.tally self.new.tally) }
+            (question_under (B.edition book.old) packet.now port.now second) self.old.tally self.new.tally) }
         ensures entered { IfOk result (λ judgement. self.new ≡ record self.old {
           docket = record self.old.docket { entries = self.old.docket.entries ++ judged_entry judgement ∷ [] };
           tally = self.new.tally;
         }) }
-        ensures asked { AsksSome (λ old op reply new.
-            B.enters old lane (length self.old.docket.entries + 1) op reply new) book.old book.new }
+        ensures asked { AsksFront (λ old op reply new.
+            B.enters old lane (length self.old.docket.entries + 1) op reply new)
+            (λ old new. B.misses old new) book.old book.new
+            (question_under (B.edition book.old) packet.now port.now second) }
         ensures unentered { OnErr result (self.new ≡ record self.old { tally = self.new.tally }) }
     {
         let at = self.docket.entries().len() as u64 + 1;
-        let config = edition.config();
+        let config = book.edition().config();
         // This call's clause `lawful` says that it is a configuration, as the evaluation requires.
         let _rules = config.rules();
         self.tally.fit(config.counters())?;
         let tally = &mut self.tally;
-        let judgement = evaluate_packet(book, lane, at, edition, packet, port, second, tally)?;
+        let judgement = evaluate_packet(book, lane, at, packet, port, second, tally)?;
         self.docket.push(DocketEntry::judged(judgement))?;
         Ok(judgement)
     }

@@ -17,5 +17,4 @@ mod editions;
 mod evaluating;
 mod lane_work;
 mod record;
-mod serial_book;
 mod skipped;

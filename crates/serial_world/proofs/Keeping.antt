@@ -1,12 +1,13 @@
 -- What a lane keeps while the world goes on beside it: cite these for a lane that stands aside.
-use Rattle.std.proofs.Common.{◌≡◌, ◌≢◌, ℕ, ◌+◌, ◌-◌, ◌≤◌, List, [], ◌∷◌, ◌++◌, length, refl, sym, ap, ◌∙◌, subst, arith}
+use Rattle.std.proofs.Common.{◌≡◌, ◌≢◌, ℕ, ◌+◌, ◌≤◌, List, [], ◌∷◌, ◌++◌, length, sym, ap, ◌∙◌, subst, arith}
 use Rattle.std.proofs.lemmas.List.{length-append}
 use Rattle.std.proofs.lemmas.List.Elements.{All-weaker}
-use Rattle.std.specs.Prelude.{All, IfSome, IsSomeAnd, Option, Some, None, option_and_then}
+use Rattle.std.specs.Prelude.{Result, Ok, Err, OnOk, OnErr, All, IfSome, Option, Some, None}
 use Rattle.fw_rule.specs.declared.command.Command.{Command}
 use Rattle.generation_store.specs.Published.{Published}
 use Rattle.state_journal.specs.Journal.{Journal}
 use Rattle.state_journal.proofs.ItemLists.{asks_of-publication}
+use Rattle.fw_world.specs.declared.commit_fault.CommitFault.{CommitFault}
 use Rattle.fw_world.specs.Asks.{LaneAsk, asks_in, lane_asks}
 use Rattle.fw_world.specs.Inputs.{Input}
 use Rattle.fw_world.specs.Lane.{LaneValue}
@@ -59,3 +60,8 @@ is_lane_behind old new command lane publishes is =
     heard : (refusal : Option ℕ) → published_count new ≡ published_count old + 1 → IfSome refusal (λ number. number ≤ published_count old) → IfSome refusal (λ number. number ≤ published_count new)
     heard None count below = below
     heard (Some number) count below = omega (arith, count, below)
+
+-- a publication that was made or refused leaves as many lanes
+pub lanes_after : (result : Result ℕ CommitFault) (old new : WorldValue) (command : Command) → OnOk result (Publishes old new command) → OnErr result (new ≡ old) → new.journal.lanes ≡ old.journal.lanes
+lanes_after (Ok number) old new command published unchanged = ap (λ (j : Journal). j.lanes) published.journal
+lanes_after (Err fault) old new command published unchanged = ap (λ (w : WorldValue). w.journal.lanes) unchanged

@@ -1,5 +1,8 @@
+-- the last edition
+pub mod LastEdition
 -- worlds and lanes that go on
 pub mod WorldSteps
+pub mod BookAsks
 pub mod LanesOf
 -- lanes that stand aside while the world goes on
 pub mod Keeping

@@ -1,92 +1,111 @@
 -- What asks and publications leave of a serial world.
-use Rattle.std.proofs.Common.{◌≡◌, ℕ, suc, ◌+◌, ◌-◌, ◌≤◌, List, [], ◌∷◌, ◌++◌, length, map, refl, sym, ap, ◌∙◌, subst, arith}
+use Rattle.std.proofs.Common.{◌≡◌, ℕ, ◌+◌, ◌-◌, List, [], ◌∷◌, ◌++◌, length, map, inl, inr, refl, sym, ap, ◌∙◌, subst, arith}
 use Rattle.std.proofs.lemmas.List.{length-append, map-append}
-use Rattle.std.specs.Prelude.{Some, slice_get}
+use Rattle.std.specs.Prelude.{Some, slice_get, ◌⊎◌}
 use Rattle.fw_base.specs.declared.port.Port.{Port}
+use Rattle.fw_rule.specs.declared.command.Command.{Command}
 use Rattle.ip6_headers.specs.declared.any_ip.AnyIp.{AnyIp}
 use Rattle.counter_book.specs.declared.tally.Count.{Count}
-use Rattle.state_asks.specs.RuleLists.{has_id}
 use Rattle.state_asks.specs.declared.facts.Facts.{Facts}
 use Rattle.state_asks.specs.declared.op.Op.{Op}
 use Rattle.state_asks.specs.declared.reply.Reply.{Reply}
-use Rattle.generation_store.specs.Published.{Published, has_identity, IsEdition}
+use Rattle.generation_store.specs.Published.{Published}
+use Rattle.state_journal.proofs.EntryLists.{publications-ask, publications-publication}
+use Rattle.state_journal.specs.Entries.{last_number}
 use Rattle.state_journal.specs.Items.{asks_of}
-use Rattle.state_journal.specs.Journal.{Journal, with_ask, with_publication, last_rules}
-use Rattle.state_journal.specs.declared.entry.Entry.{Entry}
-use Rattle.state_journal.specs.declared.entry.Entry.TheVariants.{Publish, Ask}
+use Rattle.state_journal.specs.Journal.{Journal, with_ask, with_publication}
 use Rattle.eval_engine.proofs.Hits.{judgement_names_edition}
+use Rattle.eval_engine.specs.Dockets.{judged_entry}
 use Rattle.eval_engine.specs.Evaluation.{evaluate}
 use Rattle.eval_engine.specs.Question.{Question}
-use Rattle.eval_engine.specs.Dockets.{judged_entry}
 use Rattle.eval_engine.specs.declared.judgement.Judgement.{Judgement}
-use Rattle.fw_world.specs.AskRuns.{Evaluates, AsksSome}
-use Rattle.fw_world.specs.Asks.{LaneAsk, AreOfLanes, lane_asks, with_asks}
-use Rattle.fw_world.specs.Editions.{IsLastOf, edition_numbered, IsNextEdition, AreNumbered}
+use Rattle.fw_world.specs.AskRuns.{EntersEach, Evaluates, AsksFront}
+use Rattle.fw_world.specs.Asks.{LaneAsk, lane_asks, with_asks}
+use Rattle.fw_world.specs.Editions.{IsNextEdition, edition_numbered}
+use Rattle.fw_world.specs.Entries.{question_under}
 use Rattle.fw_world.specs.Inputs.{Input, Packet}
 use Rattle.fw_world.specs.Lane.{LaneValue}
 use Rattle.fw_world.specs.Standing.{StandFor}
-use Rattle.fw_world.specs.Publications.{publications, facts_of}
-use Rattle.fw_rule.specs.declared.command.Command.{Command}
-use Rattle.serial_world.specs.Steps.{Judges, ChangesAsksOf}
-use Rattle.fw_world.specs.Entries.{question_under}
-use Rattle.fw_world.specs.World.{WorldValue, published_count, LaneStandsFor}
-use Rattle.serial_world.specs.WorldKept.{IsWorld}
-use Rattle.fw_world.proofs.AskLists.{record_asks, lane_asks-record, asks_of-others, KeepsAround-asks, with_asks-run, publications-publication, AreOfLanes-publication}
-use Rattle.fw_world.proofs.Numbering.{last_is_numbered, last_number_of, AreNumbered-append}
+use Rattle.fw_world.specs.World.{WorldValue, LaneStandsFor}
+use Rattle.fw_world.proofs.AskLists.{record_asks, lane_asks-record, asks_of-others, KeepsAround-asks}
 use Rattle.fw_world.proofs.Judging.{StandFor-judged}
+use Rattle.fw_world.proofs.Numbering.{last_is_numbered, last_number_of, AreNumbered-append}
 use Rattle.fw_world.proofs.Running.{EntersEach-length}
+use Rattle.serial_world.specs.LastEdition.{last_published}
+use Rattle.serial_world.specs.Steps.{Judges, BeginsJudging, ChangesAsksOf}
+use Rattle.serial_world.specs.WorldKept.{IsWorld}
+use Rattle.serial_world.proofs.LastEdition.{IsLastOf-last_published}
 
--- what asking for a lane's record means for the book
-abbrev pub AsksFor : ℕ → ℕ → Journal → Op → Reply → Journal → Type 0
-AsksFor lane at old op reply new = new ≡ with_ask old lane at op reply
+-- what asking for a lane's record means for the world
+abbrev pub AsksFor : ℕ → ℕ → WorldValue → Op → Reply → WorldValue → Type 0
+AsksFor lane at old op reply new = new ≡ record old { journal = with_ask old.journal lane at op reply }
 
-module _ (editions : List Published) (old new : Journal) (lane at : ℕ) (first : 1 ≤ lane) (within : lane ≤ old.lanes) where
-  -- asks of a record leave a world one
-  pub IsWorld-asks : IsWorld (record { editions = editions; journal = old }) → AsksSome (AsksFor lane at) old new → IsWorld (record { editions = editions; journal = new })
-  IsWorld-asks is asked =
-      let same = with_asks-run lane at old asked.ops asked.replies new asked.entered in
-      let around = KeepsAround-asks old old.lanes lane at asked.ops asked.replies first within in
-      subst (λ (j : Journal). IsWorld (record { editions = editions; journal = j })) (sym same) (record {
-        begun = is.begun;
-        numbered = is.numbered;
-        published = record {
-          factual = is.published.factual ∙ sym around.facts;
-          once = around.publications ∙ is.published.once;
-          asked = subst (λ (n : ℕ). AreOfLanes n (with_asks old lane at asked.ops asked.replies).entries) (sym around.lanes) (around.asked is.published.asked);
-        };
-        still = around.ready ∙ is.still;
-      })
+-- a run of asks leaves the world with them at its journal's end
+world-run : (lane at : ℕ) (old : WorldValue) (ops : List Op) (replies : List Reply) (new : WorldValue) → EntersEach (AsksFor lane at) old ops replies new → new ≡ record old { journal = with_asks old.journal lane at ops replies }
+world-run lane at old [] [] new ran = ran
+world-run lane at old [] (reply ∷ replies) new ran = absurd ran
+world-run lane at old (op ∷ ops) [] new ran = absurd ran
+world-run lane at old (op ∷ ops) (reply ∷ replies) new ran =
+    world-run lane at ran.0 ops replies new ran.2 ∙ ap (λ (w : WorldValue). record w { journal = with_asks w.journal lane at ops replies }) ran.1
 
-  -- they change no ask of another lane
-  pub ChangesAsksOf-asks : AsksSome (AsksFor lane at) old new → ChangesAsksOf lane (record { editions = editions; journal = old }) (record { editions = editions; journal = new })
-  ChangesAsksOf-asks asked =
-      let same = with_asks-run lane at old asked.ops asked.replies new asked.entered in
-      let around = KeepsAround-asks old old.lanes lane at asked.ops asked.replies first within in
-      record {
-        editions = refl;
-        lanes = ap (λ (j : Journal). j.lanes) same ∙ around.lanes;
-        others = λ k other. ap (λ (j : Journal). asks_of k 0 j.entries) same ∙ asks_of-others old k lane at asked.ops asked.replies other;
-      }
-
-  -- the number of lanes stays
-  pub lanes-asks : AsksSome (AsksFor lane at) old new → new.lanes ≡ old.lanes
-  lanes-asks asked = (ChangesAsksOf-asks asked).lanes
-
--- an evaluation of the book's answers is a judging of the world
-pub Judges-run : (editions : List Published) (old new : Journal) (lane at : ℕ) (edition : Published) (packet : AnyIp) (port : Port) (second : ℕ) (counts after : List Count) (judgement : Judgement)
-    → IsWorld (record { editions = editions; journal = old }) → IsLastOf editions edition → Evaluates (AsksFor lane at) old new (question_under edition packet port second) counts after judgement
-    → Judges (record { editions = editions; journal = old }) (record { editions = editions; journal = new }) lane at packet port second counts after judgement
-Judges-run editions old new lane at edition packet port second counts after judgement is last ran = record {
-  edition = edition;
-  last = last;
-  numbered = omega (arith, judgement_names_edition (question_under edition packet port second) ran.replies judgement ran.outcome, last_is_numbered 1 editions edition is.numbered last);
-  replies = ran.replies;
-  outcome = ran.outcome;
-  asked = EntersEach-length _ _ _ _ _ ran.entered;
-  entered = with_asks-run lane at old _ ran.replies new ran.entered;
-  counted = ran.counted;
-  editions = refl;
+-- an ask leaves a world one
+pub IsWorld-asked : (world : WorldValue) (lane at : ℕ) (op : Op) (reply : Reply) → IsWorld world → IsWorld (record world { journal = with_ask world.journal lane at op reply })
+IsWorld-asked world lane at op reply is = record {
+  begun = is.begun;
+  numbered = is.numbered;
+  published = record { factual = is.published.factual; once = publications-ask lane at op reply world.journal.entries ∙ is.published.once };
+  still = is.still;
 }
+
+-- an evaluation of which some asks were entered began a judging of the world
+pub BeginsJudging-run : (old new : WorldValue) (lane at : ℕ) (packet : AnyIp) (port : Port) (second : ℕ) → IsWorld old
+    → AsksFront (AsksFor lane at) (λ (before after : WorldValue). after ≡ before) old new (question_under (last_published old.editions) packet port second) → BeginsJudging old new lane at packet port second
+BeginsJudging-run old new lane at packet port second is front =
+    let left : new ≡ front.between = stays front.missed in
+    let same : new ≡ record old { journal = with_asks old.journal lane at front.ops front.replies } = left ∙ world-run lane at old front.ops front.replies front.between front.entered in
+    record {
+      edition = last_published old.editions;
+      last = IsLastOf-last_published old.editions is.begun;
+      ops = front.ops;
+      replies = front.replies;
+      asked = EntersEach-length _ _ _ _ _ front.entered;
+      begins = front.begins;
+      entered = ap (λ (w : WorldValue). w.journal) same;
+      editions = ap (λ (w : WorldValue). w.editions) same;
+    }
+  where
+    stays : (new ≡ front.between) ⊎ (new ≡ front.between) → new ≡ front.between
+    stays (inl same) = same
+    stays (inr same) = same
+
+-- what began changes no ask of another lane
+pub ChangesAsksOf-begun : (old new : WorldValue) (lane at : ℕ) (packet : AnyIp) (port : Port) (second : ℕ) → BeginsJudging old new lane at packet port second → ChangesAsksOf lane old new
+ChangesAsksOf-begun old new lane at packet port second begun =
+    let around = KeepsAround-asks old.journal lane at begun.ops begun.replies in
+    record {
+      editions = begun.editions;
+      lanes = ap (λ (j : Journal). j.lanes) begun.entered ∙ around.lanes;
+      others = λ k other. ap (λ (j : Journal). asks_of k 0 j.entries) begun.entered ∙ asks_of-others old.journal k lane at begun.ops begun.replies other;
+    }
+
+-- an evaluation of the world's answers is a judging of the world
+pub Judges-run : (old new : WorldValue) (lane at : ℕ) (packet : AnyIp) (port : Port) (second : ℕ) (counts after : List Count) (judgement : Judgement)
+    → IsWorld old → Evaluates (AsksFor lane at) old new (question_under (last_published old.editions) packet port second) counts after judgement → Judges old new lane at packet port second counts after judgement
+Judges-run old new lane at packet port second counts after judgement is ran =
+    let edition : Published = last_published old.editions in
+    let last = IsLastOf-last_published old.editions is.begun in
+    let same = world-run lane at old _ ran.replies new ran.entered in
+    record {
+      edition = edition;
+      last = last;
+      numbered = omega (arith, judgement_names_edition (question_under edition packet port second) ran.replies judgement ran.outcome, last_is_numbered 1 old.editions edition is.numbered last);
+      replies = ran.replies;
+      outcome = ran.outcome;
+      asked = EntersEach-length _ _ _ _ _ ran.entered;
+      entered = ap (λ (w : WorldValue). w.journal) same;
+      counted = ran.counted;
+      editions = ap (λ (w : WorldValue). w.editions) same;
+    }
 
 -- the lane that judged stands for the packet behind its inputs
 pub LaneStandsFor-judged : (old new : WorldValue) (before after : LaneValue) (packet : AnyIp) (port : Port) (second : ℕ) (judgement : Judgement) (inputs : List Input)
@@ -119,7 +138,6 @@ IsWorld-publication editions journal command edition is next = record {
         ∙ ap (λ (numbers : List ℕ). numbers ++ edition.facts.number ∷ []) is.published.once
         ∙ ap (λ (n : ℕ). map (λ (e : Published). e.number) editions ++ n ∷ []) next.built.factual.numbered
         ∙ sym (map-append (λ (e : Published). e.number) editions (edition ∷ []));
-    asked = AreOfLanes-publication journal.lanes edition.facts.number journal.entries is.published.asked;
   };
   still = refl;
 }

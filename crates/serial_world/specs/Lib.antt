@@ -1,5 +1,6 @@
 -- what holds of every serial world, and how one is opened
 pub mod WorldKept
+pub mod LastEdition
 -- what its calls do
 pub mod Steps
 pub mod SerialEntries

@@ -1,6 +1,7 @@
 -- What judging a packet and publishing an edition leave in a serial world.
 use Rattle.std.specs.Prelude.{◌≡◌, ◌≢◌, ℕ, List, [], ◌∷◌, ◌++◌, length}
 use Rattle.counter_book.specs.declared.tally.Count.{Count}
+use Rattle.state_asks.specs.declared.op.Op.{Op}
 use Rattle.state_asks.specs.declared.reply.Reply.{Reply}
 use Rattle.eval_engine.specs.Evaluated.{Whole}
 use Rattle.eval_engine.specs.Evaluation.{evaluate}
@@ -12,7 +13,7 @@ use Rattle.ip6_headers.specs.Either.{total_of}
 use Rattle.ip6_headers.specs.declared.any_ip.AnyIp.{AnyIp}
 use Rattle.state_journal.specs.Items.{asks_of}
 use Rattle.state_journal.specs.Journal.{with_publication}
-use Rattle.fw_world.specs.AskRuns.{RisesBy}
+use Rattle.fw_world.specs.AskRuns.{RisesBy, IsFrontOf}
 use Rattle.fw_world.specs.Asks.{with_asks}
 use Rattle.fw_world.specs.Editions.{IsLastOf, IsNextEdition}
 use Rattle.fw_world.specs.Entries.{question_under}
@@ -29,6 +30,18 @@ pub record Judges (old new : WorldValue) (lane at : ℕ) (packet : AnyIp) (port 
   pub asked : length (evaluate (question_under edition packet port second) replies).asks ≡ length replies
   pub entered : new.journal ≡ with_asks old.journal lane at (evaluate (question_under edition packet port second) replies).asks replies
   pub counted : RisesBy (total_of packet) (evaluate (question_under edition packet port second) replies).hits counts countsAfter
+  pub editions : new.editions ≡ old.editions
+
+-- Judging a packet of a lane under the last edition began: the asks that were entered at the journal's end
+-- are a beginning of those that the evaluation makes with their replies, and nothing else changed.
+pub record BeginsJudging (old new : WorldValue) (lane at : ℕ) (packet : AnyIp) (port : Port) (second : ℕ) : Type 0 where
+  pub edition : Published
+  pub last : IsLastOf old.editions edition
+  pub ops : List Op
+  pub replies : List Reply
+  pub asked : length ops ≡ length replies
+  pub begins : IsFrontOf ops (evaluate (question_under edition packet port second) replies).asks
+  pub entered : new.journal ≡ with_asks old.journal lane at ops replies
   pub editions : new.editions ≡ old.editions
 
 -- nothing of the world changed but the asks of this lane

@@ -1,15 +1,13 @@
-ghost use Rattle.std.specs.Prelude.{◌≡◌, ◌+◌, ℕ, None, length, ◌∷◌, [], ◌++◌, ◌==◌, true, false, IfOk, OnOk, OnErr};
-ghost use Rattle.state_asks.specs.RuleLists.{has_id};
+ghost use Rattle.std.specs.Prelude.{◌≡◌, ◌+◌, None, length, ◌∷◌, [], ◌++◌, ◌==◌, true, false, IfOk, OnOk, OnErr};
 ghost use Rattle.eval_engine.specs.Dockets.{judged_entry};
-ghost use Rattle.generation_store.specs.Published.{has_identity};
-ghost use Rattle.fw_world.specs.AskRuns.{Evaluates, AsksSome};
+ghost use Rattle.fw_world.specs.AskRuns.{Evaluates, AsksFront};
+ghost use Rattle.fw_world.specs.Entries.{question_under};
 ghost use Rattle.fw_world.specs.Lane as lanes;
 ghost use Rattle.fw_world.specs.Lane.{first_lane, lane_after_try, lane_after_admission, lane_after_regain, with_docket_entry};
 
 use eval_engine::{DocketEntry, Judgement};
 use fw_base::{OutOfMemory, Port};
 use fw_world::{AsksBook, LaneWork};
-use generation_store::Edition;
 use ip6_headers::AnyIp;
 use std::alloc::Global;
 use std::marker::Model;
@@ -118,29 +116,28 @@ impl LaneState {
         self.work.enter(entry)
     }
 
-    /// Judges the next record under this edition. Where memory is wanted the lane has failed.
+    /// Judges the next record under the edition that the asker lends. Where memory is wanted the lane has
+    /// failed.
     pub(crate) fn judge<B: AsksBook>(
         &mut self,
         book: &mut B,
-        edition: &Edition,
         packet: &AnyIp<'_>,
         port: &Port,
         second: u32,
     ) -> Result<Judgement, OutOfMemory>
-        requires lane { B.serves book.old self.old.place }
-        requires rules { (id : ℕ)
-            → has_id (B.rules book.old) id ≡ has_identity edition.now.config.rules id }
+        requires { B.serves book.old self.old.place }
         ensures judged { IfOk result
             (Evaluates (λ old op reply new.
             B.enters old self.old.place (length self.old.docket.entries + 1) op reply new) book.old
-            book.new
-            (record { edition = edition.now; packet = packet.now; port = port.now; second = second }) self.old.tally self.new.tally) }
+            book.new (question_under (B.edition book.old) packet.now port.now second)
+            self.old.tally self.new.tally) }
         ensures lane { IfOk result (λ judgement. self.new
             ≡ record (with_docket_entry (judged_entry judgement) self.old) { tally = self.new.tally }) }
         ensures working { OnOk result (self.old.failed ≡ false) }
-        ensures asked { AsksSome (λ old op reply new.
-            B.enters old self.old.place (length self.old.docket.entries + 1) op reply new) book.old
-            book.new }
+        ensures asked { AsksFront (λ old op reply new.
+            B.enters old self.old.place (length self.old.docket.entries + 1) op reply new)
+            (λ old new. B.misses old new) book.old book.new
+            (question_under (B.edition book.old) packet.now port.now second) }
         ensures failed { OnErr result (self.new ≡ record self.old {
           tally = self.new.tally;
           failed = true;
@@ -148,7 +145,7 @@ impl LaneState {
         ensures idle { self.old.failed ≡ true → book.new ≡ book.old }
     {
         let place = self.place;
-        self.work.judge(book, place, edition, packet, port, second)
+        self.work.judge(book, place, packet, port, second)
     }
 
     /// What it did, and its tracker word.

@@ -10,6 +10,7 @@ pub use serial_world::{MOST_LANES, SerialWorld};
 
 mod lane_state;
 mod open_serial;
+mod serial_book;
 mod serial_desk;
 mod serial_inside;
 mod serial_lane;

@@ -1,4 +1,4 @@
-ghost use Rattle.std.specs.Prelude.{◌≡◌, ℕ, ◌+◌, ◌≤◌, ◌++◌, ◌∷◌, [], length, true, false, IfOk, OnOk, OnErr, IfErr, IsSome, None, List, is_ok, is_err, map};
+ghost use Rattle.std.specs.Prelude.{◌≡◌, ◌<◌, ℕ, ◌+◌, ◌≤◌, ◌++◌, ◌∷◌, [], length, true, false, IfOk, OnOk, OnErr, IfErr, IsSome, None, List, is_ok, is_err, map};
 ghost use Rattle.std.specs.Arc.{arc_value};
 ghost use Rattle.std.specs.List.{list_any, AllByRecursion};
 ghost use Rattle.fw_rule.specs.declared.command.Command.{Command};
@@ -15,7 +15,7 @@ ghost use Rattle.fw_world.specs.Inputs.{Input, Packet};
 ghost use Rattle.fw_world.specs.Lane as lanes;
 ghost use Rattle.fw_world.specs.Lane.{LaneValue, first_lanes, lane_after_regain, lane_after_admission, with_docket_entry};
 ghost use Rattle.fw_world.specs.Skips.{entry_for, skipped_input};
-ghost use Rattle.serial_world.specs.Steps.{Judges, ChangesAsksOf, Publishes};
+ghost use Rattle.serial_world.specs.Steps.{Judges, BeginsJudging, ChangesAsksOf, Publishes};
 ghost use Rattle.fw_world.specs.CommitFaults.{IsCauseOf};
 ghost use Rattle.fw_world.specs.LaneKept.{IsLane, pending_of};
 ghost use Rattle.serial_world.specs.SerialEntries.{entry_of};
@@ -23,15 +23,18 @@ ghost use Rattle.fw_world.specs.World.{WorldValue, published_count, IsLaneOf, La
 ghost use Rattle.serial_world.specs.WorldKept.{IsNewWorld};
 
 use crate::lane_state::LaneState;
+use crate::serial_book::SerialBook;
 use crate::{OpenSerial, SerialDesk, SerialEntry, SerialInside, SerialLane};
 use eval_engine::Judgement;
-use fw_base::{Kept, OutOfMemory, Port};
+use fw_base::{OutOfMemory, Port};
 use fw_rule::Command;
-use fw_world::{Columns, CommitFault, Record, Skipped, last_edition, next_edition, share_edition, skipped_entry, store_of};
+use fw_world::{
+    Columns, CommitFault, Record, Skipped, last_edition, next_edition, share_edition,
+    skipped_entry, store_of,
+};
 use generation_store::{Edition, Store};
 use ip6_headers::AnyIp;
 use rule_chain::Config;
-use state_journal::Book;
 use std::alloc::Global;
 use std::marker::Model;
 use std::sync::Arc;
@@ -42,23 +45,20 @@ pub const MOST_LANES: u32 = 16;
 /// The world for one thread: the editions, and the one book of the states.
 #[derive(Drop)]
 pub struct SerialWorld {
-    pub(crate) book: Book,
-    pub(crate) store: Store,
-    pub(crate) columns: Columns,
+    held: SerialBook,
+    columns: Columns,
 }
 
 impl Model for SerialWorld {
     ghost use Rattle.std.specs.Prelude.{◌≡◌};
     ghost use Rattle.fw_world.specs.Columns.{no_columns};
     ghost use Rattle.fw_world.specs.World.{WorldValue};
-    ghost use Rattle.serial_world.specs.WorldKept.{IsWorld};
 
     ghost Value = { WorldValue };
 
-    ghost view = { λ w. record { editions = w.store.editions; journal = w.book } };
+    ghost view = { λ w. w.held };
 
-    ghost invariant = { λ w. IsWorld (record { editions = w.store.editions; journal = w.book })
-        × (w.columns ≡ no_columns w.book.lanes) };
+    ghost invariant = { λ w. w.columns ≡ no_columns w.held.journal.lanes };
 }
 
 /// The lanes of a world that is opened.
@@ -84,15 +84,6 @@ fn open_desk(alloc: Global, edition: &Arc<Edition>) -> Result<SerialDesk, OutOfM
     })
 }
 
-/// The book of so many lanes that begins with the publication of edition 1.
-fn open_book(alloc: Global, edition: &Edition, lanes: u32) -> Result<Book, OutOfMemory>
-    requires number { edition.now.facts.number ≡ 1 }
-    requires lanes { (1 ≤ lanes) × (lanes ≤ MOST_LANES) }
-    ensures { IfOk result (λ book. book ≡ first_journal lanes edition.now.facts) }
-{
-    Book::open(alloc, lanes, edition.facts().share()?)
-}
-
 /// The world of so many lanes that shows edition 1 alone.
 fn open_world(alloc: Global, edition: Arc<Edition>, lanes: u32) -> Result<SerialWorld, OutOfMemory>
     requires number { (arc_value edition).number ≡ 1 }
@@ -102,14 +93,9 @@ fn open_world(alloc: Global, edition: Arc<Edition>, lanes: u32) -> Result<Serial
     ensures journal { IfOk result (λ world.
         world.journal ≡ first_journal lanes (arc_value edition).facts) }
 {
-    let book = open_book(alloc, &edition, lanes)?;
+    let held = SerialBook::open(alloc, edition, lanes)?;
     let columns = Columns::with_room(alloc, lanes)?;
-    let store = store_of(alloc, edition)?;
-    Ok(SerialWorld {
-        book,
-        store,
-        columns,
-    })
+    Ok(SerialWorld { held, columns })
 }
 
 impl SerialWorld {
@@ -133,7 +119,7 @@ impl SerialWorld {
     fn published(&self) -> u64
         ensures { result ≡ published_count self.now }
     {
-        self.store.all().len() as u64
+        self.held.published()
     }
 
     /// Judges the next record of a lane under the last edition.
@@ -152,6 +138,8 @@ impl SerialWorld {
             ≡ record (with_docket_entry (judged_entry judgement) lane.old) { tally = lane.new.tally }) }
         ensures working { OnOk result (lane.old.failed ≡ false) }
         ensures asks { ChangesAsksOf lane.old.place self.old self.new }
+        ensures begun { BeginsJudging self.old self.new lane.old.place
+            (length lane.old.docket.entries + 1) packet.now port.now second }
         ensures stands { OnOk result ((inputs : List Input) → LaneStandsFor self.old lane.old inputs
             → LaneStandsFor self.new lane.new (inputs ++ Packet packet.now port.now second ∷ [])) }
         ensures failed { OnErr result (lane.new ≡ record lane.old {
@@ -163,8 +151,8 @@ impl SerialWorld {
         ensures kept { IsLaneOf self.old lane.old → IsLane 1 lane.old
             → IsLane (pending_of (is_ok result)) lane.new }
     {
-        let edition = last_edition(self.store.all());
-        lane.judge(&mut self.book, edition, packet, port, second)
+        self.held.is_world();
+        lane.judge(&mut self.held, packet, port, second)
     }
 
     /// Begins a section of the lane: it is in where it holds the last edition, and is refused where it
@@ -211,7 +199,7 @@ impl SerialWorld {
 
     /// Judges the next record of the lane, a packet that was captured there at that second, under the last
     /// edition. Where memory is wanted the lane has failed, and answers so from then on; the asks that were
-    /// made stay.
+    /// made stay, a beginning of those that the evaluation makes.
     pub fn judge_in(
         &mut self,
         inside: SerialInside,
@@ -232,6 +220,8 @@ impl SerialWorld {
             → LaneStandsFor self.new result.0.lane (inputs ++ Packet packet.now port.now second
             ∷ [])) }
         ensures asks { ChangesAsksOf inside.lane.place self.old self.new }
+        ensures begun { BeginsJudging self.old self.new inside.lane.place
+            (length inside.lane.docket.entries + 1) packet.now port.now second }
         ensures of_world { IsLaneOf self.new result.0.lane }
         ensures failed { OnErr result.1 (result.0
             ≡ record {
@@ -270,6 +260,8 @@ impl SerialWorld {
         ensures stands { OnOk result ((inputs : List Input) → LaneStandsFor self.old lane.old inputs
             → LaneStandsFor self.new lane.new (inputs ++ Packet packet.now port.now second ∷ [])) }
         ensures asks { ChangesAsksOf lane.old.place self.old self.new }
+        ensures begun { BeginsJudging self.old self.new lane.old.place
+            (length lane.old.docket.entries + 1) packet.now port.now second }
         ensures of_world { IsLaneOf self.new lane.new }
         ensures heeded { lane.new.refusal ≡ None }
         ensures failed { OnErr result (lane.new
@@ -338,36 +330,7 @@ impl SerialWorld {
         ensures cause { IfErr result (IsCauseOf self.old.editions command.now) }
         ensures unchanged { OnErr result (self.new ≡ self.old) }
     {
-        self.publish(alloc, &mut desk.store, command)
-    }
-
-    fn publish(
-        &mut self,
-        alloc: Global,
-        shown: &mut Store,
-        command: &Command,
-    ) -> Result<u64, CommitFault>
-        requires shown { shown.old.editions ≡ self.old.editions }
-        requires command { IsWellFormed command.now }
-        requires changing { IsChanging command.now }
-        ensures published { OnOk result (Publishes self.old self.new command.now) }
-        ensures number { IfOk result (λ number. number ≡ published_count self.new) }
-        ensures shown { shown.new.editions ≡ self.new.editions }
-        ensures more { length shown.old.editions ≤ length shown.new.editions }
-        ensures cause { IfErr result (IsCauseOf self.old.editions command.now) }
-        ensures unchanged { OnErr result (self.new ≡ self.old) }
-    {
-        let edition = next_edition(alloc, self.store.all(), command)?;
-        let facts = edition.facts().share()?;
-        let number = edition.number();
-        let shared = share_edition(&edition)?;
-        self.store.ready()?;
-        shown.ready()?;
-        self.book.ready()?;
-        self.book.publish(facts);
-        self.store.push(edition);
-        shown.push(shared);
-        Ok(number)
+        self.held.publish(alloc, &mut desk.store, command)
     }
 
     /// Enters a record of the lane that isn't judged. Where memory is wanted the lane has failed.
@@ -423,11 +386,8 @@ impl SerialWorld {
         if any_failed(&lanes) {
             return Err(OutOfMemory);
         }
-        let SerialWorld {
-            book,
-            store,
-            columns,
-        } = self;
+        let SerialWorld { held, columns } = self;
+        let SerialBook { book, store } = held;
         let columns = filled(columns, ordered(lanes));
         Ok(Record::new(store.into_all(), book, columns))
     }

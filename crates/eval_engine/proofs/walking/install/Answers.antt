@@ -1,4 +1,7 @@
 use Rattle.std.proofs.Common.{rules, ◌∙◌, ◌+◌, [], drop, ap, sym}
+use Rattle.std.specs.Prelude.{unwrap_or}
+use Rattle.ip6_headers.specs.Either.{any_tcp_flags_of}
+use Rattle.state_asks.proofs.FewFlags.{few_flags}
 use Rattle.eval_engine.specs.Standing.{callers_of, seen_by}
 use Rattle.eval_engine.specs.Steps.{question_of}
 use Rattle.eval_engine.specs.Trace.{Trace, PassesOver}
@@ -19,7 +22,7 @@ returns-in-Some-flow_of c =
     let seen = seen_by c.args.searched.now in
     let flow = sym c.flow_of.ensures ∙ c.in-Some-flow_of.is in
     let asks = install_asks q seen (callers_of c.args.at.now.callers) c.args.rule.now (drop (c.args.at.now.place + 1) q.edition.config.rules) (drop c.args.at.now.place q.edition.config.rules) c.requires.there.there c.in-Some.state.now c.in-Some-flow_of.flow (sym c.in-Some.ensures) flow in
-    rw c.ask_install.ensures (comes_at_once q _ _ c.args.tally.now (record { stop = asks; asked = (search rules, c.requires.there.listed) }))
+    rw c.ask_install.ensures (comes_at_once q _ _ c.args.tally.now (record { stop = asks; asked = (search rules, c.requires.there.listed, few_flags (unwrap_or (any_tcp_flags_of q.packet) 0)) }))
 
 pub returns-in-None : goal.returns-in-None
 returns-in-None c =

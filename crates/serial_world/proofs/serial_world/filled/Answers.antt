@@ -14,8 +14,8 @@ use Rattle.serial_world.proofs.serial_world.filled.Goals.{After-drop-lane-iterat
 pushed : {X : Type 0} (f : LaneValue → X) (column : List X) (lanes : List LaneValue) (lane : LaneValue) → column ≡ map f lanes → column ++ f lane ∷ [] ≡ map f (lanes ++ lane ∷ [])
 pushed f column lanes lane is = ap (λ some. some ++ f lane ∷ []) is ∙ sym (map-append f lanes (lane ∷ []))
 
-pub add-requires : goal.add-requires
-add-requires c =
+pub add_lane-requires : goal.add_lane-requires
+add_lane-requires c =
     let gives = c.into_iter-lane-iterator.ensures.into_iter_gives in
     let list = YieldsList-from_vec c.args.lanes.items gives.0 (gives.1 ∙ c.args.lanes.ok.0) in
     let turn = YieldsList-turn list c.loop-lane.yielded c.loop-lane.lane-iterator c.loop-lane.yielded_by c.next.result c.next.new.self c.in-Some.lane c.in-Some.is c.next.ensures.steps in
@@ -28,13 +28,13 @@ loop-lane-preserved c =
     let turn = YieldsList-turn list c.loop-lane.yielded c.loop-lane.lane-iterator c.loop-lane.yielded_by c.next.result c.next.new.self c.in-Some.lane c.in-Some.is c.next.ensures.steps in
     let before = c.loop-lane.invariant in
     let lane = c.in-Some.lane in
-    let added = sym c.add.ensures.added in
+    let added = sym c.add_lane.ensures.added in
     record {
-      room = let room = ap (λ (columns : ColumnsValue). columns.room) c.add.ensures.added in omega (arith, room, before.room, turn.0, length-append c.loop-lane.yielded (lane ∷ []));
+      room = let room = ap (λ (columns : ColumnsValue). columns.room) c.add_lane.ensures.added in omega (arith, room, before.room, turn.0, length-append c.loop-lane.yielded (lane ∷ []));
       dockets = subst (λ (columns : ColumnsValue). columns.dockets ≡ map (λ (lane : LaneValue). lane.docket) (c.loop-lane.yielded ++ lane ∷ [])) added (pushed (λ lane. lane.docket) c.loop-lane.columns.dockets c.loop-lane.yielded lane before.dockets);
       tallies = subst (λ (columns : ColumnsValue). columns.tallies ≡ map (λ (lane : LaneValue). lane.tally) (c.loop-lane.yielded ++ lane ∷ [])) added (pushed (λ lane. lane.tally) c.loop-lane.columns.tallies c.loop-lane.yielded lane before.tallies);
       trackers = subst (λ (columns : ColumnsValue). columns.trackers ≡ map (λ (lane : LaneValue). lane.tracker) (c.loop-lane.yielded ++ lane ∷ [])) added (pushed (λ lane. lane.tracker) c.loop-lane.columns.trackers c.loop-lane.yielded lane before.trackers);
-      kept = all_push (IsLane 0) c.loop-lane.yielded lane before.kept c.add.ensures.lane;
+      kept = all_push (IsLane 0) c.loop-lane.yielded lane before.kept c.add_lane.ensures.lane;
     }
 
 -- behind the loop all were yielded

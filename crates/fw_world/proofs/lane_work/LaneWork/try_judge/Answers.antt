@@ -1,8 +1,8 @@
-use Rattle.fw_world.proofs.Running.{AsksSome-none, Evaluates-fitted}
+use Rattle.fw_world.proofs.Running.{AsksFront-none, Evaluates-fitted}
 use Rattle.fw_world.proofs.lane_work.LaneWork.try_judge.Goals as goal
 
 pub returns-in_err-fit-clause-asked : goal.returns-in_err-fit-clause-asked
-returns-in_err-fit-clause-asked g c = AsksSome-none _ _
+returns-in_err-fit-clause-asked g c = AsksFront-none _ _ _ _
 
 pub returns-in_err-judgement-clause-asked : goal.returns-in_err-judgement-clause-asked
 returns-in_err-judgement-clause-asked g c = rw c.entries.ensures at c.evaluate_packet.ensures.asked

@@ -1,5 +1,4 @@
-use Rattle.std.proofs.Common.{◌≡◌, List, map, ◌∙◌, ap, sym, subst}
-use Rattle.std.specs.Arc.{arc_value}
+use Rattle.std.proofs.Common.{◌≡◌, List, length, map, ◌∙◌, ap, sym, subst}
 use Rattle.std.specs.List.{AllByRecursion}
 use Rattle.generation_store.specs.Published.{Published}
 use Rattle.fw_world.specs.Closing.{by_place, record_of_world}
@@ -14,24 +13,24 @@ use Rattle.fw_world.specs.World.{WorldValue}
 use Rattle.fw_world.proofs.Arranging.{all-by_place, length-by_place}
 use Rattle.fw_world.proofs.Recording.{as_many, same_record, lanes-stand, lanes-count, lanes-rise}
 use Rattle.serial_world.proofs.serial_world.SerialWorld.close.Goals as goal
-use Rattle.serial_world.proofs.serial_world.SerialWorld.close.Goals.{After-filled-columns, After-new}
+use Rattle.serial_world.proofs.serial_world.SerialWorld.close.Goals.{After-drop-desk-inside-2}
 
 pub new-requires : goal.new-requires
-new-requires c = subst (λ (all : List Published). IsPublished all c.self.inside.book) (sym c.into_all.ensures) c.self.invariant.0.published
+new-requires c = subst (λ (all : List Published). IsPublished all c.held.inside.book) (sym c.into_all.ensures) c.held.invariant.published
 
-lanes : (c : After-filled-columns) → c.ordered.result.items ≡ by_place c.args.lanes.items
+lanes : (c : After-drop-desk-inside-2) → c.ordered.result.items ≡ by_place c.args.lanes.items
 lanes c = c.ordered.ensures.lanes c.args.self 1 c.requires.lanes
 
-kept : (c : After-filled-columns) → AllByRecursion (IsLane 0) (by_place c.args.lanes.items)
+kept : (c : After-drop-desk-inside-2) → AllByRecursion (IsLane 0) (by_place c.args.lanes.items)
 kept c = subst (λ (all : List LaneValue). AllByRecursion (IsLane 0) all) (lanes c) c.filled-columns.ensures.lanes
 
-same : (c : After-new) → c.new.result ≡ record_of_world c.args.self (by_place c.args.lanes.items)
+same : (c : After-drop-desk-inside-2) → c.new.result ≡ record_of_world c.args.self (by_place c.args.lanes.items)
 same c =
     let dockets = c.filled-columns.ensures.dockets ∙ ap (λ (all : List LaneValue). map (λ (lane : LaneValue). lane.docket) all) (lanes c) in
     let tallies = c.filled-columns.ensures.tallies ∙ ap (λ (all : List LaneValue). map (λ (lane : LaneValue). lane.tally) all) (lanes c) in
     let trackers = c.filled-columns.ensures.trackers ∙ ap (λ (all : List LaneValue). map (λ (lane : LaneValue). lane.tracker) all) (lanes c) in
     c.new.ensures.exact
-    ∙ same_record _ _ _ _ _ _ _ _ _ _ (c.into_all.ensures ∙ ap (λ (w : WorldValue). w.editions) c.self.view_is) (ap (λ (w : WorldValue). w.journal) c.self.view_is) dockets tallies trackers
+    ∙ same_record _ _ _ _ _ _ _ _ _ _ (c.into_all.ensures ∙ ap (λ (w : WorldValue). w.editions) (c.held.view_is ∙ c.self.view_is)) (ap (λ (w : WorldValue). w.journal) (c.held.view_is ∙ c.self.view_is)) dockets tallies trackers
 
 pub returns-clause-exact : goal.returns-clause-exact
 returns-clause-exact c = same c

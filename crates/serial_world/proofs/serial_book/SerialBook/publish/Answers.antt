@@ -4,14 +4,13 @@ use Rattle.state_asks.specs.declared.facts.Facts.{Facts}
 use Rattle.generation_store.specs.Published.{Published}
 use Rattle.generation_store.specs.Held.{Held}
 use Rattle.state_journal.specs.Journal.{Journal, with_publication}
-use Rattle.fw_world.specs.Columns.{no_columns}
 use Rattle.fw_world.specs.Editions.{IsNextEdition}
 use Rattle.serial_world.specs.Steps.{Publishes}
 use Rattle.fw_world.specs.World.{WorldValue}
 use Rattle.serial_world.specs.WorldKept.{IsWorld}
 use Rattle.serial_world.proofs.WorldSteps.{IsWorld-publication}
-use Rattle.serial_world.proofs.serial_world.SerialWorld.publish.Goals as goal
-use Rattle.serial_world.proofs.serial_world.SerialWorld.publish.Goals.{After-push-2}
+use Rattle.serial_world.proofs.serial_book.SerialBook.publish.Goals as goal
+use Rattle.serial_world.proofs.serial_book.SerialBook.publish.Goals.{After-push-2}
 
 grown : (c : After-push-2) → c.push.new.self.editions ≡ c.self.inside.store.editions ++ arc_value c.in_ok-edition.edition ∷ []
 grown c = ap (λ (h : Held). h.editions) c.push.ensures ∙ ap (λ (h : Held). h.editions ++ arc_value c.in_ok-edition.edition ∷ []) c.in_ok-ready.ensures.made
@@ -28,11 +27,9 @@ next c = subst (λ (all : List Published). IsNextEdition all c.args.command.now 
 pub invariant_of-self-2 : goal.invariant_of-self-2
 invariant_of-self-2 c =
     let edition = arc_value c.in_ok-edition.edition in
-    let world = IsWorld-publication c.self.inside.store.editions c.self.inside.book c.args.command.now edition c.self.invariant.0 (next c) in
-    let journal = subst (λ (j : Journal). IsWorld (record { editions = c.self.inside.store.editions ++ edition ∷ []; journal = j })) (sym (book c)) world in (
-      subst (λ (all : List Published). IsWorld (record { editions = all; journal = c.publish.new.self })) (sym (grown c)) journal,
-      c.self.invariant.1 ∙ ap (λ (j : Journal). no_columns j.lanes) (sym (book c)),
-    )
+    let world = IsWorld-publication c.self.inside.store.editions c.self.inside.book c.args.command.now edition c.self.invariant (next c) in
+    let journal = subst (λ (j : Journal). IsWorld (record { editions = c.self.inside.store.editions ++ edition ∷ []; journal = j })) (sym (book c)) world in
+    subst (λ (all : List Published). IsWorld (record { editions = all; journal = c.publish.new.self })) (sym (grown c)) journal
 
 pub returns-clause-published : goal.returns-clause-published
 returns-clause-published c =
