@@ -11,7 +11,7 @@ use fw_base::OutOfMemory;
 use std::alloc::Global;
 
 /// How many captures are replayed at most.
-const MOST_CAPTURES: usize = 16;
+pub const MOST_CAPTURES: usize = 16;
 
 /// What the positional words of a replay name.
 #[tactic(auto, unfolding(crate::specs::Words::replay_of))]

@@ -14,11 +14,11 @@ use Rattle.eval_engine.specs.Dockets.{DocketValue, judgement_in, judgements}
 use Rattle.eval_engine.specs.Evaluated.{Outcome, Whole}
 use Rattle.eval_engine.specs.declared.docket_entry.DocketEntry.{DocketEntry}
 use Rattle.eval_engine.specs.declared.judgement.Judgement.{Judgement}
-use Rattle.fw_world.specs.Asks.{LaneAsk, asks_of_record, replies_of}
+use Rattle.fw_world.specs.Asks.{LaneAsk, asks_of_record, replies_of, lane_asks}
 use Rattle.fw_world.specs.Editions.{edition_numbered, judging_edition}
 use Rattle.fw_world.specs.Entries.{EachRecord, IsEntryFor, IsEvaluated, IsEvaluatedTo, IsEvaluation, evaluation_under}
 use Rattle.fw_world.specs.Inputs.{Input, Other, Malformed, Packet}
-use Rattle.fw_world.specs.Legal.{lane_asks, EachLane, LaneStands}
+use Rattle.fw_world.specs.Lanes.{EachLane, LaneStands}
 use Rattle.fw_world.specs.RecordValue.{RecordValue}
 use Rattle.fw_world.specs.Tallies.{Hit, hits_under, packet_hits, record_hits, lane_hits, count_in}
 use Rattle.record_laws.specs.Counters.{CountersAddUp}

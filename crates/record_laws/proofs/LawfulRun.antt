@@ -13,14 +13,16 @@ use Rattle.eval_engine.specs.declared.judgement.Judgement.{Judgement}
 use Rattle.fw_rule.specs.declared.command.Command.{Command}
 use Rattle.fw_world.specs.Inputs.{Input, Other, Malformed, Packet}
 use Rattle.fw_world.specs.Publications.{IsLawful, facts_of}
-use Rattle.fw_world.specs.Steps.{Judges, Publishes, question_under, with_asks}
+use Rattle.serial_world.specs.Steps.{Judges, Publishes}
+use Rattle.fw_world.specs.Entries.{question_under}
+use Rattle.fw_world.specs.Asks.{with_asks}
 use Rattle.fw_world.specs.World.{WorldValue}
 use Rattle.generation_store.specs.Published.{Published}
 use Rattle.ip6_headers.specs.declared.any_ip.AnyIp.{AnyIp}
 use Rattle.rule_chain.specs.Configuration.{Configuration}
-use Rattle.serial_replay.specs.Commands.{Listing, listing_of}
+use Rattle.capture_tracks.specs.Commands.{Listing, listing_of}
 use Rattle.serial_replay.specs.Events.{RunState, ReplaysInput, RunsLine, ReplaysTurn, ReplaysEvent, ReplaysAll}
-use Rattle.serial_replay.specs.Reading.{Origin, input_of}
+use Rattle.capture_tracks.specs.Reading.{Origin, input_of}
 use Rattle.serial_replay.specs.Replay.{IsFirstState}
 use Rattle.serial_schedule.specs.Order.{Turn}
 use Rattle.serial_schedule.specs.Schedule.{Event, Ran, Taken}

@@ -13,7 +13,7 @@ use Rattle.fw_report.specs.declared.ends.LineAnswer.{LineAnswer}
 use Rattle.fw_rule.specs.declared.command.Command.{Command}
 use Rattle.fw_world.specs.Editions.{AreEditionsFrom}
 use Rattle.fw_world.specs.Legal.{IsLegal}
-use Rattle.fw_world.specs.Publications.{publications}
+use Rattle.state_journal.specs.Entries.{publications}
 use Rattle.fw_world.specs.RecordValue.{RecordValue}
 use Rattle.generation_store.specs.Published.{Published}
 use Rattle.lookup_tables.specs.Tables.{table_named}
@@ -21,8 +21,8 @@ use Rattle.rule_edits.specs.Answers.{Answer as Applied}
 use Rattle.rule_edits.specs.Apply.{apply}
 use Rattle.rule_chain.specs.Configuration.{Configuration}
 use Rattle.rule_edits.specs.declared.apply_fault.ApplyFault.TheVariants.{NoSuchTable}
-use Rattle.serial_replay.specs.Commands.{Standing, Listing, Rules, Entries, listing_of, line_answer, listed_answer, after_applied, after_command, after_line, after_lines, first_standing}
-use Rattle.serial_replay.specs.Replay.{lines_outcome}
+use Rattle.capture_tracks.specs.Commands.{Standing, Listing, Rules, Entries, listing_of, line_answer, listed_answer, after_applied, after_command, after_line, after_lines, first_standing}
+use Rattle.capture_tracks.specs.Commands.{lines_outcome}
 use Rattle.fw_command.specs.Steps.{all_lines}
 use Rattle.state_journal.specs.declared.entry.Entry.{Entry}
 use Rattle.state_journal.specs.declared.entry.Entry.TheVariants.{Publish, Ask}

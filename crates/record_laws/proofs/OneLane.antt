@@ -3,10 +3,10 @@ use Rattle.std.proofs.Common.{◌≡◌, ℕ, List, sym, ap, ◌∙◌, subst}
 use Rattle.std.specs.Prelude.{Result, Ok, Err, OnOk, OnErr}
 use Rattle.fw_rule.specs.declared.command.Command.{Command}
 use Rattle.fw_world.specs.Lane.{LaneValue}
-use Rattle.fw_world.specs.Steps.{Publishes}
+use Rattle.serial_world.specs.Steps.{Publishes}
 use Rattle.fw_world.specs.World.{WorldValue, IsLaneOf}
 use Rattle.fw_world.specs.declared.commit_fault.CommitFault.{CommitFault}
-use Rattle.fw_world.proofs.Keeping.{is_lane_behind}
+use Rattle.serial_world.proofs.Keeping.{is_lane_behind}
 use Rattle.generation_store.specs.Published.{Published}
 use Rattle.record_laws.specs.OneLane.{IsOneLane}
 

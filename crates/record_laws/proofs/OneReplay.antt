@@ -10,10 +10,11 @@ use Rattle.fw_world.specs.RecordValue.{RecordValue}
 use Rattle.generation_store.specs.Published.{Published}
 use Rattle.rule_chain.specs.Configuration.{Configuration}
 use Rattle.serial_replay.specs.Events.{ReplaysAll}
-use Rattle.serial_replay.specs.Reading.{Track, Origin, origin_of, AllRead}
-use Rattle.serial_replay.specs.Replay.{ComesOf, IsFirstState, IsReplay, limit_for}
-use Rattle.serial_replay.specs.declared.replay.OpenedCapture.{OpenedCapture}
-use Rattle.serial_replay.specs.declared.replay.Replayed.{Replayed}
+use Rattle.capture_tracks.specs.Reading.{Track, Origin, origin_of, AllRead}
+use Rattle.capture_tracks.specs.Replay.{limit_for}
+use Rattle.serial_replay.specs.Replay.{ComesOf, IsFirstState, IsSerialReplay}
+use Rattle.capture_tracks.specs.declared.opened.OpenedCapture.{OpenedCapture}
+use Rattle.capture_tracks.specs.declared.replayed.Replayed.{Replayed}
 use Rattle.serial_schedule.specs.Schedule.{Event, schedule}
 use Rattle.state_journal.specs.declared.entry.Entry.{Entry}
 use Rattle.record_laws.specs.OneReplay.{IsSameRecord, RecordsAreDetermined, IsSameReplay, IsSameReport, ReplaysAreDetermined, ContentsDetermineReports}
@@ -65,12 +66,12 @@ one_report r s same ends = record {
 
 module _ {S T : Type 0} (left : S → Option (List ℕ)) (faults : S → ℕ) (otherLeft : T → Option (List ℕ)) (otherFaults : T → ℕ) where
   module _ (config : Configuration) (steps : List Step) (captures : List (OpenedCapture S)) (others : List (OpenedCapture T)) (r : Replayed S) (s : Replayed T)
-      (replay : IsReplay left faults config steps captures r) (other : IsReplay otherLeft otherFaults config steps others s) where
+      (replay : IsSerialReplay left faults config steps captures r) (other : IsSerialReplay otherLeft otherFaults config steps others s) where
     -- of the same records the same replay
-    same_replay : HaveSameRecords replay.tracks other.tracks → IsSameReplay r s
+    same_replay : HaveSameRecords replay.replay.tracks other.replay.tracks → IsSameReplay r s
     same_replay same = record {
-      recorded = records_are_determined config steps replay.tracks other.tracks r.record s.record same replay.ordered replay.legal.lawful other.ordered other.legal.lawful;
-      answers = replay.answered ∙ sym other.answered;
+      recorded = records_are_determined config steps replay.replay.tracks other.replay.tracks r.record s.record same replay.ordered replay.replay.legal.lawful other.ordered other.replay.legal.lawful;
+      answers = replay.replay.answered ∙ sym other.replay.answered;
     }
 
     -- the limit of a replay's captures
@@ -78,41 +79,41 @@ module _ {S T : Type 0} (left : S → Option (List ℕ)) (faults : S → ℕ) (o
     limit = limit_for (length captures)
 
     -- the other replay's captures were read to the same limit, where they are as many
-    other_read : length captures ≡ length others → AllRead otherLeft otherFaults limit others s.sources.items other.tracks s.ends.captures
-    other_read count = subst (λ (n : ℕ). AllRead otherLeft otherFaults (limit_for n) others s.sources.items other.tracks s.ends.captures) (sym count) other.read
+    other_read : length captures ≡ length others → AllRead otherLeft otherFaults limit others s.sources.items other.replay.tracks s.ends.captures
+    other_read count = subst (λ (n : ℕ). AllRead otherLeft otherFaults (limit_for n) others s.sources.items other.replay.tracks s.ends.captures) (sym count) other.replay.read
 
-    by_bytes : HaveSameBytes replay.tracks other.tracks → IsSameReplay r s × (HaveSameFailedReads r.ends.captures s.ends.captures → IsSameReport r s)
+    by_bytes : HaveSameBytes replay.replay.tracks other.replay.tracks → IsSameReplay r s × (HaveSameFailedReads r.ends.captures s.ends.captures → IsSameReport r s)
     by_bytes same =
-        let tracks : length replay.tracks ≡ length other.tracks =
-        sym (length-map replay.tracks (λ (t : Track). t.bytes)) ∙ ap length same.bytes ∙ length-map other.tracks (λ (t : Track). t.bytes) in
+        let tracks : length replay.replay.tracks ≡ length other.replay.tracks =
+        sym (length-map replay.replay.tracks (λ (t : Track). t.bytes)) ∙ ap length same.bytes ∙ length-map other.replay.tracks (λ (t : Track). t.bytes) in
         let count : length captures ≡ length others =
-        track_count left faults limit captures r.sources.items replay.tracks r.ends.captures replay.read
-        ∙ tracks ∙ sym (track_count otherLeft otherFaults (limit_for (length others)) others s.sources.items other.tracks s.ends.captures other.read) in
-        let all = all_ended left faults limit captures r.sources.items replay.tracks r.ends.captures replay.read in
-        let also = all_ended otherLeft otherFaults limit others s.sources.items other.tracks s.ends.captures (other_read count) in
-        let replayed = same_replay (same_records limit replay.tracks other.tracks r.ends.captures s.ends.captures all also same) in
-        (replayed, λ alike. one_report r s replayed.recorded (same_ends limit replay.tracks other.tracks r.ends.captures s.ends.captures all also same alike))
+        track_count left faults limit captures r.sources.items replay.replay.tracks r.ends.captures replay.replay.read
+        ∙ tracks ∙ sym (track_count otherLeft otherFaults (limit_for (length others)) others s.sources.items other.replay.tracks s.ends.captures other.replay.read) in
+        let all = all_ended left faults limit captures r.sources.items replay.replay.tracks r.ends.captures replay.replay.read in
+        let also = all_ended otherLeft otherFaults limit others s.sources.items other.replay.tracks s.ends.captures (other_read count) in
+        let replayed = same_replay (same_records limit replay.replay.tracks other.replay.tracks r.ends.captures s.ends.captures all also same) in
+        (replayed, λ alike. one_report r s replayed.recorded (same_ends limit replay.replay.tracks other.replay.tracks r.ends.captures s.ends.captures all also same alike))
 
     by_contents : HaveSameContents left otherLeft captures others → HaveNoFailedRead r.ends.captures → HaveNoFailedRead s.ends.captures → IsSameReplay r s × IsSameReport r s
     by_contents same none also =
         let count : length captures ≡ length others =
         sym (length-map captures (λ (c : OpenedCapture S). c.port)) ∙ ap length same.ports ∙ length-map others (λ (c : OpenedCapture T). c.port) in
-        let told = are_told left faults limit captures r.sources.items replay.tracks r.ends.captures same.contents replay.read same.told none in
-        let other_told = are_told otherLeft otherFaults limit others s.sources.items other.tracks s.ends.captures same.contents (other_read count) same.other_told also in
-        let first = with_contents replay.tracks same.contents in
-        let second = with_contents other.tracks same.contents in
+        let told = are_told left faults limit captures r.sources.items replay.replay.tracks r.ends.captures same.contents replay.replay.read same.told none in
+        let other_told = are_told otherLeft otherFaults limit others s.sources.items other.replay.tracks s.ends.captures same.contents (other_read count) same.other_told also in
+        let first = with_contents replay.replay.tracks same.contents in
+        let second = with_contents other.replay.tracks same.contents in
         let bytes : HaveSameBytes first second = record {
           ports = told.ports ∙ same.ports ∙ sym other_told.ports;
           bytes = told.bytes ∙ sym other_told.bytes;
         } in
         let between = same_records limit first second r.ends.captures s.ends.captures told.ended other_told.ended bytes in
-        let records : HaveSameRecords replay.tracks other.tracks = record {
+        let records : HaveSameRecords replay.replay.tracks other.replay.tracks = record {
           origins = told.same.origins ∙ between.origins ∙ sym other_told.same.origins;
           records = told.same.records ∙ between.records ∙ sym other_told.same.records;
         } in
         let ends : length r.ends.captures ≡ length s.ends.captures =
-        sym (end_count left faults limit captures r.sources.items replay.tracks r.ends.captures replay.read)
-        ∙ count ∙ end_count otherLeft otherFaults limit others s.sources.items other.tracks s.ends.captures (other_read count) in
+        sym (end_count left faults limit captures r.sources.items replay.replay.tracks r.ends.captures replay.replay.read)
+        ∙ count ∙ end_count otherLeft otherFaults limit others s.sources.items other.replay.tracks s.ends.captures (other_read count) in
         let replayed = same_replay records in
         (replayed, one_report r s replayed.recorded (same_ends limit first second r.ends.captures s.ends.captures told.ended other_told.ended bytes (none_alike r.ends.captures s.ends.captures ends none also)))
 

@@ -16,7 +16,9 @@ use Rattle.fw_world.specs.AskRuns.{raised_by}
 use Rattle.fw_world.specs.Editions.{IsLastOf}
 use Rattle.fw_world.specs.Inputs.{Input, Other, Malformed, Packet}
 use Rattle.fw_world.specs.Lane.{LaneValue, with_docket_entry}
-use Rattle.fw_world.specs.Steps.{Judges, Publishes, question_under, with_asks}
+use Rattle.serial_world.specs.Steps.{Judges, Publishes}
+use Rattle.fw_world.specs.Entries.{question_under}
+use Rattle.fw_world.specs.Asks.{with_asks}
 use Rattle.fw_world.specs.World.{WorldValue, published_count}
 use Rattle.generation_store.proofs.OneEdition.{same_edition}
 use Rattle.generation_store.specs.Published.{Published, IsBuilt}
@@ -24,10 +26,10 @@ use Rattle.ip6_headers.specs.Either.{total_of}
 use Rattle.ip6_headers.specs.declared.any_ip.AnyIp.{AnyIp}
 use Rattle.rule_edits.specs.Apply.{apply}
 use Rattle.rule_chain.specs.Configuration.{Configuration}
-use Rattle.serial_replay.proofs.Lines.{one_last}
-use Rattle.serial_replay.specs.Commands.{Listing, listing_of}
+use Rattle.capture_tracks.proofs.Operator.{one_last}
+use Rattle.capture_tracks.specs.Commands.{Listing, listing_of}
 use Rattle.serial_replay.specs.Events.{RunState, ChangesLane, judged_lane, ReplaysInput, HasRefusalOf, RunsLine, ReplaysTurn, ReplaysEvent, ReplaysAll}
-use Rattle.serial_replay.specs.Reading.{Origin, input_of}
+use Rattle.capture_tracks.specs.Reading.{Origin, input_of}
 use Rattle.serial_replay.specs.Replay.{IsFirstState}
 use Rattle.serial_schedule.specs.Order.{Turn}
 use Rattle.serial_schedule.specs.Schedule.{Event, Ran, Taken}

@@ -26,10 +26,11 @@ use Rattle.fw_report.specs.declared.capture_end.CaptureEnd.TheVariants.{Read, St
 use Rattle.fw_report.proofs.SilentWords.{number_is_silent, five_digits_are_silent, verdict_is_silent, verdict_code_is_silent, cause_is_silent, cause_count_is_silent, lines-append}
 use Rattle.fw_world.specs.Entries.{EachRecord, IsEntryFor}
 use Rattle.fw_world.specs.Inputs.{Input}
-use Rattle.fw_world.specs.Legal.{EachLane, LaneStands}
+use Rattle.fw_world.specs.Lanes.{EachLane, LaneStands}
 use Rattle.fw_world.specs.RecordValue.{RecordValue}
-use Rattle.serial_replay.specs.Reading.{track_inputs}
-use Rattle.serial_replay.specs.Replay.{limit_for, lines_outcome}
+use Rattle.capture_tracks.specs.Reading.{track_inputs}
+use Rattle.capture_tracks.specs.Commands.{lines_outcome}
+use Rattle.capture_tracks.specs.Replay.{limit_for}
 use Rattle.record_laws.proofs.ReadCaptures.{track_count, end_count}
 use Rattle.record_laws.specs.VerdictLines.{begins_with_digit, verdict_lines, other_lines, input_count, recorded_with, VerdictLinesAreRecords, ReplaysPrintEachRecord}
 

@@ -15,8 +15,8 @@ use Rattle.pcap_read.specs.declared.capture_fault.CaptureFault.TheVariants.{Read
 use Rattle.pcap_read.specs.declared.format.Format.{Format}
 use Rattle.pcap_read.proofs.Fronts.{header_grown, number_fault, number_behind}
 use Rattle.pcap_read.proofs.OneFront.{front_unique, front_stays}
-use Rattle.serial_replay.specs.Reading.{Track, Origin, origin_of, link_in, IsEnd, IsRead, AllRead}
-use Rattle.serial_replay.specs.declared.replay.OpenedCapture.{OpenedCapture}
+use Rattle.capture_tracks.specs.Reading.{Track, Origin, origin_of, link_in, IsEnd, IsRead, AllRead}
+use Rattle.capture_tracks.specs.declared.opened.OpenedCapture.{OpenedCapture}
 use Rattle.record_laws.specs.SameCaptures.{HaveSameRecords, HaveSameBytes, HaveNoFailedRead}
 use Rattle.record_laws.proofs.SameEnds.{HasEnded, AllEnded, ended_of_stop}
 

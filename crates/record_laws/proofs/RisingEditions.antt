@@ -9,7 +9,7 @@ use Rattle.eval_engine.specs.Dockets.{DocketValue, judged_entry, judgement_in, j
 use Rattle.eval_engine.specs.declared.docket_entry.DocketEntry.{DocketEntry}
 use Rattle.eval_engine.specs.declared.judgement.Judgement.{Judgement}
 use Rattle.fw_world.specs.Inputs.{Input}
-use Rattle.fw_world.specs.Legal.{EachLane, LaneCounts}
+use Rattle.fw_world.specs.Lanes.{EachLane, LaneCounts}
 use Rattle.fw_world.specs.Sections.{judged_editions}
 use Rattle.record_laws.specs.Dockets.{EditionsNeverFall}
 

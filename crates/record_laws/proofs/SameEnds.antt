@@ -18,7 +18,7 @@ use Rattle.pcap_read.specs.Reading.{Captured, Place, Open, Closed, HasFront, Sto
 use Rattle.pcap_read.specs.declared.capture_fault.CaptureFault.{CaptureFault}
 use Rattle.pcap_read.specs.declared.capture_fault.CaptureFault.TheVariants.{ReadFault}
 use Rattle.pcap_read.proofs.OneFront.{front_unique}
-use Rattle.serial_replay.specs.Reading.{Track, IsEnd}
+use Rattle.capture_tracks.specs.Reading.{Track, IsEnd}
 use Rattle.record_laws.specs.SameCaptures.{HaveSameBytes, HaveNoFailedRead, HaveSameFailedReads, printed_end}
 use Rattle.record_laws.specs.VerdictLines.{recorded_with}
 

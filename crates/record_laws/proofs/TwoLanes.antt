@@ -1,9 +1,9 @@
 -- A world of two lanes goes on.
 use Rattle.std.proofs.Common.{◌≡◌, List, sym, ◌∙◌}
 use Rattle.fw_world.specs.Lane.{LaneValue}
-use Rattle.fw_world.specs.Steps.{ChangesAsksOf}
+use Rattle.serial_world.specs.Steps.{ChangesAsksOf}
 use Rattle.fw_world.specs.World.{WorldValue, IsLaneOf}
-use Rattle.fw_world.proofs.Keeping.{is_lane_beside}
+use Rattle.serial_world.proofs.Keeping.{is_lane_beside}
 use Rattle.generation_store.specs.Published.{Published}
 use Rattle.record_laws.specs.TwoLanes.{AreTwoLanes}
 

@@ -8,9 +8,9 @@ use Rattle.fw_report.specs.declared.ends.Answer.TheVariants.{Refused, Listed}
 use Rattle.fw_world.specs.RecordValue.{RecordValue}
 use Rattle.generation_store.specs.Published.{Published}
 use Rattle.rule_chain.specs.Configuration.{Configuration}
-use Rattle.serial_replay.specs.Replay.{IsReplay}
-use Rattle.serial_replay.specs.declared.replay.OpenedCapture.{OpenedCapture}
-use Rattle.serial_replay.specs.declared.replay.Replayed.{Replayed}
+use Rattle.capture_tracks.specs.Replay.{IsReplay}
+use Rattle.capture_tracks.specs.declared.opened.OpenedCapture.{OpenedCapture}
+use Rattle.capture_tracks.specs.declared.replayed.Replayed.{Replayed}
 use Rattle.state_journal.specs.declared.entry.Entry.TheVariants.{Publish}
 
 -- The journal publishes the edition of this number, and the report shows that edition for it.

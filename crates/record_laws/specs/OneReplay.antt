@@ -9,10 +9,10 @@ use Rattle.fw_report.specs.declared.ends.LineAnswer.{LineAnswer}
 use Rattle.fw_world.specs.Publications.{IsLawful}
 use Rattle.fw_world.specs.RecordValue.{RecordValue}
 use Rattle.rule_chain.specs.Configuration.{Configuration}
-use Rattle.serial_replay.specs.Reading.{Track}
-use Rattle.serial_replay.specs.Replay.{ComesOf, IsReplay}
-use Rattle.serial_replay.specs.declared.replay.OpenedCapture.{OpenedCapture}
-use Rattle.serial_replay.specs.declared.replay.Replayed.{Replayed}
+use Rattle.capture_tracks.specs.Reading.{Track}
+use Rattle.serial_replay.specs.Replay.{ComesOf, IsSerialReplay}
+use Rattle.capture_tracks.specs.declared.opened.OpenedCapture.{OpenedCapture}
+use Rattle.capture_tracks.specs.declared.replayed.Replayed.{Replayed}
 use Rattle.record_laws.specs.SameCaptures.{HaveSameRecords, HaveSameBytes, HaveSameContents, HaveNoFailedRead, HaveSameFailedReads, printed_end}
 use Rattle.record_laws.specs.VerdictLines.{recorded_with}
 
@@ -54,19 +54,19 @@ pub record IsSameReport {S T : Type 0} (r : Replayed S) (s : Replayed T) : Type 
       → report_text (recorded_with hits r.record) r.ends.captures answers journal ≡ report_text (recorded_with hits s.record) s.ends.captures answers journal
 
 module _ {S T : Type 0} (left : S → Option (List ℕ)) (faults : S → ℕ) (otherLeft : T → Option (List ℕ)) (otherFaults : T → ℕ) where
-  -- Two replays of one first configuration and one script, that read the same bytes of captures which were taken
-  -- at the same ports, leave the same record and answers, whatever the sources are. Where the same captures were
+  -- Two replays in the order of the schedule, of one first configuration and one script, that read the same bytes
+  -- of captures which were taken at the same ports, leave the same record and answers, whatever the sources are. Where the same captures were
   -- ended by a failing read, they have one report.
   abbrev pub ReplaysAreDetermined : Type 0
   ReplaysAreDetermined = (config : Configuration) (steps : List Step) (captures : List (OpenedCapture S)) (others : List (OpenedCapture T)) (r : Replayed S) (s : Replayed T)
-      → (replay : IsReplay left faults config steps captures r) → (other : IsReplay otherLeft otherFaults config steps others s)
-      → HaveSameBytes replay.tracks other.tracks → IsSameReplay r s × (HaveSameFailedReads r.ends.captures s.ends.captures → IsSameReport r s)
+      → (replay : IsSerialReplay left faults config steps captures r) → (other : IsSerialReplay otherLeft otherFaults config steps others s)
+      → HaveSameBytes replay.replay.tracks other.replay.tracks → IsSameReplay r s × (HaveSameFailedReads r.ends.captures s.ends.captures → IsSameReport r s)
 
-  -- Two replays of one first configuration and one script, over captures which were taken at the same ports and
+  -- Two replays in the order of the schedule, of one first configuration and one script, over captures which were taken at the same ports and
   -- whose sources tell the same bytes, none of which was ended by a failing read, leave the same record and
   -- answers, and have one report.
   abbrev pub ContentsDetermineReports : Type 0
   ContentsDetermineReports = (config : Configuration) (steps : List Step) (captures : List (OpenedCapture S)) (others : List (OpenedCapture T)) (r : Replayed S) (s : Replayed T)
-      → IsReplay left faults config steps captures r → IsReplay otherLeft otherFaults config steps others s
+      → IsSerialReplay left faults config steps captures r → IsSerialReplay otherLeft otherFaults config steps others s
       → HaveSameContents left otherLeft captures others → HaveNoFailedRead r.ends.captures → HaveNoFailedRead s.ends.captures
       → IsSameReplay r s × IsSameReport r s

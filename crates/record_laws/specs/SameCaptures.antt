@@ -4,8 +4,8 @@ use Rattle.std.specs.List.{list_any}
 use Rattle.fw_report.specs.CaptureEnds.{is_unread}
 use Rattle.fw_report.specs.declared.capture_end.CaptureEnd.{CaptureEnd}
 use Rattle.fw_report.specs.declared.capture_end.CaptureEnd.TheVariants.{Read, Stopped}
-use Rattle.serial_replay.specs.Reading.{Track, origin_of}
-use Rattle.serial_replay.specs.declared.replay.OpenedCapture.{OpenedCapture}
+use Rattle.capture_tracks.specs.Reading.{Track, origin_of}
+use Rattle.capture_tracks.specs.declared.opened.OpenedCapture.{OpenedCapture}
 
 -- The captures are as many, of the same link types, taken at the same ports, and have the same records.
 pub record HaveSameRecords (tracks others : List Track) : Type 0 where

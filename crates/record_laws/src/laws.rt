@@ -46,15 +46,15 @@ pub fn records_are_determined()
     ensures { RecordsAreDetermined }
 {}
 
-/// Two replays of one first configuration and one script, that read the same bytes of captures which were taken at
-/// the same ports, leave the same record and give the same answers, whatever the captures were read from. Where the
+/// Two replays in the order of the schedule, of one first configuration and one script, that read the same bytes of
+/// captures which were taken at the same ports, leave the same record and give the same answers, whatever the captures were read from. Where the
 /// same captures were ended by a failing read, they have one report.
 pub fn replays_are_determined<S: Source, T: Source>()
     ensures { ReplaysAreDetermined S.left S.faults T.left T.faults }
 {}
 
-/// Two replays of one first configuration and one script, over captures that were taken at the same ports and whose
-/// sources tell the same bytes, leave the same record, give the same answers and have one report, where no capture
+/// Two replays in the order of the schedule, of one first configuration and one script, over captures that were taken
+/// at the same ports and whose sources tell the same bytes, leave the same record, give the same answers and have one report, where no capture
 /// was ended by a failing read.
 pub fn contents_determine_reports<S: Source, T: Source>()
     ensures { ContentsDetermineReports S.left S.faults T.left T.faults }

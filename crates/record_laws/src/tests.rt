@@ -1,7 +1,7 @@
 ghost use Rattle.std.specs.Prelude.{◌≡◌, false, IfOk};
 ghost use Rattle.std.specs.List.{AllByRecursion};
 ghost use Rattle.fw_command.specs.WellFormed.{IsLine, IsStepInRange};
-ghost use Rattle.fw_world.specs.Steps.{ChangesAsksOf};
+ghost use Rattle.serial_world.specs.Steps.{ChangesAsksOf};
 ghost use Rattle.fw_world.specs.World.{IsLaneOf};
 ghost use Rattle.record_laws.specs.OneLane.{IsOneLane};
 
@@ -13,14 +13,12 @@ use fw_base::{Direction, Link, MemorySink, MemorySource, Name, Port};
 use fw_command::{Line, Pace, Script, Step, parse_script};
 use fw_report::{Answer, CaptureEnd, Ends, LineAnswer, write_report};
 use fw_rule::Items;
-use fw_world::{
-    CommitFault, OpenSerial, Record, SerialDesk, SerialEntry, SerialInside, SerialLane,
-    SerialWorld, Skipped,
-};
+use fw_world::{CommitFault, Record, Skipped};
 use ip6_headers::{AnyIp, AnyPacket, read_any};
 use rows::{ROWS, Row, Timed};
 use rule_chain::Config;
 use rule_edits::{apply_owned, is_changing};
+use serial_world::{OpenSerial, SerialDesk, SerialEntry, SerialInside, SerialLane, SerialWorld};
 use std::alloc::Global;
 use std::process::Abort;
 use std::test::Fail;

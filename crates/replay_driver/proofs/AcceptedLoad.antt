@@ -2,6 +2,7 @@
 use Rattle.std.proofs.Common.{◌≡◌, ℕ, ◌+◌, ◌≤◌, None, Ok, Err, List, [], ◌∷◌, ◌++◌, refl, ap, ◌∙◌}
 use Rattle.std.specs.List.{list_any, AllByRecursion}
 use Rattle.fw_command.specs.declared.script.Line.{Line}
+use Rattle.fw_command.specs.declared.script.Pace.TheVariants.{Serial}
 use Rattle.fw_command.specs.declared.script.Script.{Script}
 use Rattle.load_maker.specs.Load as load
 use Rattle.load_maker.specs.declared.load.TheConstants.{MOST_RECORDS}
@@ -11,8 +12,8 @@ use Rattle.load_laws.proofs.Acceptance.{scripts_accepted}
 use Rattle.load_laws.proofs.MadeScripts.{scripts_read}
 use Rattle.rule_chain.specs.Configuration.{Configuration}
 use Rattle.rule_chain.specs.First.{first_configuration}
-use Rattle.serial_replay.specs.Commands.{Standing, listing_of, first_standing, after_line, after_lines}
-use Rattle.serial_replay.proofs.Listed.{changing-of}
+use Rattle.capture_tracks.specs.Commands.{Standing, listing_of, first_standing, after_line, after_lines}
+use Rattle.capture_tracks.proofs.Listings.{changing-of}
 use Rattle.fw_command.specs.Steps.{all_lines}
 use Rattle.replay_driver.specs.FirstEdition.{configuration_behind, listings_of, first_edition}
 use Rattle.replay_driver.specs.Promises.{IsAccepted}
@@ -53,7 +54,7 @@ none_answered s (line ∷ lines) unlisted (next, applied, more) =
     ap (λ (t : Standing). (after_lines t lines).answers) is ∙ none_answered made lines unlisted.1 more
 
 -- a load's script gives an edition, and each of its lines behind `live` is accepted
-pub load_accepted : (n : ℕ) → n ≤ MOST_RECORDS → IsAccepted (load.load_script n)
+pub load_accepted : (n : ℕ) → n ≤ MOST_RECORDS → IsAccepted Serial (load.load_script n)
 unfolding first_edition
 load_accepted n few =
     let script : Script = made_script n in
@@ -67,5 +68,5 @@ load_accepted n few =
     }
 
 -- so it has no error
-pub load_ready : (n : ℕ) → n ≤ MOST_RECORDS → (error : ScriptError) → first_edition (load.load_script n) ≡ Err error → ⊥
+pub load_ready : (n : ℕ) → n ≤ MOST_RECORDS → (error : ScriptError) → first_edition Serial (load.load_script n) ≡ Err error → ⊥
 load_ready n few error failed = let ok = (load_accepted n few).first in cc

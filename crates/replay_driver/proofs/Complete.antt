@@ -11,7 +11,9 @@ use Rattle.command_words.specs.Words.{CaptureNames}
 use Rattle.fw_base.specs.Faults.{Rose}
 use Rattle.fw_base.specs.Pairs.{Pair, take_named, TakesOut}
 use Rattle.fw_command.specs.declared.script.Line.{Line}
-use Rattle.fw_command.specs.declared.script.Pace.TheVariants.{Serial}
+use Rattle.command_words.specs.declared.invocation.Mode.{Mode}
+use Rattle.command_words.specs.declared.invocation.Mode.TheVariants.{Serial}
+use Rattle.fw_command.specs.declared.script.Pace.{Pace}
 use Rattle.fw_command.specs.declared.script.Script.{Script}
 use Rattle.fw_command.specs.Scripts.{script_of}
 use Rattle.fw_report.specs.CaptureEnds.{is_unread}
@@ -29,17 +31,18 @@ use Rattle.pcap_read.specs.declared.capture_fault.CaptureFault.TheVariants.{Read
 use Rattle.pcap_read.proofs.OneFront.{front_unique, front_stays}
 use Rattle.rule_chain.specs.Configuration.{Configuration}
 use Rattle.rule_chain.specs.First.{first_configuration}
-use Rattle.serial_replay.specs.Commands.{Listing, Rules, Entries, listing_of}
-use Rattle.serial_replay.specs.Reading.{Track, IsRead, AllRead, IsEnd}
-use Rattle.serial_replay.specs.Replay.{limit_for, lines_outcome}
-use Rattle.serial_replay.specs.declared.replay.OpenedCapture.{OpenedCapture}
+use Rattle.capture_tracks.specs.Commands.{Listing, Rules, Entries, listing_of}
+use Rattle.capture_tracks.specs.Reading.{Track, IsRead, AllRead, IsEnd}
+use Rattle.capture_tracks.specs.Commands.{lines_outcome}
+use Rattle.capture_tracks.specs.Replay.{limit_for}
+use Rattle.capture_tracks.specs.declared.opened.OpenedCapture.{OpenedCapture}
 use Rattle.replay_driver.specs.FirstEdition.{◌>>=◌, first_edition, configuration_behind, listings_of, listed_first, table_shown, first_edition_answer, with_answer, read_script}
 use Rattle.replay_driver.specs.Found.{ReadsScript, FindsReplay, FindsLoad, IsReplayOf, known_left, no_failures, made_capture}
 use Rattle.replay_driver.specs.Openings.{OpensAll}
 use Rattle.replay_driver.specs.Promises.{AllWhole, IsAccepted, IsComplete, IsCompleteJob}
 use Rattle.replay_driver.specs.Run.{IsRunOf}
 use Rattle.replay_driver.specs.RunResult.{result_status, report_status, is_stopped, is_refused}
-use Rattle.replay_driver.specs.Served.{ReplayNames, Job, Replays, Loads}
+use Rattle.replay_driver.specs.Served.{ReplayNames, Job, Replays, Loads, pace_of}
 use Rattle.buffered_io.specs.WholeSource.{ReadsAll}
 use Rattle.replay_driver.specs.declared.first_edition.FirstEdition.{FirstEdition}
 use Rattle.replay_driver.specs.declared.outcome.Outcome.{Outcome}
@@ -52,6 +55,7 @@ use Rattle.replay_driver.proofs.Openings.{opens_length}
 use Rattle.replay_driver.proofs.Promised.{IfSome-both}
 use Rattle.replay_driver.proofs.Statuses.{all_well}
 use Rattle.replay_driver.proofs.Told.{names_steady}
+use Rattle.replay_driver.specs.Outside.{Files, Output}
 
 -- what an opening takes out of a told list
 took_from : (a b : Option (List Pair)) (name : List ℕ) (left : Option (List ℕ)) (ps : List Pair) (p : Pair) (rest : List Pair) → TakesOut a b name left
@@ -143,9 +147,9 @@ listed_well config (line ∷ lines) answers is = by_first (listed_first config l
     by_first (Err e) one is behind = absurd (cc)
     by_first (Ok a) one is behind = by_rest a (listings_of config lines) behind (first_well config line.line (listing_of line.command) a one) refl is
 
-edition_well : (bytes : List ℕ) (edition : FirstEdition) → first_edition bytes ≡ Ok edition → list_any is_refused edition.answers ≡ false
+edition_well : (pace : Pace) (bytes : List ℕ) (edition : FirstEdition) → first_edition pace bytes ≡ Ok edition → list_any is_refused edition.answers ≡ false
 unfolding first_edition
-edition_well bytes edition is = by_script (read_script (script_of Serial bytes)) is
+edition_well pace bytes edition is = by_script (read_script (script_of pace bytes)) is
   where
     by_listings : (script : Script) (config : Configuration) (r : Result (List LineAnswer) ScriptError) → listings_of config script.before ≡ r
         → (r >>= λ (answers : List LineAnswer). let q : Result FirstEdition ScriptError = Ok (record { config = config; answers = answers; live = script.live }) in q) ≡ Ok edition → list_any is_refused edition.answers ≡ false
@@ -200,9 +204,9 @@ module _ {S : Type 0} (left : S → Option (List ℕ)) (failures : S → ℕ) wh
       (or_from (is_unread end) (list_any is_unread ends) one.0 others.0, or_from (is_stopped end) (list_any is_stopped ends) one.1 others.1)
 
   -- a replay of whole captures beside an accepted script has status 0
-  replayed_well : (script : List ℕ) (opened : List (OpenedCapture S)) (kept : RecordValue) (ends : Ends) (sources : List S) → IsAccepted script → AllByRecursion (IsWhole (limit_for (length opened))) opened
-      → IsReplayOf left failures script opened kept ends sources → AllByRecursion (λ s. failures s ≡ 0) sources → report_status ends.captures ends.answers ≡ 0
-  replayed_well script opened kept ends sources accepted whole of quiet =
+  replayed_well : (mode : Mode) (script : List ℕ) (opened : List (OpenedCapture S)) (kept : RecordValue) (ends : Ends) (sources : List S) → IsAccepted (pace_of mode) script → AllByRecursion (IsWhole (limit_for (length opened))) opened
+      → IsReplayOf left failures mode script opened kept ends sources → AllByRecursion (λ s. failures s ≡ 0) sources → report_status ends.captures ends.answers ≡ 0
+  replayed_well mode script opened kept ends sources accepted whole of quiet =
       let still : AllByRecursion (λ s. failures s ≡ 0) of.replayed.sources.items = subst (AllByRecursion (λ s. failures s ≡ 0)) of.given_back quiet in
       let read = all_read_well (limit_for (length opened)) opened of.replayed.sources.items of.replay.tracks of.replayed.ends.captures whole of.replay.read still in
       let is : ◌≡◌ {A = Result FirstEdition ScriptError} (Ok of.edition) (Ok accepted.edition) = sym of.first ∙ accepted.first in
@@ -210,7 +214,7 @@ module _ {S : Type 0} (left : S → Option (List ℕ)) (failures : S → ℕ) wh
       let live : list_any is_refused of.replayed.ends.answers ≡ false =
       ap (list_any is_refused) (of.replay.answered ∙ ap (λ (e : FirstEdition). (lines_outcome e.config e.live).answers) same) ∙ accepted.accepted in
       let answers : list_any is_refused ends.answers ≡ false =
-      ap (list_any is_refused) of.lines_answered ∙ none_of_both is_refused of.edition.answers of.replayed.ends.answers (edition_well script of.edition of.first) live in
+      ap (list_any is_refused) of.lines_answered ∙ none_of_both is_refused of.edition.answers of.replayed.ends.answers (edition_well (pace_of mode) script of.edition of.first) live in
       all_well ends.captures ends.answers (ap (list_any is_unread) of.captures_ended ∙ read.0) (ap (list_any is_stopped) of.captures_ended ∙ read.1) answers
 
 -- no read of a made capture failed
@@ -218,50 +222,52 @@ none_failed : (sources : List (List ℕ)) → AllByRecursion (λ source. no_fail
 none_failed [] = tt
 none_failed (source ∷ sources) = (refl, none_failed sources)
 
-module _ {L S : Type 0} (pairs : L → Option (List Pair)) (faults : L → ℕ) (refused : L → Option (List ℕ)) (left : S → Option (List ℕ)) (failures : S → ℕ) where
+module _ {L S : Type 0} (files : Files L S) where
   -- the captures of a told list are whole where their names stand
-  all_whole : (limit : ℕ) (old new : L) (captures : List CaptureNames) (opened : List (OpenedCapture S)) (told : List Pair) → OpensAll pairs faults refused left failures old new captures opened
-      → pairs old ≡ Some told → AllWhole limit captures told → AllByRecursion (IsWhole left failures limit) opened
+  all_whole : (limit : ℕ) (old new : L) (captures : List CaptureNames) (opened : List (OpenedCapture S)) (told : List Pair) → OpensAll files old new captures opened
+      → files.pairs old ≡ Some told → AllWhole limit captures told → AllByRecursion (IsWhole files.left files.failures limit) opened
   all_whole limit old new [] [] told all is whole = tt
   all_whole limit old new [] (o ∷ os) told all is whole = absurd all
   all_whole limit old new (c ∷ cs) [] told all is whole = absurd all
   all_whole limit old new (c ∷ cs) (o ∷ os) told all is (bytes, behind, stands, front, others) =
       let (port, between, opens, more) = all in
-      let took = took_from (pairs old) (pairs between) c.name (left o.source) told (c.name, bytes) behind opens.took is stands in
+      let took = took_from (files.pairs old) (files.pairs between) c.name (files.left o.source) told (c.name, bytes) behind opens.took is stands in
       ((bytes, took.0, opens.fresh, front), all_whole limit between new cs os behind more took.1 others)
 
-module _ {K S L : Type 0} (written : K → Option (List ℕ)) (sink_faults : K → ℕ) (pairs : L → Option (List Pair)) (faults : L → ℕ) (refused : L → Option (List ℕ)) (left : S → Option (List ℕ)) (failures : S → ℕ)
+module _ {K S L : Type 0} (output : Output K) (files : Files L S)
     (library libraryAfter : L) (sink sinkAfter : K) (outcome : Outcome S) where
   -- a script that was opened and read has the told bytes
-  reads_told : (names : ReplayNames) (complete : IsComplete written sink_faults pairs faults refused left failures names library libraryAfter sink sinkAfter outcome) (between : L) (script : S) (bytes : List ℕ)
-      → ReadsScript pairs faults refused left failures library between names.script script bytes → (bytes ≡ complete.script) × (pairs between ≡ Some complete.behind)
+  reads_told : (names : ReplayNames) (complete : IsComplete output files names library libraryAfter sink sinkAfter outcome) (between : L) (script : S) (bytes : List ℕ)
+      → ReadsScript files library between names.script script bytes → (bytes ≡ complete.script) × (files.pairs between ≡ Some complete.behind)
   reads_told names complete between script bytes reads =
-      let opened = took_from _ _ names.script _ complete.before _ _ reads.opens.took complete.told complete.script_stands in
-      (all_bytes complete.script bytes (left script) (failures reads.opened) (failures script)
-      (subst (λ (l : Option (List ℕ)). ReadsAll l (left script) (failures reads.opened) (failures script) 1048577 bytes) opened.0 reads.reads) complete.script_short, opened.1)
+      let opened = took_from _ _ names.script _ complete.before _ _ reads.opens.took complete.told complete.script_stands in (
+        all_bytes complete.script bytes (files.left script) (files.failures reads.opened) (files.failures script)
+            (subst (λ (l : Option (List ℕ)). ReadsAll l (files.left script) (files.failures reads.opened) (files.failures script) 1048577 bytes) opened.0 reads.reads) complete.script_short,
+        opened.1,
+      )
 
-  replay_status : (names : ReplayNames) → IsComplete written sink_faults pairs faults refused left failures names library libraryAfter sink sinkAfter outcome → (result : RunResult)
-      → FindsReplay pairs faults refused left failures names library libraryAfter result outcome.sources.items → result_status result ≡ 0
+  replay_status : (names : ReplayNames) → IsComplete output files names library libraryAfter sink sinkAfter outcome → (result : RunResult)
+      → FindsReplay files names library libraryAfter result outcome.sources.items → result_status result ≡ 0
   replay_status names complete Usage finds = absurd finds
   replay_status names complete (Unread name) (inl found) = absurd (complete.library_quiet found.refuses.rose)
   replay_status names complete (Unread name) (inr (inl found)) =
-      let quiet = subst (AllByRecursion (λ s. failures s ≡ 0)) found.given_back complete.sources_quiet in
-      absurd (not_risen (failures found.opened) (failures found.script) found.opens.fresh quiet.0 found.fails.rose)
+      let quiet = subst (AllByRecursion (λ s. files.failures s ≡ 0)) found.given_back complete.sources_quiet in
+      absurd (not_risen (files.failures found.opened) (files.failures found.script) found.opens.fresh quiet.0 found.fails.rose)
   replay_status names complete (Unread name) (inr (inr found)) =
-      let still = names_steady pairs faults refused left failures names.script found.before library found.between found.script found.bytes found.opened found.reads in
-      absurd (complete.library_quiet (subst (λ (n : ℕ). Rose n (faults libraryAfter)) still found.refuses.rose))
+      let still = names_steady files names.script found.before library found.between found.script found.bytes found.opened found.reads in
+      absurd (complete.library_quiet (subst (λ (n : ℕ). Rose n (files.faults libraryAfter)) still found.refuses.rose))
   replay_status names complete (Unready error) found =
       let read = reads_told names complete found.reads.between found.script found.bytes found.reads.script_read in
-      let ok : first_edition found.bytes ≡ Ok complete.accepted.edition = ap first_edition read.0 ∙ complete.accepted.first in
-      let bad : first_edition found.bytes ≡ Err error = found.first in
+      let ok : first_edition (pace_of names.mode) found.bytes ≡ Ok complete.accepted.edition = ap (first_edition (pace_of names.mode)) read.0 ∙ complete.accepted.first in
+      let bad : first_edition (pace_of names.mode) found.bytes ≡ Err error = found.first in
       absurd (cc)
   replay_status names complete (Reported kept ends journal) (asked, found) =
       let read = reads_told names complete found.reads.between found.script found.bytes found.reads.script_read in
-      let quiet = subst (AllByRecursion (λ s. failures s ≡ 0)) found.given_back complete.sources_quiet in
-      let many = opens_length pairs faults refused left failures found.reads.between libraryAfter names.captures found.opened found.reads.captures_opened in
-      let whole = all_whole pairs faults refused left failures (limit_for (length names.captures)) found.reads.between libraryAfter names.captures found.opened complete.behind found.reads.captures_opened read.1 complete.captures_whole in
-      replayed_well left failures found.bytes found.opened kept ends found.captures (subst IsAccepted (sym read.0) complete.accepted)
-      (subst (λ (n : ℕ). AllByRecursion (IsWhole left failures (limit_for n)) found.opened) (sym many) whole) found.replay quiet.1
+      let quiet = subst (AllByRecursion (λ s. files.failures s ≡ 0)) found.given_back complete.sources_quiet in
+      let many = opens_length files found.reads.between libraryAfter names.captures found.opened found.reads.captures_opened in
+      let whole = all_whole files (limit_for (length names.captures)) found.reads.between libraryAfter names.captures found.opened complete.behind found.reads.captures_opened read.1 complete.captures_whole in
+      replayed_well files.left files.failures names.mode found.bytes found.opened kept ends found.captures (subst (IsAccepted (pace_of names.mode)) (sym read.0) complete.accepted)
+      (subst (λ (n : ℕ). AllByRecursion (IsWhole files.left files.failures (limit_for n)) found.opened) (sym many) whole) found.replay quiet.1
   replay_status names complete (Summed kept ends) finds = absurd finds
 
   load_status : (n : ℕ) → n ≤ MOST_RECORDS → (result : RunResult) → FindsLoad n result → result_status result ≡ 0
@@ -271,12 +277,12 @@ module _ {K S L : Type 0} (written : K → Option (List ℕ)) (sink_faults : K �
   load_status n few (Reported kept ends journal) finds = absurd finds
   load_status n few (Summed kept ends) found =
       let (records, many, front) = captures_whole n (limit_for 1) (omega (arith, few)) in
-      replayed_well known_left no_failures (load.load_script n) (made_capture (load.load_capture n) ∷ []) kept ends found.sources (load_accepted n few)
+      replayed_well known_left no_failures Serial (load.load_script n) (made_capture (load.load_capture n) ∷ []) kept ends found.sources (load_accepted n few)
       ((load.load_capture n, refl, refl, (records, front)), tt) found.replay (none_failed found.sources)
 
   -- a run of what is complete ends with status 0, or 6
-  pub ends_0 : (job : Job) → CanBeMade job → IsRunOf written sink_faults pairs faults refused left failures job library libraryAfter sink sinkAfter outcome
-      → IsCompleteJob written sink_faults pairs faults refused left failures job library libraryAfter sink sinkAfter outcome → (outcome.status ≡ 0) ⊎ (outcome.status ≡ 6)
+  pub ends_0 : (job : Job) → CanBeMade job → IsRunOf output files job library libraryAfter sink sinkAfter outcome
+      → IsCompleteJob output files job library libraryAfter sink sinkAfter outcome → (outcome.status ≡ 0) ⊎ (outcome.status ≡ 6)
   ends_0 job few (inl memory) complete = inr memory.status
   ends_0 (Replays names) few (inr a) complete = elim a.written_result.writes.answered [
     | inl h ↦ inl (h.0 ∙ replay_status names complete a.result a.finds)
@@ -288,6 +294,6 @@ module _ {K S L : Type 0} (written : K → Option (List ℕ)) (sink_faults : K �
   ]
 
   -- where all is as it should be a command's run answers 0, or 6 for want of memory
-  pub all_complete : (command : Option Job) → IfSome command CanBeMade → IfSome command (λ job. IsRunOf written sink_faults pairs faults refused left failures job library libraryAfter sink sinkAfter outcome)
-      → IfSome command (λ job. IsCompleteJob written sink_faults pairs faults refused left failures job library libraryAfter sink sinkAfter outcome → (outcome.status ≡ 0) ⊎ (outcome.status ≡ 6))
+  pub all_complete : (command : Option Job) → IfSome command CanBeMade → IfSome command (λ job. IsRunOf output files job library libraryAfter sink sinkAfter outcome)
+      → IfSome command (λ job. IsCompleteJob output files job library libraryAfter sink sinkAfter outcome → (outcome.status ≡ 0) ⊎ (outcome.status ≡ 6))
   all_complete command few found = IfSome-both command _ _ _ (λ job few run complete. ends_0 job few run complete) few found

@@ -5,16 +5,16 @@ use Rattle.std.proofs.lemmas.List.{map-append}
 use Rattle.command_words.specs.Words.{CaptureNames}
 use Rattle.command_words.specs.Invocation.{capture_names}
 use Rattle.command_words.specs.declared.capture_word.CaptureWord.{CaptureWord}
-use Rattle.fw_base.specs.Pairs.{Pair}
 use Rattle.replay_driver.specs.Openings.{Opens, OpensAll, port_of}
-use Rattle.serial_replay.specs.declared.replay.OpenedCapture.{OpenedCapture}
+use Rattle.capture_tracks.specs.declared.opened.OpenedCapture.{OpenedCapture}
+use Rattle.replay_driver.specs.Outside.{Files}
 
-module _ {L S : Type 0} (pairs : L → Option (List Pair)) (faults : L → ℕ) (refused : L → Option (List ℕ)) (left : S → Option (List ℕ)) (failures : S → ℕ) where
+module _ {L S : Type 0} (files : Files L S) where
   -- one more capture was opened
   pub opens_push : (old mid new : L) (captures : List CaptureNames) (opened : List (OpenedCapture S)) (capture : CaptureNames) (next : OpenedCapture S)
-      → OpensAll pairs faults refused left failures old mid captures opened → next.port ≡ port_of capture → Opens pairs faults refused left failures mid new capture.name next.source
-      → OpensAll pairs faults refused left failures old new (captures ++ capture ∷ []) (opened ++ next ∷ [])
-  opens_push old mid new [] [] capture next all port more = (port, new, subst (λ (l : L). Opens pairs faults refused left failures l new capture.name next.source) all more, refl)
+      → OpensAll files old mid captures opened → next.port ≡ port_of capture → Opens files mid new capture.name next.source
+      → OpensAll files old new (captures ++ capture ∷ []) (opened ++ next ∷ [])
+  opens_push old mid new [] [] capture next all port more = (port, new, subst (λ (l : L). Opens files l new capture.name next.source) all more, refl)
   opens_push old mid new [] (o ∷ os) capture next all port more = absurd all
   opens_push old mid new (c ∷ cs) [] capture next all port more = absurd all
   opens_push old mid new (c ∷ cs) (o ∷ os) capture next all port more =
@@ -38,9 +38,9 @@ names_push captures i d within =
     let cut : take (i + 1) captures ≡ take i captures ++ get_or captures i d ∷ [] = rw next (take-suc captures i d within) in
     ap (map capture_names) cut ∙ map-append capture_names (take i captures) (get_or captures i d ∷ [])
 
-module _ {L S : Type 0} (pairs : L → Option (List Pair)) (faults : L → ℕ) (refused : L → Option (List ℕ)) (left : S → Option (List ℕ)) (failures : S → ℕ) where
+module _ {L S : Type 0} (files : Files L S) where
   -- as many are opened as there are names
-  pub opens_length : (old new : L) (captures : List CaptureNames) (opened : List (OpenedCapture S)) → OpensAll pairs faults refused left failures old new captures opened → length opened ≡ length captures
+  pub opens_length : (old new : L) (captures : List CaptureNames) (opened : List (OpenedCapture S)) → OpensAll files old new captures opened → length opened ≡ length captures
   opens_length old new [] [] all = refl
   opens_length old new [] (o ∷ os) all = absurd all
   opens_length old new (c ∷ cs) [] all = absurd all

@@ -12,8 +12,10 @@ use Rattle.fw_report.specs.declared.capture_end.CaptureEnd.{CaptureEnd}
 use Rattle.fw_report.specs.declared.ends.Ends.{Ends}
 use Rattle.fw_report.specs.declared.ends.LineAnswer.{LineAnswer}
 use Rattle.fw_world.specs.RecordValue.{RecordValue}
-use Rattle.serial_replay.specs.Reading.{Track, AllRead}
-use Rattle.serial_replay.specs.declared.replay.OpenedCapture.{OpenedCapture}
+use Rattle.command_words.specs.declared.invocation.Mode.{Mode}
+use Rattle.command_words.specs.declared.invocation.Mode.TheVariants.{Serial}
+use Rattle.capture_tracks.specs.Reading.{Track, AllRead}
+use Rattle.capture_tracks.specs.declared.opened.OpenedCapture.{OpenedCapture}
 use Rattle.replay_driver.specs.Found.{FindsJob, FindsWords, FindsReplay, IsReplayOf, ReplaysLoad, known_left, no_failures}
 use Rattle.replay_driver.specs.Openings.{pairs_without, sources_of}
 use Rattle.replay_driver.specs.Promises.{IsKept, IsReported, IsSummed, IsUnreadJob, IsUnreadyJob, IsQuiet, HasRefusedCommand, IsFaulty, HasFailedRead, opening_order}
@@ -28,6 +30,7 @@ use Rattle.replay_driver.proofs.AcceptedLoad.{load_ready}
 use Rattle.replay_driver.proofs.LoadWords.{CanBeMade}
 use Rattle.replay_driver.proofs.Statuses.{quiet_ends, refused_lines, faulty_ends, unread_ends, few, AreFresh, failed_read}
 use Rattle.replay_driver.proofs.Told.{names_steady, all_fresh, all_named, script_refused, script_failed, capture_refused}
+use Rattle.replay_driver.specs.Outside.{Files, Output}
 
 -- what follows of a value from its being the one holds where there is one
 pub IfSome-by : {A : Type 0} (o : Option A) (P : A → Type 0) → ((x : A) → o ≡ Some x → P x) → IfSome o P
@@ -85,21 +88,21 @@ as_read left failures limit (o ∷ os) (s ∷ ss) [] ends read = absurd read
 as_read left failures limit (o ∷ os) (s ∷ ss) (t ∷ ts) [] read = absurd read
 as_read left failures limit (o ∷ os) (s ∷ ss) (t ∷ ts) (e ∷ es) read = let (port, here, behind) = read in ap suc (as_read left failures limit os ss ts es behind)
 
-as_many : {T : Type 0} (left : T → Option (List ℕ)) (failures : T → ℕ) (script : List ℕ) (opened : List (OpenedCapture T)) (kept : RecordValue) (ends : Ends) (sources : List T)
-    → IsReplayOf left failures script opened kept ends sources → length sources ≡ length opened
-as_many left failures script opened kept ends sources of = ap length of.given_back ∙ as_read left failures _ opened of.replayed.sources.items of.replay.tracks of.replayed.ends.captures of.replay.read
+as_many : {T : Type 0} (left : T → Option (List ℕ)) (failures : T → ℕ) (mode : Mode) (script : List ℕ) (opened : List (OpenedCapture T)) (kept : RecordValue) (ends : Ends) (sources : List T)
+    → IsReplayOf left failures mode script opened kept ends sources → length sources ≡ length opened
+as_many left failures mode script opened kept ends sources of = ap length of.given_back ∙ as_read left failures _ opened of.replayed.sources.items of.replay.tracks of.replayed.ends.captures of.replay.read
 
-module _ {K S L : Type 0} (written : K → Option (List ℕ)) (sink_faults : K → ℕ) (pairs : L → Option (List Pair)) (faults : L → ℕ) (refused : L → Option (List ℕ)) (left : S → Option (List ℕ)) (failures : S → ℕ) where
+module _ {K S L : Type 0} (output : Output K) (files : Files L S) where
   module _ (library libraryAfter : L) (sink sinkAfter : K) where
     -- words that are no command
-    pub usage_run : (command : Option Job) (found : Found S) (outcome : Outcome S) → command ≡ None → FindsWords pairs faults refused left failures command library libraryAfter found.result found.sources.items
-        → IsFoundRun written sink_faults found sink sinkAfter outcome → IsNoCommand written sink_faults library libraryAfter sink sinkAfter outcome
+    pub usage_run : (command : Option Job) (found : Found S) (outcome : Outcome S) → command ≡ None → FindsWords files command library libraryAfter found.result found.sources.items
+        → IsFoundRun output found sink sinkAfter outcome → IsNoCommand output library libraryAfter sink sinkAfter outcome
     unfolding result_text
     usage_run (Some job) found outcome none finds run = absurd (cc)
     usage_run None found outcome none finds (inl memory) = inl memory
     usage_run None found outcome none (usage, kept, nothing) (inr (writes, sources)) = inr (by_usage found.result usage writes)
       where
-        by_usage : (result : RunResult) → result ≡ Usage → WritesResult written sink_faults sink sinkAfter result outcome → IsUsage written sink_faults library libraryAfter sink sinkAfter outcome
+        by_usage : (result : RunResult) → result ≡ Usage → WritesResult output sink sinkAfter result outcome → IsUsage output library libraryAfter sink sinkAfter outcome
         by_usage Usage is w = record {
           library_kept = kept;
           nothing_opened = ap (λ (v : Vec S Global). v.items) sources ∙ nothing;
@@ -114,27 +117,27 @@ module _ {K S L : Type 0} (written : K → Option (List ℕ)) (sink_faults : K �
         by_usage (Summed k ends) is w = absurd (cc)
 
     -- words that are a command
-    pub found_run : (command : Option Job) (found : Found S) (outcome : Outcome S) → FindsWords pairs faults refused left failures command library libraryAfter found.result found.sources.items
-        → IsFoundRun written sink_faults found sink sinkAfter outcome → IfSome command (λ job. IsRunOf written sink_faults pairs faults refused left failures job library libraryAfter sink sinkAfter outcome)
+    pub found_run : (command : Option Job) (found : Found S) (outcome : Outcome S) → FindsWords files command library libraryAfter found.result found.sources.items
+        → IsFoundRun output found sink sinkAfter outcome → IfSome command (λ job. IsRunOf output files job library libraryAfter sink sinkAfter outcome)
     found_run None found outcome finds run = tt
     found_run (Some job) found outcome finds (inl memory) = inl memory
     found_run (Some job) found outcome finds (inr (writes, sources)) = inr (record {
       result = found.result;
-      finds = subst (λ (v : Vec S Global). FindsJob pairs faults refused left failures job library libraryAfter found.result v.items) (sym sources) finds;
+      finds = subst (λ (v : Vec S Global). FindsJob files job library libraryAfter found.result v.items) (sym sources) finds;
       written_result = writes;
     })
 
   module _ (library libraryAfter : L) (sink sinkAfter : K) (outcome : Outcome S) where
     abbrev Run : Job → Type 0
-    Run job = IsRunOf written sink_faults pairs faults refused left failures job library libraryAfter sink sinkAfter outcome
+    Run job = IsRunOf output files job library libraryAfter sink sinkAfter outcome
 
     -- what was found, with another status than 5 and 6: the status is its, and the whole text was written
     record Answered (job : Job) (status : ℕ) : Type 0 where
       result : RunResult
-      finds : FindsJob pairs faults refused left failures job library libraryAfter result outcome.sources.items
-      writes : WritesResult written sink_faults sink sinkAfter result outcome
+      finds : FindsJob files job library libraryAfter result outcome.sources.items
+      writes : WritesResult output sink sinkAfter result outcome
       is : result_status result ≡ status
-      text : Appends (written sink) (written sinkAfter) (result_text result)
+      text : Appends (output.written sink) (output.written sinkAfter) (result_text result)
 
     answered : (job : Job) → Run job → (status : ℕ) → outcome.status ≡ status → status ≤ 4 → Answered job status
     answered job (inl memory) status is small = let six = memory.status in absurd (omega arith)
@@ -145,9 +148,9 @@ module _ {K S L : Type 0} (written : K → Option (List ℕ)) (sink_faults : K �
 
     -- ---- the headline
 
-    reported : (names : ReplayNames) (result : RunResult) (kept : RecordValue) → FindsReplay pairs faults refused left failures names library libraryAfter result outcome.sources.items
-        → WritesResult written sink_faults sink sinkAfter result outcome → outcome.kept ≡ Some kept
-        → IsReported written sink_faults pairs faults refused left failures names library libraryAfter sink sinkAfter outcome kept
+    reported : (names : ReplayNames) (result : RunResult) (kept : RecordValue) → FindsReplay files names library libraryAfter result outcome.sources.items
+        → WritesResult output sink sinkAfter result outcome → outcome.kept ≡ Some kept
+        → IsReported output files names library libraryAfter sink sinkAfter outcome kept
     unfolding result_text
     reported names Usage kept finds w e = absurd finds
     reported names (Unread name) kept finds w e = let no = w.kept in absurd (cc)
@@ -156,22 +159,22 @@ module _ {K S L : Type 0} (written : K → Option (List ℕ)) (sink_faults : K �
         let had = w.kept in
         let same : k ≡ kept = cc in
         let ended : ends ≡ outcome.ends = ends_same ends outcome.ends (sym w.ends) (sym w.answers) in
-        subst (λ (r : RecordValue). IsReported written sink_faults pairs faults refused left failures names library libraryAfter sink sinkAfter outcome r) same (record {
+        subst (λ (r : RecordValue). IsReported output files names library libraryAfter sink sinkAfter outcome r) same (record {
           script = found.script;
           bytes = found.bytes;
           opened = found.opened;
           reads = found.reads;
           captures = found.captures;
-          replay = subst (λ (f : Ends). IsReplayOf left failures found.bytes found.opened k f found.captures) ended found.replay;
+          replay = subst (λ (f : Ends). IsReplayOf files.left files.failures names.mode found.bytes found.opened k f found.captures) ended found.replay;
           given_back = found.given_back;
-          writes = subst (λ (b : Bool). Writes written sink_faults sink sinkAfter (report_status outcome.ends.captures outcome.ends.answers) outcome.status (report_text (report_record k) outcome.ends.captures outcome.ends.answers b)) told
-              (subst (λ (f : Ends). Writes written sink_faults sink sinkAfter (report_status f.captures f.answers) outcome.status (report_text (report_record k) f.captures f.answers journal)) ended w.writes);
+          writes = subst (λ (b : Bool). Writes output sink sinkAfter (report_status outcome.ends.captures outcome.ends.answers) outcome.status (report_text (report_record k) outcome.ends.captures outcome.ends.answers b)) told
+              (subst (λ (f : Ends). Writes output sink sinkAfter (report_status f.captures f.answers) outcome.status (report_text (report_record k) f.captures f.answers journal)) ended w.writes);
         })
     reported names (Summed k ends) kept finds w e = absurd finds
 
-    summed : (n : ℕ) (result : RunResult) (kept : RecordValue) → FindsJob pairs faults refused left failures (Loads n) library libraryAfter result outcome.sources.items
-        → WritesResult written sink_faults sink sinkAfter result outcome → outcome.kept ≡ Some kept
-        → IsSummed written sink_faults pairs faults refused left failures n library libraryAfter sink sinkAfter outcome kept
+    summed : (n : ℕ) (result : RunResult) (kept : RecordValue) → FindsJob files (Loads n) library libraryAfter result outcome.sources.items
+        → WritesResult output sink sinkAfter result outcome → outcome.kept ≡ Some kept
+        → IsSummed output files n library libraryAfter sink sinkAfter outcome kept
     unfolding result_text
     summed n Usage kept (same, none, found) w e = absurd found
     summed n (Unread name) kept (same, none, found) w e = absurd found
@@ -181,11 +184,11 @@ module _ {K S L : Type 0} (written : K → Option (List ℕ)) (sink_faults : K �
         let had = w.kept in
         let same : k ≡ kept = cc in
         let ended : ends ≡ outcome.ends = ends_same ends outcome.ends (sym w.ends) (sym w.answers) in
-        subst (λ (r : RecordValue). IsSummed written sink_faults pairs faults refused left failures n library libraryAfter sink sinkAfter outcome r) same (record {
+        subst (λ (r : RecordValue). IsSummed output files n library libraryAfter sink sinkAfter outcome r) same (record {
           replay = subst (λ (f : Ends). ReplaysLoad n k f) ended found;
           library_kept = library_same;
           nothing_opened = none;
-          writes = subst (λ (f : Ends). Writes written sink_faults sink sinkAfter (report_status f.captures f.answers) outcome.status (Rattle.replay_driver.specs.RunResult.summary_of k)) ended w.writes;
+          writes = subst (λ (f : Ends). Writes output sink sinkAfter (report_status f.captures f.answers) outcome.status (Rattle.replay_driver.specs.RunResult.summary_of k)) ended w.writes;
         })
 
     -- ---- how the captures ended
@@ -193,7 +196,7 @@ module _ {K S L : Type 0} (written : K → Option (List ℕ)) (sink_faults : K �
     pub is_quiet : (job : Job) → Run job → outcome.status ≡ 0 → IsQuiet outcome
     is_quiet job run zero = let a = answered job run 0 zero (omega arith) in go a.result a.finds a.writes a.is
       where
-        go : (result : RunResult) → FindsJob pairs faults refused left failures job library libraryAfter result outcome.sources.items → WritesResult written sink_faults sink sinkAfter result outcome → result_status result ≡ 0 → IsQuiet outcome
+        go : (result : RunResult) → FindsJob files job library libraryAfter result outcome.sources.items → WritesResult output sink sinkAfter result outcome → result_status result ≡ 0 → IsQuiet outcome
         go Usage finds w e = absurd (omega arith)
         go (Unread name) finds w e = absurd (omega arith)
         go (Unready error) finds w e = absurd (omega arith)
@@ -207,7 +210,7 @@ module _ {K S L : Type 0} (written : K → Option (List ℕ)) (sink_faults : K �
     pub is_refused_run : (job : Job) → Run job → outcome.status ≡ 2 → (kept : RecordValue) → outcome.kept ≡ Some kept → HasRefusedCommand outcome
     is_refused_run job run two kept had = let a = answered job run 2 two (omega arith) in go a.result a.writes a.is
       where
-        go : (result : RunResult) → WritesResult written sink_faults sink sinkAfter result outcome → result_status result ≡ 2 → HasRefusedCommand outcome
+        go : (result : RunResult) → WritesResult output sink sinkAfter result outcome → result_status result ≡ 2 → HasRefusedCommand outcome
         go Usage w e = absurd (omega arith)
         go (Unread name) w e = absurd (omega arith)
         go (Unready error) w e = let no = w.kept in absurd (cc)
@@ -221,7 +224,7 @@ module _ {K S L : Type 0} (written : K → Option (List ℕ)) (sink_faults : K �
     pub is_faulty : (job : Job) → Run job → outcome.status ≡ 3 → IsFaulty outcome
     is_faulty job run three = let a = answered job run 3 three (omega arith) in go a.result a.writes a.is
       where
-        go : (result : RunResult) → WritesResult written sink_faults sink sinkAfter result outcome → result_status result ≡ 3 → IsFaulty outcome
+        go : (result : RunResult) → WritesResult output sink sinkAfter result outcome → result_status result ≡ 3 → IsFaulty outcome
         go Usage w e = absurd (omega arith)
         go (Unread name) w e = absurd (omega arith)
         go (Unready error) w e = absurd (omega arith)
@@ -233,37 +236,37 @@ module _ {K S L : Type 0} (written : K → Option (List ℕ)) (sink_faults : K �
             record { begun = IsSome-from outcome.kept k w.kept; read = ap (list_any is_unread) w.ends ∙ read; stopped = ap (list_any is_stopped) w.ends ∙ stopped }
 
     -- the end of a capture that was unread, where its source was opened in this run
-    failed_by : {T : Type 0} (left : T → Option (List ℕ)) (failures : T → ℕ) (script : List ℕ) (opened : List (OpenedCapture T)) (kept : RecordValue) (ends : Ends) (sources : List T)
-        → IsReplayOf left failures script opened kept ends sources → AreFresh left failures opened → list_any is_unread ends.captures ≡ true → HasFailedRead ends.captures
-    failed_by left failures script opened kept ends sources of fresh e =
+    failed_by : {T : Type 0} (left : T → Option (List ℕ)) (failures : T → ℕ) (mode : Mode) (script : List ℕ) (opened : List (OpenedCapture T)) (kept : RecordValue) (ends : Ends) (sources : List T)
+        → IsReplayOf left failures mode script opened kept ends sources → AreFresh left failures opened → list_any is_unread ends.captures ≡ true → HasFailedRead ends.captures
+    failed_by left failures mode script opened kept ends sources of fresh e =
         subst HasFailedRead (sym of.captures_ended)
         (failed_read left failures _ opened of.replayed.sources.items of.replay.tracks of.replayed.ends.captures of.replay.read fresh (ap (list_any is_unread) (sym of.captures_ended) ∙ e))
 
     pub is_failed_run : (job : Job) → Run job → outcome.status ≡ 4 → (kept : RecordValue) → outcome.kept ≡ Some kept → HasFailedRead outcome.ends.captures
     is_failed_run job run four kept had = let a = answered job run 4 four (omega arith) in go job a.result a.finds a.writes a.is
       where
-        go : (job : Job) (result : RunResult) → FindsJob pairs faults refused left failures job library libraryAfter result outcome.sources.items → WritesResult written sink_faults sink sinkAfter result outcome
+        go : (job : Job) (result : RunResult) → FindsJob files job library libraryAfter result outcome.sources.items → WritesResult output sink sinkAfter result outcome
             → result_status result ≡ 4 → HasFailedRead outcome.ends.captures
         go job Usage finds w e = absurd (omega arith)
         go job (Unread name) finds w e = let no = w.kept in absurd (cc)
         go job (Unready error) finds w e = let no = w.kept in absurd (cc)
         go (Replays names) (Reported k ends journal) (told, found) w e =
-            subst HasFailedRead (sym w.ends) (failed_by left failures found.bytes found.opened k ends found.captures found.replay
-            (all_fresh pairs faults refused left failures found.reads.between libraryAfter names.captures found.opened found.reads.captures_opened) (unread_ends ends.captures ends.answers e))
+            subst HasFailedRead (sym w.ends) (failed_by files.left files.failures names.mode found.bytes found.opened k ends found.captures found.replay
+            (all_fresh files found.reads.between libraryAfter names.captures found.opened found.reads.captures_opened) (unread_ends ends.captures ends.answers e))
         go (Replays names) (Summed k ends) finds w e = absurd finds
         go (Loads n) (Reported k ends journal) (same, none, found) w e = absurd found
         go (Loads n) (Summed k ends) (same, none, found) w e =
-            subst HasFailedRead (sym w.ends) (failed_by known_left no_failures _ _ k ends found.sources found.replay (refl, tt) (unread_ends ends.captures ends.answers e))
+            subst HasFailedRead (sym w.ends) (failed_by known_left no_failures Serial _ _ k ends found.sources found.replay (refl, tt) (unread_ends ends.captures ends.answers e))
 
     -- ---- before a replay
 
-    pub is_unready : (job : Job) → CanBeMade job → Run job → outcome.status ≡ 2 → outcome.kept ≡ None → IsUnreadyJob written sink_faults pairs faults refused left failures job library libraryAfter sink sinkAfter outcome
+    pub is_unready : (job : Job) → CanBeMade job → Run job → outcome.status ≡ 2 → outcome.kept ≡ None → IsUnreadyJob output files job library libraryAfter sink sinkAfter outcome
     unfolding result_text
     is_unready job few run two none = let a = answered job run 2 two (omega arith) in go job few a.result a.finds a.writes a.is a.text
       where
-        go : (job : Job) → CanBeMade job → (result : RunResult) → FindsJob pairs faults refused left failures job library libraryAfter result outcome.sources.items → WritesResult written sink_faults sink sinkAfter result outcome
-            → result_status result ≡ 2 → Appends (written sink) (written sinkAfter) (result_text result)
-            → IsUnreadyJob written sink_faults pairs faults refused left failures job library libraryAfter sink sinkAfter outcome
+        go : (job : Job) → CanBeMade job → (result : RunResult) → FindsJob files job library libraryAfter result outcome.sources.items → WritesResult output sink sinkAfter result outcome
+            → result_status result ≡ 2 → Appends (output.written sink) (output.written sinkAfter) (result_text result)
+            → IsUnreadyJob output files job library libraryAfter sink sinkAfter outcome
         go job few Usage finds w e text = absurd (omega arith)
         go job few (Unread name) finds w e text = absurd (omega arith)
         go (Replays names) few (Unready error) finds w e text = record { error = error; cause = finds; text = text }
@@ -271,13 +274,13 @@ module _ {K S L : Type 0} (written : K → Option (List ℕ)) (sink_faults : K �
         go job few (Reported k ends journal) finds w e text = let some = w.kept in absurd (cc)
         go job few (Summed k ends) finds w e text = let some = w.kept in absurd (cc)
 
-    pub is_unread_run : (job : Job) → Run job → outcome.status ≡ 4 → outcome.kept ≡ None → IsUnreadJob written sink_faults pairs faults refused left failures job library libraryAfter sink sinkAfter outcome
+    pub is_unread_run : (job : Job) → Run job → outcome.status ≡ 4 → outcome.kept ≡ None → IsUnreadJob output files job library libraryAfter sink sinkAfter outcome
     unfolding result_text
     is_unread_run job run four none = let a = answered job run 4 four (omega arith) in go job a.result a.finds a.writes a.is a.text
       where
-        go : (job : Job) (result : RunResult) → FindsJob pairs faults refused left failures job library libraryAfter result outcome.sources.items → WritesResult written sink_faults sink sinkAfter result outcome
-            → result_status result ≡ 4 → Appends (written sink) (written sinkAfter) (result_text result)
-            → IsUnreadJob written sink_faults pairs faults refused left failures job library libraryAfter sink sinkAfter outcome
+        go : (job : Job) (result : RunResult) → FindsJob files job library libraryAfter result outcome.sources.items → WritesResult output sink sinkAfter result outcome
+            → result_status result ≡ 4 → Appends (output.written sink) (output.written sinkAfter) (result_text result)
+            → IsUnreadJob output files job library libraryAfter sink sinkAfter outcome
         go job Usage finds w e text = absurd (omega arith)
         go (Replays names) (Unread name) finds w e text = record { name = name; cause = finds; text = text }
         go (Loads n) (Unread name) (same, nothing, found) w e text = absurd found
@@ -287,7 +290,7 @@ module _ {K S L : Type 0} (written : K → Option (List ℕ)) (sink_faults : K �
 
     -- ---- statuses
 
-    pub is_kept : (job : Job) → Run job → (kept : RecordValue) → outcome.kept ≡ Some kept → IsKept written sink_faults pairs faults refused left failures job library libraryAfter sink sinkAfter outcome kept
+    pub is_kept : (job : Job) → Run job → (kept : RecordValue) → outcome.kept ≡ Some kept → IsKept output files job library libraryAfter sink sinkAfter outcome kept
     is_kept job (inl memory) kept had = let none = memory.nothing_kept in absurd (cc)
     is_kept (Replays names) (inr a) kept had = reported names a.result kept a.finds a.written_result had
     is_kept (Loads n) (inr a) kept had = summed n a.result kept a.finds a.written_result had
@@ -296,7 +299,7 @@ module _ {K S L : Type 0} (written : K → Option (List ℕ)) (sink_faults : K �
     pub not_1 : (job : Job) → Run job → outcome.status ≡ 1 → ⊥
     not_1 job run one = let a = answered job run 1 one (omega arith) in go job a.result a.finds ((statuses a.result).1 a.is)
       where
-        go : (job : Job) (result : RunResult) → FindsJob pairs faults refused left failures job library libraryAfter result outcome.sources.items → result ≡ Usage → ⊥
+        go : (job : Job) (result : RunResult) → FindsJob files job library libraryAfter result outcome.sources.items → result ≡ Usage → ⊥
         go (Replays names) Usage finds e = finds
         go (Loads n) Usage (same, none, found) e = found
         go job (Unread name) finds e = absurd (cc)
@@ -304,17 +307,17 @@ module _ {K S L : Type 0} (written : K → Option (List ℕ)) (sink_faults : K �
         go job (Reported k ends journal) finds e = absurd (cc)
         go job (Summed k ends) finds e = absurd (cc)
 
-    risen : (wanted : ℕ) (text : List ℕ) → wanted ≤ 4 → Writes written sink_faults sink sinkAfter wanted outcome.status text → outcome.status ≡ 5 → Rose (sink_faults sink) (sink_faults sinkAfter)
+    risen : (wanted : ℕ) (text : List ℕ) → wanted ≤ 4 → Writes output sink sinkAfter wanted outcome.status text → outcome.status ≡ 5 → Rose (output.faults sink) (output.faults sinkAfter)
     risen wanted text small w five = elim w.answered [
       | inl h ↦ let got = h.0 in absurd (omega arith)
       | inr h ↦ h.2
     ]
 
-    pub has_risen : (job : Job) → Run job → outcome.status ≡ 5 → Rose (sink_faults sink) (sink_faults sinkAfter)
+    pub has_risen : (job : Job) → Run job → outcome.status ≡ 5 → Rose (output.faults sink) (output.faults sinkAfter)
     has_risen job (inl memory) five = let six = memory.status in absurd (omega arith)
     has_risen job (inr a) five = risen _ _ (statuses a.result).0 a.written_result.writes five
 
-    silent_text : (wanted : ℕ) (text : List ℕ) → wanted ≤ 4 → Writes written sink_faults sink sinkAfter wanted outcome.status text → outcome.status ≡ 6 → ⊥
+    silent_text : (wanted : ℕ) (text : List ℕ) → wanted ≤ 4 → Writes output sink sinkAfter wanted outcome.status text → outcome.status ≡ 6 → ⊥
     silent_text wanted text small w six = elim w.answered [
       | inl h ↦ let got = h.0 in omega arith
       | inr h ↦ let five = h.0 in omega arith
@@ -326,57 +329,57 @@ module _ {K S L : Type 0} (written : K → Option (List ℕ)) (sink_faults : K �
 
     -- ---- openings
 
-    pub has_openings : (job : Job) (told : List Pair) → Run job → pairs library ≡ Some told → outcome.status ≢ 6 → pairs libraryAfter ≡ pairs_without (take (length outcome.sources.items) (opening_order job)) told
+    pub has_openings : (job : Job) (told : List Pair) → Run job → files.pairs library ≡ Some told → outcome.status ≢ 6 → files.pairs libraryAfter ≡ pairs_without (take (length outcome.sources.items) (opening_order job)) told
     has_openings job told (inl memory) is other = absurd (other memory.status)
     has_openings job told (inr a) is other = go job a.result outcome.sources.items a.finds
       where
-        go : (job : Job) (result : RunResult) (sources : List S) → FindsJob pairs faults refused left failures job library libraryAfter result sources → pairs libraryAfter ≡ pairs_without (take (length sources) (opening_order job)) told
-        go (Loads n) result sources (same, none, found) = rw none (ap pairs same ∙ is)
+        go : (job : Job) (result : RunResult) (sources : List S) → FindsJob files job library libraryAfter result sources → files.pairs libraryAfter ≡ pairs_without (take (length sources) (opening_order job)) told
+        go (Loads n) result sources (same, none, found) = rw none (ap files.pairs same ∙ is)
         go (Replays names) Usage sources finds = absurd finds
-        go (Replays names) (Unread name) sources (inl found) = script_refused pairs faults refused left failures names library libraryAfter name sources told found is
-        go (Replays names) (Unread name) sources (inr (inl found)) = script_failed pairs faults refused left failures names library libraryAfter name sources told found is
-        go (Replays names) (Unread name) sources (inr (inr found)) = capture_refused pairs faults refused left failures names library libraryAfter name sources told found is
+        go (Replays names) (Unread name) sources (inl found) = script_refused files names library libraryAfter name sources told found is
+        go (Replays names) (Unread name) sources (inr (inl found)) = script_failed files names library libraryAfter name sources told found is
+        go (Replays names) (Unread name) sources (inr (inr found)) = capture_refused files names library libraryAfter name sources told found is
         go (Replays names) (Unready error) sources found =
-            rw (found.given_back) (all_named pairs faults refused left failures names.script names.captures library libraryAfter found.script found.bytes found.opened (sources_of found.opened) told found.reads is (length-map found.opened (λ o. o.source)))
+            rw (found.given_back) (all_named files names.script names.captures library libraryAfter found.script found.bytes found.opened (sources_of found.opened) told found.reads is (length-map found.opened (λ o. o.source)))
         go (Replays names) (Reported k ends journal) sources (asked, found) =
-            rw (found.given_back) (all_named pairs faults refused left failures names.script names.captures library libraryAfter found.script found.bytes found.opened found.captures told found.reads is (as_many left failures found.bytes found.opened k ends found.captures found.replay))
+            rw (found.given_back) (all_named files names.script names.captures library libraryAfter found.script found.bytes found.opened found.captures told found.reads is (as_many files.left files.failures names.mode found.bytes found.opened k ends found.captures found.replay))
         go (Replays names) (Summed k ends) sources finds = absurd finds
 
     -- no opening failed where the run went on
-    pub steady : (job : Job) → Run job → (kept : RecordValue) → outcome.kept ≡ Some kept → faults libraryAfter ≡ faults library
+    pub steady : (job : Job) → Run job → (kept : RecordValue) → outcome.kept ≡ Some kept → files.faults libraryAfter ≡ files.faults library
     steady job (inl memory) kept had = let none = memory.nothing_kept in absurd (cc)
     steady job (inr a) kept had = go job a.result a.finds a.written_result
       where
-        go : (job : Job) (result : RunResult) → FindsJob pairs faults refused left failures job library libraryAfter result outcome.sources.items → WritesResult written sink_faults sink sinkAfter result outcome → faults libraryAfter ≡ faults library
-        go (Loads n) result (same, none, found) w = ap faults same
+        go : (job : Job) (result : RunResult) → FindsJob files job library libraryAfter result outcome.sources.items → WritesResult output sink sinkAfter result outcome → files.faults libraryAfter ≡ files.faults library
+        go (Loads n) result (same, none, found) w = ap files.faults same
         go (Replays names) Usage finds w = absurd finds
         go (Replays names) (Unread name) finds w = let no = w.kept in absurd (cc)
         go (Replays names) (Unready error) finds w = let no = w.kept in absurd (cc)
-        go (Replays names) (Reported k ends journal) (asked, found) w = names_steady pairs faults refused left failures names.script names.captures library libraryAfter found.script found.bytes found.opened found.reads
+        go (Replays names) (Reported k ends journal) (asked, found) w = names_steady files names.script names.captures library libraryAfter found.script found.bytes found.opened found.reads
         go (Replays names) (Summed k ends) finds w = absurd finds
 
     -- words that are no command have status 1, 5 or 6
-    no_command : IsNoCommand written sink_faults library libraryAfter sink sinkAfter outcome → (outcome.status ≡ 1) ⊎ ((outcome.status ≡ 5) ⊎ (outcome.status ≡ 6))
+    no_command : IsNoCommand output library libraryAfter sink sinkAfter outcome → (outcome.status ≡ 1) ⊎ ((outcome.status ≡ 5) ⊎ (outcome.status ≡ 6))
     no_command (inl memory) = inr (inr memory.status)
     no_command (inr usage) = elim usage.writes.answered [
       | inl h ↦ inl h.0
       | inr h ↦ inr (inl h.0)
     ]
 
-    pub usage_keeps_nothing : IsNoCommand written sink_faults library libraryAfter sink sinkAfter outcome → outcome.kept ≡ None
+    pub usage_keeps_nothing : IsNoCommand output library libraryAfter sink sinkAfter outcome → outcome.kept ≡ None
     usage_keeps_nothing (inl memory) = memory.nothing_kept
     usage_keeps_nothing (inr usage) = usage.nothing_kept
 
-    pub usage_risen : IsNoCommand written sink_faults library libraryAfter sink sinkAfter outcome → outcome.status ≡ 5 → Rose (sink_faults sink) (sink_faults sinkAfter)
+    pub usage_risen : IsNoCommand output library libraryAfter sink sinkAfter outcome → outcome.status ≡ 5 → Rose (output.faults sink) (output.faults sinkAfter)
     usage_risen (inl memory) five = let six = memory.status in absurd (omega arith)
     usage_risen (inr usage) five = risen 1 _ (omega arith) usage.writes five
 
-    pub usage_silent : IsNoCommand written sink_faults library libraryAfter sink sinkAfter outcome → outcome.status ≡ 6 → sinkAfter ≡ sink
+    pub usage_silent : IsNoCommand output library libraryAfter sink sinkAfter outcome → outcome.status ≡ 6 → sinkAfter ≡ sink
     usage_silent (inl memory) six = memory.nothing_written
     usage_silent (inr usage) six = absurd (silent_text 1 _ (omega arith) usage.writes six)
 
     -- so it is none of 0, 2, 3 and 4
-    pub usage_status : IsNoCommand written sink_faults library libraryAfter sink sinkAfter outcome → (status : ℕ) → outcome.status ≡ status → status ≤ 4 → status ≢ 1 → ⊥
+    pub usage_status : IsNoCommand output library libraryAfter sink sinkAfter outcome → (status : ℕ) → outcome.status ≡ status → status ≤ 4 → status ≢ 1 → ⊥
     usage_status run status is small other = elim (no_command run) [
       | inl h ↦ other (sym is ∙ h)
       | inr h ↦ elim h [
@@ -385,14 +388,14 @@ module _ {K S L : Type 0} (written : K → Option (List ℕ)) (sink_faults : K �
       ]
     ]
 
-    module _ (command : Option Job) (found : IfSome command (λ job. IsRunOf written sink_faults pairs faults refused left failures job library libraryAfter sink sinkAfter outcome))
-        (usage : command ≡ None → IsNoCommand written sink_faults library libraryAfter sink sinkAfter outcome) where
+    module _ (command : Option Job) (found : IfSome command (λ job. IsRunOf output files job library libraryAfter sink sinkAfter outcome))
+        (usage : command ≡ None → IsNoCommand output library libraryAfter sink sinkAfter outcome) where
       -- a fact of each job, which is so of no words that are no command
-      of_each : (R : Type 0) → (IsNoCommand written sink_faults library libraryAfter sink sinkAfter outcome → R) → ((job : Job) → Run job → R) → R
+      of_each : (R : Type 0) → (IsNoCommand output library libraryAfter sink sinkAfter outcome → R) → ((job : Job) → Run job → R) → R
       of_each R none some = by_option command _ R (λ (e : command ≡ None). none (usage e)) found some
 
       -- a record that is kept is that of the command's replay
-      pub all_kept : IfSome outcome.kept (λ kept. IfSome command (λ job. IsKept written sink_faults pairs faults refused left failures job library libraryAfter sink sinkAfter outcome kept))
+      pub all_kept : IfSome outcome.kept (λ kept. IfSome command (λ job. IsKept output files job library libraryAfter sink sinkAfter outcome kept))
       all_kept = IfSome-by outcome.kept _ (λ kept had. IfSome-map command _ _ (λ job run. is_kept job run kept had) found)
 
       -- status 0 says that each capture was read to its end and no command was refused
@@ -404,7 +407,7 @@ module _ {K S L : Type 0} (written : K → Option (List ℕ)) (sink_faults : K �
       all_1 one = only_none command _ found (λ job run. not_1 job run one)
 
       -- status 2 without a record says that the script gives no edition, which a load's always does
-      pub all_unready : IfSome command CanBeMade → outcome.status ≡ 2 → IfNone outcome.kept (IfSome command (λ job. IsUnreadyJob written sink_faults pairs faults refused left failures job library libraryAfter sink sinkAfter outcome))
+      pub all_unready : IfSome command CanBeMade → outcome.status ≡ 2 → IfNone outcome.kept (IfSome command (λ job. IsUnreadyJob output files job library libraryAfter sink sinkAfter outcome))
       all_unready few two = IfNone-by outcome.kept _ (λ none. IfSome-both command _ _ _ (λ job few run. is_unready job few run two none) few found)
 
       -- status 2 with a record says that a command behind `live` was refused
@@ -417,7 +420,7 @@ module _ {K S L : Type 0} (written : K → Option (List ℕ)) (sink_faults : K �
       all_faulty three = of_each (IsFaulty outcome) (λ none. absurd (usage_status none 3 three (omega arith) (λ e. omega arith))) (λ job run. is_faulty job run three)
 
       -- status 4 without a record says that a name could not be opened, or the script not be read
-      pub all_unread : outcome.status ≡ 4 → IfNone outcome.kept (IfSome command (λ job. IsUnreadJob written sink_faults pairs faults refused left failures job library libraryAfter sink sinkAfter outcome))
+      pub all_unread : outcome.status ≡ 4 → IfNone outcome.kept (IfSome command (λ job. IsUnreadJob output files job library libraryAfter sink sinkAfter outcome))
       all_unread four = IfNone-by outcome.kept _ (λ none. IfSome-map command _ _ (λ job run. is_unread_run job run four none) found)
 
       -- status 4 with a record says that a capture's source failed
@@ -426,18 +429,18 @@ module _ {K S L : Type 0} (written : K → Option (List ℕ)) (sink_faults : K �
           of_each (HasFailedRead outcome.ends.captures) (λ none. absurd (usage_status none 4 four (omega arith) (λ e. omega arith))) (λ job run. is_failed_run job run four kept had))
 
       -- status 5 says that the sink's count of faults rose
-      pub all_risen : outcome.status ≡ 5 → Rose (sink_faults sink) (sink_faults sinkAfter)
-      all_risen five = of_each (Rose (sink_faults sink) (sink_faults sinkAfter)) (λ none. usage_risen none five) (λ job run. has_risen job run five)
+      pub all_risen : outcome.status ≡ 5 → Rose (output.faults sink) (output.faults sinkAfter)
+      all_risen five = of_each (Rose (output.faults sink) (output.faults sinkAfter)) (λ none. usage_risen none five) (λ job run. has_risen job run five)
 
       -- status 6 says that nothing was written
       pub all_silent : outcome.status ≡ 6 → sinkAfter ≡ sink
       all_silent six = of_each (sinkAfter ≡ sink) (λ none. usage_silent none six) (λ job run. is_silent job run six)
 
       -- a run takes the names that it opened, and no others, out of the library's list, but for status 6
-      pub all_openings : IfSome (pairs library) (λ told. IfSome command (λ job. outcome.status ≢ 6 → pairs libraryAfter ≡ pairs_without (take (length outcome.sources.items) (opening_order job)) told))
-      all_openings = IfSome-by (pairs library) _ (λ told is. IfSome-map command _ _ (λ job run other. has_openings job told run is other) found)
+      pub all_openings : IfSome (files.pairs library) (λ told. IfSome command (λ job. outcome.status ≢ 6 → files.pairs libraryAfter ≡ pairs_without (take (length outcome.sources.items) (opening_order job)) told))
+      all_openings = IfSome-by (files.pairs library) _ (λ told is. IfSome-map command _ _ (λ job run other. has_openings job told run is other) found)
 
       -- where a record is kept no opening failed
-      pub all_steady : IfSome outcome.kept (λ kept. faults libraryAfter ≡ faults library)
+      pub all_steady : IfSome outcome.kept (λ kept. files.faults libraryAfter ≡ files.faults library)
       all_steady = IfSome-by outcome.kept _ (λ kept had.
-          of_each (faults libraryAfter ≡ faults library) (λ none. let no = usage_keeps_nothing none in absurd (cc)) (λ job run. steady job run kept had))
+          of_each (files.faults libraryAfter ≡ files.faults library) (λ none. let no = usage_keeps_nothing none in absurd (cc)) (λ job run. steady job run kept had))

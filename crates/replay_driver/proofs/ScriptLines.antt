@@ -2,7 +2,7 @@
 use Rattle.std.proofs.Common.{◌≡◌, ℕ, ◌+◌, ◌<◌, ◌≤◌, suc, List, [], ◌∷◌, ◌++◌, Option, None, Some, Result, Ok, Err, length, drop, get_or, drop-cons, drop_of_length-le, refl, ap, sym, ◌∙◌, arith, append_assoc, append-nil}
 use Rattle.fw_command.specs.declared.script.Line.{Line}
 use Rattle.rule_chain.specs.Configuration.{Configuration}
-use Rattle.serial_replay.specs.Commands.{listing_of}
+use Rattle.capture_tracks.specs.Commands.{listing_of}
 use Rattle.replay_driver.specs.FirstEdition.{◌>>=◌, GivesView, configured_line, configuration_behind, listed_first, with_answer, listings_of}
 use Rattle.fw_report.specs.declared.ends.LineAnswer.{LineAnswer}
 use Rattle.replay_driver.specs.declared.script_error.ScriptError.{ScriptError}

@@ -10,8 +10,8 @@ use Rattle.fw_report.specs.declared.capture_end.CaptureEnd.TheVariants.{Read, St
 use Rattle.fw_report.specs.declared.ends.LineAnswer.{LineAnswer}
 use Rattle.pcap_read.specs.declared.capture_fault.CaptureFault.{CaptureFault}
 use Rattle.pcap_read.specs.declared.capture_fault.CaptureFault.TheVariants as fault
-use Rattle.serial_replay.specs.Reading.{Track, IsRead, AllRead}
-use Rattle.serial_replay.specs.declared.replay.OpenedCapture.{OpenedCapture}
+use Rattle.capture_tracks.specs.Reading.{Track, IsRead, AllRead}
+use Rattle.capture_tracks.specs.declared.opened.OpenedCapture.{OpenedCapture}
 use Rattle.replay_driver.specs.Promises.{FailedRead, HasFailedRead}
 use Rattle.replay_driver.specs.RunResult.{is_stopped, is_refused, report_status}
 

@@ -3,7 +3,7 @@
 -- stands behind `live`.
 use Rattle.std.specs.Prelude.{◌≡◌, ℕ, is_some, if◌then◌else◌, Option, Some, None, Result, Ok, Err, List, [], ◌∷◌}
 use Rattle.fw_command.specs.declared.script.Line.{Line}
-use Rattle.fw_command.specs.declared.script.Pace.TheVariants.{Serial}
+use Rattle.fw_command.specs.declared.script.Pace.{Pace}
 use Rattle.fw_command.specs.declared.script.Script.{Script}
 use Rattle.fw_command.specs.declared.script_fault.ScriptFault.{ScriptFault}
 use Rattle.fw_command.specs.Scripts.{script_of}
@@ -16,7 +16,7 @@ use Rattle.rule_edits.specs.Changing.{is_changing}
 use Rattle.rule_chain.specs.Configuration.{Configuration}
 use Rattle.rule_chain.specs.First.{first_configuration}
 use Rattle.rule_edits.specs.declared.apply_fault.ApplyFault.TheVariants.{NoSuchTable}
-use Rattle.serial_replay.specs.Commands.{Listing, Rules, Entries, listing_of, line_answer}
+use Rattle.capture_tracks.specs.Commands.{Listing, Rules, Entries, listing_of, line_answer}
 use Rattle.replay_driver.specs.declared.first_edition.FirstEdition.{FirstEdition}
 use Rattle.replay_driver.specs.declared.script_error.ScriptError.{ScriptError}
 use Rattle.replay_driver.specs.declared.script_error.ScriptError.TheVariants.{Fault, Refused, OutOfMemory}
@@ -79,9 +79,9 @@ read_script (Err fault) = Err (Fault fault)
 
 -- The script's first fault comes before the first command that is refused, and that before the first listing
 -- of no table.
-unfoldable pub first_edition : List ℕ → Result FirstEdition ScriptError
-first_edition bytes = do
-  script ← read_script (script_of Serial bytes)
+unfoldable pub first_edition : Pace → List ℕ → Result FirstEdition ScriptError
+first_edition pace bytes = do
+  script ← read_script (script_of pace bytes)
   config ← configuration_behind first_configuration script.before
   answers ← listings_of config script.before
   Ok (record { config = config; answers = answers; live = script.live })

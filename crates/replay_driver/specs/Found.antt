@@ -1,24 +1,35 @@
 -- What a run finds of a command before a byte is written, and which sources it hands back.
-use Rattle.std.specs.Prelude.{◌≡◌, ℕ, ◌<◌, List, [], ◌∷◌, ◌++◌, length, codes, Option, Some, None, Ok, Err, ◌⊎◌}
+use Rattle.std.specs.Prelude.{◌≡◌, ℕ, ◌<◌, ⊤, List, [], ◌∷◌, ◌++◌, length, codes, Option, Some, None, Ok, Err, ◌⊎◌}
 use Rattle.std.specs.Io.KnownBytes.{Consumes}
 use Rattle.command_words.specs.Words.{CaptureNames}
 use Rattle.fw_base.specs.Faults.{Rose}
-use Rattle.fw_base.specs.Pairs.{Pair}
 use Rattle.fw_base.specs.declared.port.Direction.TheVariants.{In}
 use Rattle.fw_report.specs.declared.ends.Ends.{Ends}
 use Rattle.fw_world.specs.RecordValue.{RecordValue}
 use Rattle.load_maker.specs.Load.{load_script, load_capture}
-use Rattle.serial_replay.specs.Replay.{IsReplay}
-use Rattle.serial_replay.specs.declared.replay.OpenedCapture.{OpenedCapture}
-use Rattle.serial_replay.specs.declared.replay.Replayed.{Replayed}
+use Rattle.command_words.specs.declared.invocation.Mode.{Mode}
+use Rattle.command_words.specs.declared.invocation.Mode.TheVariants as modes
+use Rattle.fw_command.specs.declared.script.Step.{Step}
+use Rattle.rule_chain.specs.Configuration.{Configuration}
+use Rattle.capture_tracks.specs.Reading.{Track}
+use Rattle.capture_tracks.specs.Replay.{IsReplay}
+use Rattle.serial_replay.specs.Replay.{ComesOf}
+use Rattle.capture_tracks.specs.declared.opened.OpenedCapture.{OpenedCapture}
+use Rattle.capture_tracks.specs.declared.replayed.Replayed.{Replayed}
 use Rattle.replay_driver.specs.FirstEdition.{first_edition}
 use Rattle.replay_driver.specs.Openings.{Opens, RefusesToOpen, OpensAll, sources_of}
-use Rattle.replay_driver.specs.Served.{ReplayNames, Job, Replays, Loads}
+use Rattle.replay_driver.specs.Served.{ReplayNames, Job, Replays, Loads, pace_of}
 use Rattle.buffered_io.specs.WholeSource.{ReadsAll}
 use Rattle.replay_driver.specs.declared.first_edition.FirstEdition.{FirstEdition}
 use Rattle.replay_driver.specs.declared.run_result.RunResult.{RunResult}
 use Rattle.replay_driver.specs.declared.run_result.RunResult.TheVariants.{Usage, Unread, Unready, Reported, Summed}
 use Rattle.replay_driver.specs.declared.script_error.ScriptError.{ScriptError}
+use Rattle.replay_driver.specs.Outside.{Files}
+
+-- in serial mode the record comes of going through records and commands in the order of the schedule
+abbrev pub IsOrderedIn : Mode → Configuration → List Step → List Track → RecordValue → Type 0
+IsOrderedIn modes.Serial config steps tracks kept = ComesOf config steps tracks kept
+IsOrderedIn modes.Live config steps tracks kept = ⊤
 
 module _ {S : Type 0} (left : S → Option (List ℕ)) (failures : S → ℕ) where
   -- A source failed with at most 1,048,576 of its bytes taken.
@@ -28,44 +39,45 @@ module _ {S : Type 0} (left : S → Option (List ℕ)) (failures : S → ℕ) wh
     pub took : Consumes (left opened) (left now) taken
     pub few : length taken < 1048577
 
-  -- Captures were replayed beside a script: its edition 1 stands first, then comes what it has behind `live`.
-  -- The answers are those of the listings before `live` and then those of the lines behind it.
-  pub record IsReplayOf (script : List ℕ) (opened : List (OpenedCapture S)) (kept : RecordValue) (ends : Ends) (sources : List S) : Type 0 where
+  -- Captures were replayed beside a script in this mode: its edition 1 stands first, then comes what it has behind
+  -- `live`. The answers are those of the listings before `live` and then those of the lines behind it.
+  pub record IsReplayOf (m : Mode) (script : List ℕ) (opened : List (OpenedCapture S)) (kept : RecordValue) (ends : Ends) (sources : List S) : Type 0 where
     pub edition : FirstEdition
-    pub first : first_edition script ≡ Ok edition
+    pub first : first_edition (pace_of m) script ≡ Ok edition
     pub replayed : Replayed S
     pub replay : IsReplay left failures edition.config edition.live opened replayed
+    pub ordered : IsOrderedIn m edition.config edition.live replay.tracks replayed.record
     pub recorded : kept ≡ replayed.record
     pub captures_ended : ends.captures ≡ replayed.ends.captures
     pub lines_answered : ends.answers ≡ edition.answers ++ replayed.ends.answers
     pub given_back : sources ≡ replayed.sources.items
 
-module _ {L S : Type 0} (pairs : L → Option (List Pair)) (faults : L → ℕ) (refused : L → Option (List ℕ)) (left : S → Option (List ℕ)) (failures : S → ℕ) where
+module _ {L S : Type 0} (files : Files L S) where
   -- the script was opened and read to its end, or to its 1,048,577th byte, and none of its reads failed
   pub record ReadsScript (old new : L) (name : List ℕ) (script : S) (bytes : List ℕ) : Type 0 where
     pub opened : S
-    pub opens : Opens pairs faults refused left failures old new name opened
-    pub reads : ReadsAll (left opened) (left script) (failures opened) (failures script) 1048577 bytes
+    pub opens : Opens files old new name opened
+    pub reads : ReadsAll (files.left opened) (files.left script) (files.failures opened) (files.failures script) 1048577 bytes
 
   -- the script was opened and read, and then these captures were opened, in the order of the words
   pub record ReadsNames (name : List ℕ) (captures : List CaptureNames) (old new : L) (script : S) (bytes : List ℕ) (opened : List (OpenedCapture S)) : Type 0 where
     pub between : L
     pub script_read : ReadsScript old between name script bytes
-    pub captures_opened : OpensAll pairs faults refused left failures between new captures opened
+    pub captures_opened : OpensAll files between new captures opened
 
   -- the script's name was refused
   pub record RefusesScript (names : ReplayNames) (old new : L) (name : List ℕ) (sources : List S) : Type 0 where
     pub named : name ≡ names.script
-    pub refuses : RefusesToOpen pairs faults refused old new name
+    pub refuses : RefusesToOpen files old new name
     pub nothing_opened : sources ≡ []
 
   -- the script was opened, and its source failed
   pub record FailsScript (names : ReplayNames) (old new : L) (name : List ℕ) (sources : List S) : Type 0 where
     pub named : name ≡ names.script
     pub opened : S
-    pub opens : Opens pairs faults refused left failures old new name opened
+    pub opens : Opens files old new name opened
     pub script : S
-    pub fails : FailsEarly left failures opened script
+    pub fails : FailsEarly files.left files.failures opened script
     pub given_back : sources ≡ script ∷ []
 
   -- the script was read, the captures before this one were opened, and its name was refused
@@ -80,7 +92,7 @@ module _ {L S : Type 0} (pairs : L → Option (List Pair)) (faults : L → ℕ) 
     pub bytes : List ℕ
     pub opened : List (OpenedCapture S)
     pub reads : ReadsNames names.script before old between script bytes opened
-    pub refuses : RefusesToOpen pairs faults refused between new name
+    pub refuses : RefusesToOpen files between new name
     pub given_back : sources ≡ script ∷ sources_of opened
 
   -- all names were opened, and the script gives no edition
@@ -89,7 +101,7 @@ module _ {L S : Type 0} (pairs : L → Option (List Pair)) (faults : L → ℕ) 
     pub bytes : List ℕ
     pub opened : List (OpenedCapture S)
     pub reads : ReadsNames names.script names.captures old new script bytes opened
-    pub first : first_edition bytes ≡ Err error
+    pub first : first_edition (pace_of names.mode) bytes ≡ Err error
     pub given_back : sources ≡ script ∷ sources_of opened
 
   -- all names were opened, and the captures were replayed beside the script
@@ -99,7 +111,7 @@ module _ {L S : Type 0} (pairs : L → Option (List Pair)) (faults : L → ℕ) 
     pub opened : List (OpenedCapture S)
     pub reads : ReadsNames names.script names.captures old new script bytes opened
     pub captures : List S
-    pub replay : IsReplayOf left failures bytes opened kept ends captures
+    pub replay : IsReplayOf files.left files.failures names.mode bytes opened kept ends captures
     pub given_back : sources ≡ script ∷ captures
 
   -- This is found of the words of a replay, and these sources are handed back.
@@ -129,20 +141,20 @@ no_failures bytes = 0
 -- the made capture of so many records was replayed beside the made script
 pub record ReplaysLoad (n : ℕ) (kept : RecordValue) (ends : Ends) : Type 0 where
   pub sources : List (List ℕ)
-  pub replay : IsReplayOf known_left no_failures (load_script n) (made_capture (load_capture n) ∷ []) kept ends sources
+  pub replay : IsReplayOf known_left no_failures modes.Serial (load_script n) (made_capture (load_capture n) ∷ []) kept ends sources
 
 -- this is found of a load of so many records
 abbrev pub FindsLoad : ℕ → RunResult → Type 0
 FindsLoad n Usage = ⊥
 FindsLoad n (Unread name) = ⊥
-FindsLoad n (Unready error) = first_edition (load_script n) ≡ Err error
+FindsLoad n (Unready error) = first_edition (pace_of modes.Serial) (load_script n) ≡ Err error
 FindsLoad n (Reported kept ends journal) = ⊥
 FindsLoad n (Summed kept ends) = ReplaysLoad n kept ends
 
-module _ {L S : Type 0} (pairs : L → Option (List Pair)) (faults : L → ℕ) (refused : L → Option (List ℕ)) (left : S → Option (List ℕ)) (failures : S → ℕ) where
+module _ {L S : Type 0} (files : Files L S) where
   -- this is found of a command; a load opens nothing
   abbrev pub FindsJob : Job → L → L → RunResult → List S → Type 0
-  FindsJob (Replays names) old new result sources = FindsReplay pairs faults refused left failures names old new result sources
+  FindsJob (Replays names) old new result sources = FindsReplay files names old new result sources
   FindsJob (Loads n) old new result sources = (new ≡ old) × (sources ≡ []) × FindsLoad n result
 
   -- The words are no command, and nothing is opened; or this is found of the command that they are.

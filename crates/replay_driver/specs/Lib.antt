@@ -1,3 +1,5 @@
+-- what a library, its sources and a sink mean
+pub mod Outside
 -- which commands are carried out
 pub mod Served
 -- what is opened and read

@@ -4,7 +4,8 @@ use Rattle.fw_base.specs.Faults.{Rose}
 use Rattle.fw_base.specs.Pairs.{Pair, TakesOut, take_named}
 use Rattle.fw_base.specs.declared.port.Port.{Port}
 use Rattle.command_words.specs.Words.{CaptureNames}
-use Rattle.serial_replay.specs.declared.replay.OpenedCapture.{OpenedCapture}
+use Rattle.capture_tracks.specs.declared.opened.OpenedCapture.{OpenedCapture}
+use Rattle.replay_driver.specs.Outside.{Files}
 
 -- where a capture was taken
 abbrev pub port_of : CaptureNames → Port
@@ -23,21 +24,21 @@ abbrev pub pairs_without : List (List ℕ) → List Pair → Option (List Pair)
 pairs_without [] pairs = Some pairs
 pairs_without (name ∷ names) pairs = option_and_then (λ found. pairs_without names found.1) (take_named name pairs)
 
-module _ {L : Type 0} (pairs : L → Option (List Pair)) (faults : L → ℕ) (refused : L → Option (List ℕ)) where
+module _ {L S : Type 0} (files : Files L S) where
   -- A name was refused: it is the last one refused, the library's count rose, and its list is as before.
   pub record RefusesToOpen (old new : L) (name : List ℕ) : Type 0 where
-    pub name_kept : refused new ≡ Some name
-    pub rose : Rose (faults old) (faults new)
-    pub list_kept : pairs new ≡ pairs old
+    pub name_kept : files.refused new ≡ Some name
+    pub rose : Rose (files.faults old) (files.faults new)
+    pub list_kept : files.pairs new ≡ files.pairs old
 
-module _ {L S : Type 0} (pairs : L → Option (List Pair)) (faults : L → ℕ) (refused : L → Option (List ℕ)) (left : S → Option (List ℕ)) (failures : S → ℕ) where
+module _ {L S : Type 0} (files : Files L S) where
   -- A name was opened: its reader has the bytes that the library told, and no read of it failed. The library's
   -- count and its last refused name stay.
   pub record Opens (old new : L) (name : List ℕ) (reader : S) : Type 0 where
-    pub took : TakesOut (pairs old) (pairs new) name (left reader)
-    pub fresh : failures reader ≡ 0
-    pub steady : faults new ≡ faults old
-    pub no_refusal : refused new ≡ refused old
+    pub took : TakesOut (files.pairs old) (files.pairs new) name (files.left reader)
+    pub fresh : files.failures reader ≡ 0
+    pub steady : files.faults new ≡ files.faults old
+    pub no_refusal : files.refused new ≡ files.refused old
 
   -- these captures were opened in their order
   abbrev pub OpensAll : L → L → List CaptureNames → List (OpenedCapture S) → Type 0

@@ -4,6 +4,7 @@ use Rattle.std.specs.List.{list_any, AllByRecursion}
 use Rattle.std.specs.Io.KnownBytes.{Appends}
 use Rattle.command_words.specs.Words.{CaptureNames}
 use Rattle.fw_base.specs.Faults.{Rose}
+use Rattle.fw_command.specs.declared.script.Pace.{Pace}
 use Rattle.fw_base.specs.Pairs.{Pair, take_named}
 use Rattle.fw_report.specs.CaptureEnds.{is_unread}
 use Rattle.fw_report.specs.Report.{report_text}
@@ -12,19 +13,21 @@ use Rattle.fw_report.specs.declared.capture_end.CaptureEnd.TheVariants.{Stopped}
 use Rattle.fw_world.specs.RecordValue.{RecordValue}
 use Rattle.pcap_read.specs.Reading.{Captured, HasFront, Open, AtBoundary}
 use Rattle.pcap_read.specs.declared.capture_fault.CaptureFault.TheVariants.{ReadFault}
-use Rattle.serial_replay.specs.Replay.{limit_for, lines_outcome}
-use Rattle.serial_replay.specs.declared.replay.OpenedCapture.{OpenedCapture}
+use Rattle.capture_tracks.specs.Commands.{lines_outcome}
+use Rattle.capture_tracks.specs.Replay.{limit_for}
+use Rattle.capture_tracks.specs.declared.opened.OpenedCapture.{OpenedCapture}
 use Rattle.replay_driver.specs.FirstEdition.{first_edition}
 use Rattle.replay_driver.specs.Found.{ReadsNames, HasNoEdition, FindsReplay, IsReplayOf, ReplaysLoad}
 use Rattle.replay_driver.specs.Openings.{file_names}
 use Rattle.replay_driver.specs.Run.{Writes}
 use Rattle.replay_driver.specs.RunResult.{report_record, summary_of, report_status, unread_text, is_stopped, is_refused}
 use Rattle.replay_driver.specs.ScriptTexts.{error_text}
-use Rattle.replay_driver.specs.Served.{ReplayNames, Job, Replays, Loads}
+use Rattle.replay_driver.specs.Served.{ReplayNames, Job, Replays, Loads, pace_of}
 use Rattle.replay_driver.specs.declared.first_edition.FirstEdition.{FirstEdition}
 use Rattle.replay_driver.specs.declared.outcome.Outcome.{Outcome}
 use Rattle.replay_driver.specs.declared.run_result.RunResult.TheVariants.{Unread}
 use Rattle.replay_driver.specs.declared.script_error.ScriptError.{ScriptError}
+use Rattle.replay_driver.specs.Outside.{Files, Output}
 
 -- the names of a command in the order in which they are opened; a load opens none
 abbrev pub opening_order : Job → List (List ℕ)
@@ -69,27 +72,27 @@ AllWhole limit (capture ∷ captures) told =
     (bytes : List ℕ) × (behind : List Pair) × (take_named capture.name told ≡ Some ((capture.name, bytes), behind))
     × ((records : List Captured) × HasFront limit bytes records (Open AtBoundary)) × AllWhole limit captures behind
 
--- a script that gives an edition, and whose lines behind `live` are all accepted
-pub record IsAccepted (script : List ℕ) : Type 0 where
+-- a script of this pace that gives an edition, and whose lines behind `live` are all accepted
+pub record IsAccepted (pace : Pace) (script : List ℕ) : Type 0 where
   pub edition : FirstEdition
-  pub first : first_edition script ≡ Ok edition
+  pub first : first_edition pace script ≡ Ok edition
   pub accepted : list_any is_refused (lines_outcome edition.config edition.live).answers ≡ false
 
-module _ {K S L : Type 0} (written : K → Option (List ℕ)) (sink_faults : K → ℕ) (pairs : L → Option (List Pair)) (faults : L → ℕ) (refused : L → Option (List ℕ)) (left : S → Option (List ℕ)) (failures : S → ℕ) where
+module _ {K S L : Type 0} (output : Output K) (files : Files L S) where
   -- ---- the headline
 
   -- The names were opened in the order of the words. The script's bytes give edition 1 and the lines behind
-  -- `live`, and the captures were replayed beside them: the record is legal for them, in the order of the
-  -- schedule, and ends and answers are theirs. What the sink took is its report's text; with status 5 a front.
+  -- `live`, and the captures were replayed beside them: the record is legal for them, in serial mode in the order
+  -- of the schedule, and ends and answers are theirs. What the sink took is its report's text; with status 5 a front.
   pub record IsReported (names : ReplayNames) (library libraryAfter : L) (sink sinkAfter : K) (outcome : Outcome S) (kept : RecordValue) : Type 0 where
     pub script : S
     pub bytes : List ℕ
     pub opened : List (OpenedCapture S)
-    pub reads : ReadsNames pairs faults refused left failures names.script names.captures library libraryAfter script bytes opened
+    pub reads : ReadsNames files names.script names.captures library libraryAfter script bytes opened
     pub captures : List S
-    pub replay : IsReplayOf left failures bytes opened kept outcome.ends captures
+    pub replay : IsReplayOf files.left files.failures names.mode bytes opened kept outcome.ends captures
     pub given_back : outcome.sources.items ≡ script ∷ captures
-    pub writes : Writes written sink_faults sink sinkAfter (report_status outcome.ends.captures outcome.ends.answers) outcome.status
+    pub writes : Writes output sink sinkAfter (report_status outcome.ends.captures outcome.ends.answers) outcome.status
         (report_text (report_record kept) outcome.ends.captures outcome.ends.answers names.journal)
 
   -- The made script and the made capture were replayed, and what the sink took is the record's summary.
@@ -97,7 +100,7 @@ module _ {K S L : Type 0} (written : K → Option (List ℕ)) (sink_faults : K �
     pub replay : ReplaysLoad n kept outcome.ends
     pub library_kept : libraryAfter ≡ library
     pub nothing_opened : outcome.sources.items ≡ []
-    pub writes : Writes written sink_faults sink sinkAfter (report_status outcome.ends.captures outcome.ends.answers) outcome.status (summary_of kept)
+    pub writes : Writes output sink sinkAfter (report_status outcome.ends.captures outcome.ends.answers) outcome.status (summary_of kept)
 
   -- the record and what the sink took, by the job: a replay writes its report, a load its summary
   abbrev pub IsKept : Job → L → L → K → K → Outcome S → RecordValue → Type 0
@@ -109,8 +112,8 @@ module _ {K S L : Type 0} (written : K → Option (List ℕ)) (sink_faults : K �
   -- A name could not be opened or, for the script, read; the text names it.
   pub record IsUnread (names : ReplayNames) (library libraryAfter : L) (sink sinkAfter : K) (outcome : Outcome S) : Type 0 where
     pub name : List ℕ
-    pub cause : FindsReplay pairs faults refused left failures names library libraryAfter (Unread name) outcome.sources.items
-    pub text : Appends (written sink) (written sinkAfter) (unread_text name)
+    pub cause : FindsReplay files names library libraryAfter (Unread name) outcome.sources.items
+    pub text : Appends (output.written sink) (output.written sinkAfter) (unread_text name)
 
   -- a load reads nothing from outside
   abbrev pub IsUnreadJob : Job → L → L → K → K → Outcome S → Type 0
@@ -121,8 +124,8 @@ module _ {K S L : Type 0} (written : K → Option (List ℕ)) (sink_faults : K �
   -- command that is refused.
   pub record IsUnready (names : ReplayNames) (library libraryAfter : L) (sink sinkAfter : K) (outcome : Outcome S) : Type 0 where
     pub error : ScriptError
-    pub cause : HasNoEdition pairs faults refused left failures names library libraryAfter error outcome.sources.items
-    pub text : Appends (written sink) (written sinkAfter) (error_text error)
+    pub cause : HasNoEdition files names library libraryAfter error outcome.sources.items
+    pub text : Appends (output.written sink) (output.written sinkAfter) (error_text error)
 
   -- a load's script always gives an edition
   abbrev pub IsUnreadyJob : Job → L → L → K → K → Outcome S → Type 0
@@ -135,20 +138,20 @@ module _ {K S L : Type 0} (written : K → Option (List ℕ)) (sink_faults : K �
   -- no count rose.
   pub record IsComplete (names : ReplayNames) (library libraryAfter : L) (sink sinkAfter : K) (outcome : Outcome S) : Type 0 where
     pub before : List Pair
-    pub told : pairs library ≡ Some before
+    pub told : files.pairs library ≡ Some before
     pub script : List ℕ
     pub behind : List Pair
     pub script_stands : take_named names.script before ≡ Some ((names.script, script), behind)
     pub script_short : length script ≤ 1048576
-    pub accepted : IsAccepted script
+    pub accepted : IsAccepted (pace_of names.mode) script
     pub captures_whole : AllWhole (limit_for (length names.captures)) names.captures behind
-    pub library_quiet : Rose (faults library) (faults libraryAfter) → ⊥
-    pub sources_quiet : AllByRecursion (λ source. failures source ≡ 0) outcome.sources.items
-    pub sink_quiet : Rose (sink_faults sink) (sink_faults sinkAfter) → ⊥
+    pub library_quiet : Rose (files.faults library) (files.faults libraryAfter) → ⊥
+    pub sources_quiet : AllByRecursion (λ source. files.failures source ≡ 0) outcome.sources.items
+    pub sink_quiet : Rose (output.faults sink) (output.faults sinkAfter) → ⊥
 
   -- no write failed; its script is always accepted, and its capture whole
   pub record IsCompleteLoad (sink sinkAfter : K) : Type 0 where
-    pub sink_quiet : Rose (sink_faults sink) (sink_faults sinkAfter) → ⊥
+    pub sink_quiet : Rose (output.faults sink) (output.faults sinkAfter) → ⊥
 
   -- all is as it should be, by the job
   abbrev pub IsCompleteJob : Job → L → L → K → K → Outcome S → Type 0

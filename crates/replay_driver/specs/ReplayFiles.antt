@@ -1,28 +1,30 @@
 -- What is found once the script was read, and once the captures were opened.
 use Rattle.std.specs.Prelude.{◌≡◌, ℕ, Bool, List, Option, Err, ◌⊎◌}
 use Rattle.command_words.specs.Words.{CaptureNames}
-use Rattle.fw_base.specs.Pairs.{Pair}
+use Rattle.command_words.specs.declared.invocation.Mode.{Mode}
 use Rattle.replay_driver.specs.CaptureOpenings.{OpensUpTo}
 use Rattle.replay_driver.specs.FirstEdition.{first_edition}
 use Rattle.replay_driver.specs.Found.{IsReplayOf}
 use Rattle.replay_driver.specs.Openings.{OpensAll, sources_of}
+use Rattle.replay_driver.specs.Served.{pace_of}
 use Rattle.replay_driver.specs.declared.run_result.RunResult.{RunResult}
 use Rattle.replay_driver.specs.declared.run_result.RunResult.TheVariants.{Usage, Unread, Unready, Reported, Summed}
-use Rattle.serial_replay.specs.declared.replay.OpenedCapture.{OpenedCapture}
+use Rattle.capture_tracks.specs.declared.opened.OpenedCapture.{OpenedCapture}
+use Rattle.replay_driver.specs.Outside.{Files}
 
 module _ {S : Type 0} (left : S → Option (List ℕ)) (failures : S → ℕ) where
-  -- the captures that were opened, beside the script that was read
-  abbrev pub ReplaysOpened : Bool → List ℕ → List (OpenedCapture S) → RunResult → List S → Type 0
-  ReplaysOpened journal script opened Usage sources = ⊥
-  ReplaysOpened journal script opened (Unread name) sources = ⊥
-  ReplaysOpened journal script opened (Unready error) sources = (first_edition script ≡ Err error) × (sources ≡ sources_of opened)
-  ReplaysOpened journal script opened (Reported kept ends told) sources = (told ≡ journal) × IsReplayOf left failures script opened kept ends sources
-  ReplaysOpened journal script opened (Summed kept ends) sources = ⊥
+  -- the captures that were opened, beside the script that was read, in this mode
+  abbrev pub ReplaysOpened : Mode → Bool → List ℕ → List (OpenedCapture S) → RunResult → List S → Type 0
+  ReplaysOpened mode journal script opened Usage sources = ⊥
+  ReplaysOpened mode journal script opened (Unread name) sources = ⊥
+  ReplaysOpened mode journal script opened (Unready error) sources = (first_edition (pace_of mode) script ≡ Err error) × (sources ≡ sources_of opened)
+  ReplaysOpened mode journal script opened (Reported kept ends told) sources = (told ≡ journal) × IsReplayOf left failures mode script opened kept ends sources
+  ReplaysOpened mode journal script opened (Summed kept ends) sources = ⊥
 
-module _ {L S : Type 0} (pairs : L → Option (List Pair)) (faults : L → ℕ) (refused : L → Option (List ℕ)) (left : S → Option (List ℕ)) (failures : S → ℕ) where
+module _ {L S : Type 0} (files : Files L S) where
   -- all captures were opened and replayed beside the script that was read, or one of their names was refused
-  abbrev pub FindsCaptures : Bool → List CaptureNames → L → L → List ℕ → RunResult → List S → Type 0
-  FindsCaptures journal captures old new script result sources =
-      ((opened : List (OpenedCapture S)) × OpensAll pairs faults refused left failures old new captures opened × ReplaysOpened left failures journal script opened result sources)
-      ⊎ ((name : List ℕ) × (opened : List (OpenedCapture S)) × OpensUpTo pairs faults refused left failures old new captures name opened
+  abbrev pub FindsCaptures : Mode → Bool → List CaptureNames → L → L → List ℕ → RunResult → List S → Type 0
+  FindsCaptures mode journal captures old new script result sources =
+      ((opened : List (OpenedCapture S)) × OpensAll files old new captures opened × ReplaysOpened files.left files.failures mode journal script opened result sources)
+      ⊎ ((name : List ℕ) × (opened : List (OpenedCapture S)) × OpensUpTo files old new captures name opened
       × (result ≡ Unread name) × (sources ≡ sources_of opened))

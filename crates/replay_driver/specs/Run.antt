@@ -2,7 +2,6 @@
 use Rattle.std.specs.Prelude.{◌≡◌, ℕ, List, [], Option, None, Result, Ok, Err, ◌⊎◌}
 use Rattle.std.specs.Io.KnownBytes.{Appends}
 use Rattle.fw_base.specs.Faults.{Rose}
-use Rattle.fw_base.specs.Pairs.{Pair}
 use Rattle.fw_base.specs.Texts.{AppendsPart}
 use Rattle.fw_base.specs.declared.failure.Failed.{Failed}
 use Rattle.replay_driver.specs.Found.{FindsJob}
@@ -11,6 +10,7 @@ use Rattle.replay_driver.specs.Served.{Job}
 use Rattle.replay_driver.specs.declared.run_result.Found.{Found}
 use Rattle.replay_driver.specs.declared.outcome.Outcome.{Outcome}
 use Rattle.replay_driver.specs.declared.run_result.RunResult.{RunResult}
+use Rattle.replay_driver.specs.Outside.{Files, Output}
 
 -- the status of a text that was to be written with this one
 abbrev pub status_of : {U : Type 0} → ℕ → Result U Failed → ℕ
@@ -26,12 +26,12 @@ pub record IsWithoutMemory {K S : Type 0} (sink sinkAfter : K) (outcome : Outcom
   pub no_end : outcome.ends.captures ≡ []
   pub no_answer : outcome.ends.answers ≡ []
 
-module _ {K : Type 0} (written : K → Option (List ℕ)) (sink_faults : K → ℕ) where
+module _ {K : Type 0} (output : Output K) where
   -- A text was to be written with a status. With another status than 5 the sink took the whole text; with 5,
   -- which replaces it, a front of the text, and the sink's count rose.
   pub record Writes (sink sinkAfter : K) (wanted got : ℕ) (text : List ℕ) : Type 0 where
-    pub answered : ((got ≡ wanted) × Appends (written sink) (written sinkAfter) text)
-        ⊎ ((got ≡ 5) × AppendsPart (written sink) (written sinkAfter) text × Rose (sink_faults sink) (sink_faults sinkAfter))
+    pub answered : ((got ≡ wanted) × Appends (output.written sink) (output.written sinkAfter) text)
+        ⊎ ((got ≡ 5) × AppendsPart (output.written sink) (output.written sinkAfter) text × Rose (output.faults sink) (output.faults sinkAfter))
 
   module _ {S : Type 0} where
     -- what was found is written with its status, and kept
@@ -60,11 +60,11 @@ module _ {K : Type 0} (written : K → Option (List ℕ)) (sink_faults : K → �
     IsNoCommand library libraryAfter sink sinkAfter outcome =
         IsWithoutMemory sink sinkAfter outcome ⊎ IsUsage library libraryAfter sink sinkAfter outcome
 
-    module _ {L : Type 0} (pairs : L → Option (List Pair)) (faults : L → ℕ) (refused : L → Option (List ℕ)) (left : S → Option (List ℕ)) (failures : S → ℕ) where
+    module _ {L : Type 0} (files : Files L S) where
       -- What is found of the command is written with its status, and kept.
       pub record IsAnswered (job : Job) (library libraryAfter : L) (sink sinkAfter : K) (outcome : Outcome S) : Type 0 where
         pub result : RunResult
-        pub finds : FindsJob pairs faults refused left failures job library libraryAfter result outcome.sources.items
+        pub finds : FindsJob files job library libraryAfter result outcome.sources.items
         pub written_result : WritesResult sink sinkAfter result outcome
 
       -- a run of a command

@@ -1,12 +1,18 @@
 -- Which commands a run carries out. The mode `live` isn't carried out yet: its words are answered as words
--- that are no command.
-use Rattle.std.specs.Prelude.{ℕ, Bool, List, Option, None, Some, option_and_then}
+-- that are no command. Nor is a cache asked for yet.
+use Rattle.std.specs.Prelude.{◌≡◌, ℕ, ⊤, Bool, List, Option, None, Some, option_and_then}
 use Rattle.command_words.specs.Words.{CommandWords, CaptureNames, Replay, Load, command_of}
+use Rattle.command_words.specs.declared.invocation.Mode.{Mode}
 use Rattle.command_words.specs.declared.invocation.Mode.TheVariants.{Serial, Live}
+use Rattle.fw_command.specs.declared.script.Pace.{Pace}
+use Rattle.fw_command.specs.declared.script.Pace.TheVariants as pace
 
--- what the words of a replay name
+-- What the words of a replay name: its mode, whether the report has the journal, how many verdicts each lane's
+-- cache may hold, where one is asked for, and the files.
 pub record ReplayNames : Type 0 where
+  pub mode : Mode
   pub journal : Bool
+  pub cache : Option ℕ
   pub script : List ℕ
   pub captures : List CaptureNames
 
@@ -17,10 +23,21 @@ pub data Job : Type 0 where
 
 -- what the words ask for, where it is carried out
 abbrev pub job_of_command : CommandWords → Option Job
-job_of_command (Replay Serial journal script captures) = Some (Replays (record { journal = journal; script = script; captures = captures }))
+job_of_command (Replay Serial journal script captures) =
+    Some (Replays (record { mode = Serial; journal = journal; cache = None; script = script; captures = captures }))
 job_of_command (Replay Live journal script captures) = None
 job_of_command (Load records) = Some (Loads records)
 
 -- what these words ask for
 abbrev pub job_of : List (List ℕ) → Option Job
 job_of words = option_and_then job_of_command (command_of words)
+
+-- the pace of a script's steps in this mode
+abbrev pub pace_of : Mode → Pace
+pace_of Serial = pace.Serial
+pace_of Live = pace.Live
+
+-- a replay of this job goes through records and commands in the order of the schedule, as a load's does
+abbrev pub IsSerialJob : Job → Type 0
+IsSerialJob (Replays names) = names.mode ≡ Serial
+IsSerialJob (Loads records) = ⊤

@@ -2,9 +2,10 @@ ghost use Rattle.std.specs.Prelude.{◌≡◌, IfOk, OnErr, map, vec_len, length
 ghost use Rattle.command_words.specs.Invocation.{capture_names};
 ghost use Rattle.replay_driver.specs.CaptureOpenings.{OpensCapture, OpensCaptures};
 
+use crate::LibraryView;
+use capture_tracks::OpenedCapture;
 use command_words::CaptureWord;
 use fw_base::{Library, Name, OutOfMemory, Port};
-use serial_replay::OpenedCapture;
 use std::alloc::Global;
 
 /// What the openings of captures come to.
@@ -29,7 +30,7 @@ fn open_capture<L: Library>(
     capture: &CaptureWord<'_>,
     library: &mut L,
 ) -> Result<CaptureOpening<L::Reader>, OutOfMemory>
-    ensures { IfOk result (OpensCapture L.pairs L.faults L.refused L.Reader.left L.Reader.faults
+    ensures { IfOk result (OpensCapture ⟦<L as LibraryView>⟧.files
         library.old library.new (capture_names capture.now)) }
 {
     let name = Name::new(alloc, capture.name)?;
@@ -49,7 +50,7 @@ pub(crate) fn open_captures<L: Library>(
     captures: &[CaptureWord<'_>],
     library: &mut L,
 ) -> Result<CaptureOpenings<L::Reader>, OutOfMemory>
-    ensures { IfOk result (OpensCaptures L.pairs L.faults L.refused L.Reader.left L.Reader.faults
+    ensures { IfOk result (OpensCaptures ⟦<L as LibraryView>⟧.files
         library.old library.new (map capture_names captures.now)) }
 {
     let mut opened = Vec::new(alloc);

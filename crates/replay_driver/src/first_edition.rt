@@ -1,21 +1,20 @@
 ghost use Rattle.std.specs.Prelude.{◌≡◌, ◌++◌, [], IfOk, IfErr, OnOk, length};
 ghost use Rattle.std.specs.List.{AllByRecursion};
 ghost use Rattle.fw_command.specs.WellFormed.{IsLine, IsScript, IsStepInRange};
-ghost use Rattle.fw_command.specs.declared.script.Pace.TheVariants.{Serial};
 ghost use Rattle.fw_command.specs.Scripts.{script_of};
 ghost use Rattle.rule_chain.specs.First.{first_configuration};
-ghost use Rattle.serial_replay.specs.Commands as commands;
+ghost use Rattle.capture_tracks.specs.Commands as commands;
 ghost use Rattle.replay_driver.specs.FirstEdition as spec;
 ghost use Rattle.replay_driver.specs.FirstEdition.{GivesView};
 
 use crate::{RefusedLine, ScriptError};
+use capture_tracks::{Listing, listing_of};
 use fw_base::Name;
 use fw_command::{Line, Pace, Script, ScriptFault, Step, parse_script};
 use fw_report::{Answer, LineAnswer};
 use fw_rule::Items;
 use rule_chain::Config;
 use rule_edits::{ApplyFault, apply_owned, is_changing};
-use serial_replay::{Listing, listing_of};
 use std::alloc::Global;
 
 /// What a script gives before a packet is read.
@@ -121,24 +120,28 @@ fn answer_listings(
     Ok(answers)
 }
 
-/// The commands of a script.
-fn read_lines(alloc: Global, bytes: &[u8]) -> Result<Script, ScriptError>
-    ensures exact { GivesView (λ s. s) result (spec.read_script (script_of Serial bytes.now)) }
+/// The commands of a script of that pace.
+fn read_lines(alloc: Global, pace: Pace, bytes: &[u8]) -> Result<Script, ScriptError>
+    ensures exact { GivesView (λ s. s) result (spec.read_script (script_of pace bytes.now)) }
     ensures well_formed { IfOk result IsScript }
 {
-    match parse_script(alloc, bytes, Pace::Serial) {
+    match parse_script(alloc, bytes, pace) {
         Ok(script) => Ok(script),
         Err(ScriptFault::OutOfMemory) => Err(ScriptError::OutOfMemory),
         Err(fault) => Err(ScriptError::Fault(fault)),
     }
 }
 
-/// What a script gives before a packet is read, or why there is no edition 1.
-pub(crate) fn read_first_edition(alloc: Global, bytes: &[u8]) -> Result<FirstEdition, ScriptError>
-    ensures exact { GivesView (λ e. e) result (spec.first_edition bytes.now) }
+/// What a script of that pace gives before a packet is read, or why there is no edition 1.
+pub(crate) fn read_first_edition(
+    alloc: Global,
+    pace: Pace,
+    bytes: &[u8],
+) -> Result<FirstEdition, ScriptError>
+    ensures exact { GivesView (λ e. e) result (spec.first_edition pace bytes.now) }
     ensures well_formed { IfOk result (λ edition. AllByRecursion IsStepInRange edition.live) }
 {
-    let Script { before, live, .. } = read_lines(alloc, bytes)?;
+    let Script { before, live, .. } = read_lines(alloc, pace, bytes)?;
     let lines = before.as_slice();
     let config = configure(alloc, lines)?;
     let answers = answer_listings(alloc, &config, lines)?;

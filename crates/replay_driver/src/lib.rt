@@ -2,12 +2,14 @@
 #![tactic(auto)]
 
 pub use outcome::Outcome;
+pub use outside::{LibraryView, SinkView};
 pub use run_command::run;
 pub use script_error::{RefusedLine, ScriptError};
 
 mod capture_openings;
 mod first_edition;
 mod outcome;
+mod outside;
 mod pieced_text;
 mod replay_files;
 mod replay_load;

@@ -1,16 +1,18 @@
-ghost use Rattle.std.specs.Prelude.{◌≡◌, ◌≤◌, ◌∷◌, IfOk, map, length};
+ghost use Rattle.std.specs.Prelude.{◌≡◌, ◌≤◌, ◌∷◌, IfOk, None, map, length};
 ghost use Rattle.command_words.specs.Invocation.{capture_names};
+ghost use Rattle.command_words.specs.declared.invocation.Mode.TheVariants as modes;
 ghost use Rattle.replay_driver.specs.Found.{FindsReplay};
 ghost use Rattle.replay_driver.specs.RunResult.{IsWritable};
 ghost use Rattle.replay_driver.specs.ReplayFiles.{FindsCaptures, ReplaysOpened};
 
+use crate::LibraryView;
 use crate::capture_openings::{CaptureOpenings, open_captures};
 use crate::run_result::{Found, RunResult, without_sources};
 use crate::script_replay::{ScriptReplay, into_sources, replay_script};
 use crate::script_source::{ScriptSource, read_script_source};
-use command_words::CaptureWord;
+use capture_tracks::OpenedCapture;
+use command_words::{CaptureWord, MOST_CAPTURES};
 use fw_base::{Library, Name, OutOfMemory, Source};
-use serial_replay::OpenedCapture;
 use std::alloc::Global;
 
 /// What was found, with the script's source before the captures'.
@@ -26,16 +28,16 @@ fn with_script<S: Drop>(script: S, found: Found<S>) -> Result<Found<S>, OutOfMem
     Ok(Found { result, sources })
 }
 
-/// Replays the captures, all of which were opened, and hands back their sources.
+/// Replays the captures in serial mode, all of which were opened, and hands back their sources.
 fn replay_opened<S: Source>(
     alloc: Global,
     journal: bool,
     script: &[u8],
     opened: Vec<OpenedCapture<S>>,
 ) -> Result<Found<S>, OutOfMemory>
-    requires { (1 ≤ length opened.items) × (length opened.items ≤ 16) }
+    requires { (1 ≤ length opened.items) × (length opened.items ≤ MOST_CAPTURES) }
     ensures writable { IfOk result (λ found. IsWritable found.result) }
-    ensures replays { IfOk result (λ found. ReplaysOpened S.left S.faults journal script.now
+    ensures replays { IfOk result (λ found. ReplaysOpened S.left S.faults modes.Serial journal script.now
         opened.items found.result found.sources.items) }
 {
     match replay_script(alloc, script, opened)? {
@@ -58,7 +60,7 @@ fn replay_opened<S: Source>(
     }
 }
 
-/// Opens the captures and replays them beside the script of these bytes, and hands back the captures' sources.
+/// Opens the captures and replays them in serial mode beside the script of these bytes, and hands back the captures' sources.
 fn find_captures<L: Library>(
     alloc: Global,
     journal: bool,
@@ -66,11 +68,11 @@ fn find_captures<L: Library>(
     script: &[u8],
     library: &mut L,
 ) -> Result<Found<L::Reader>, OutOfMemory>
-    requires { (1 ≤ length captures.now) × (length captures.now ≤ 16) }
+    requires { (1 ≤ length captures.now) × (length captures.now ≤ MOST_CAPTURES) }
     ensures writable { IfOk result (λ found. IsWritable found.result) }
     ensures finds { IfOk result (λ found.
-        FindsCaptures L.pairs L.faults L.refused L.Reader.left L.Reader.faults
-        journal (map capture_names captures.now) library.old library.new script.now
+        FindsCaptures ⟦<L as LibraryView>⟧.files
+        modes.Serial journal (map capture_names captures.now) library.old library.new script.now
         found.result found.sources.items) }
 {
     match open_captures(alloc, captures, library)? {
@@ -82,7 +84,7 @@ fn find_captures<L: Library>(
     }
 }
 
-/// Opens and reads what the words name, 1 to 16 captures beside a script, and replays it.
+/// Opens and reads what the words name, 1 to 16 captures beside a script, and replays it in serial mode.
 pub(crate) fn replay_files<L: Library>(
     alloc: Global,
     journal: bool,
@@ -90,11 +92,17 @@ pub(crate) fn replay_files<L: Library>(
     captures: &[CaptureWord<'_>],
     library: &mut L,
 ) -> Result<Found<L::Reader>, OutOfMemory>
-    requires { (1 ≤ length captures.now) × (length captures.now ≤ 16) }
+    requires { (1 ≤ length captures.now) × (length captures.now ≤ MOST_CAPTURES) }
     ensures writable { IfOk result (λ found. IsWritable found.result) }
     ensures finds { IfOk result (λ found.
-        FindsReplay L.pairs L.faults L.refused L.Reader.left L.Reader.faults
-        (record { journal = journal; script = script.now; captures = map capture_names captures.now })
+        FindsReplay ⟦<L as LibraryView>⟧.files
+        (record {
+          mode = modes.Serial;
+          journal = journal;
+          cache = None;
+          script = script.now;
+          captures = map capture_names captures.now;
+        })
         library.old library.new found.result found.sources.items) }
 {
     let name = Name::new(alloc, script)?;

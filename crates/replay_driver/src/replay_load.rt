@@ -4,9 +4,9 @@ ghost use Rattle.replay_driver.specs.Found.{FindsLoad, made_capture};
 
 use crate::run_result::RunResult;
 use crate::script_replay::{ScriptReplay, replay_script};
+use capture_tracks::OpenedCapture;
 use fw_base::{Direction, Name, OutOfMemory, Port};
 use load_maker::{Load, MOST_RECORDS, MadeCapture, make};
-use serial_replay::OpenedCapture;
 use std::alloc::Global;
 
 /// The made capture, as it would be taken at `in:em0`.

@@ -9,11 +9,11 @@ ghost use Rattle.replay_driver.specs.Run.{IsNoCommand, IsRunOf, IsFoundRun, stat
 ghost use Rattle.replay_driver.specs.RunResult as results;
 ghost use Rattle.replay_driver.specs.Served.{job_of};
 
-use crate::Outcome;
 use crate::pieced_text::write_pieced;
 use crate::replay_files::replay_files;
 use crate::replay_load::replay_load;
 use crate::run_result::{Found, RunResult, no_ends, without_sources};
+use crate::{LibraryView, Outcome, SinkView};
 use buffered_io::PIECE_BYTES;
 use command_words::{Invocation, Mode, read_words};
 use core::mem::replace_with;
@@ -58,7 +58,7 @@ fn piece_buffer(alloc: Global) -> Result<Vec<u8>, AllocError>
 /// Writes what was found, in pieces. All memory is taken before the first byte.
 fn report<S: Drop, K: Sink>(alloc: Global, found: Found<S>, out: &mut K) -> Outcome<S>
     requires { results.IsWritable found.result }
-    ensures { IsFoundRun K.written K.faults found out.old out.new result }
+    ensures { IsFoundRun ⟦<K as SinkView>⟧.output found out.old out.new result }
 {
     let Ok(buffer) = piece_buffer(alloc) else {
         return without_memory(alloc);
@@ -83,7 +83,7 @@ fn find<L: Library>(
 ) -> Result<Found<L::Reader>, OutOfMemory>
     ensures writable { IfOk result (λ found. results.IsWritable found.result) }
     ensures finds { IfOk result (λ found.
-        FindsWords L.pairs L.faults L.refused L.Reader.left L.Reader.faults
+        FindsWords ⟦<L as LibraryView>⟧.files
         (job_of (map string_bytes words.now)) library.old library.new found.result found.sources.items) }
 {
     match read_words(alloc, words)? {
@@ -114,9 +114,9 @@ fn run_words<L: Library, K: Sink>(
     out: &mut K,
 ) -> Outcome<L::Reader>
     ensures usage { job_of (map string_bytes words.now) ≡ None
-        → IsNoCommand K.written K.faults library.old library.new out.old out.new result }
+        → IsNoCommand ⟦<K as SinkView>⟧.output library.old library.new out.old out.new result }
     ensures found { IfSome (job_of (map string_bytes words.now)) (λ job.
-        IsRunOf K.written K.faults L.pairs L.faults L.refused L.Reader.left L.Reader.faults
+        IsRunOf ⟦<K as SinkView>⟧.output ⟦<L as LibraryView>⟧.files
         job library.old library.new out.old out.new result) }
 {
     match find(alloc, words, library) {
@@ -132,7 +132,7 @@ fn run_words<L: Library, K: Sink>(
 /// The status is 0; 1 where the words are no command; 2 where a script line isn't read or its command is
 /// refused; 3 where a capture has a fault; 4 where a name could not be opened or read, or a capture's source
 /// failed; 5 where the sink failed; 6 where memory ran out.
-pub fn run<R: Threads + Wait, L: Library, K: Sink, G: Gate + Sync>(
+pub fn run<R: Threads + Wait + Sync, L: Library, K: Sink, G: Gate + Sync>(
     _rt: &R,
     alloc: Global,
     words: &[String],
@@ -144,16 +144,16 @@ where
     L::Reader: Send + Sync,
     // Which words, scripts and captures come to what: exactly.
     ensures usage { job_of (map string_bytes words.now) ≡ None
-        → IsNoCommand K.written K.faults library.old library.new out.old out.new result }
+        → IsNoCommand ⟦<K as SinkView>⟧.output library.old library.new out.old out.new result }
     ensures found { IfSome (job_of (map string_bytes words.now)) (λ job.
-        IsRunOf K.written K.faults L.pairs L.faults L.refused L.Reader.left L.Reader.faults
+        IsRunOf ⟦<K as SinkView>⟧.output ⟦<L as LibraryView>⟧.files
         job library.old library.new out.old out.new result) }
 
     // The headline: where a record is kept, it is the legal one of the script and the captures that the words
-    // name, in the order of the schedule, and its report is what the sink took; of a load, its summary.
+    // name, in serial mode in the order of the schedule, and its report is what the sink took; of a load, its summary.
     ensures report { IfSome result.kept (λ kept.
         IfSome (job_of (map string_bytes words.now)) (λ job.
-        IsKept K.written K.faults L.pairs L.faults L.refused L.Reader.left L.Reader.faults
+        IsKept ⟦<K as SinkView>⟧.output ⟦<L as LibraryView>⟧.files
         job library.old library.new out.old out.new result kept)) }
 
     // Each status only where its cause is.
@@ -161,14 +161,14 @@ where
     ensures status_1_cause { result.status ≡ 1 → job_of (map string_bytes words.now) ≡ None }
     ensures status_2_before { result.status ≡ 2 → IfNone result.kept
         (IfSome (job_of (map string_bytes words.now)) (λ job.
-        IsUnreadyJob K.written K.faults L.pairs L.faults L.refused L.Reader.left L.Reader.faults
+        IsUnreadyJob ⟦<K as SinkView>⟧.output ⟦<L as LibraryView>⟧.files
         job library.old library.new out.old out.new result)) }
     ensures status_2_with_record { result.status ≡ 2
         → IfSome result.kept (λ _. HasRefusedCommand result) }
     ensures status_3_cause { result.status ≡ 3 → IsFaulty result }
     ensures status_4_before { result.status ≡ 4 → IfNone result.kept
         (IfSome (job_of (map string_bytes words.now)) (λ job.
-        IsUnreadJob K.written K.faults L.pairs L.faults L.refused L.Reader.left L.Reader.faults
+        IsUnreadJob ⟦<K as SinkView>⟧.output ⟦<L as LibraryView>⟧.files
         job library.old library.new out.old out.new result)) }
     ensures status_4_with_record { result.status ≡ 4
         → IfSome result.kept (λ _. HasFailedRead result.ends.captures) }
@@ -185,7 +185,7 @@ where
 
     // Where all is as it should be, and memory is there, the status is 0.
     ensures complete { IfSome (job_of (map string_bytes words.now)) (λ job.
-        IsCompleteJob K.written K.faults L.pairs L.faults L.refused L.Reader.left L.Reader.faults
+        IsCompleteJob ⟦<K as SinkView>⟧.output ⟦<L as LibraryView>⟧.files
         job library.old library.new out.old out.new result
         → (result.status ≡ 0) ⊎ (result.status ≡ 6)) }
 {

@@ -1,14 +1,18 @@
 ghost use Rattle.std.specs.Prelude.{◌≡◌, ◌≤◌, ◌∷◌, ◌++◌, IfOk, vec_len};
+ghost use Rattle.command_words.specs.declared.invocation.Mode.TheVariants as modes;
 ghost use Rattle.replay_driver.specs.Openings.{sources_of};
 ghost use Rattle.replay_driver.specs.ScriptReplay.{CanReport, ReplaysScript};
 
 use crate::ScriptError;
 use crate::first_edition::{FirstEdition, read_first_edition};
+use capture_tracks::{OpenedCapture, Replayed};
+use command_words::MOST_CAPTURES;
 use fw_base::{OutOfMemory, Source};
+use fw_command::Pace;
 use fw_report::{Ends, LineAnswer};
 use fw_rule::Items;
 use fw_world::Record;
-use serial_replay::{OpenedCapture, Replayed, replay_serial};
+use serial_replay::replay_serial;
 use std::alloc::Global;
 
 /// What captures and a script come to, with the captures' sources.
@@ -51,21 +55,21 @@ fn join_answers(
     Ok(Items::from_vec(answers))
 }
 
-/// Replays opened captures, 1 to 16, beside a script.
+/// Replays opened captures, 1 to 16, beside a script in serial mode.
 pub(crate) fn replay_script<S: Source>(
     alloc: Global,
     script: &[u8],
     opened: Vec<OpenedCapture<S>>,
 ) -> Result<ScriptReplay<S>, OutOfMemory>
-    requires { (1 ≤ vec_len opened) × (vec_len opened ≤ 16) }
-    ensures replays { IfOk result (ReplaysScript S.left S.faults script.now opened.items) }
+    requires { (1 ≤ vec_len opened) × (vec_len opened ≤ MOST_CAPTURES) }
+    ensures replays { IfOk result (ReplaysScript S.left S.faults modes.Serial script.now opened.items) }
     ensures reportable { IfOk result CanReport }
 {
     let FirstEdition {
         config,
         answers,
         live,
-    } = match read_first_edition(alloc, script) {
+    } = match read_first_edition(alloc, Pace::Serial, script) {
         Ok(edition) => edition,
         Err(ScriptError::OutOfMemory) => return Err(OutOfMemory),
         Err(error) => {

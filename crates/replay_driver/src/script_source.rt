@@ -1,6 +1,7 @@
 ghost use Rattle.std.specs.Prelude.{IfOk};
 ghost use Rattle.replay_driver.specs.ScriptSource.{FindsScript};
 
+use crate::LibraryView;
 use buffered_io::{ReadError, read_up_to};
 use fw_base::{Library, Name, OutOfMemory};
 use fw_command::SCRIPT_BYTES;
@@ -23,7 +24,7 @@ pub(crate) fn read_script_source<L: Library>(
     name: &Name,
     library: &mut L,
 ) -> Result<ScriptSource<L::Reader>, OutOfMemory>
-    ensures { IfOk result (FindsScript L.pairs L.faults L.refused L.Reader.left L.Reader.faults
+    ensures { IfOk result (FindsScript ⟦<L as LibraryView>⟧.files
         library.old library.new name.now) }
 {
     let Ok(mut source) = library.open(name.clone()?) else {

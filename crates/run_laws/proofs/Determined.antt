@@ -11,16 +11,18 @@ use Rattle.load_maker.specs.Load.{load_script, load_capture}
 use Rattle.record_laws.specs.OneReplay.{IsSameRecord}
 use Rattle.record_laws.specs.VerdictLines.{recorded_with}
 use Rattle.replay_driver.specs.FirstEdition.{first_edition}
-use Rattle.replay_driver.specs.Found.{made_capture, known_left, no_failures}
+use Rattle.command_words.specs.declared.invocation.Mode.{Mode}
+use Rattle.replay_driver.specs.Found.{IsReplayOf, made_capture, known_left, no_failures}
 use Rattle.replay_driver.specs.Promises.{IsKept, IsUnreadyJob}
 use Rattle.replay_driver.specs.Run.{Writes}
 use Rattle.replay_driver.specs.RunResult.{summary_of}
 use Rattle.replay_driver.specs.ScriptTexts.{error_text}
-use Rattle.replay_driver.specs.Served.{Job, Replays, Loads}
+use Rattle.replay_driver.specs.Served.{Job, Replays, Loads, IsSerialJob, pace_of}
 use Rattle.replay_driver.specs.declared.outcome.Outcome.{Outcome}
 use Rattle.run_laws.specs.TwoRuns.{Outside, HaveSameFiles, IsSameKept, ComeToTheSame, IsPromisedRun, RunsAreDetermined}
 use Rattle.run_laws.proofs.SameNames.{same_read}
 use Rattle.run_laws.proofs.SameTexts.{err_one, not_both, no_failed_read, same_status, same_summary, same_replay}
+use Rattle.replay_driver.specs.Outside.{Output}
 
 -- ---- options
 
@@ -67,19 +69,19 @@ is_two : (status : ℕ) → status ≤ 3 → status ≢ 0 → status ≢ 1 → s
 is_two status few a b c = omega arith
 
 -- a text that was written with a status of at most 3 was written whole
-written_whole : {K : Type 0} (written : K → Option (List ℕ)) (sink_faults : K → ℕ) (sink sinkAfter : K) (wanted got : ℕ) (text : List ℕ) → Writes written sink_faults sink sinkAfter wanted got text → got ≤ 3
-    → (got ≡ wanted) × Appends (written sink) (written sinkAfter) text
-written_whole written sink_faults sink sinkAfter wanted got text writes few = by_answer writes.answered
+written_whole : {K : Type 0} (output : Output K) (sink sinkAfter : K) (wanted got : ℕ) (text : List ℕ) → Writes output sink sinkAfter wanted got text → got ≤ 3
+    → (got ≡ wanted) × Appends (output.written sink) (output.written sinkAfter) text
+written_whole output sink sinkAfter wanted got text writes few = by_answer writes.answered
   where
-    by_answer : ((got ≡ wanted) × Appends (written sink) (written sinkAfter) text) ⊎ ((got ≡ 5) × AppendsPart (written sink) (written sinkAfter) text × Rose (sink_faults sink) (sink_faults sinkAfter))
-        → (got ≡ wanted) × Appends (written sink) (written sinkAfter) text
+    by_answer : ((got ≡ wanted) × Appends (output.written sink) (output.written sinkAfter) text) ⊎ ((got ≡ 5) × AppendsPart (output.written sink) (output.written sinkAfter) text × Rose (output.faults sink) (output.faults sinkAfter))
+        → (got ≡ wanted) × Appends (output.written sink) (output.written sinkAfter) text
     by_answer (inl whole) = whole
     by_answer (inr part) = let five = part.0 in absurd (omega arith)
 
 module _ {L S K : Type 0} (out : Outside L S K) (library libraryAfter : L) (sink sinkAfter : K) (outcome : Outcome S) where
   -- a run of at most status 3 that kept no record has status 2, and its script gives no edition
   without_record : (job : Job) → IsPromisedRun out job library libraryAfter sink sinkAfter outcome → outcome.kept ≡ None → outcome.status ≤ 3
-      → (outcome.status ≡ 2) × IsUnreadyJob out.written out.sink_faults out.pairs out.faults out.refused out.left out.failures job library libraryAfter sink sinkAfter outcome
+      → (outcome.status ≡ 2) × IsUnreadyJob out.output out.files job library libraryAfter sink sinkAfter outcome
   without_record job run none few =
       let two : outcome.status ≡ 2 =
       is_two outcome.status few (λ e. not_some outcome.kept none (run.status_0_cause e).begun) run.status_1_cause (λ e. not_some outcome.kept none (run.status_3_cause e).begun) in
@@ -90,29 +92,30 @@ module _ {L S K : Type 0} (out : Outside L S K) (library libraryAfter : L) (sink
 module _ {L S K M T N : Type 0} (out : Outside L S K) (other : Outside M T N) where
   -- of the same files one run can't keep a record where the other found that the script gives no edition
   not_one_kept : (job : Job) (library libraryAfter : L) (otherLibrary otherLibraryAfter : M) (sink sinkAfter : K) (otherSink otherSinkAfter : N) (outcome : Outcome S) (otherOutcome : Outcome T) (r : RecordValue)
-      → IsKept out.written out.sink_faults out.pairs out.faults out.refused out.left out.failures job library libraryAfter sink sinkAfter outcome r
-      → IsUnreadyJob other.written other.sink_faults other.pairs other.faults other.refused other.left other.failures job otherLibrary otherLibraryAfter otherSink otherSinkAfter otherOutcome
-      → HaveSameFiles job (out.pairs library) (other.pairs otherLibrary) → ⊥
+      → IsKept out.output out.files job library libraryAfter sink sinkAfter outcome r
+      → IsUnreadyJob other.output other.files job otherLibrary otherLibraryAfter otherSink otherSinkAfter otherOutcome
+      → HaveSameFiles job (out.files.pairs library) (other.files.pairs otherLibrary) → ⊥
   not_one_kept (Loads n) library libraryAfter otherLibrary otherLibraryAfter sink sinkAfter otherSink otherSinkAfter outcome otherOutcome r mine yours files = absurd yours
   not_one_kept (Replays names) library libraryAfter otherLibrary otherLibraryAfter sink sinkAfter otherSink otherSinkAfter outcome otherOutcome r mine yours files =
       let cause = yours.cause in
       let read = same_read out other names library libraryAfter otherLibrary otherLibraryAfter mine.script cause.script mine.bytes cause.bytes mine.opened cause.opened mine.reads cause.reads files in
-      not_both (first_edition cause.bytes) mine.replay.edition yours.error (ap first_edition (sym read.script) ∙ mine.replay.first) cause.first
+      not_both (first_edition (pace_of names.mode) cause.bytes) mine.replay.edition yours.error (ap (first_edition (pace_of names.mode)) (sym read.script) ∙ mine.replay.first) cause.first
 
 module _ {L S K M T N : Type 0} (out : Outside L S K) (other : Outside M T N) where
   module _ (library libraryAfter : L) (otherLibrary otherLibraryAfter : M) (sink sinkAfter : K) (otherSink otherSinkAfter : N) (outcome : Outcome S) (otherOutcome : Outcome T) where
     -- both runs kept a record
-    both_kept : (job : Job) (r s : RecordValue) → outcome.kept ≡ Some r → otherOutcome.kept ≡ Some s
-        → IsKept out.written out.sink_faults out.pairs out.faults out.refused out.left out.failures job library libraryAfter sink sinkAfter outcome r
-        → IsKept other.written other.sink_faults other.pairs other.faults other.refused other.left other.failures job otherLibrary otherLibraryAfter otherSink otherSinkAfter otherOutcome s
-        → HaveSameFiles job (out.pairs library) (other.pairs otherLibrary) → outcome.status ≤ 3 → otherOutcome.status ≤ 3
-        → ComeToTheSame out.written other.written outcome otherOutcome sink sinkAfter otherSink otherSinkAfter
-    both_kept (Replays names) r s p q mine yours files few otherFew =
-        let (status, took) = written_whole out.written out.sink_faults sink sinkAfter _ outcome.status _ mine.writes few in
-        let (otherStatus, otherTook) = written_whole other.written other.sink_faults otherSink otherSinkAfter _ otherOutcome.status _ yours.writes otherFew in
+    both_kept : (job : Job) (r s : RecordValue) → IsSerialJob job → outcome.kept ≡ Some r → otherOutcome.kept ≡ Some s
+        → IsKept out.output out.files job library libraryAfter sink sinkAfter outcome r
+        → IsKept other.output other.files job otherLibrary otherLibraryAfter otherSink otherSinkAfter otherOutcome s
+        → HaveSameFiles job (out.files.pairs library) (other.files.pairs otherLibrary) → outcome.status ≤ 3 → otherOutcome.status ≤ 3
+        → ComeToTheSame out.output.written other.output.written outcome otherOutcome sink sinkAfter otherSink otherSinkAfter
+    both_kept (Replays names) r s serial p q mine yours files few otherFew =
+        let (status, took) = written_whole out.output sink sinkAfter _ outcome.status _ mine.writes few in
+        let (otherStatus, otherTook) = written_whole other.output otherSink otherSinkAfter _ otherOutcome.status _ yours.writes otherFew in
         let read = same_read out other names library libraryAfter otherLibrary otherLibraryAfter mine.script yours.script mine.bytes yours.bytes mine.opened yours.opened mine.reads yours.reads files in
-        let alike = same_replay out.left out.failures other.left other.failures mine.bytes yours.bytes mine.opened yours.opened r s outcome.ends otherOutcome.ends mine.captures yours.captures
-        mine.replay yours.replay read.script read.captures
+        let alike = same_replay out.files.left out.files.failures other.files.left other.files.failures mine.bytes yours.bytes mine.opened yours.opened r s outcome.ends otherOutcome.ends mine.captures yours.captures
+        (subst (λ (m : Mode). IsReplayOf out.files.left out.files.failures m mine.bytes mine.opened r outcome.ends mine.captures) serial mine.replay)
+        (subst (λ (m : Mode). IsReplayOf other.files.left other.files.failures m yours.bytes yours.opened s otherOutcome.ends yours.captures) serial yours.replay) read.script read.captures
         (no_failed_read outcome.ends.captures outcome.ends.answers (subst (λ (n : ℕ). n ≤ 3) status few))
         (no_failed_read otherOutcome.ends.captures otherOutcome.ends.answers (subst (λ (n : ℕ). n ≤ 3) otherStatus otherFew)) in
         record {
@@ -122,11 +125,11 @@ module _ {L S K M T N : Type 0} (out : Outside L S K) (other : Outside M T N) wh
           answers = if_kept outcome.kept _ alike.answers;
           text = report_text (recorded_with [] r) outcome.ends.captures outcome.ends.answers names.journal;
           took = took;
-          other_took = subst (λ (text : List ℕ). Appends (other.written otherSink) (other.written otherSinkAfter) text) (sym (alike.text names.journal)) otherTook;
+          other_took = subst (λ (text : List ℕ). Appends (other.output.written otherSink) (other.output.written otherSinkAfter) text) (sym (alike.text names.journal)) otherTook;
         }
-    both_kept (Loads n) r s p q mine yours files few otherFew =
-        let (status, took) = written_whole out.written out.sink_faults sink sinkAfter _ outcome.status _ mine.writes few in
-        let (otherStatus, otherTook) = written_whole other.written other.sink_faults otherSink otherSinkAfter _ otherOutcome.status _ yours.writes otherFew in
+    both_kept (Loads n) r s serial p q mine yours files few otherFew =
+        let (status, took) = written_whole out.output sink sinkAfter _ outcome.status _ mine.writes few in
+        let (otherStatus, otherTook) = written_whole other.output otherSink otherSinkAfter _ otherOutcome.status _ yours.writes otherFew in
         let made = made_capture (load_capture n) ∷ [] in
         let alike = same_replay known_left no_failures known_left no_failures (load_script n) (load_script n) made made r s outcome.ends otherOutcome.ends mine.replay.sources yours.replay.sources
         mine.replay.replay yours.replay.replay refl (record { contents = load_capture n ∷ []; ports = refl; told = refl; other_told = refl })
@@ -139,21 +142,21 @@ module _ {L S K M T N : Type 0} (out : Outside L S K) (other : Outside M T N) wh
           answers = if_kept outcome.kept _ alike.answers;
           text = summary_of r;
           took = took;
-          other_took = subst (λ (text : List ℕ). Appends (other.written otherSink) (other.written otherSinkAfter) text) (sym (same_summary r s alike.recorded)) otherTook;
+          other_took = subst (λ (text : List ℕ). Appends (other.output.written otherSink) (other.output.written otherSinkAfter) text) (sym (same_summary r s alike.recorded)) otherTook;
         }
 
     -- neither run kept a record
     neither_kept : (job : Job) → outcome.kept ≡ None → otherOutcome.kept ≡ None → outcome.status ≡ 2 → otherOutcome.status ≡ 2
-        → IsUnreadyJob out.written out.sink_faults out.pairs out.faults out.refused out.left out.failures job library libraryAfter sink sinkAfter outcome
-        → IsUnreadyJob other.written other.sink_faults other.pairs other.faults other.refused other.left other.failures job otherLibrary otherLibraryAfter otherSink otherSinkAfter otherOutcome
-        → HaveSameFiles job (out.pairs library) (other.pairs otherLibrary)
-        → ComeToTheSame out.written other.written outcome otherOutcome sink sinkAfter otherSink otherSinkAfter
+        → IsUnreadyJob out.output out.files job library libraryAfter sink sinkAfter outcome
+        → IsUnreadyJob other.output other.files job otherLibrary otherLibraryAfter otherSink otherSinkAfter otherOutcome
+        → HaveSameFiles job (out.files.pairs library) (other.files.pairs otherLibrary)
+        → ComeToTheSame out.output.written other.output.written outcome otherOutcome sink sinkAfter otherSink otherSinkAfter
     neither_kept (Loads n) p q two otherTwo mine yours files = absurd mine
     neither_kept (Replays names) p q two otherTwo mine yours files =
         let a = mine.cause in
         let b = yours.cause in
         let read = same_read out other names library libraryAfter otherLibrary otherLibraryAfter a.script b.script a.bytes b.bytes a.opened b.opened a.reads b.reads files in
-        let error : mine.error ≡ yours.error = err_one (first_edition b.bytes) mine.error yours.error (ap first_edition (sym read.script) ∙ a.first) b.first in
+        let error : mine.error ≡ yours.error = err_one (first_edition (pace_of names.mode) b.bytes) mine.error yours.error (ap (first_edition (pace_of names.mode)) (sym read.script) ∙ a.first) b.first in
         record {
           status = two ∙ sym otherTwo;
           kept = kept_none outcome.kept otherOutcome.kept p q;
@@ -161,24 +164,24 @@ module _ {L S K M T N : Type 0} (out : Outside L S K) (other : Outside M T N) wh
           answers = if_absent outcome.kept _ p;
           text = error_text mine.error;
           took = mine.text;
-          other_took = subst (λ (text : List ℕ). Appends (other.written otherSink) (other.written otherSinkAfter) text) (ap error_text (sym error)) yours.text;
+          other_took = subst (λ (text : List ℕ). Appends (other.output.written otherSink) (other.output.written otherSinkAfter) text) (ap error_text (sym error)) yours.text;
         }
 
   -- two runs of one job come to the same
   pub runs_are_determined : RunsAreDetermined out other
-  runs_are_determined job library libraryAfter otherLibrary otherLibraryAfter sink sinkAfter otherSink otherSinkAfter outcome otherOutcome run otherRun files few otherFew =
+  runs_are_determined job library libraryAfter otherLibrary otherLibraryAfter sink sinkAfter otherSink otherSinkAfter outcome otherOutcome serial run otherRun files few otherFew =
       by_kept outcome.kept otherOutcome.kept refl refl
     where
-      by_kept : (a b : Option RecordValue) → outcome.kept ≡ a → otherOutcome.kept ≡ b → ComeToTheSame out.written other.written outcome otherOutcome sink sinkAfter otherSink otherSinkAfter
+      by_kept : (a b : Option RecordValue) → outcome.kept ≡ a → otherOutcome.kept ≡ b → ComeToTheSame out.output.written other.output.written outcome otherOutcome sink sinkAfter otherSink otherSinkAfter
       by_kept (Some r) (Some s) p q =
-          both_kept library libraryAfter otherLibrary otherLibraryAfter sink sinkAfter otherSink otherSinkAfter outcome otherOutcome job r s p q
+          both_kept library libraryAfter otherLibrary otherLibraryAfter sink sinkAfter otherSink otherSinkAfter outcome otherOutcome job r s serial p q
           (if_some outcome.kept _ r p run.report) (if_some otherOutcome.kept _ s q otherRun.report) files few otherFew
       by_kept (Some r) None p q =
           absurd (not_one_kept out other job library libraryAfter otherLibrary otherLibraryAfter sink sinkAfter otherSink otherSinkAfter outcome otherOutcome r
           (if_some outcome.kept _ r p run.report) (without_record other otherLibrary otherLibraryAfter otherSink otherSinkAfter otherOutcome job otherRun q otherFew).1 files)
       by_kept None (Some s) p q =
           absurd (not_one_kept other out job otherLibrary otherLibraryAfter library libraryAfter otherSink otherSinkAfter sink sinkAfter otherOutcome outcome s
-          (if_some otherOutcome.kept _ s q otherRun.report) (without_record out library libraryAfter sink sinkAfter outcome job run p few).1 (same_files_back job (out.pairs library) (other.pairs otherLibrary) files))
+          (if_some otherOutcome.kept _ s q otherRun.report) (without_record out library libraryAfter sink sinkAfter outcome job run p few).1 (same_files_back job (out.files.pairs library) (other.files.pairs otherLibrary) files))
       by_kept None None p q =
           let (two, mine) = without_record out library libraryAfter sink sinkAfter outcome job run p few in
           let (otherTwo, yours) = without_record other otherLibrary otherLibraryAfter otherSink otherSinkAfter otherOutcome job otherRun q otherFew in

@@ -10,7 +10,8 @@ use Rattle.replay_driver.specs.Promises.{opening_order}
 use Rattle.replay_driver.specs.Served.{ReplayNames, Replays}
 use Rattle.buffered_io.specs.WholeSource.{ReadsAll}
 use Rattle.run_laws.specs.TwoRuns.{Outside, TellSameContents, contents_of}
-use Rattle.serial_replay.specs.declared.replay.OpenedCapture.{OpenedCapture}
+use Rattle.capture_tracks.specs.declared.opened.OpenedCapture.{OpenedCapture}
+use Rattle.replay_driver.specs.Outside.{Files}
 
 -- ---- reading a file
 
@@ -47,21 +48,21 @@ contents_first name names told found contents stands behind =
     ap (option_and_then (λ (f : Pair × List Pair). option_map (λ (l : List (List ℕ)). f.0.1 ∷ l) (contents_of names f.1))) stands
     ∙ ap (option_map (λ (l : List (List ℕ)). found.0.1 ∷ l)) behind
 
-module _ {L S : Type 0} (pairs : L → Option (List Pair)) (faults : L → ℕ) (refused : L → Option (List ℕ)) (left : S → Option (List ℕ)) (failures : S → ℕ) where
+module _ {L S : Type 0} (files : Files L S) where
   -- Captures were opened at their ports, and their sources tell these contents.
   record TellContents (captures : List CaptureNames) (opened : List (OpenedCapture S)) (contents : List (List ℕ)) : Type 0 where
     ports : map (λ o. o.port) opened ≡ map port_of captures
-    has : map (λ o. left o.source) opened ≡ map Some contents
+    has : map (λ o. files.left o.source) opened ≡ map Some contents
 
   -- captures that were opened tell the contents that stand under their names
-  captures_tell : (old new : L) (captures : List CaptureNames) (opened : List (OpenedCapture S)) (told : List Pair) → OpensAll pairs faults refused left failures old new captures opened → pairs old ≡ Some told
+  captures_tell : (old new : L) (captures : List CaptureNames) (opened : List (OpenedCapture S)) (told : List Pair) → OpensAll files old new captures opened → files.pairs old ≡ Some told
       → (contents : List (List ℕ)) × (contents_of (file_names captures) told ≡ Some contents) × TellContents captures opened contents
   captures_tell old new [] [] told all is = ([], refl, record { ports = refl; has = refl })
   captures_tell old new [] (o ∷ os) told all is = absurd all
   captures_tell old new (c ∷ cs) [] told all is = absurd all
   captures_tell old new (c ∷ cs) (o ∷ os) told all is =
       let (port, between, opens, behind) = all in
-      let (found, stands, gives, after) = opened_pair told (pairs between) c.name (left o.source) (subst (λ (l : Option (List Pair)). TakesOut l (pairs between) c.name (left o.source)) is opens.took) in
+      let (found, stands, gives, after) = opened_pair told (files.pairs between) c.name (files.left o.source) (subst (λ (l : Option (List Pair)). TakesOut l (files.pairs between) c.name (files.left o.source)) is opens.took) in
       let (contents, tells, others) = captures_tell between new cs os found.1 behind after in
       (found.0.1 ∷ contents, contents_first c.name (file_names cs) told found contents stands tells, record { ports = λ i. port i ∷ others.ports i; has = λ i. gives i ∷ others.has i })
 
@@ -75,18 +76,18 @@ module _ {L S : Type 0} (pairs : L → Option (List Pair)) (faults : L → ℕ) 
 
   -- what was read of names is what stands under them
   files_read : (name : List ℕ) (captures : List CaptureNames) (old new : L) (script : S) (bytes : List ℕ) (opened : List (OpenedCapture S)) (told : List Pair)
-      → ReadsNames pairs faults refused left failures name captures old new script bytes opened → pairs old ≡ Some told → ReadFiles name captures told bytes opened
+      → ReadsNames files name captures old new script bytes opened → files.pairs old ≡ Some told → ReadFiles name captures told bytes opened
   files_read name captures old new script bytes opened told names is =
       let source = names.script_read.opened in
-      let (found, stands, gives, after) = opened_pair told (pairs names.between) name (left source)
-      (subst (λ (l : Option (List Pair)). TakesOut l (pairs names.between) name (left source)) is names.script_read.opens.took) in
+      let (found, stands, gives, after) = opened_pair told (files.pairs names.between) name (files.left source)
+      (subst (λ (l : Option (List Pair)). TakesOut l (files.pairs names.between) name (files.left source)) is names.script_read.opens.took) in
       let (contents, tells, others) = captures_tell names.between new captures opened found.1 names.captures_opened after in
       record {
         file = found.0.1;
         contents = contents;
         stand = contents_first name (file_names captures) told found contents stands tells;
-        read = read_front 1048577 found.0.1 bytes (left script) (failures source) (failures script)
-            (subst (λ (l : Option (List ℕ)). ReadsAll l (left script) (failures source) (failures script) 1048577 bytes) gives names.script_read.reads);
+        read = read_front 1048577 found.0.1 bytes (files.left script) (files.failures source) (files.failures script)
+            (subst (λ (l : Option (List ℕ)). ReadsAll l (files.left script) (files.failures source) (files.failures script) 1048577 bytes) gives names.script_read.reads);
         tells = others;
       }
 
@@ -98,16 +99,16 @@ module _ {L S K M T N : Type 0} (out : Outside L S K) (other : Outside M T N) wh
   -- Two jobs read the same bytes of their scripts, and their captures' sources tell the same contents.
   pub record ReadSame (bytes otherBytes : List ℕ) (opened : List (OpenedCapture S)) (others : List (OpenedCapture T)) : Type 0 where
     pub script : bytes ≡ otherBytes
-    pub captures : HaveSameContents out.left other.left opened others
+    pub captures : HaveSameContents out.files.left other.files.left opened others
 
   -- where the same bytes stand under the names of a job, two runs of it read the same
   pub same_read : (names : ReplayNames) (library libraryAfter : L) (otherLibrary otherLibraryAfter : M) (script : S) (otherScript : T) (bytes otherBytes : List ℕ) (opened : List (OpenedCapture S)) (others : List (OpenedCapture T))
-      → ReadsNames out.pairs out.faults out.refused out.left out.failures names.script names.captures library libraryAfter script bytes opened
-      → ReadsNames other.pairs other.faults other.refused other.left other.failures names.script names.captures otherLibrary otherLibraryAfter otherScript otherBytes others
-      → TellSameContents (opening_order (Replays names)) (out.pairs library) (other.pairs otherLibrary) → ReadSame bytes otherBytes opened others
+      → ReadsNames out.files names.script names.captures library libraryAfter script bytes opened
+      → ReadsNames other.files names.script names.captures otherLibrary otherLibraryAfter otherScript otherBytes others
+      → TellSameContents (opening_order (Replays names)) (out.files.pairs library) (other.files.pairs otherLibrary) → ReadSame bytes otherBytes opened others
   same_read names library libraryAfter otherLibrary otherLibraryAfter script otherScript bytes otherBytes opened others reads otherReads same =
-      let mine = files_read out.pairs out.faults out.refused out.left out.failures names.script names.captures library libraryAfter script bytes opened same.before reads same.tells in
-      let yours = files_read other.pairs other.faults other.refused other.left other.failures names.script names.captures otherLibrary otherLibraryAfter otherScript otherBytes others same.other_before otherReads same.other_tells in
+      let mine = files_read out.files names.script names.captures library libraryAfter script bytes opened same.before reads same.tells in
+      let yours = files_read other.files names.script names.captures otherLibrary otherLibraryAfter otherScript otherBytes others same.other_before otherReads same.other_tells in
       let (file, contents) = same_first mine.file yours.file mine.contents yours.contents (sym mine.stand ∙ same.same ∙ yours.stand) in
       record {
         script = mine.read ∙ ap (take 1048577) file ∙ sym yours.read;

@@ -17,8 +17,10 @@ use Rattle.replay_driver.proofs.Statuses.{status_by, by_tests}
 use Rattle.replay_driver.specs.FirstEdition.{first_edition}
 use Rattle.replay_driver.specs.Found.{IsReplayOf}
 use Rattle.replay_driver.specs.RunResult.{summary_of, report_status, is_stopped, is_refused}
-use Rattle.serial_replay.specs.Replay.{IsReplay}
-use Rattle.serial_replay.specs.declared.replay.OpenedCapture.{OpenedCapture}
+use Rattle.command_words.specs.declared.invocation.Mode.TheVariants.{Serial}
+use Rattle.serial_replay.specs.Replay.{IsSerialReplay}
+use Rattle.replay_driver.specs.Served.{pace_of}
+use Rattle.capture_tracks.specs.declared.opened.OpenedCapture.{OpenedCapture}
 
 -- ---- results
 
@@ -103,16 +105,16 @@ same_summary r s same =
     λ i. summary_text (dockets i) (length (editions i)) (length (journal i).entries) (length (journal i).object.states)
 
 module _ {S T : Type 0} (left : S → Option (List ℕ)) (failures : S → ℕ) (otherLeft : T → Option (List ℕ)) (otherFailures : T → ℕ) where
-  -- replays of the same script and of captures whose sources tell the same come to the same
+  -- serial replays of the same script and of captures whose sources tell the same come to the same
   pub same_replay : (bytes otherBytes : List ℕ) (opened : List (OpenedCapture S)) (others : List (OpenedCapture T)) (kept other : RecordValue) (ends otherEnds : Ends) (sources : List S) (otherSources : List T)
-      → IsReplayOf left failures bytes opened kept ends sources → IsReplayOf otherLeft otherFailures otherBytes others other otherEnds otherSources
+      → IsReplayOf left failures Serial bytes opened kept ends sources → IsReplayOf otherLeft otherFailures Serial otherBytes others other otherEnds otherSources
       → bytes ≡ otherBytes → HaveSameContents left otherLeft opened others → HaveNoFailedRead ends.captures → HaveNoFailedRead otherEnds.captures → IsAlike kept other ends otherEnds
   same_replay bytes otherBytes opened others kept other ends otherEnds sources otherSources mine yours script captures read otherRead =
       let r = mine.replayed in
       let s = yours.replayed in
-      let edition = ok_one (first_edition otherBytes) yours.edition mine.edition yours.first (ap first_edition (sym script) ∙ mine.first) in
-      let replay = moved edition (λ e. IsReplay otherLeft otherFailures e.config e.live others s) yours.replay in
-      let (replayed, report) = contents_determine_reports left failures otherLeft otherFailures mine.edition.config mine.edition.live opened others r s mine.replay replay captures
+      let edition = ok_one (first_edition (pace_of Serial) otherBytes) yours.edition mine.edition yours.first (ap (first_edition (pace_of Serial)) (sym script) ∙ mine.first) in
+      let replay = moved edition (λ e. IsSerialReplay otherLeft otherFailures e.config e.live others s) (record { replay = yours.replay; ordered = yours.ordered }) in
+      let (replayed, report) = contents_determine_reports left failures otherLeft otherFailures mine.edition.config mine.edition.live opened others r s (record { replay = mine.replay; ordered = mine.ordered }) replay captures
       (subst (λ (l : List CaptureEnd). HaveNoFailedRead l) mine.captures_ended read) (subst (λ (l : List CaptureEnd). HaveNoFailedRead l) yours.captures_ended otherRead) in
       let before : mine.edition.answers ≡ yours.edition.answers = let back = sym edition in λ i. (back i).answers in
       let answers : ends.answers ≡ otherEnds.answers =

@@ -1,16 +1,19 @@
 -- What the contract of `run` says of two runs, by their job.
-use Rattle.std.proofs.Common.{◌≡◌, ◌≤◌, Option, None, Some, IfSome, IfNone}
+use Rattle.std.proofs.Common.{◌≡◌, ℕ, ◌≤◌, List, Option, None, Some, IfSome, IfNone, refl}
+use Rattle.std.specs.Prelude.{option_and_then}
+use Rattle.command_words.specs.Words.{CommandWords, Replay, Load, command_of}
+use Rattle.command_words.specs.declared.invocation.Mode.TheVariants.{Serial, Live}
 use Rattle.replay_driver.specs.Promises.{IsKept, IsUnreadyJob, IsQuiet, IsFaulty}
-use Rattle.replay_driver.specs.Served.{Job}
+use Rattle.replay_driver.specs.Served.{Job, IsSerialJob, job_of_command, job_of}
 use Rattle.replay_driver.specs.declared.outcome.Outcome.{Outcome}
 use Rattle.run_laws.specs.TwoRuns.{Outside, HaveSameFiles, ComeToTheSame, IsPromisedRun}
 use Rattle.run_laws.proofs.Determined.{runs_are_determined}
 
 -- a run of words that are a job keeps the promises of that job
 pub run_promised : {L S K : Type 0} (out : Outside L S K) (library libraryAfter : L) (sink sinkAfter : K) (outcome : Outcome S) (command : Option Job)
-    → IfSome outcome.kept (λ kept. IfSome command (λ job. IsKept out.written out.sink_faults out.pairs out.faults out.refused out.left out.failures job library libraryAfter sink sinkAfter outcome kept))
+    → IfSome outcome.kept (λ kept. IfSome command (λ job. IsKept out.output out.files job library libraryAfter sink sinkAfter outcome kept))
     → (outcome.status ≡ 0 → IsQuiet outcome) → (outcome.status ≡ 1 → command ≡ None)
-    → (outcome.status ≡ 2 → IfNone outcome.kept (IfSome command (λ job. IsUnreadyJob out.written out.sink_faults out.pairs out.faults out.refused out.left out.failures job library libraryAfter sink sinkAfter outcome)))
+    → (outcome.status ≡ 2 → IfNone outcome.kept (IfSome command (λ job. IsUnreadyJob out.output out.files job library libraryAfter sink sinkAfter outcome)))
     → (outcome.status ≡ 3 → IsFaulty outcome)
     → IfSome command (λ job. IsPromisedRun out job library libraryAfter sink sinkAfter outcome)
 run_promised out library libraryAfter sink sinkAfter outcome None report quiet usage unready faulty = tt
@@ -25,10 +28,20 @@ run_promised out library libraryAfter sink sinkAfter outcome (Some job) report q
 -- two runs of words that are a job come to the same
 pub both_same : {L S K M T N : Type 0} (out : Outside L S K) (other : Outside M T N)
     (library libraryAfter : L) (otherLibrary otherLibraryAfter : M) (sink sinkAfter : K) (otherSink otherSinkAfter : N) (outcome : Outcome S) (otherOutcome : Outcome T) (command : Option Job)
-    → IfSome command (λ job. IsPromisedRun out job library libraryAfter sink sinkAfter outcome)
+    → IfSome command IsSerialJob → IfSome command (λ job. IsPromisedRun out job library libraryAfter sink sinkAfter outcome)
     → IfSome command (λ job. IsPromisedRun other job otherLibrary otherLibraryAfter otherSink otherSinkAfter otherOutcome)
-    → IfSome command (λ job. HaveSameFiles job (out.pairs library) (other.pairs otherLibrary) → outcome.status ≤ 3 → otherOutcome.status ≤ 3
-    → ComeToTheSame out.written other.written outcome otherOutcome sink sinkAfter otherSink otherSinkAfter)
-both_same out other library libraryAfter otherLibrary otherLibraryAfter sink sinkAfter otherSink otherSinkAfter outcome otherOutcome None run otherRun = tt
-both_same out other library libraryAfter otherLibrary otherLibraryAfter sink sinkAfter otherSink otherSinkAfter outcome otherOutcome (Some job) run otherRun =
-    runs_are_determined out other job library libraryAfter otherLibrary otherLibraryAfter sink sinkAfter otherSink otherSinkAfter outcome otherOutcome run otherRun
+    → IfSome command (λ job. HaveSameFiles job (out.files.pairs library) (other.files.pairs otherLibrary) → outcome.status ≤ 3 → otherOutcome.status ≤ 3
+    → ComeToTheSame out.output.written other.output.written outcome otherOutcome sink sinkAfter otherSink otherSinkAfter)
+both_same out other library libraryAfter otherLibrary otherLibraryAfter sink sinkAfter otherSink otherSinkAfter outcome otherOutcome None serial run otherRun = tt
+both_same out other library libraryAfter otherLibrary otherLibraryAfter sink sinkAfter otherSink otherSinkAfter outcome otherOutcome (Some job) serial run otherRun =
+    runs_are_determined out other job library libraryAfter otherLibrary otherLibraryAfter sink sinkAfter otherSink otherSinkAfter outcome otherOutcome serial run otherRun
+
+-- words ask for no job of live mode yet
+pub only_serial : (words : List (List ℕ)) → IfSome (job_of words) IsSerialJob
+only_serial words = by_command (command_of words)
+  where
+    by_command : (found : Option CommandWords) → IfSome (option_and_then job_of_command found) IsSerialJob
+    by_command None = tt
+    by_command (Some (Replay Serial journal script captures)) = refl
+    by_command (Some (Replay Live journal script captures)) = tt
+    by_command (Some (Load n)) = tt

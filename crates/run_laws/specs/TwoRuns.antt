@@ -6,21 +6,15 @@ use Rattle.fw_base.specs.Pairs.{Pair, take_named}
 use Rattle.fw_world.specs.RecordValue.{RecordValue}
 use Rattle.record_laws.specs.OneReplay.{IsSameRecord}
 use Rattle.record_laws.specs.SameCaptures.{printed_end}
+use Rattle.replay_driver.specs.Outside.{Files, Output}
 use Rattle.replay_driver.specs.Promises.{IsKept, IsUnreadyJob, IsQuiet, IsFaulty, opening_order}
-use Rattle.replay_driver.specs.Served.{Job, Replays, Loads}
+use Rattle.replay_driver.specs.Served.{Job, Replays, Loads, IsSerialJob}
 use Rattle.replay_driver.specs.declared.outcome.Outcome.{Outcome}
 
--- What contracts see of a run's outside. Of a library: the list that it tells, its count of faults, and the name
--- that it refused last. Of a source: the bytes that it has left, and its count of faults. Of a sink: the bytes that
--- were written to it, and its count of faults.
+-- what contracts see of a run's outside: its library with the sources, and its sink
 pub record Outside (L S K : Type 0) : Type 0 where
-  pub pairs : L → Option (List Pair)
-  pub faults : L → ℕ
-  pub refused : L → Option (List ℕ)
-  pub left : S → Option (List ℕ)
-  pub failures : S → ℕ
-  pub written : K → Option (List ℕ)
-  pub sink_faults : K → ℕ
+  pub files : Files L S
+  pub output : Output K
 
 -- ---- the same files
 
@@ -68,17 +62,17 @@ pub record ComeToTheSame {S T K N : Type 0} (written : K → Option (List ℕ)) 
 module _ {L S K : Type 0} (out : Outside L S K) where
   -- A run of this job keeps the clauses of `run`'s contract that have these names.
   pub record IsPromisedRun (job : Job) (library libraryAfter : L) (sink sinkAfter : K) (outcome : Outcome S) : Type 0 where
-    pub report : IfSome outcome.kept (λ kept. IsKept out.written out.sink_faults out.pairs out.faults out.refused out.left out.failures job library libraryAfter sink sinkAfter outcome kept)
+    pub report : IfSome outcome.kept (λ kept. IsKept out.output out.files job library libraryAfter sink sinkAfter outcome kept)
     pub status_0_cause : outcome.status ≡ 0 → IsQuiet outcome
     pub status_1_cause : outcome.status ≡ 1 → ⊥
-    pub status_2_before : outcome.status ≡ 2 → IfNone outcome.kept (IsUnreadyJob out.written out.sink_faults out.pairs out.faults out.refused out.left out.failures job library libraryAfter sink sinkAfter outcome)
+    pub status_2_before : outcome.status ≡ 2 → IfNone outcome.kept (IsUnreadyJob out.output out.files job library libraryAfter sink sinkAfter outcome)
     pub status_3_cause : outcome.status ≡ 3 → IsFaulty outcome
 
 module _ {L S K M T N : Type 0} (out : Outside L S K) (other : Outside M T N) where
-  -- Two runs of one job, over libraries that tell the same bytes under the names that it opens, come to the same,
-  -- where neither ends with the status of a failed opening or read, 4, of a failed write, 5, or of want of memory, 6.
+  -- Two runs of one job that isn't of live mode, over libraries that tell the same bytes under the names that it
+  -- opens, come to the same, where neither ends with the status of a failed opening or read, 4, of a failed write, 5, or of want of memory, 6.
   abbrev pub RunsAreDetermined : Type 0
   RunsAreDetermined = (job : Job) (library libraryAfter : L) (otherLibrary otherLibraryAfter : M) (sink sinkAfter : K) (otherSink otherSinkAfter : N) (outcome : Outcome S) (otherOutcome : Outcome T)
-      → IsPromisedRun out job library libraryAfter sink sinkAfter outcome → IsPromisedRun other job otherLibrary otherLibraryAfter otherSink otherSinkAfter otherOutcome
-      → HaveSameFiles job (out.pairs library) (other.pairs otherLibrary) → outcome.status ≤ 3 → otherOutcome.status ≤ 3
-      → ComeToTheSame out.written other.written outcome otherOutcome sink sinkAfter otherSink otherSinkAfter
+      → IsSerialJob job → IsPromisedRun out job library libraryAfter sink sinkAfter outcome → IsPromisedRun other job otherLibrary otherLibraryAfter otherSink otherSinkAfter otherOutcome
+      → HaveSameFiles job (out.files.pairs library) (other.files.pairs otherLibrary) → outcome.status ≤ 3 → otherOutcome.status ≤ 3
+      → ComeToTheSame out.output.written other.output.written outcome otherOutcome sink sinkAfter otherSink otherSinkAfter

@@ -2,28 +2,13 @@
 ghost use Rattle.run_laws.specs.TwoRuns.{RunsAreDetermined};
 
 use fw_base::{Library, Sink};
+use replay_driver::{LibraryView, SinkView};
 
-/// Two runs of one job, over libraries that tell the same bytes under the names that it opens, end with the same
+/// Two runs of one job that isn't of live mode, over libraries that tell the same bytes under the names that it opens, end with the same
 /// status, keep records that say the same and, where they keep one, give the same answers, and write the same text to
 /// sinks that tell theirs, unless one of them ends with status 4, 5 or 6.
 pub fn runs_are_determined<L: Library, K: Sink, M: Library, N: Sink>()
     ensures { RunsAreDetermined
-        (record {
-          pairs = L.pairs;
-          faults = L.faults;
-          refused = L.refused;
-          left = L.Reader.left;
-          failures = L.Reader.faults;
-          written = K.written;
-          sink_faults = K.faults;
-        })
-        (record {
-          pairs = M.pairs;
-          faults = M.faults;
-          refused = M.refused;
-          left = M.Reader.left;
-          failures = M.Reader.faults;
-          written = N.written;
-          sink_faults = N.faults;
-        }) }
+        (record { files = ⟦<L as LibraryView>⟧.files; output = ⟦<K as SinkView>⟧.output })
+        (record { files = ⟦<M as LibraryView>⟧.files; output = ⟦<N as SinkView>⟧.output }) }
 {}

@@ -4,7 +4,7 @@ ghost use Rattle.replay_driver.specs.Served.{job_of};
 ghost use Rattle.run_laws.specs.TwoRuns.{IsPromisedRun, HaveSameFiles, ComeToTheSame};
 
 use fw_base::{Gate, Library, Sink};
-use replay_driver::{Outcome, run};
+use replay_driver::{LibraryView, Outcome, SinkView, run};
 use std::alloc::Global;
 use std::sync::Wait;
 use std::thread::Threads;
@@ -12,7 +12,7 @@ use std::thread::Threads;
 /// Runs the same words twice, over one library and sink and over others, and answers both outcomes, the first one
 /// first. Of words that are a command they come to the same, where the libraries tell the same bytes and no status is
 /// above 3.
-pub fn run_both<R: Threads + Wait, L: Library, M: Library, K: Sink, N: Sink, G: Gate + Sync>(
+pub fn run_both<R: Threads + Wait + Sync, L: Library, M: Library, K: Sink, N: Sink, G: Gate + Sync>(
     rt: &R,
     alloc: Global,
     words: &[String],
@@ -27,39 +27,23 @@ where
     M::Reader: Send + Sync,
     // Each outcome is that of a run, exactly.
     ensures first_usage { job_of (map string_bytes words.now) ≡ None
-        → IsNoCommand K.written K.faults library.old library.new out.old out.new result.0 }
+        → IsNoCommand ⟦<K as SinkView>⟧.output library.old library.new out.old out.new result.0 }
     ensures first_found { IfSome (job_of (map string_bytes words.now)) (λ job.
-        IsRunOf K.written K.faults L.pairs L.faults L.refused L.Reader.left L.Reader.faults
+        IsRunOf ⟦<K as SinkView>⟧.output ⟦<L as LibraryView>⟧.files
         job library.old library.new out.old out.new result.0) }
     ensures second_usage { job_of (map string_bytes words.now) ≡ None
-        → IsNoCommand N.written N.faults other_library.old other_library.new
+        → IsNoCommand ⟦<N as SinkView>⟧.output other_library.old other_library.new
         other_out.old other_out.new result.1 }
     ensures second_found { IfSome (job_of (map string_bytes words.now)) (λ job.
-        IsRunOf N.written N.faults M.pairs M.faults M.refused M.Reader.left M.Reader.faults
+        IsRunOf ⟦<N as SinkView>⟧.output ⟦<M as LibraryView>⟧.files
         job other_library.old other_library.new other_out.old other_out.new result.1) }
 
     // Each keeps what the law asks for, and so both come to the same.
     ensures first { IfSome (job_of (map string_bytes words.now)) (λ job. IsPromisedRun
-        (record {
-          pairs = L.pairs;
-          faults = L.faults;
-          refused = L.refused;
-          left = L.Reader.left;
-          failures = L.Reader.faults;
-          written = K.written;
-          sink_faults = K.faults;
-        })
+        (record { files = ⟦<L as LibraryView>⟧.files; output = ⟦<K as SinkView>⟧.output })
         job library.old library.new out.old out.new result.0) }
     ensures second { IfSome (job_of (map string_bytes words.now)) (λ job. IsPromisedRun
-        (record {
-          pairs = M.pairs;
-          faults = M.faults;
-          refused = M.refused;
-          left = M.Reader.left;
-          failures = M.Reader.faults;
-          written = N.written;
-          sink_faults = N.faults;
-        })
+        (record { files = ⟦<M as LibraryView>⟧.files; output = ⟦<N as SinkView>⟧.output })
         job other_library.old other_library.new other_out.old other_out.new result.1) }
     ensures same { IfSome (job_of (map string_bytes words.now)) (λ job.
         HaveSameFiles job (L.pairs library.old) (M.pairs other_library.old)

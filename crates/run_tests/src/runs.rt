@@ -107,7 +107,7 @@ fn seen_of<S: Drop>(alloc: Global, outcome: Outcome<S>, text: &[u8]) -> Result<S
 }
 
 /// Runs these words over a library, with a sink of that room.
-fn run_over<R: Threads + Wait>(
+fn run_over<R: Threads + Wait + Sync>(
     rt: &R,
     alloc: Global,
     words: &[&str],
@@ -135,7 +135,7 @@ fn library_of(
 }
 
 /// Runs a script and a capture of incoming packets, which comes in these pieces.
-fn replay<R: Threads + Wait>(
+fn replay<R: Threads + Wait + Sync>(
     rt: &R,
     alloc: Global,
     script: &[u8],
@@ -175,7 +175,11 @@ fn library_of_row(alloc: Global, row: &Row) -> Result<MemoryLibrary, Fail> {
 }
 
 /// Runs the row, and compares the status and the text.
-fn check_row<R: Threads + Wait + Abort>(rt: &R, alloc: Global, row: &Row) -> Result<(), Fail> {
+fn check_row<R: Threads + Wait + Sync + Abort>(
+    rt: &R,
+    alloc: Global,
+    row: &Row,
+) -> Result<(), Fail> {
     let mut library = library_of_row(alloc, row)?;
     let seen = run_over(rt, alloc, row.words, &mut library, ROOM)?;
     assert_seen(rt, &seen, row.name, row.status, row.text.as_bytes());
@@ -183,7 +187,11 @@ fn check_row<R: Threads + Wait + Abort>(rt: &R, alloc: Global, row: &Row) -> Res
 }
 
 /// Runs each row, and compares the status and the text.
-fn check<R: Threads + Wait + Abort>(rt: &R, alloc: Global, rows: &[Row]) -> Result<(), Fail> {
+fn check<R: Threads + Wait + Sync + Abort>(
+    rt: &R,
+    alloc: Global,
+    rows: &[Row],
+) -> Result<(), Fail> {
     for row in rows {
         check_row(rt, alloc, row)?;
     }

@@ -1,19 +1,16 @@
 -- All captures have ended: what was read of them.
-use Rattle.std.proofs.Common.{◌≡◌, ℕ, Option, Some, None, List, [], ◌∷◌, map, refl, sym, ap, subst, ◌∙◌}
-use Rattle.std.specs.Prelude.{MatchOption, unwrap_or, is_some}
+use Rattle.std.proofs.Common.{◌≡◌, ℕ, Option, None, List, [], ◌∷◌, map, refl, ap, ◌∙◌}
 use Rattle.std.specs.List.{AllByRecursion}
 use Rattle.std.proofs.lemmas.List.{append-nil}
-use Rattle.fw_report.specs.declared.capture_end.CaptureEnd.{CaptureEnd}
-use Rattle.fw_report.specs.declared.capture_end.CaptureEnd.TheVariants.{Read}
-use Rattle.pcap_read.specs.Capture.{source_of}
 use Rattle.pcap_read.specs.Reading.{Captured}
-use Rattle.serial_replay.specs.Reading as reading
-use Rattle.serial_replay.specs.Reading.{Origin, origin_of, IsRead, AllRead, track_inputs, input_of}
+use Rattle.capture_tracks.specs.Reading as reading
+use Rattle.capture_tracks.specs.Reading.{Origin, origin_of, AllRead, track_inputs}
 use Rattle.serial_replay.specs.Running.{inputs_of, joined_records, first_capture_of}
-use Rattle.serial_replay.specs.Tracks.{AreTracks, IsTrack, IsSettled, GoesOn, IsReadToEnd, end_of, held_in, held_record_of, source_at}
-use Rattle.serial_replay.specs.declared.replay.OpenedCapture.{OpenedCapture}
-use Rattle.serial_replay.specs.declared.track.Track.{Track}
-use Rattle.serial_replay.specs.declared.track.Track.TheVariants.{Open, Refused}
+use Rattle.capture_tracks.specs.Tracks.{end_of, held_record_of, source_at}
+use Rattle.capture_tracks.proofs.Ended.{told-track}
+use Rattle.serial_replay.specs.Tracks.{AreTracks}
+use Rattle.capture_tracks.specs.declared.opened.OpenedCapture.{OpenedCapture}
+use Rattle.capture_tracks.specs.declared.track.Track.{Track}
 use Rattle.serial_schedule.specs.Order.{next_record_of}
 use Rattle.serial_schedule.proofs.Turns.{no_records, none_first}
 
@@ -31,38 +28,6 @@ module _ {S : Type 0} where
       (first, none-held tracks rest)
 
   module _ (left : S → Option (List ℕ)) (faults : S → ℕ) where
-    -- what one capture came to
-    record Told (limit : ℕ) (opened : OpenedCapture S) (track : Track S) (done : List Captured) (origin : Origin) : Type 0 where
-      told : reading.Track
-      port : told.port ≡ opened.port
-      read : IsRead left faults limit opened.source (source_at track) told (end_of track)
-      origin_is : origin_of told ≡ origin
-      records : told.records ≡ done
-
-    told-ended : (limit : ℕ) (opened : OpenedCapture S) (track : Track S) (source : S) (end : CaptureEnd) (done : List Captured) (origin : Origin) → source_at track ≡ source → end_of track ≡ end → IsReadToEnd left faults limit opened source end done origin → Told limit opened track done origin
-    told-ended limit opened track source end done origin source-is end-is h =
-        let told : reading.Track = record { port = opened.port; bytes = h.bytes; records = done } in
-        record {
-          told = told;
-          port = refl;
-          read = subst (λ s. IsRead left faults limit opened.source s told (end_of track)) (sym source-is) (subst (λ e. IsRead left faults limit opened.source source told e) (sym end-is) h.read);
-          origin_is = sym h.origin_is;
-          records = refl;
-        }
-
-    told-track : (limit : ℕ) (opened : OpenedCapture S) (track : Track S) (done : List Captured) (origin : Origin) → held_record_of track ≡ None → IsSettled left faults track → IsTrack left faults limit opened track done origin → Told limit opened track done origin
-    told-track limit opened (Refused source end) done origin none settled is = told-ended limit opened (Refused source end) source end done origin refl refl is
-    told-track limit opened (Open track) done origin none settled is = cases track.end refl
-      where
-        cases : (end : Option CaptureEnd) → track.end ≡ end → Told limit opened (Open track) done origin
-        cases None running =
-            let some = settled running in
-            let empty = ap is_some none in
-            cc
-        cases (Some end) ended =
-            let h = subst (λ e. MatchOption e (GoesOn left faults limit opened track done origin) (λ end. IsReadToEnd left faults limit opened (source_of track.capture) end done origin × (held_in track ≡ None))) ended is.1 in
-            told-ended limit opened (Open track) (source_of track.capture) end done origin refl (ap (λ e. unwrap_or e (Read track.records)) ended) h.0
-
     -- what all captures came to
     pub record AllTold (limit : ℕ) (captures : List (OpenedCapture S)) (tracks : List (Track S)) (dones : List (List Captured)) (origins : List Origin) : Type 0 where
       pub told : List reading.Track
@@ -79,7 +44,7 @@ module _ {S : Type 0} where
     told-all limit (opened ∷ captures) (track ∷ tracks) [] origins none are = absurd are
     told-all limit (opened ∷ captures) (track ∷ tracks) (done ∷ dones) [] none are = absurd are
     told-all limit (opened ∷ captures) (track ∷ tracks) (done ∷ dones) (origin ∷ origins) none are =
-        let one = told-track limit opened track done origin none.0 are.1 are.0 in
+        let one = told-track left faults limit opened track done origin none.0 are.1 are.0 in
         let rest = told-all limit captures tracks dones origins none.1 are.2 in
         record {
           told = one.told ∷ rest.told;

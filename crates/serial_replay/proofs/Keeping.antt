@@ -1,18 +1,19 @@
 -- What each step of a replay keeps.
 use Rattle.std.proofs.Common.{◌≡◌, ℕ, Option, None, List, [], ◌∷◌, ◌++◌, map, length, sym, ap, subst, ◌∙◌, arith}
 use Rattle.std.specs.Option.{option_map}
-use Rattle.serial_replay.specs.declared.live_world.LiveWorld.{LiveWorld}
+use Rattle.serial_replay.specs.declared.replay_world.ReplayWorld.{ReplayWorld}
 use Rattle.std.specs.List.{AllByRecursion}
 use Rattle.fw_command.specs.WellFormed.{IsStepInRange, IsLine}
 use Rattle.fw_command.specs.declared.script.Line.{Line}
 use Rattle.fw_command.specs.declared.script.Step.{Step}
 use Rattle.fw_command.specs.declared.script.Step.TheVariants.{Run}
 use Rattle.pcap_read.specs.Reading.{Captured}
-use Rattle.serial_replay.specs.Commands.{after_line, after_lines}
+use Rattle.capture_tracks.specs.Commands.{after_line, after_lines}
 use Rattle.serial_replay.specs.Events.{ReplaysAll}
-use Rattle.serial_replay.specs.Live.{run_state, IsSound, IsLive, RunsALine}
+use Rattle.serial_replay.specs.ReplayWorld.{run_state, IsSound, ReplayStandsFor, RunsALine}
 use Rattle.serial_replay.specs.Running.{IsReady, Keeps, HaveTracks, inputs_of, first_capture_of}
-use Rattle.serial_replay.specs.Tracks.{AreTracks, held_record_of, rooms_of}
+use Rattle.capture_tracks.specs.Tracks.{held_record_of}
+use Rattle.serial_replay.specs.Tracks.{AreTracks, rooms_of}
 use Rattle.serial_replay.specs.declared.running.Running.{Running}
 use Rattle.serial_schedule.specs.Agenda.{AreLast, GivesDue, NoneIsDue, GivesRest, NoneIsLeft}
 use Rattle.fw_command.specs.Steps.{all_lines}
@@ -38,7 +39,7 @@ module _ {S : Type 0} (left : S → Option (List ℕ)) (faults : S → ℕ) wher
   keeps-both a b c h k = record { ready = k.ready; goes = λ config steps limit captures origins first goes. k.goes config steps limit captures origins first (h.goes config steps limit captures origins first goes) }
 
   -- a line ran
-  keeps-line : (old new : Running S) (line : Line) → IsReady left faults old → RunsALine old.live new.live line → all_lines (steps_of old.agenda) ≡ line ∷ all_lines (steps_of new.agenda) → AreLast (Run line ∷ steps_of new.agenda) (steps_of old.agenda)
+  keeps-line : (old new : Running S) (line : Line) → IsReady left faults old → RunsALine old.replay new.replay line → all_lines (steps_of old.agenda) ≡ line ∷ all_lines (steps_of new.agenda) → AreLast (Run line ∷ steps_of new.agenda) (steps_of old.agenda)
       → ((rests : List (List Captured)) → map next_record_of rests ≡ map held_record_of old.tracks → events_from old.taken (steps_of old.agenda) (in_order rests) ≡ Ran line ∷ events_from new.taken (steps_of new.agenda) (in_order rests))
       → new.tracks ≡ old.tracks → new.taken ≡ old.taken → Keeps left faults old new
   unfolding after_lines
@@ -54,28 +55,28 @@ module _ {S : Type 0} (left : S → Option (List ℕ)) (faults : S → ℕ) wher
       dones = h.dones;
       standing = after_line h.standing line;
       tracks = subst (λ ts. AreTracks left faults limit captures ts h.dones origins) (sym tracks) h.tracks;
-      live = runs.live config (inputs_of origins h.dones) h.standing h.live;
+      stands = runs.stands config (inputs_of origins h.dones) h.standing h.stands;
       lines = sym (ap (after_lines h.standing) lines) ∙ h.lines;
       comes = λ rests end fits all.
           let fitting : map next_record_of rests ≡ map held_record_of old.tracks = fits ∙ ap (map held_record_of) tracks in
-          h.comes rests end fitting (subst (λ events. ReplaysAll origins (run_state old.live) end events) (sym (events rests fitting)) (run_state new.live, runs.runs, all));
+          h.comes rests end fitting (subst (λ events. ReplaysAll origins (run_state old.replay) end events) (sym (events rests fitting)) (run_state new.replay, runs.runs, all));
     };
   }
 
   -- a line that was due ran
-  pub keeps-due : (old new : Running S) (line : Line) → IsReady left faults old → RunsALine old.live new.live line → GivesDue old.taken (steps_of old.agenda) line (steps_of new.agenda) → new.tracks ≡ old.tracks → new.taken ≡ old.taken → Keeps left faults old new
+  pub keeps-due : (old new : Running S) (line : Line) → IsReady left faults old → RunsALine old.replay new.replay line → GivesDue old.taken (steps_of old.agenda) line (steps_of new.agenda) → new.tracks ≡ old.tracks → new.taken ≡ old.taken → Keeps left faults old new
   keeps-due old new line ready runs gives tracks taken =
       keeps-line old new line ready runs gives.all gives.last (λ rests fits. events-due old.taken (steps_of old.agenda) line (steps_of new.agenda) (in_order rests) gives ∙ ap (λ n. Ran line ∷ events_from n (steps_of new.agenda) (in_order rests)) (sym taken)) tracks taken
 
   -- only steps were passed over
   keeps-same : (old new : Running S) → IsReady left faults old → all_lines (steps_of old.agenda) ≡ all_lines (steps_of new.agenda) → AllByRecursion IsStepInRange (steps_of new.agenda)
       → ((rests : List (List Captured)) → map next_record_of rests ≡ map held_record_of old.tracks → events_from old.taken (steps_of old.agenda) (in_order rests) ≡ events_from old.taken (steps_of new.agenda) (in_order rests))
-      → new.live ≡ old.live → new.tracks ≡ old.tracks → new.taken ≡ old.taken → Keeps left faults old new
-  keeps-same old new ready lines formed events live tracks taken = record {
+      → new.replay ≡ old.replay → new.tracks ≡ old.tracks → new.taken ≡ old.taken → Keeps left faults old new
+  keeps-same old new ready lines formed events replay tracks taken = record {
     ready = record {
-      sound = subst IsSound (sym live) ready.sound;
+      sound = subst IsSound (sym replay) ready.sound;
       formed = formed;
-      matched = ap (λ (l : LiveWorld). length l.lanes.items) live ∙ ready.matched ∙ sym (ap length tracks);
+      matched = ap (λ (l : ReplayWorld). length l.lanes.items) replay ∙ ready.matched ∙ sym (ap length tracks);
       tracked = subst (HaveTracks left faults) (sym tracks) ready.tracked;
       few = let rooms : rooms_of new.tracks ≡ rooms_of old.tracks = ap rooms_of tracks in omega (arith, ready.few, rooms, taken);
     };
@@ -83,36 +84,36 @@ module _ {S : Type 0} (left : S → Option (List ℕ)) (faults : S → ℕ) wher
       dones = h.dones;
       standing = h.standing;
       tracks = subst (λ ts. AreTracks left faults limit captures ts h.dones origins) (sym tracks) h.tracks;
-      live = subst (IsLive config (inputs_of origins h.dones) h.standing) (sym live) h.live;
+      stands = subst (ReplayStandsFor config (inputs_of origins h.dones) h.standing) (sym replay) h.stands;
       lines = sym (ap (after_lines h.standing) lines) ∙ h.lines;
       comes = λ rests end fits all.
           let fitting : map next_record_of rests ≡ map held_record_of old.tracks = fits ∙ ap (map held_record_of) tracks in
-          let here = subst (λ l. ReplaysAll origins (run_state l) end (events_from new.taken (steps_of new.agenda) (in_order rests))) live all in
-          let then_taken = subst (λ n. ReplaysAll origins (run_state old.live) end (events_from n (steps_of new.agenda) (in_order rests))) taken here in
-          h.comes rests end fitting (subst (λ events. ReplaysAll origins (run_state old.live) end events) (sym (events rests fitting)) then_taken);
+          let here = subst (λ l. ReplaysAll origins (run_state l) end (events_from new.taken (steps_of new.agenda) (in_order rests))) replay all in
+          let then_taken = subst (λ n. ReplaysAll origins (run_state old.replay) end (events_from n (steps_of new.agenda) (in_order rests))) taken here in
+          h.comes rests end fitting (subst (λ events. ReplaysAll origins (run_state old.replay) end events) (sym (events rests fitting)) then_taken);
     };
   }
 
   -- none is due: the steps that wait are left
-  pub keeps-settled : (old new : Running S) → IsReady left faults old → NoneIsDue old.taken (steps_of old.agenda) (steps_of new.agenda) → new.live ≡ old.live → new.tracks ≡ old.tracks → new.taken ≡ old.taken → Keeps left faults old new
-  keeps-settled old new ready none live tracks taken =
-      keeps-same old new ready none.all (formed-last (steps_of old.agenda) (steps_of new.agenda) none.last ready.formed) (λ rests fits. events-settled old.taken (steps_of old.agenda) (steps_of new.agenda) (in_order rests) none) live tracks taken
+  pub keeps-settled : (old new : Running S) → IsReady left faults old → NoneIsDue old.taken (steps_of old.agenda) (steps_of new.agenda) → new.replay ≡ old.replay → new.tracks ≡ old.tracks → new.taken ≡ old.taken → Keeps left faults old new
+  keeps-settled old new ready none replay tracks taken =
+      keeps-same old new ready none.all (formed-last (steps_of old.agenda) (steps_of new.agenda) none.last ready.formed) (λ rests fits. events-settled old.taken (steps_of old.agenda) (steps_of new.agenda) (in_order rests) none) replay tracks taken
 
   -- the moments of rests that fit are those of what is held
   pub none_of_rests : (rests : List (List Captured)) (held : List (Option Captured)) → map next_record_of rests ≡ held → first_capture (map (option_map moment_of) held) ≡ None → first_capture (map next_moment rests) ≡ None
   none_of_rests rests held fits none = ap first_capture (moments-heads rests) ∙ ap (λ h. first_capture (map (option_map moment_of) h)) fits ∙ none
 
   -- no step is left
-  pub keeps-ended : (old new : Running S) → IsReady left faults old → first_capture_of old.tracks ≡ None → NoneIsLeft (steps_of old.agenda) (steps_of new.agenda) → new.live ≡ old.live → new.tracks ≡ old.tracks → new.taken ≡ old.taken → Keeps left faults old new
-  keeps-ended old new ready none nothing live tracks taken =
+  pub keeps-ended : (old new : Running S) → IsReady left faults old → first_capture_of old.tracks ≡ None → NoneIsLeft (steps_of old.agenda) (steps_of new.agenda) → new.replay ≡ old.replay → new.tracks ≡ old.tracks → new.taken ≡ old.taken → Keeps left faults old new
+  keeps-ended old new ready none nothing replay tracks taken =
       let no_lines : all_lines (steps_of new.agenda) ≡ [] = ap all_lines nothing.steps in
       keeps-same old new ready (nothing.all ∙ sym no_lines) (subst (λ steps. AllByRecursion IsStepInRange steps) (sym nothing.steps) tt) (λ rests fits.
       let first = none_of_rests rests (map held_record_of old.tracks) fits none in
       events-ended old.taken (steps_of old.agenda) rests first ∙ events-none old.taken (steps_of old.agenda) nothing.all
-      ∙ sym (events-ended old.taken (steps_of new.agenda) rests first ∙ events-none old.taken (steps_of new.agenda) no_lines)) live tracks taken
+      ∙ sym (events-ended old.taken (steps_of new.agenda) rests first ∙ events-none old.taken (steps_of new.agenda) no_lines)) replay tracks taken
 
   -- a line ran where no capture has a record left
-  pub keeps-left : (old new : Running S) (line : Line) → IsReady left faults old → first_capture_of old.tracks ≡ None → RunsALine old.live new.live line → GivesRest (steps_of old.agenda) line (steps_of new.agenda) → new.tracks ≡ old.tracks → new.taken ≡ old.taken → Keeps left faults old new
+  pub keeps-left : (old new : Running S) (line : Line) → IsReady left faults old → first_capture_of old.tracks ≡ None → RunsALine old.replay new.replay line → GivesRest (steps_of old.agenda) line (steps_of new.agenda) → new.tracks ≡ old.tracks → new.taken ≡ old.taken → Keeps left faults old new
   keeps-left old new line ready none runs gives tracks taken =
       keeps-line old new line ready runs gives.all gives.last (λ rests fits.
       let first = none_of_rests rests (map held_record_of old.tracks) fits none in

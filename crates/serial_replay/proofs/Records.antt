@@ -9,17 +9,17 @@ use Rattle.fw_base.specs.declared.port.Port.{Port}
 use Rattle.ip6_headers.specs.declared.any_ip.AnyIp.{AnyIp}
 use Rattle.state_journal.specs.Items.{asks_of}
 use Rattle.fw_world.specs.Closing.{AreLanesFrom, EachStandsFor}
-use Rattle.fw_world.specs.Editions.{IsLastOf}
 use Rattle.fw_world.specs.Inputs.{Input, Packet}
 use Rattle.fw_world.specs.Lane.{LaneValue, with_docket_entry}
-use Rattle.fw_world.specs.Steps.{Judges, ChangesAsksOf}
-use Rattle.fw_world.specs.World.{WorldValue, published_count, IsLaneOf, LaneStandsFor, DeskStandsFor}
-use Rattle.fw_world.proofs.Keeping.{is_lane_beside, stands_beside}
+use Rattle.serial_world.specs.Steps.{Judges, ChangesAsksOf}
+use Rattle.fw_world.specs.World.{WorldValue, published_count, IsLaneOf, LaneStandsFor}
+use Rattle.serial_world.proofs.Keeping.{is_lane_beside, stands_beside}
 use Rattle.rule_chain.specs.Configuration.{Configuration}
-use Rattle.serial_replay.specs.Commands.{Standing}
+use Rattle.capture_tracks.specs.Commands.{Standing}
+use Rattle.capture_tracks.specs.Operator.{OperatorStandsFor}
 use Rattle.serial_replay.specs.Events.{EntersAt, ReplaysInput, judged_lane}
-use Rattle.serial_replay.specs.Live.{run_state, IsClean, IsSound, IsLive, with_input, ReplaysARecord}
-use Rattle.serial_replay.specs.declared.live_world.LiveWorld.{LiveWorld}
+use Rattle.serial_replay.specs.ReplayWorld.{run_state, operator_of, IsClean, IsSound, ReplayStandsFor, with_input, ReplaysARecord}
+use Rattle.serial_replay.specs.declared.replay_world.ReplayWorld.{ReplayWorld}
 
 -- the lane at a place
 pub lane-at : (world : WorldValue) (place : ℕ) (lanes : List LaneValue) (k : ℕ) (lane : LaneValue) → AreLanesFrom world place lanes → slice_get lanes k ≡ Some lane → (lane.place ≡ place + k) × IsLaneOf world lane
@@ -76,7 +76,7 @@ length-set_lanes (lane ∷ lanes) zero after = refl
 length-set_lanes (lane ∷ lanes) (suc k) after = let rest = length-set_lanes lanes k after in omega arith
 
 -- an input more of the lane at this place
-pub record MeetsInput (k : ℕ) (input : Input) (old new : LiveWorld) (lane after : LaneValue) : Type 0 where
+pub record MeetsInput (k : ℕ) (input : Input) (old new : ReplayWorld) (lane after : LaneValue) : Type 0 where
   pub at : slice_get old.lanes.items k ≡ Some lane
   pub set : new.lanes.items ≡ slice_set old.lanes.items k after
   pub asks : ChangesAsksOf lane.place old.world new.world
@@ -87,7 +87,7 @@ pub record MeetsInput (k : ℕ) (input : Input) (old new : LiveWorld) (lane afte
   pub desk : new.desk ≡ old.desk
   pub answers : new.answers.items ≡ old.answers.items
 
-sound-input : (k : ℕ) (input : Input) (old new : LiveWorld) (lane after : LaneValue) → MeetsInput k input old new lane after → IsSound old → IsSound new
+sound-input : (k : ℕ) (input : Input) (old new : ReplayWorld) (lane after : LaneValue) → MeetsInput k input old new lane after → IsSound old → IsSound new
 sound-input k input old new lane after h sound =
     let found = lane-at old.world 1 old.lanes.items k lane sound.lanes h.at in
     record {
@@ -97,31 +97,28 @@ sound-input k input old new lane after h sound =
       clean = subst (λ lanes. AllByRecursion IsClean lanes) (sym h.set) (all-set IsClean old.lanes.items k after sound.clean (h.clean (all-at IsClean old.lanes.items k lane sound.clean h.at)));
     }
 
-pub live-input : (k : ℕ) (input : Input) (old new : LiveWorld) (lane after : LaneValue) → MeetsInput k input old new lane after
-    → (first : Configuration) (inputs : List (List Input)) (standing : Standing) → IsLive first inputs standing old → IsLive first (with_input k input inputs) standing new
-live-input k input old new lane after h first inputs standing live =
-    let found = lane-at old.world 1 old.lanes.items k lane live.sound.lanes h.at in
-    let (edition, last, config) = live.config in
+pub replay-input : (k : ℕ) (input : Input) (old new : ReplayWorld) (lane after : LaneValue) → MeetsInput k input old new lane after
+    → (first : Configuration) (inputs : List (List Input)) (standing : Standing) → ReplayStandsFor first inputs standing old → ReplayStandsFor first (with_input k input inputs) standing new
+replay-input k input old new lane after h first inputs standing replay =
+    let found = lane-at old.world 1 old.lanes.items k lane replay.sound.lanes h.at in
+    let same : operator_of new ≡ operator_of old = λ i. record { editions = h.desk i; answers = h.answers i } in
     record {
-      sound = sound-input k input old new lane after h live.sound;
-      config = (edition, subst (λ editions. IsLastOf editions edition) (sym h.asks.editions) last, config);
-      number = live.number ∙ sym (ap length h.asks.editions);
-      accepted = subst (λ editions. DeskStandsFor editions first standing.accepted) (sym h.desk) live.accepted;
-      answers = h.answers ∙ live.answers;
+      sound = sound-input k input old new lane after h replay.sound;
+      operator = subst (OperatorStandsFor first standing) (sym same) replay.operator;
       stands = subst (λ lanes. EachStandsFor new.world lanes (with_input k input inputs)) (sym h.set)
-          (stand-set old.world new.world 1 old.lanes.items k lane after input inputs (subst (λ n. ChangesAsksOf n old.world new.world) found.0 h.asks) h.at h.stands live.sound.lanes live.stands);
+          (stand-set old.world new.world 1 old.lanes.items k lane after input inputs (subst (λ n. ChangesAsksOf n old.world new.world) found.0 h.asks) h.at h.stands replay.sound.lanes replay.stands);
     }
 
 -- the lane that a call lends
-pub lane-lent : (live : LiveWorld) (k : ℕ) (lane : LaneValue) → IsSound live → k < length live.lanes.items → lane ≡ get_or live.lanes.items k lane → IsLaneOf live.world lane
-lane-lent live k lane sound within is = (lane-at live.world 1 live.lanes.items k lane sound.lanes (slice_get_read live.lanes.items (length live.lanes.items) k lane refl within is)).1
+pub lane-lent : (replay : ReplayWorld) (k : ℕ) (lane : LaneValue) → IsSound replay → k < length replay.lanes.items → lane ≡ get_or replay.lanes.items k lane → IsLaneOf replay.world lane
+lane-lent replay k lane sound within is = (lane-at replay.world 1 replay.lanes.items k lane sound.lanes (slice_get_read replay.lanes.items (length replay.lanes.items) k lane refl within is)).1
 
 -- that lane is clean
-pub clean-lent : (live : LiveWorld) (k : ℕ) (lane : LaneValue) → IsSound live → k < length live.lanes.items → lane ≡ get_or live.lanes.items k lane → IsClean lane
-clean-lent live k lane sound within is = all-at IsClean live.lanes.items k lane sound.clean (slice_get_read live.lanes.items (length live.lanes.items) k lane refl within is)
+pub clean-lent : (replay : ReplayWorld) (k : ℕ) (lane : LaneValue) → IsSound replay → k < length replay.lanes.items → lane ≡ get_or replay.lanes.items k lane → IsClean lane
+clean-lent replay k lane sound within is = all-at IsClean replay.lanes.items k lane sound.clean (slice_get_read replay.lanes.items (length replay.lanes.items) k lane refl within is)
 
 -- a packet was judged
-pub replays-judged : (k : ℕ) (input : Input) (packet : AnyIp) (port : Port) (second : ℕ) (old new : LiveWorld) (lane after : LaneValue) (judgement : Judgement) → Packet packet port second ≡ input → k < length old.lanes.items → lane ≡ get_or old.lanes.items k lane
+pub replays-judged : (k : ℕ) (input : Input) (packet : AnyIp) (port : Port) (second : ℕ) (old new : ReplayWorld) (lane after : LaneValue) (judgement : Judgement) → Packet packet port second ≡ input → k < length old.lanes.items → lane ≡ get_or old.lanes.items k lane
     → new.lanes.items ≡ slice_set old.lanes.items k after → new.desk ≡ old.desk → new.answers.items ≡ old.answers.items
     → Judges old.world new.world lane.place (length lane.docket.entries + 1) packet port second lane.tally after.tally judgement
     → after ≡ judged_lane (published_count old.world) judgement after.tally lane
@@ -144,11 +141,11 @@ replays-judged k input packet port second old new lane after judgement input-is 
       replays = record { lane = lane; tally = after.tally; judgement = judgement; judges = judges; changes = (at, set ∙ ap (slice_set old.lanes.items k) lane-is) };
       sound = sound-input k (Packet packet port second) old new lane after meets;
       lanes = ap length set ∙ length-set_lanes old.lanes.items k after;
-      live = live-input k (Packet packet port second) old new lane after meets;
+      stands = replay-input k (Packet packet port second) old new lane after meets;
     })
 
 -- an entry was made for a record that isn't judged
-pub replays-entered : (k : ℕ) (input : Input) (entered : DocketEntry) (old new : LiveWorld) (lane after : LaneValue) (met : Input) → met ≡ input → (EntersAt k (run_state old) (run_state new) entered → ReplaysInput k (run_state old) (run_state new) met)
+pub replays-entered : (k : ℕ) (input : Input) (entered : DocketEntry) (old new : ReplayWorld) (lane after : LaneValue) (met : Input) → met ≡ input → (EntersAt k (run_state old) (run_state new) entered → ReplaysInput k (run_state old) (run_state new) met)
     → k < length old.lanes.items → lane ≡ get_or old.lanes.items k lane → new.lanes.items ≡ slice_set old.lanes.items k after → new.desk ≡ old.desk → new.answers.items ≡ old.answers.items
     → new.world ≡ old.world → after ≡ with_docket_entry entered lane
     → ((own : List Input) → LaneStandsFor old.world lane own → LaneStandsFor old.world after (own ++ met ∷ [])) → IsLaneOf old.world after → ReplaysARecord k input old new
@@ -173,5 +170,5 @@ replays-entered k input entered old new lane after met input-is replays within i
       replays = replays (record { lane = lane; world = world; changes = (at, set ∙ ap (slice_set old.lanes.items k) lane-is) });
       sound = sound-input k met old new lane after meets;
       lanes = ap length set ∙ length-set_lanes old.lanes.items k after;
-      live = live-input k met old new lane after meets;
+      stands = replay-input k met old new lane after meets;
     })

@@ -1,25 +1,25 @@
 -- The record of the capture that comes first was replayed.
 use Rattle.std.proofs.Common.{◌≡◌, ℕ, zero, suc, ◌+◌, ◌<◌, Option, Some, None, List, [], ◌∷◌, ◌++◌, map, length, refl, sym, ap, subst, ◌∙◌, arith, append_assoc}
-use Rattle.std.specs.Prelude.{slice_get, slice_set, MatchOption}
+use Rattle.std.specs.Prelude.{slice_get, slice_set}
 use Rattle.std.specs.Option.{option_map}
 use Rattle.std.specs.List.{AllByRecursion}
 use Rattle.std.proofs.lemmas.List.{map-append, map-set, length-map}
 use Rattle.std.proofs.lemmas.Option.{slice_get-map, slice_get_within}
 use Rattle.fw_command.specs.WellFormed.{IsStepInRange}
-use Rattle.fw_base.specs.declared.port.Port.{Port}
-use Rattle.fw_report.specs.declared.capture_end.CaptureEnd.{CaptureEnd}
-use Rattle.pcap_read.specs.Capture.{link_of, source_of}
+use Rattle.pcap_read.specs.Capture.{link_of}
 use Rattle.pcap_read.specs.Reading.{Captured}
-use Rattle.serial_replay.specs.Commands.{after_lines}
+use Rattle.capture_tracks.specs.Commands.{after_lines}
 use Rattle.serial_replay.specs.Events.{ReplaysAll, ReplaysInput, ReplaysTurn}
-use Rattle.serial_replay.specs.Live.{run_state, with_input, IsLive, ReplaysARecord}
-use Rattle.serial_replay.specs.Reading.{Origin, input_of}
+use Rattle.serial_replay.specs.ReplayWorld.{run_state, with_input, ReplayStandsFor, ReplaysARecord}
+use Rattle.capture_tracks.specs.Reading.{Origin, input_of}
 use Rattle.serial_replay.specs.Running.{inputs_of, joined_records, with_last, first_capture_of, IsReady, TakesRecord}
-use Rattle.serial_replay.specs.Tracks.{AreTracks, IsTrack, GoesOn, IsReadToEnd, GoesFurther, GoesFurtherAt, held_in, held_record_of, open_of, room_of, rooms_of}
-use Rattle.serial_replay.specs.declared.open_track.OpenTrack.{OpenTrack}
-use Rattle.serial_replay.specs.declared.replay.OpenedCapture.{OpenedCapture}
-use Rattle.serial_replay.specs.declared.track.Track.{Track}
-use Rattle.serial_replay.specs.declared.track.Track.TheVariants.{Open, Refused}
+use Rattle.capture_tracks.specs.Tracks.{IsTrack, GoesFurther, held_in, held_record_of, room_of}
+use Rattle.capture_tracks.proofs.Origins.{origin-open}
+use Rattle.serial_replay.specs.Tracks.{AreTracks, GoesFurtherAt, open_of, rooms_of}
+use Rattle.capture_tracks.specs.declared.open_track.OpenTrack.{OpenTrack}
+use Rattle.capture_tracks.specs.declared.opened.OpenedCapture.{OpenedCapture}
+use Rattle.capture_tracks.specs.declared.track.Track.{Track}
+use Rattle.capture_tracks.specs.declared.track.Track.TheVariants.{Open, Refused}
 use Rattle.serial_replay.specs.declared.running.Running.{Running}
 use Rattle.serial_schedule.specs.Agenda.{NoneIsDue}
 use Rattle.fw_command.specs.Steps.{all_lines}
@@ -79,19 +79,6 @@ module _ {S : Type 0} (left : S → Option (List ℕ)) (faults : S → ℕ) wher
       (origin, refl, (opened, done, subst (λ t. IsTrack left faults limit opened t done origin) same are.0))
   track-at limit (opened ∷ captures) (first ∷ tracks) (done ∷ dones) (origin ∷ origins) (suc k) track at are = track-at limit captures tracks dones origins k track at are.2
 
-  -- an open track that holds a record has the link type and the port of its capture
-  pub origin-open : (limit : ℕ) (opened : OpenedCapture S) (track : OpenTrack S) (done : List Captured) (origin : Origin) (r : Captured) → held_in track ≡ Some r → IsTrack left faults limit opened (Open track) done origin → origin ≡ record { link = link_of track.capture; port = track.port }
-  origin-open limit opened track done origin r held is = cases track.end refl
-    where
-      cases : (end : Option CaptureEnd) → track.end ≡ end → origin ≡ record { link = link_of track.capture; port = track.port }
-      cases None running =
-          let on = subst (λ e. MatchOption e (GoesOn left faults limit opened track done origin) (λ end. IsReadToEnd left faults limit opened (source_of track.capture) end done origin × (held_in track ≡ None))) running is.1 in
-          on.origin_is ∙ ap (λ (p : Port). record { link = link_of track.capture; port = p }) (sym is.0)
-      cases (Some end) ended =
-          let none = subst (λ e. MatchOption e (GoesOn left faults limit opened track done origin) (λ end. IsReadToEnd left faults limit opened (source_of track.capture) end done origin × (held_in track ≡ None))) ended is.1 in
-          let never : Some r ≡ None = sym held ∙ none.1 in
-          absurd (cc)
-
 set-back : {X : Type 0} (xs : List X) (k : ℕ) (x y : X) → slice_get xs k ≡ Some x → slice_set (slice_set xs k y) k x ≡ xs
 set-back [] k x y at = refl
 set-back (z ∷ xs) zero x y at = let same : x ≡ z = cc in ap (λ first. first ∷ xs) same
@@ -149,7 +136,7 @@ module _ {S : Type 0} where
   module _ (left : S → Option (List ℕ)) (faults : S → ℕ) where
     -- the record of the capture that comes first was replayed
     pub takes-record : (old new : Running S) (k : ℕ) (track : OpenTrack S) (r : Captured) → IsReady left faults old → NoneIsDue old.taken (steps_of old.agenda) (steps_of old.agenda) → first_capture_of old.tracks ≡ Some k → slice_get old.tracks k ≡ Some (Open track) → held_in track ≡ Some r
-        → ReplaysARecord k (input_of (link_of track.capture) track.port r) old.live new.live → GoesFurtherAt left faults k old.tracks new.tracks → steps_of new.agenda ≡ steps_of old.agenda → new.taken ≡ old.taken + 1 → TakesRecord left faults old new
+        → ReplaysARecord k (input_of (link_of track.capture) track.port r) old.replay new.replay → GoesFurtherAt left faults k old.tracks new.tracks → steps_of new.agenda ≡ steps_of old.agenda → new.taken ≡ old.taken + 1 → TakesRecord left faults old new
     takes-record old new k track r ready none first at held replays further agenda taken =
         let before_is : further.before ≡ Open track = let e : Some further.before ≡ Some (Open track) = sym further.at ∙ at in cc in
         let before_held : held_record_of further.before ≡ Some r = ap held_record_of before_is ∙ held in
@@ -180,8 +167,8 @@ module _ {S : Type 0} where
                   standing = h.standing;
                   tracks = subst (λ ts. AreTracks left faults limit captures ts (with_last k r h.dones) origins) (sym further.set)
                       (are-further left faults limit captures old.tracks h.dones origins k further.before further.after r further.at before_held further.goes h.tracks).0;
-                  live = subst (λ inputs. IsLive config inputs h.standing new.live) (sym (inputs-with_last k r origins h.dones origin origin_at ∙ ap (λ i. with_input k i (inputs_of origins h.dones)) input))
-                      (replays.live config (inputs_of origins h.dones) h.standing h.live);
+                  stands = subst (λ inputs. ReplayStandsFor config inputs h.standing new.replay) (sym (inputs-with_last k r origins h.dones origin origin_at ∙ ap (λ i. with_input k i (inputs_of origins h.dones)) input))
+                      (replays.stands config (inputs_of origins h.dones) h.standing h.stands);
                   lines = ap (λ steps. after_lines h.standing (all_lines steps)) agenda ∙ h.lines;
                   comes = λ rests end fits all.
                       let full = with_next k r rests in
@@ -195,13 +182,13 @@ module _ {S : Type 0} where
                       omega (arith, there, lengths, length-map rests next_record_of, length-map new.tracks held_record_of, length-kept old.tracks k further.after, ap length further.set) in
                       let comes_first : first_capture (map next_moment full) ≡ Some k = ap first_capture (moments-heads full) ∙ ap (λ hs. first_capture (map (option_map moment_of) hs)) heads ∙ first in
                       let events = events-next old.taken (steps_of old.agenda) (steps_of old.agenda) k r rests none within comes_first in
-                      let all_taken = subst (λ n. ReplaysAll origins (run_state new.live) end (events_from n (steps_of new.agenda) (in_order rests))) taken all in
-                      let all_old = subst (λ steps. ReplaysAll origins (run_state new.live) end (events_from (old.taken + 1) steps (in_order rests))) agenda all_taken in
+                      let all_taken = subst (λ n. ReplaysAll origins (run_state new.replay) end (events_from n (steps_of new.agenda) (in_order rests))) taken all in
+                      let all_old = subst (λ steps. ReplaysAll origins (run_state new.replay) end (events_from (old.taken + 1) steps (in_order rests))) agenda all_taken in
                       let turn : Turn = record { capture = k; taken = r } in
-                      let own = subst (λ i. ReplaysInput k (run_state old.live) (run_state new.live) i) (sym input) replays.replays in
-                      let replayed = subst (λ o. ReplaysTurn o (run_state old.live) (run_state new.live) turn) (sym origin_at) own in
+                      let own = subst (λ i. ReplaysInput k (run_state old.replay) (run_state new.replay) i) (sym input) replays.replays in
+                      let replayed = subst (λ o. ReplaysTurn o (run_state old.replay) (run_state new.replay) turn) (sym origin_at) own in
                       subst (λ captures. ReplaysAll origins start end (schedule steps captures)) (sym (joined-with_last k r h.dones rests))
-                      (h.comes full end heads (subst (λ events. ReplaysAll origins (run_state old.live) end events) (sym events) (run_state new.live, replayed, all_old)));
+                      (h.comes full end heads (subst (λ events. ReplaysAll origins (run_state old.replay) end events) (sym events) (run_state new.replay, replayed, all_old)));
                 };
           };
           fewer = fewer;

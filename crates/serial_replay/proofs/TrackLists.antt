@@ -6,10 +6,11 @@ use Rattle.std.proofs.lemmas.Option.{slice_get_read}
 use Rattle.std.proofs.lemmas.List.{map-append}
 use Rattle.serial_schedule.specs.Order.{moment_of}
 use Rattle.serial_schedule.specs.declared.moment.Moment.{Moment}
-use Rattle.serial_replay.specs.Reading.{Origin}
-use Rattle.serial_replay.specs.Tracks.{Begins, BeginAll, GoesFurther, GoesFurtherAt, AreTracks, room_of, rooms_of, held_record_of}
-use Rattle.serial_replay.specs.declared.replay.OpenedCapture.{OpenedCapture}
-use Rattle.serial_replay.specs.declared.track.Track.{Track}
+use Rattle.capture_tracks.specs.Reading.{Origin}
+use Rattle.capture_tracks.specs.Tracks.{Begins, GoesFurther, room_of, held_record_of}
+use Rattle.serial_replay.specs.Tracks.{BeginAll, GoesFurtherAt, AreTracks, rooms_of}
+use Rattle.capture_tracks.specs.declared.opened.OpenedCapture.{OpenedCapture}
+use Rattle.capture_tracks.specs.declared.track.Track.{Track}
 
 -- a list, each element as it is
 pub map-itself : {X : Type 0} (xs : List X) → map (λ x. x) xs ≡ xs

@@ -8,26 +8,31 @@ use Rattle.fw_command.specs.declared.script.Step.{Step}
 use Rattle.fw_world.specs.Closing.{AreLanesFrom, EachStandsFor}
 use Rattle.fw_world.specs.Editions.{IsLastOf}
 use Rattle.fw_world.specs.Lane.{LaneValue, first_lanes}
-use Rattle.fw_world.specs.Legal.{IsLegal, lane_asks, StandFor}
+use Rattle.fw_world.specs.Legal.{IsLegal}
+use Rattle.fw_world.specs.Asks.{lane_asks}
+use Rattle.fw_world.specs.Standing.{StandFor}
 use Rattle.fw_world.specs.RecordValue.{RecordValue}
 use Rattle.fw_world.specs.World.{WorldValue, published_count, DeskStandsFor}
-use Rattle.fw_world.specs.WorldKept.{IsNewWorld}
+use Rattle.serial_world.specs.WorldKept.{IsNewWorld}
 use Rattle.generation_store.specs.Published.{Published}
 use Rattle.pcap_read.specs.Reading.{Captured}
 use Rattle.rule_chain.specs.Configuration.{Configuration}
 use Rattle.state_journal.specs.Journal.{Journal, first_journal}
-use Rattle.serial_replay.specs.Commands.{Standing, after_lines, first_standing}
+use Rattle.capture_tracks.specs.Commands.{Standing, after_lines, first_standing}
 use Rattle.serial_replay.specs.Events.{ReplaysAll}
-use Rattle.serial_replay.specs.Live.{run_state, IsClean, IsSound}
-use Rattle.serial_replay.specs.Reading as reading
-use Rattle.serial_replay.specs.Reading.{Origin, origin_of, AllRead, track_inputs}
-use Rattle.serial_replay.specs.Replay.{limit_for, lines_outcome, IsReplay}
+use Rattle.serial_replay.specs.ReplayWorld.{run_state, IsClean, IsSound}
+use Rattle.capture_tracks.specs.Reading as reading
+use Rattle.capture_tracks.specs.Reading.{Origin, origin_of, AllRead, track_inputs}
+use Rattle.capture_tracks.specs.Commands.{lines_outcome}
+use Rattle.capture_tracks.specs.Replay.{limit_for}
+use Rattle.serial_replay.specs.Replay.{IsSerialReplay}
 use Rattle.serial_replay.specs.Running.{inputs_of, joined_records, IsReady, IsUnderway, Closes, RunsOut}
-use Rattle.serial_replay.specs.Tracks.{AreTracks, BeginAll, held_record_of, source_at}
-use Rattle.serial_replay.specs.declared.replay.OpenedCapture.{OpenedCapture}
-use Rattle.serial_replay.specs.declared.replay.Replayed.{Replayed}
+use Rattle.capture_tracks.specs.Tracks.{held_record_of, source_at}
+use Rattle.serial_replay.specs.Tracks.{AreTracks, BeginAll}
+use Rattle.capture_tracks.specs.declared.opened.OpenedCapture.{OpenedCapture}
+use Rattle.capture_tracks.specs.declared.replayed.Replayed.{Replayed}
 use Rattle.serial_replay.specs.declared.running.Running.{Running}
-use Rattle.serial_replay.specs.declared.track.Track.{Track}
+use Rattle.capture_tracks.specs.declared.track.Track.{Track}
 use Rattle.fw_command.specs.Steps.{all_lines}
 use Rattle.serial_schedule.specs.Order.{in_order, next_record_of}
 use Rattle.serial_schedule.specs.Schedule.{events_from, schedule}
@@ -96,10 +101,10 @@ module _ {S : Type 0} (left : S → Option (List ℕ)) (faults : S → ℕ) wher
   -- A replay that begins.
   pub record Starts (config : Configuration) (steps : List Step) (limit : ℕ) (captures : List (OpenedCapture S)) (run : Running S) : Type 0 where
     pub count : ℕ
-    pub opened : IsNewWorld config count run.live.world
-    pub lanes : run.live.lanes.items ≡ first_lanes 1 count
-    pub desk : run.live.desk ≡ run.live.world.editions
-    pub answers : run.live.answers.items ≡ []
+    pub opened : IsNewWorld config count run.replay.world
+    pub lanes : run.replay.lanes.items ≡ first_lanes 1 count
+    pub desk : run.replay.desk ≡ run.replay.world.editions
+    pub answers : run.replay.answers.items ≡ []
     pub tracks : BeginAll left faults limit captures run.tracks
     pub agenda : steps_of run.agenda ≡ steps
     pub taken : run.taken ≡ 0
@@ -107,13 +112,13 @@ module _ {S : Type 0} (left : S → Option (List ℕ)) (faults : S → ℕ) wher
     pub few : (count ≤ 16) × (limit ≤ 4194304)
     pub formed : AllByRecursion IsStepInRange steps
 
-  starts-sound : (config : Configuration) (steps : List Step) (limit : ℕ) (captures : List (OpenedCapture S)) (run : Running S) → Starts config steps limit captures run → IsSound run.live
+  starts-sound : (config : Configuration) (steps : List Step) (limit : ℕ) (captures : List (OpenedCapture S)) (run : Running S) → Starts config steps limit captures run → IsSound run.replay
   starts-sound config steps limit captures run h =
-      let lanes : run.live.world.journal.lanes ≡ h.count = ap (λ (j : Journal). j.lanes) h.opened.journal in
-      let one : published_count run.live.world ≡ 1 = ap length h.opened.editions in
+      let lanes : run.replay.world.journal.lanes ≡ h.count = ap (λ (j : Journal). j.lanes) h.opened.journal in
+      let one : published_count run.replay.world ≡ 1 = ap length h.opened.editions in
       record {
         desk = h.desk;
-        lanes = subst (λ l. AreLanesFrom run.live.world 1 l) (sym h.lanes) (lanes-first run.live.world 1 h.count h.count (omega arith) (omega arith) lanes (omega arith));
+        lanes = subst (λ l. AreLanesFrom run.replay.world 1 l) (sym h.lanes) (lanes-first run.replay.world 1 h.count h.count (omega arith) (omega arith) lanes (omega arith));
         all = ap length h.lanes ∙ length-first 1 h.count ∙ sym lanes;
         clean = subst (λ l. AllByRecursion IsClean l) (sym h.lanes) (clean-first 1 h.count);
       }
@@ -133,28 +138,30 @@ module _ {S : Type 0} (left : S → Option (List ℕ)) (faults : S → ℕ) wher
             omega (arith, product, h.tracks.room, h.taken);
       }
 
-  starts-goes : (config : Configuration) (steps : List Step) (limit : ℕ) (captures : List (OpenedCapture S)) (run : Running S) → (h : Starts config steps limit captures run) → IsUnderway left faults config steps limit captures h.tracks.origins (run_state run.live) run
+  starts-goes : (config : Configuration) (steps : List Step) (limit : ℕ) (captures : List (OpenedCapture S)) (run : Running S) → (h : Starts config steps limit captures run) → IsUnderway left faults config steps limit captures h.tracks.origins (run_state run.replay) run
   starts-goes config steps limit captures run h =
       let same = lengths limit captures run.tracks (map (λ (track : Track S). []) run.tracks) h.tracks.origins h.tracks.begun in
-      let asks : (k : ℕ) → lane_asks k run.live.world.journal.entries ≡ [] = λ k. ap (λ (j : Journal). lane_asks k j.entries) h.opened.journal in
+      let asks : (k : ℕ) → lane_asks k run.replay.world.journal.entries ≡ [] = λ k. ap (λ (j : Journal). lane_asks k j.entries) h.opened.journal in
       record {
         dones = map (λ (track : Track S). []) run.tracks;
         standing = first_standing config;
         tracks = h.tracks.begun;
-        live = record {
+        stands = record {
           sound = starts-sound config steps limit captures run h;
-          config = (h.opened.edition, subst (λ editions. IsLastOf editions h.opened.edition) (sym h.opened.editions) refl, h.opened.built.configured);
-          number = sym (ap length h.opened.editions);
-          accepted = subst (λ editions. DeskStandsFor editions config []) (sym (h.desk ∙ h.opened.editions)) h.opened.built;
-          answers = h.answers;
-          stands = subst (λ l. EachStandsFor run.live.world l (inputs_of h.tracks.origins (map (λ (track : Track S). []) run.tracks))) (sym h.lanes)
-              (stands-first run.live.world 1 h.count h.tracks.origins run.tracks asks (same.1 ∙ sym h.counted) (same.0 ∙ sym h.counted));
+          operator = record {
+            config = (h.opened.edition, subst (λ editions. IsLastOf editions h.opened.edition) (sym (h.desk ∙ h.opened.editions)) refl, h.opened.built.configured);
+            number = sym (ap length (h.desk ∙ h.opened.editions));
+            accepted = subst (λ editions. DeskStandsFor editions config []) (sym (h.desk ∙ h.opened.editions)) h.opened.built;
+            answers = h.answers;
+          };
+          stands = subst (λ l. EachStandsFor run.replay.world l (inputs_of h.tracks.origins (map (λ (track : Track S). []) run.tracks))) (sym h.lanes)
+              (stands-first run.replay.world 1 h.count h.tracks.origins run.tracks asks (same.1 ∙ sym h.counted) (same.0 ∙ sym h.counted));
         };
         lines = ap (λ s. after_lines (first_standing config) (all_lines s)) h.agenda;
         comes = λ rests last fits all.
-            let from_first = subst (λ n. ReplaysAll h.tracks.origins (run_state run.live) last (events_from n (steps_of run.agenda) (in_order rests))) h.taken all in
-            let of_steps = subst (λ s. ReplaysAll h.tracks.origins (run_state run.live) last (events_from 0 s (in_order rests))) h.agenda from_first in
-            subst (λ records. ReplaysAll h.tracks.origins (run_state run.live) last (schedule steps records)) (sym (joined-first run.tracks rests fits)) of_steps;
+            let from_first = subst (λ n. ReplaysAll h.tracks.origins (run_state run.replay) last (events_from n (steps_of run.agenda) (in_order rests))) h.taken all in
+            let of_steps = subst (λ s. ReplaysAll h.tracks.origins (run_state run.replay) last (events_from 0 s (in_order rests))) h.agenda from_first in
+            subst (λ records. ReplaysAll h.tracks.origins (run_state run.replay) last (schedule steps records)) (sym (joined-first run.tracks rests fits)) of_steps;
       }
 
   standing-last : (standing outcome : Standing) (steps : List Step) → after_lines standing (all_lines steps) ≡ outcome → all_lines steps ≡ [] → standing ≡ outcome
@@ -163,10 +170,10 @@ module _ {S : Type 0} (left : S → Option (List ℕ)) (faults : S → ℕ) wher
 
   -- what a replay that was run out and closed comes to
   pub comes-to : (config : Configuration) (steps : List Step) (limit : ℕ) (captures : List (OpenedCapture S)) (run ended : Running S) (r : Replayed S) → limit ≡ limit_for (length captures) → Starts config steps limit captures run → RunsOut left faults run ended → Closes left faults ended r
-      → IsReplay left faults config steps captures r
+      → IsSerialReplay left faults config steps captures r
   comes-to config steps limit captures run ended r limit-is h out closed =
       let origins = h.tracks.origins in
-      let goes = out.keeps.goes config steps limit captures origins (run_state run.live) (starts-goes config steps limit captures run h) in
+      let goes = out.keeps.goes config steps limit captures origins (run_state run.replay) (starts-goes config steps limit captures run h) in
       let all = ended-told left faults limit captures ended.tracks goes.dones origins out.ended goes.tracks in
       let standing : goes.standing ≡ lines_outcome config steps = standing-last goes.standing (lines_outcome config steps) (steps_of ended.agenda) goes.lines out.lines in
       let inputs : inputs_of origins goes.dones ≡ map track_inputs all.told =
@@ -179,17 +186,20 @@ module _ {S : Type 0} (left : S → Option (List ℕ)) (faults : S → ℕ) wher
       let heads : map next_record_of rests ≡ held = none_first held out.ended in
       let no_event : events_from ended.taken (steps_of ended.agenda) (in_order rests) ≡ [] =
       events-ended ended.taken (steps_of ended.agenda) rests (none_of_rests left faults rests held heads out.ended) ∙ events-none ended.taken (steps_of ended.agenda) out.lines in
-      let whole = goes.comes rests (run_state ended.live) heads (subst (λ events. ReplaysAll origins (run_state ended.live) (run_state ended.live) events) (sym no_event) refl) in
-      let over_dones = subst (λ records. ReplaysAll origins (run_state run.live) (run_state ended.live) (schedule steps records)) (joined-none left faults limit captures ended.tracks goes.dones origins goes.tracks ∙ sym all.records) whole in
+      let whole = goes.comes rests (run_state ended.replay) heads (subst (λ events. ReplaysAll origins (run_state ended.replay) (run_state ended.replay) events) (sym no_event) refl) in
+      let over_dones = subst (λ records. ReplaysAll origins (run_state run.replay) (run_state ended.replay) (schedule steps records)) (joined-none left faults limit captures ended.tracks goes.dones origins goes.tracks ∙ sym all.records) whole in
       record {
-        tracks = all.told;
-        read = subst (λ n. AllRead left faults n captures r.sources.items all.told r.ends.captures) limit-is
-            (subst (λ sources. AllRead left faults limit captures sources all.told r.ends.captures) (sym closed.sources)
-            (subst (λ ends. AllRead left faults limit captures (map source_at ended.tracks) all.told ends) (sym closed.ends) all.read));
-        legal = subst (λ own. IsLegal config (lines_outcome config steps).accepted own r.record) inputs
-            (subst (λ (s : Standing). IsLegal config s.accepted (inputs_of origins goes.dones) r.record) standing (closed.legal config goes.standing.accepted (inputs_of origins goes.dones) goes.live.accepted goes.live.stands));
+        replay = record {
+          tracks = all.told;
+          read = subst (λ n. AllRead left faults n captures r.sources.items all.told r.ends.captures) limit-is
+              (subst (λ sources. AllRead left faults limit captures sources all.told r.ends.captures) (sym closed.sources)
+              (subst (λ ends. AllRead left faults limit captures (map source_at ended.tracks) all.told ends) (sym closed.ends) all.read));
+          legal = subst (λ own. IsLegal config (lines_outcome config steps).accepted own r.record) inputs
+              (subst (λ (s : Standing). IsLegal config s.accepted (inputs_of origins goes.dones) r.record) standing (closed.legal config goes.standing.accepted (inputs_of origins goes.dones) goes.stands.operator.accepted goes.stands.stands));
+          answered = closed.answers ∙ goes.stands.operator.answers ∙ ap (λ (s : Standing). s.answers) standing;
+        };
         ordered = record {
-          first = run_state run.live;
+          first = run_state run.replay;
           begins = record {
             edition = h.opened.edition;
             built = h.opened.built;
@@ -197,8 +207,8 @@ module _ {S : Type 0} (left : S → Option (List ℕ)) (faults : S → ℕ) wher
             journal = h.opened.journal ∙ ap (λ n. first_journal n h.opened.edition.facts) count;
             lanes_new = h.lanes ∙ ap (first_lanes 1) count;
           };
-          last = run_state ended.live;
-          replays = subst (λ os. ReplaysAll os (run_state run.live) (run_state ended.live) (schedule steps (map (λ (t : reading.Track). t.records) all.told))) (sym all.origins_are) over_dones;
+          last = run_state ended.replay;
+          replays = subst (λ os. ReplaysAll os (run_state run.replay) (run_state ended.replay) (schedule steps (map (λ (t : reading.Track). t.records) all.told))) (sym all.origins_are) over_dones;
           ends = record {
             editions = ap (λ (v : RecordValue). v.editions) closed.record_is;
             journal = ap (λ (v : RecordValue). v.journal) closed.record_is;
@@ -207,5 +217,4 @@ module _ {S : Type 0} (left : S → Option (List ℕ)) (faults : S → ℕ) wher
             trackers = ap (λ (v : RecordValue). v.trackers) closed.record_is;
           };
         };
-        answered = closed.answers ∙ goes.live.answers ∙ ap (λ (s : Standing). s.answers) standing;
       }

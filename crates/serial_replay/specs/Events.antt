@@ -10,12 +10,12 @@ use Rattle.fw_rule.specs.declared.command.Command.{Command}
 use Rattle.fw_world.specs.CommitFaults.{RefusesCommand}
 use Rattle.fw_world.specs.Inputs.{Input, Other, Malformed, Packet}
 use Rattle.fw_world.specs.Lane.{LaneValue, lane_after_admission, with_docket_entry}
-use Rattle.fw_world.specs.Steps.{Judges, Publishes}
+use Rattle.serial_world.specs.Steps.{Judges, Publishes}
 use Rattle.fw_world.specs.World.{WorldValue, published_count}
 use Rattle.ip6_headers.specs.declared.any_ip.AnyIp.{AnyIp}
 use Rattle.rule_edits.specs.declared.apply_fault.ApplyFault.{ApplyFault}
-use Rattle.serial_replay.specs.Commands.{Listing, listing_of}
-use Rattle.serial_replay.specs.Reading.{Origin, input_of}
+use Rattle.capture_tracks.specs.Commands.{Listing, listing_of}
+use Rattle.capture_tracks.specs.Reading.{Origin, input_of}
 use Rattle.serial_schedule.specs.Order.{Turn}
 use Rattle.serial_schedule.specs.Schedule.{Event, Ran, Taken}
 

@@ -1,13 +1,9 @@
--- what is read of a capture
-pub mod Reading
+-- the captures that are replayed
 pub mod Tracks
--- what becomes of the commands
-pub mod Commands
 -- what each event of a run leaves
 pub mod Events
 -- a whole replay
 pub mod Replay
 -- the program beside them
-pub mod Listings
-pub mod Live
+pub mod ReplayWorld
 pub mod Running

@@ -7,20 +7,21 @@ use Rattle.fw_command.specs.declared.script.Step.{Step}
 use Rattle.fw_world.specs.Inputs.{Input}
 use Rattle.pcap_read.specs.Reading.{Captured}
 use Rattle.rule_chain.specs.Configuration.{Configuration}
-use Rattle.serial_replay.specs.Commands.{Standing, after_lines}
+use Rattle.capture_tracks.specs.Commands.{Standing, after_lines}
 use Rattle.serial_replay.specs.Events.{RunState, ReplaysAll}
-use Rattle.serial_replay.specs.Live.{run_state, IsSound, IsLive}
-use Rattle.serial_replay.specs.Reading.{Origin, input_of}
-use Rattle.serial_replay.specs.Replay.{lines_outcome}
-use Rattle.serial_replay.specs.Tracks.{AreTracks, end_of, held_record_of, rooms_of, source_at}
-use Rattle.serial_replay.specs.declared.replay.OpenedCapture.{OpenedCapture}
+use Rattle.serial_replay.specs.ReplayWorld.{run_state, IsSound, ReplayStandsFor}
+use Rattle.capture_tracks.specs.Reading.{Origin, input_of}
+use Rattle.capture_tracks.specs.Commands.{lines_outcome}
+use Rattle.capture_tracks.specs.Tracks.{end_of, held_record_of, source_at}
+use Rattle.serial_replay.specs.Tracks.{AreTracks, rooms_of}
+use Rattle.capture_tracks.specs.declared.opened.OpenedCapture.{OpenedCapture}
 use Rattle.fw_rule.specs.declared.command.Command.{Command}
 use Rattle.fw_world.specs.Closing.{EachStandsFor, record_of_world}
 use Rattle.fw_world.specs.Legal.{IsLegal}
 use Rattle.fw_world.specs.World.{DeskStandsFor}
-use Rattle.serial_replay.specs.declared.replay.Replayed.{Replayed}
+use Rattle.capture_tracks.specs.declared.replayed.Replayed.{Replayed}
 use Rattle.serial_replay.specs.declared.running.Running.{Running}
-use Rattle.serial_replay.specs.declared.track.Track.{Track}
+use Rattle.capture_tracks.specs.declared.track.Track.{Track}
 use Rattle.serial_schedule.specs.Agenda.{NoneIsDue}
 use Rattle.fw_command.specs.Steps.{all_lines}
 use Rattle.serial_schedule.specs.Order.{first_capture, in_order, moment_of, next_record_of}
@@ -61,9 +62,9 @@ module _ {S : Type 0} where
 
     -- what every call needs
     pub record IsReady (run : Running S) : Type 0 where
-      pub sound : IsSound run.live
+      pub sound : IsSound run.replay
       pub formed : AllByRecursion IsStepInRange (steps_of run.agenda)
-      pub matched : length run.live.lanes.items ≡ length run.tracks
+      pub matched : length run.replay.lanes.items ≡ length run.tracks
       pub tracked : HaveTracks run.tracks
       pub few : run.taken + rooms_of run.tracks ≤ 2 ^ 32
 
@@ -73,10 +74,10 @@ module _ {S : Type 0} where
       pub dones : List (List Captured)
       pub standing : Standing
       pub tracks : AreTracks left faults limit captures run.tracks dones origins
-      pub live : IsLive config (inputs_of origins dones) standing run.live
+      pub stands : ReplayStandsFor config (inputs_of origins dones) standing run.replay
       pub lines : after_lines standing (all_lines (steps_of run.agenda)) ≡ lines_outcome config steps
       pub comes : (rests : List (List Captured)) (last : RunState) → map next_record_of rests ≡ map held_record_of run.tracks
-          → ReplaysAll origins (run_state run.live) last (events_from run.taken (steps_of run.agenda) (in_order rests)) → ReplaysAll origins first last (schedule steps (joined_records dones rests))
+          → ReplaysAll origins (run_state run.replay) last (events_from run.taken (steps_of run.agenda) (in_order rests)) → ReplaysAll origins first last (schedule steps (joined_records dones rests))
 
     -- what a call keeps
     pub record Keeps (old new : Running S) : Type 0 where
@@ -103,8 +104,8 @@ module _ {S : Type 0} where
 
     -- The replay was closed: its record is that of its world and lanes, and legal where they stand for these.
     pub record Closes (run : Running S) (r : Replayed S) : Type 0 where
-      pub record_is : r.record ≡ record_of_world run.live.world run.live.lanes.items
-      pub legal : (first : Configuration) (commands : List Command) (inputs : List (List Input)) → DeskStandsFor run.live.desk first commands → EachStandsFor run.live.world run.live.lanes.items inputs → IsLegal first commands inputs r.record
+      pub record_is : r.record ≡ record_of_world run.replay.world run.replay.lanes.items
+      pub legal : (first : Configuration) (commands : List Command) (inputs : List (List Input)) → DeskStandsFor run.replay.desk first commands → EachStandsFor run.replay.world run.replay.lanes.items inputs → IsLegal first commands inputs r.record
       pub sources : r.sources.items ≡ map source_at run.tracks
       pub ends : r.ends.captures ≡ map end_of run.tracks
-      pub answers : r.ends.answers ≡ run.live.answers.items
+      pub answers : r.ends.answers ≡ run.replay.answers.items

@@ -1,13 +1,9 @@
-//! Replays captures beside the live commands of a script, in one thread.
+//! Replays captures beside the commands behind `live` of a script, in one thread and in the order of the schedule.
 #![tactic(auto)]
 
-pub use listing::{Listing, listing_of};
-pub use replay::{MOST_CAPTURES, OpenedCapture, Replayed, replay_serial};
+pub use replay::replay_serial;
 
-mod listing;
-mod live_world;
-mod open_track;
 mod replay;
+mod replay_world;
 mod running;
-mod track;
 mod tracks;

@@ -3,9 +3,9 @@ ghost use Rattle.serial_replay.specs.Running.{Closes, IsReady, RunsDue, TakesRec
 ghost use Rattle.serial_schedule.specs.Agenda.{NoneIsDue};
 ghost use Rattle.serial_schedule.specs.Steps.{steps_of};
 
-use crate::Replayed;
-use crate::live_world::LiveWorld;
+use crate::replay_world::ReplayWorld;
 use crate::tracks::Tracks;
+use capture_tracks::Replayed;
 use fw_base::{OutOfMemory, Source};
 use fw_report::Ends;
 use fw_rule::Items;
@@ -15,7 +15,7 @@ use std::alloc::Global;
 /// A replay that runs.
 #[derive(Drop)]
 pub(crate) struct Running<'a, S> {
-    pub(crate) live: LiveWorld,
+    pub(crate) replay: ReplayWorld,
     pub(crate) tracks: Tracks<S>,
     pub(crate) agenda: Agenda<'a>,
     /// How many records were replayed.
@@ -29,7 +29,7 @@ impl<S: Source> Running<'_, S> {
         ensures { OnOk result (RunsDue S.left S.faults self.old self.new) }
     {
         while let Some(line) = self.agenda.next_due(self.taken) {
-            self.live.run_line(alloc, line)?;
+            self.replay.run_line(alloc, line)?;
         }
         Ok(())
     }
@@ -45,7 +45,8 @@ impl<S: Source> Running<'_, S> {
         if let Some(track) = self.tracks.open_track(capture) {
             if let Some(taken) = track.capture.current() {
                 let link = track.capture.link();
-                self.live.replay_record(capture, link, &track.port, taken)?;
+                self.replay
+                    .replay_record(capture, link, &track.port, taken)?;
                 self.tracks.advance(capture);
                 self.taken += 1;
             }
@@ -60,7 +61,7 @@ impl<S: Source> Running<'_, S> {
         ensures { OnOk result (RunsOut S.left S.faults self.old self.new) }
     {
         while let Some(line) = self.agenda.next_left() {
-            self.live.run_line(alloc, line)?;
+            self.replay.run_line(alloc, line)?;
         }
         Ok(())
     }
@@ -83,17 +84,17 @@ impl<S: Source> Running<'_, S> {
         ensures { IfOk result (Closes S.left S.faults self.entry) }
     {
         let Running {
-            live,
+            replay,
             tracks,
             agenda: _,
             taken: _,
         } = self;
-        let LiveWorld {
+        let ReplayWorld {
             world,
             desk,
             lanes,
             answers,
-        } = live;
+        } = replay;
         let record = world.close(lanes, desk)?;
         let (sources, ends) = tracks.close(alloc)?;
         let ends = Ends {

@@ -1,14 +1,15 @@
 ghost use Rattle.std.specs.Prelude.{◌≡◌, ◌<◌, ◌≤◌, ℕ, IfOk, Some, map, length, vec_len, slice_get};
 ghost use Rattle.std.specs.Option.{option_copied, option_map};
-ghost use Rattle.serial_replay.specs.Tracks.{BeginAll, GoesFurtherAt, end_of, held_record_of, open_of, source_at};
+ghost use Rattle.pcap_read.specs.Capture.{current_of};
+ghost use Rattle.capture_tracks.specs.Tracks.{end_of, held_record_of, source_at};
+ghost use Rattle.serial_replay.specs.Tracks.{BeginAll, GoesFurtherAt, open_of};
 ghost use Rattle.serial_schedule.specs.Order as order;
 ghost use Rattle.serial_schedule.specs.Order.{moment_of};
 
-use crate::OpenedCapture;
-use crate::open_track::OpenTrack;
-use crate::track::Track;
+use capture_tracks::{MOST_RECORDS, OpenTrack, OpenedCapture, Track};
 use fw_base::{OutOfMemory, Source};
 use fw_report::CaptureEnd;
+use pcap_read::Capture;
 use serial_schedule::{Moment, first_capture};
 use std::alloc::Global;
 use std::marker::Model;
@@ -24,8 +25,8 @@ pub(crate) struct Tracks<S> {
 impl<S> Model for Tracks<S> {
     ghost use Rattle.std.specs.Prelude.{◌≡◌, List, map};
     ghost use Rattle.std.specs.Option.{option_map};
-    ghost use Rattle.serial_replay.specs.declared.track.Track.{Track};
-    ghost use Rattle.serial_replay.specs.Tracks.{held_record_of};
+    ghost use Rattle.capture_tracks.specs.declared.track.Track.{Track};
+    ghost use Rattle.capture_tracks.specs.Tracks.{held_record_of};
     ghost use Rattle.serial_schedule.specs.Order.{moment_of};
 
     ghost Value = { List (Track S) };
@@ -36,6 +37,29 @@ impl<S> Model for Tracks<S> {
         ≡ map (option_map moment_of) (map held_record_of t.tracks.items) };
 }
 
+/// When the record that a capture gave last was captured.
+fn moment<S: Source>(capture: &Capture<S>) -> Option<Moment>
+    ensures { result ≡ option_map moment_of (current_of capture.now) }
+{
+    match capture.current() {
+        Some(record) => Some(Moment {
+            second: record.second,
+            nanos: record.nanos,
+        }),
+        None => None,
+    }
+}
+
+/// When the record that a track holds was captured.
+fn held_moment<S: Source>(track: &Track<S>) -> Option<Moment>
+    ensures { result ≡ option_map moment_of (held_record_of track.now) }
+{
+    match track {
+        Track::Open(track) => moment(&track.capture),
+        Track::Refused { source: _, end: _ } => None,
+    }
+}
+
 impl<S: Source> Tracks<S> {
     /// Opens the captures, of each of which at most `limit` records are read.
     pub(crate) fn open(
@@ -44,14 +68,14 @@ impl<S: Source> Tracks<S> {
         limit: u32,
     ) -> Result<Tracks<S>, OutOfMemory>
         requires some { 1 ≤ limit }
-        requires most { limit ≤ 4194304 }
+        requires most { limit ≤ MOST_RECORDS }
         ensures { IfOk result (BeginAll S.left S.faults limit captures.items) }
     {
         let mut tracks = Vec::with_capacity(alloc, captures.len())?;
         let mut moments = Vec::with_capacity(alloc, captures.len())?;
         for opened in captures {
             let track = Track::open(alloc, opened, limit)?;
-            moments.push(track.moment())?;
+            moments.push(held_moment(&track))?;
             tracks.push(track)?;
         }
         Ok(Tracks { tracks, moments })
@@ -83,7 +107,7 @@ impl<S: Source> Tracks<S> {
     {
         let track = &mut self.tracks[capture];
         track.advance();
-        self.moments[capture] = track.moment();
+        self.moments[capture] = held_moment(track);
     }
 
     /// Their sources, and how they ended.

@@ -167,7 +167,7 @@ fn script_of(alloc: Global, body: &str) -> Result<Vec<u8>, Fail> {
 }
 
 /// Runs the rule of that body over the packets of a capture, with this word for it.
-fn run_body<R: Threads + Wait>(
+fn run_body<R: Threads + Wait + Sync>(
     rt: &R,
     alloc: Global,
     word: &str,
@@ -179,7 +179,7 @@ fn run_body<R: Threads + Wait>(
     run_over(rt, alloc, &["serial", "s", word], &mut library, ROOM)
 }
 
-fn check_body<R: Threads + Wait + Abort>(
+fn check_body<R: Threads + Wait + Sync + Abort>(
     rt: &R,
     alloc: Global,
     word: &str,
@@ -194,7 +194,7 @@ fn check_body<R: Threads + Wait + Abort>(
 }
 
 /// Runs each rule over the packets of a capture, with this word for it.
-pub fn check<R: Threads + Wait + Abort>(
+pub fn check<R: Threads + Wait + Sync + Abort>(
     rt: &R,
     alloc: Global,
     word: &str,

@@ -63,7 +63,7 @@ fn report_of(alloc: Global, bytes: usize, end: &[u8]) -> Result<Vec<u8>, Fail> {
 }
 
 /// Runs an empty script over that capture, truncated after so many bytes.
-fn check_truncated<R: Threads + Wait + Abort>(
+fn check_truncated<R: Threads + Wait + Sync + Abort>(
     rt: &R,
     alloc: Global,
     capture: &[u8],
@@ -87,7 +87,7 @@ fn capture_truncated_at_each_byte(rt: HostRuntime) -> Result<(), Fail> {
 }
 
 /// Runs an empty script over that capture, whose source fails after so many bytes.
-fn check_failing_source<R: Threads + Wait + Abort>(
+fn check_failing_source<R: Threads + Wait + Sync + Abort>(
     rt: &R,
     alloc: Global,
     capture: &[u8],
@@ -110,7 +110,7 @@ fn sources_that_fail_at_each_byte(rt: HostRuntime) -> Result<(), Fail> {
 }
 
 /// Runs an empty script over that capture, with a sink of this room for the text.
-fn check_room<R: Threads + Wait + Abort>(
+fn check_room<R: Threads + Wait + Sync + Abort>(
     rt: &R,
     alloc: Global,
     capture: &[u8],

@@ -148,7 +148,7 @@ const FRAMES: [Framed; 6] = [
     ),
 ];
 
-fn check_frame<R: Threads + Wait + Abort>(
+fn check_frame<R: Threads + Wait + Sync + Abort>(
     rt: &R,
     alloc: Global,
     (name, script, frame, text): Framed,

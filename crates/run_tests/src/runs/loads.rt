@@ -18,7 +18,7 @@ fn load_of_one_record(rt: HostRuntime) -> Result<(), Fail> {
 }
 
 /// The summary of a load of 1,000 records.
-fn summary<R: Threads + Wait + Abort>(rt: &R, alloc: Global) -> Result<Vec<u8>, Fail> {
+fn summary<R: Threads + Wait + Sync + Abort>(rt: &R, alloc: Global) -> Result<Vec<u8>, Fail> {
     let mut library = MemoryLibrary::new(alloc);
     let seen = run_over(rt, alloc, &["load", "1000"], &mut library, ROOM)?;
     assert_eq!(rt; seen.status, 0);

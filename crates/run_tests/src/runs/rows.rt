@@ -88,7 +88,7 @@ fn bytes_of(alloc: Global, made: Made) -> Result<Vec<u8>, Fail> {
 }
 
 /// Runs the row over its capture, which comes in these pieces, and compares the status and the text.
-fn check_in_pieces<R: Threads + Wait + Abort>(
+fn check_in_pieces<R: Threads + Wait + Sync + Abort>(
     rt: &R,
     alloc: Global,
     row: &Row,
@@ -102,7 +102,7 @@ fn check_in_pieces<R: Threads + Wait + Abort>(
 }
 
 /// Runs the row with each list of pieces.
-fn check<R: Threads + Wait + Abort>(rt: &R, alloc: Global, row: &Row) -> Result<(), Fail> {
+fn check<R: Threads + Wait + Sync + Abort>(rt: &R, alloc: Global, row: &Row) -> Result<(), Fail> {
     let capture = bytes_of(alloc, row.capture)?;
     for pieces in PIECE_LISTS {
         check_in_pieces(rt, alloc, row, &capture, pieces)?;
@@ -198,7 +198,7 @@ fn malformed_kinds(rt: HostRuntime) -> Result<(), Fail> {
 }
 
 /// Runs an empty script over two SYNs, whose source fails behind the first.
-fn check_failing_source<R: Threads + Wait + Abort>(
+fn check_failing_source<R: Threads + Wait + Sync + Abort>(
     rt: &R,
     alloc: Global,
     pieces: &[usize],

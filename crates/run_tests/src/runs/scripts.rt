@@ -16,7 +16,7 @@ struct Row {
 }
 
 /// Runs the script over a capture, and compares the status and the text.
-fn check_over<R: Threads + Wait + Abort>(
+fn check_over<R: Threads + Wait + Sync + Abort>(
     rt: &R,
     alloc: Global,
     row: &Row,
@@ -28,7 +28,11 @@ fn check_over<R: Threads + Wait + Abort>(
     Ok(())
 }
 
-fn check<R: Threads + Wait + Abort>(rt: &R, alloc: Global, rows: &[Row]) -> Result<(), Fail> {
+fn check<R: Threads + Wait + Sync + Abort>(
+    rt: &R,
+    alloc: Global,
+    rows: &[Row],
+) -> Result<(), Fail> {
     let capture = syns(alloc, 1)?;
     for row in rows {
         check_over(rt, alloc, row, &capture)?;
@@ -274,7 +278,7 @@ fn script_of(alloc: Global, made: Made) -> Result<Vec<u8>, Fail> {
     }
 }
 
-fn check_limit<R: Threads + Wait + Abort>(
+fn check_limit<R: Threads + Wait + Sync + Abort>(
     rt: &R,
     alloc: Global,
     capture: &[u8],

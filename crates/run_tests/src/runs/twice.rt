@@ -9,7 +9,7 @@ use std::test::Fail;
 use std::thread::Threads;
 
 /// Runs these words over two libraries.
-fn run_over_both<R: Threads + Wait>(
+fn run_over_both<R: Threads + Wait + Sync>(
     rt: &R,
     alloc: Global,
     words: &[&str],

@@ -35,7 +35,7 @@ const NO_COMMANDS: [&[&str]; 17] = [
     ],
 ];
 
-fn check_usage<R: Threads + Wait + Abort>(
+fn check_usage<R: Threads + Wait + Sync + Abort>(
     rt: &R,
     alloc: Global,
     words: &[&str],
@@ -78,7 +78,7 @@ fn library_of_names(alloc: Global) -> Result<MemoryLibrary, Fail> {
     Ok(library)
 }
 
-fn check_command<R: Threads + Wait + Abort>(
+fn check_command<R: Threads + Wait + Sync + Abort>(
     rt: &R,
     alloc: Global,
     words: &[&str],
@@ -141,7 +141,7 @@ fn library_without(alloc: Global, name: &[u8]) -> Result<MemoryLibrary, Fail> {
     Ok(library)
 }
 
-fn check_refusal<R: Threads + Wait + Abort>(
+fn check_refusal<R: Threads + Wait + Sync + Abort>(
     rt: &R,
     alloc: Global,
     name: &[u8],
@@ -156,7 +156,7 @@ fn check_refusal<R: Threads + Wait + Abort>(
 }
 
 /// Runs a script whose source fails behind so many of its bytes.
-fn check_broken_script<R: Threads + Wait + Abort>(
+fn check_broken_script<R: Threads + Wait + Sync + Abort>(
     rt: &R,
     alloc: Global,
     cut: u64,

@@ -4,7 +4,7 @@ use Rattle.eval_engine.specs.declared.docket_entry.DocketEntry.TheVariants.{Othe
 use Rattle.fw_world.specs.Closing.{AreLanesFrom, by_place}
 use Rattle.fw_world.specs.Lane.{LaneValue, first_lane, with_docket_entry}
 use Rattle.fw_world.specs.World.{WorldValue, published_count}
-use Rattle.fw_world.specs.WorldKept.{IsNewWorld}
+use Rattle.serial_world.specs.WorldKept.{IsNewWorld}
 use Rattle.fw_world.proofs.Arranging.{by_place-moved}
 use Rattle.rule_chain.specs.Configuration.{Configuration}
 use Rattle.record_laws.proofs.tests.entered_by_two.Goals as goal

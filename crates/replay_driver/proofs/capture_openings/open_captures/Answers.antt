@@ -29,7 +29,7 @@ loop-capture-preserved g c =
     let i = c.loop-capture.capture-index in
     let x = get_or c.args.captures.now i blank in
     let one = rw c.in-Opened.is at c.in_ok-next.ensures in
-    let pushed = opens_push g.L.Library.pairs g.L.Library.faults g.L.Library.refused g.L.Reader.Source.left g.L.Reader.Source.faults
+    let pushed = opens_push (record { pairs = g.L.Library.pairs; faults = g.L.Library.faults; refused = g.L.Library.refused; left = g.L.Reader.Source.left; failures = g.L.Reader.Source.faults })
     c.args.library.now c.loop-capture.library c.open_capture.new.library (map capture_names (take i c.args.captures.now)) c.loop-capture.opened.items (capture_names x) c.in-Opened.next
     c.loop-capture.invariant one.0 one.1 in
     rw (names_push c.args.captures.now i blank c.loop-capture-test.true, c.in_ok-push-in-Opened.ensures.items) pushed

@@ -5,5 +5,5 @@ use Rattle.replay_driver.specs.Openings.{OpensAll}
 use Rattle.replay_driver.proofs.capture_openings.open_captures.Given as goal
 
 abbrev pub invariant-loop-capture : goal.invariant-loop-capture
-invariant-loop-capture g l = OpensAll g.L.Library.pairs g.L.Library.faults g.L.Library.refused g.L.Reader.Source.left g.L.Reader.Source.faults
+invariant-loop-capture g l = OpensAll (record { pairs = g.L.Library.pairs; faults = g.L.Library.faults; refused = g.L.Library.refused; left = g.L.Reader.Source.left; failures = g.L.Reader.Source.faults })
     l.fn.library l.library (map capture_names (take l.capture-index l.captures)) l.opened.items

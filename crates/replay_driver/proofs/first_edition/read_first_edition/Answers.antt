@@ -14,15 +14,15 @@ use Rattle.replay_driver.proofs.first_edition.read_first_edition.Goals as goal
 pub returns-in_err-before-clause-exact : goal.returns-in_err-before-clause-exact
 returns-in_err-before-clause-exact c =
     let (error, is, same) = err_from_is_err_and c.from_residual.result c.from_residual.ensures.1 in
-    rw (is, same) (passed_on (λ (s : Script). s) (λ (e : FirstEdition). e) c.in_err-before.field-0.0 _ (first_edition c.args.bytes.now) (λ e stop. script_stops c.args.bytes.now e stop) c.in_err-before.ensures.exact)
+    rw (is, same) (passed_on (λ (s : Script). s) (λ (e : FirstEdition). e) c.in_err-before.field-0.0 _ (first_edition c.args.pace c.args.bytes.now) (λ e stop. script_stops c.args.pace c.args.bytes.now e stop) c.in_err-before.ensures.exact)
 
 pub returns-in_err-config-clause-exact : goal.returns-in_err-config-clause-exact
 returns-in_err-config-clause-exact c =
     let script = c.in_ok-before.field-0 in
     let lines = ap (configuration_behind first_configuration) (sym c.as_slice-lines.ensures) in
     let (error, is, same) = err_from_is_err_and c.from_residual-in_err-config.result c.from_residual-in_err-config.ensures.1 in
-    rw (is, same) (passed_on (λ (x : Configuration). x) (λ (e : FirstEdition). e) c.in_err-config.field-0.0 _ (first_edition c.args.bytes.now)
-    (λ e stop. command_stops c.args.bytes.now script e c.in_ok-before.ensures.exact (lines ∙ stop))
+    rw (is, same) (passed_on (λ (x : Configuration). x) (λ (e : FirstEdition). e) c.in_err-config.field-0.0 _ (first_edition c.args.pace c.args.bytes.now)
+    (λ e stop. command_stops c.args.pace c.args.bytes.now script e c.in_ok-before.ensures.exact (lines ∙ stop))
     c.in_err-config.ensures)
 
 pub returns-in_err-answers-clause-exact : goal.returns-in_err-answers-clause-exact
@@ -31,8 +31,8 @@ returns-in_err-answers-clause-exact c =
     let lines = ap (configuration_behind first_configuration) (sym c.as_slice-lines.ensures) in
     let listings = ap (listings_of c.in_ok-config.config) (sym c.as_slice-lines.ensures) in
     let (error, is, same) = err_from_is_err_and c.from_residual-in_err-answers.result c.from_residual-in_err-answers.ensures.1 in
-    rw (is, same) (passed_on (λ (x : Vec LineAnswer Global). x.items) (λ (e : FirstEdition). e) c.in_err-answers.field-0.0 _ (first_edition c.args.bytes.now)
-    (λ e stop. listing_stops c.args.bytes.now script c.in_ok-config.config e c.in_ok-before.ensures.exact (lines ∙ c.in_ok-config.ensures) (listings ∙ stop))
+    rw (is, same) (passed_on (λ (x : Vec LineAnswer Global). x.items) (λ (e : FirstEdition). e) c.in_err-answers.field-0.0 _ (first_edition c.args.pace c.args.bytes.now)
+    (λ e stop. listing_stops c.args.pace c.args.bytes.now script c.in_ok-config.config e c.in_ok-before.ensures.exact (lines ∙ c.in_ok-config.ensures) (listings ∙ stop))
     c.in_err-answers.ensures)
 
 pub returns-clause-exact : goal.returns-clause-exact
@@ -40,5 +40,5 @@ returns-clause-exact c =
     let script = c.in_ok-before.field-0 in
     let lines = ap (configuration_behind first_configuration) (sym c.as_slice-lines.ensures) in
     let listings = ap (listings_of c.in_ok-config.config) (sym c.as_slice-lines.ensures) in
-    edition_stands c.args.bytes.now script c.in_ok-config.config c.in_ok-answers.answers.items c.in_ok-before.ensures.exact (lines ∙ c.in_ok-config.ensures) (listings ∙ c.in_ok-answers.ensures)
+    edition_stands c.args.pace c.args.bytes.now script c.in_ok-config.config c.in_ok-answers.answers.items c.in_ok-before.ensures.exact (lines ∙ c.in_ok-config.ensures) (listings ∙ c.in_ok-answers.ensures)
     ∙ ap (λ (l : List LineAnswer). let e : FirstEdition = record { config = c.in_ok-config.config; answers = l; live = script.live } in let r : Result FirstEdition ScriptError = Ok e in r) (sym c.from_vec.ensures)

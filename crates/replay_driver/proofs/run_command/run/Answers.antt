@@ -7,53 +7,53 @@ use Rattle.replay_driver.proofs.Promised.{all_kept, all_quiet, all_1, all_unread
 use Rattle.replay_driver.proofs.run_command.run.Goals as goal
 
 pub returns-clause-report : goal.returns-clause-report
-returns-clause-report g c = all_kept g.K.Sink.written g.K.Sink.faults g.L.Library.pairs g.L.Library.faults g.L.Library.refused g.L.Reader.Source.left g.L.Reader.Source.faults
+returns-clause-report g c = all_kept _ _
     c.args.library.now c.run_words.new.library c.args.out.now c.run_words.new.out c.run_words.result (job_of (map string_bytes c.args.words.now)) c.run_words.ensures.found c.run_words.ensures.usage
 
 pub returns-clause-status_0_cause : goal.returns-clause-status_0_cause
-returns-clause-status_0_cause g c = all_quiet g.K.Sink.written g.K.Sink.faults g.L.Library.pairs g.L.Library.faults g.L.Library.refused g.L.Reader.Source.left g.L.Reader.Source.faults
+returns-clause-status_0_cause g c = all_quiet _ _
     c.args.library.now c.run_words.new.library c.args.out.now c.run_words.new.out c.run_words.result (job_of (map string_bytes c.args.words.now)) c.run_words.ensures.found c.run_words.ensures.usage
 
 pub returns-clause-status_1_cause : goal.returns-clause-status_1_cause
-returns-clause-status_1_cause g c = all_1 g.K.Sink.written g.K.Sink.faults g.L.Library.pairs g.L.Library.faults g.L.Library.refused g.L.Reader.Source.left g.L.Reader.Source.faults
+returns-clause-status_1_cause g c = all_1 _ _
     c.args.library.now c.run_words.new.library c.args.out.now c.run_words.new.out c.run_words.result (job_of (map string_bytes c.args.words.now)) c.run_words.ensures.found c.run_words.ensures.usage
 
 pub returns-clause-status_2_before : goal.returns-clause-status_2_before
-returns-clause-status_2_before g c = all_unready g.K.Sink.written g.K.Sink.faults g.L.Library.pairs g.L.Library.faults g.L.Library.refused g.L.Reader.Source.left g.L.Reader.Source.faults
+returns-clause-status_2_before g c = all_unready _ _
     c.args.library.now c.run_words.new.library c.args.out.now c.run_words.new.out c.run_words.result (job_of (map string_bytes c.args.words.now)) c.run_words.ensures.found c.run_words.ensures.usage (job_within (map string_bytes c.args.words.now))
 
 pub returns-clause-status_2_with_record : goal.returns-clause-status_2_with_record
-returns-clause-status_2_with_record g c = all_refused g.K.Sink.written g.K.Sink.faults g.L.Library.pairs g.L.Library.faults g.L.Library.refused g.L.Reader.Source.left g.L.Reader.Source.faults
+returns-clause-status_2_with_record g c = all_refused _ _
     c.args.library.now c.run_words.new.library c.args.out.now c.run_words.new.out c.run_words.result (job_of (map string_bytes c.args.words.now)) c.run_words.ensures.found c.run_words.ensures.usage
 
 pub returns-clause-status_3_cause : goal.returns-clause-status_3_cause
-returns-clause-status_3_cause g c = all_faulty g.K.Sink.written g.K.Sink.faults g.L.Library.pairs g.L.Library.faults g.L.Library.refused g.L.Reader.Source.left g.L.Reader.Source.faults
+returns-clause-status_3_cause g c = all_faulty _ _
     c.args.library.now c.run_words.new.library c.args.out.now c.run_words.new.out c.run_words.result (job_of (map string_bytes c.args.words.now)) c.run_words.ensures.found c.run_words.ensures.usage
 
 pub returns-clause-status_4_before : goal.returns-clause-status_4_before
-returns-clause-status_4_before g c = all_unread g.K.Sink.written g.K.Sink.faults g.L.Library.pairs g.L.Library.faults g.L.Library.refused g.L.Reader.Source.left g.L.Reader.Source.faults
+returns-clause-status_4_before g c = all_unread _ _
     c.args.library.now c.run_words.new.library c.args.out.now c.run_words.new.out c.run_words.result (job_of (map string_bytes c.args.words.now)) c.run_words.ensures.found c.run_words.ensures.usage
 
 pub returns-clause-status_4_with_record : goal.returns-clause-status_4_with_record
-returns-clause-status_4_with_record g c = all_failed g.K.Sink.written g.K.Sink.faults g.L.Library.pairs g.L.Library.faults g.L.Library.refused g.L.Reader.Source.left g.L.Reader.Source.faults
+returns-clause-status_4_with_record g c = all_failed _ _
     c.args.library.now c.run_words.new.library c.args.out.now c.run_words.new.out c.run_words.result (job_of (map string_bytes c.args.words.now)) c.run_words.ensures.found c.run_words.ensures.usage
 
 pub returns-clause-status_5_cause : goal.returns-clause-status_5_cause
-returns-clause-status_5_cause g c = all_risen g.K.Sink.written g.K.Sink.faults g.L.Library.pairs g.L.Library.faults g.L.Library.refused g.L.Reader.Source.left g.L.Reader.Source.faults
+returns-clause-status_5_cause g c = all_risen _ _
     c.args.library.now c.run_words.new.library c.args.out.now c.run_words.new.out c.run_words.result (job_of (map string_bytes c.args.words.now)) c.run_words.ensures.found c.run_words.ensures.usage
 
 pub returns-clause-status_6_silent : goal.returns-clause-status_6_silent
-returns-clause-status_6_silent g c = all_silent g.K.Sink.written g.K.Sink.faults g.L.Library.pairs g.L.Library.faults g.L.Library.refused g.L.Reader.Source.left g.L.Reader.Source.faults
+returns-clause-status_6_silent g c = all_silent _ _
     c.args.library.now c.run_words.new.library c.args.out.now c.run_words.new.out c.run_words.result (job_of (map string_bytes c.args.words.now)) c.run_words.ensures.found c.run_words.ensures.usage
 
 pub returns-clause-openings : goal.returns-clause-openings
-returns-clause-openings g c = all_openings g.K.Sink.written g.K.Sink.faults g.L.Library.pairs g.L.Library.faults g.L.Library.refused g.L.Reader.Source.left g.L.Reader.Source.faults
+returns-clause-openings g c = all_openings _ _
     c.args.library.now c.run_words.new.library c.args.out.now c.run_words.new.out c.run_words.result (job_of (map string_bytes c.args.words.now)) c.run_words.ensures.found c.run_words.ensures.usage
 
 pub returns-clause-no_second_try : goal.returns-clause-no_second_try
-returns-clause-no_second_try g c = all_steady g.K.Sink.written g.K.Sink.faults g.L.Library.pairs g.L.Library.faults g.L.Library.refused g.L.Reader.Source.left g.L.Reader.Source.faults
+returns-clause-no_second_try g c = all_steady _ _
     c.args.library.now c.run_words.new.library c.args.out.now c.run_words.new.out c.run_words.result (job_of (map string_bytes c.args.words.now)) c.run_words.ensures.found c.run_words.ensures.usage
 
 pub returns-clause-complete : goal.returns-clause-complete
-returns-clause-complete g c = all_complete g.K.Sink.written g.K.Sink.faults g.L.Library.pairs g.L.Library.faults g.L.Library.refused g.L.Reader.Source.left g.L.Reader.Source.faults
+returns-clause-complete g c = all_complete _ _
     c.args.library.now c.run_words.new.library c.args.out.now c.run_words.new.out c.run_words.result (job_of (map string_bytes c.args.words.now)) (job_within (map string_bytes c.args.words.now)) c.run_words.ensures.found

@@ -1,6 +1,6 @@
 use Rattle.std.proofs.Common.{◌≡◌, ◌≤◌, length, refl, ap, ◌∙◌, arith}
 use Rattle.std.proofs.lemmas.Result.{IfOk-weaker}
-use Rattle.serial_replay.specs.Replay.{limit_for}
+use Rattle.capture_tracks.specs.Replay.{limit_for}
 use Rattle.serial_replay.proofs.Whole.{starts-ready, comes-to}
 use Rattle.serial_replay.proofs.replay.replay_serial.Goals as goal
 

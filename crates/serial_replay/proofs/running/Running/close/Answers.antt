@@ -8,19 +8,19 @@ use Rattle.serial_replay.proofs.running.Running.close.Goals as goal
 
 pub close-requires-clause-lanes : goal.close-requires-clause-lanes
 close-requires-clause-lanes g c =
-    let live = c.args.self.live in
-    subst (λ (lanes : List LaneValue). AreLanesFrom live.world 1 lanes) (sym (by_place-same live.world 1 live.lanes.items c.requires.sound.lanes)) c.requires.sound.lanes
+    let replay = c.args.self.replay in
+    subst (λ (lanes : List LaneValue). AreLanesFrom replay.world 1 lanes) (sym (by_place-same replay.world 1 replay.lanes.items c.requires.sound.lanes)) c.requires.sound.lanes
 
 pub returns : goal.returns
 returns g c =
-    let live = c.args.self.live in
-    let lanes = live.lanes.items in
-    let same = by_place-same live.world 1 lanes c.requires.sound.lanes in
-    let exact = c.in_ok-record.ensures.exact ∙ ap (record_of_world live.world) same in
+    let replay = c.args.self.replay in
+    let lanes = replay.lanes.items in
+    let same = by_place-same replay.world 1 lanes c.requires.sound.lanes in
+    let exact = c.in_ok-record.ensures.exact ∙ ap (record_of_world replay.world) same in
     record {
       record_is = exact;
       legal = λ first commands inputs accepted stands.
-          let ordered = subst (λ (all : List LaneValue). EachStandsFor live.world all inputs) (sym same) stands in
+          let ordered = subst (λ (all : List LaneValue). EachStandsFor replay.world all inputs) (sym same) stands in
           let legal = c.in_ok-record.ensures.legal first commands inputs accepted ordered (no-loose lanes c.requires.sound.clean) in
           subst (IsLegal first commands inputs) (sym c.in_ok-record.ensures.exact) legal;
       sources = c.in_ok-sources.ensures.sources;

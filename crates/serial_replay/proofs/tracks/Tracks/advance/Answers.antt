@@ -6,7 +6,7 @@ use Rattle.serial_replay.proofs.tracks.Tracks.advance.Goals as goal
 
 pub invariant_of-self : goal.invariant_of-self
 invariant_of-self g c =
-    moments-set c.self.inside.tracks.items c.self.inside.moments.items c.args.capture c.advance.new.self c.moment.result c.self.invariant c.moment.ensures
+    moments-set c.self.inside.tracks.items c.self.inside.moments.items c.args.capture c.advance.new.self c.held_moment.result c.self.invariant c.held_moment.ensures
 
 pub returns : goal.returns
 returns g c =

@@ -1,7 +1,7 @@
 use Rattle.std.proofs.Common.{map, ap, sym, ◌∙◌}
 use Rattle.std.proofs.lemmas.Iterator.Adapters.{YieldsList-from_vec}
 use Rattle.std.proofs.lemmas.Iterator.Consumers.{YieldsList-end}
-use Rattle.serial_replay.specs.Tracks.{end_of, source_at}
+use Rattle.capture_tracks.specs.Tracks.{end_of, source_at}
 use Rattle.serial_replay.proofs.TrackLists.{map-itself}
 use Rattle.serial_replay.proofs.tracks.Tracks.close.Goals as goal
 

@@ -1,5 +1,5 @@
 use Rattle.std.proofs.Common.{◌≡◌, map}
-use Rattle.serial_replay.specs.Tracks.{end_of, source_at}
+use Rattle.capture_tracks.specs.Tracks.{end_of, source_at}
 use Rattle.serial_replay.proofs.tracks.Tracks.close.Given as goal
 
 abbrev pub invariant-loop-track : goal.invariant-loop-track

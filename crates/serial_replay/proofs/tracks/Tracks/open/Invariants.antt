@@ -1,6 +1,7 @@
 use Rattle.std.proofs.Common.{◌≡◌, map}
 use Rattle.std.specs.Option.{option_map}
-use Rattle.serial_replay.specs.Tracks.{BeginAll, held_record_of}
+use Rattle.capture_tracks.specs.Tracks.{held_record_of}
+use Rattle.serial_replay.specs.Tracks.{BeginAll}
 use Rattle.serial_schedule.specs.Order.{moment_of}
 use Rattle.serial_replay.proofs.tracks.Tracks.open.Given as goal
 

@@ -1,0 +1,15 @@
+//! What a replay reads and answers, whichever way it goes through its records and commands: captures that are
+//! read record by record, how they end, and what the lines behind `live` come to.
+#![tactic(auto)]
+
+pub use listing::{Listing, answer_listing, listing_of};
+pub use open_track::OpenTrack;
+pub use opened::{MOST_RECORD_BYTES, MOST_RECORDS, MOST_RECORDS_OF_ALL, OpenedCapture, limit_for};
+pub use replayed::Replayed;
+pub use track::Track;
+
+mod listing;
+mod open_track;
+mod opened;
+mod replayed;
+mod track;

@@ -1,0 +1,80 @@
+ghost use Rattle.std.specs.Prelude.{◌≡◌, None, IfOk, is_some, unwrap_or};
+ghost use Rattle.pcap_read.specs.Capture.{Advances, answer_with, current_of, source_of};
+ghost use Rattle.fw_report.specs.declared.capture_end.CaptureEnd.TheVariants.{Read};
+ghost use Rattle.capture_tracks.specs.Tracks.{StepsOn, StepsOnOrEnded};
+
+use fw_base::{Port, Source};
+use fw_report::CaptureEnd;
+use pcap_read::{Capture, CaptureFault};
+
+/// A capture whose header was read, and the record of it that is to be replayed next.
+#[derive(Drop)]
+pub struct OpenTrack<S> {
+    pub port: Port,
+    pub capture: Capture<S>,
+    /// How many records it gave.
+    pub records: u64,
+    /// How it ended, where it did.
+    pub end: Option<CaptureEnd>,
+}
+
+/// Goes on to the next record; answers whether there is one.
+fn next_record<S: Source>(capture: &mut Capture<S>) -> Result<bool, CaptureFault>
+    ensures advances { Advances S.left S.faults capture.old capture.new
+        (answer_with result (current_of capture.new)) }
+    ensures found { IfOk result (λ found. found ≡ is_some (current_of capture.new)) }
+{
+    match capture.next() {
+        Ok(Some(_)) => Ok(true),
+        Ok(None) => Ok(false),
+        Err(fault) => Err(fault),
+    }
+}
+
+impl<S: Source> OpenTrack<S> {
+    /// Goes on to the next record, or to the end.
+    pub(crate) fn advance(&mut self)
+        requires { self.old.end ≡ None }
+        ensures { StepsOn S.left S.faults self.old self.new }
+    {
+        match next_record(&mut self.capture) {
+            Ok(true) => self.records = self.records.saturating_add(1),
+            Ok(false) => {
+                self.end = Some(CaptureEnd::Read {
+                    records: self.records,
+                });
+            }
+            Err(fault) => {
+                self.end = Some(CaptureEnd::Stopped {
+                    at: self.records.saturating_add(1),
+                    fault,
+                    count: self.capture.faults(),
+                });
+            }
+        }
+    }
+
+    /// Goes on where it hasn't ended.
+    pub fn advance_open(&mut self)
+        ensures { StepsOnOrEnded S.left S.faults self.old self.new }
+    {
+        if self.end.is_none() {
+            self.advance();
+        }
+    }
+
+    /// Its source, and how it ended; one that goes on would end with the records that it gave.
+    pub(crate) fn close(self) -> (S, CaptureEnd)
+        ensures source { result.0 ≡ source_of self.capture }
+        ensures end { result.1 ≡ unwrap_or self.end (Read self.records) }
+    {
+        let OpenTrack {
+            port: _,
+            capture,
+            records,
+            end,
+        } = self;
+        let end = end.unwrap_or(CaptureEnd::Read { records });
+        (capture.close(), end)
+    }
+}

@@ -1,5 +1,0 @@
-use Rattle.serial_replay.proofs.Beginnings.{begins-refused}
-use Rattle.serial_replay.proofs.track.refused_track.Goals as goal
-
-pub returns : goal.returns
-returns g c = begins-refused g.S.Source.left g.S.Source.faults c.args.refused c.faults-count.result c.in_default.not-OutOfMemory c.faults-count.ensures
