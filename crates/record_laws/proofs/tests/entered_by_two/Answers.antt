@@ -38,7 +38,7 @@ close-requires-clause-lanes c =
     let opened = c.in_ok-world.ensures in
     let lane : LaneValue = c.pass_over.new.lane in
     let second : c.index_mut.result.now ≡ first_lane 2 = c.index_mut.ensures.value ∙ ap (λ (l : List LaneValue). get_or l 1 c.index_mut.result.now) opened.lanes in
-    let passed : lane ≡ with_docket_entry Other (first_lane 2) = c.in_ok-pass_over.ensures.lane ∙ ap (λ (l : LaneValue). with_docket_entry Other l) second in
+    let passed : lane ≡ with_docket_entry Other (first_lane 2) = c.in_ok-pass_over.ensures.entered.lane ∙ ap (λ (l : LaneValue). with_docket_entry Other l) second in
     let is : slice_set c.in_ok-world.field-0.lanes.items 1 lane ≡ pair = ap (λ (l : List LaneValue). slice_set l 1 lane) opened.lanes ∙ ap (λ (l : LaneValue). first_lane 1 ∷ l ∷ []) passed in
     let closes = λ (moved : List LaneValue). close_in _ _ c.pass_over.new.self (slice_set c.in_ok-world.field-0.lanes.items 1 lane) moved opened.world c.in_ok-pass_over.ensures.world is in
     elim c.if-turned.branch [
