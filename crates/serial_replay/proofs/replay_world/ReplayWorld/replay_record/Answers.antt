@@ -17,7 +17,7 @@ pub returns-in_ok-_judgement-in-Ip : goal.returns-in_ok-_judgement-in-Ip
 returns-in_ok-_judgement-in-Ip c =
     let made = c.in_ok-_judgement-in-Ip.ensures in
     replays-judged c.args.capture _ c.in-Ip.packet c.args.port.now c.args.taken.second c.args.self.now _ c.index_mut-lane.result.now c.judge.new.lane c.in_ok-_judgement-in-Ip._judgement
-    (ap (input_for c.args.port.now c.args.taken.second) c.in-Ip.ensures) c.requires.within c.index_mut-lane.ensures.value refl refl refl (judged-admitted _ _ _ _ _ _ _ (Ok c.in_ok-_judgement-in-Ip._judgement) made.next) (lane-admitted _ _ _ _ _ _ _ (Ok c.in_ok-_judgement-in-Ip._judgement) made.next) (stands-admitted _ _ _ _ _ _ _ (Ok c.in_ok-_judgement-in-Ip._judgement) made.next) made.of_world made.next.1.asks
+    (ap (input_for c.args.port.now c.args.taken.second) c.in-Ip.ensures) c.requires.within c.index_mut-lane.ensures.value refl refl refl (judged-admitted c.args.self.now.world c.judge.new.self c.index_mut-lane.result.now c.judge.new.lane c.in-Ip.packet c.args.port.now c.args.taken.second (Ok c.in_ok-_judgement-in-Ip._judgement) made.next) (lane-admitted c.args.self.now.world c.judge.new.self c.index_mut-lane.result.now c.judge.new.lane c.in-Ip.packet c.args.port.now c.args.taken.second (Ok c.in_ok-_judgement-in-Ip._judgement) made.next) (stands-admitted c.args.self.now.world c.judge.new.self c.index_mut-lane.result.now c.judge.new.lane c.in-Ip.packet c.args.port.now c.args.taken.second (Ok c.in_ok-_judgement-in-Ip._judgement) made.next) made.of_world made.next.1.asks
 
 pub returns-in-Other : goal.returns-in-Other
 returns-in-Other c =
