@@ -1,9 +1,12 @@
 -- How an evaluation begins with a look, and what is to be kept of one.
-use Rattle.std.proofs.Common.{◌≡◌, ℕ, ◌≤◌, ◌<◌, Bool, true, false, ◌&&◌, nat_lt, is_some, IfSome, Option, Some, None, List, [], ◌∷◌, length, find, get_or, All, refl, ap, sym, ◌∙◌, arith, subst, slice_set, slice_get}
+use Rattle.std.proofs.Common.{◌≡◌, ℕ, ◌≤◌, ◌<◌, Bool, true, false, ◌&&◌, nat_lt, is_some, IfSome, Option, Some, None, List, [], ◌∷◌, length, find, get_or, All, refl, ap, sym, ◌∙◌, arith, subst, slice_set, slice_get, map, Global}
 use Rattle.std.proofs.lemmas.List.Elements.{All-head}
 use Rattle.std.proofs.lemmas.List.Folds.{find_at}
 use Rattle.std.proofs.lemmas.Option.{slice_get_past, get_or_from_slice_get}
+use Rattle.rule_chain.proofs.Lists.{map_length}
+use Rattle.std.specs.Arc.{arc_value}
 use Rattle.std.specs.List.{position, position_or_len}
+use Rattle.std.specs.declared.sync.Arc.{Arc}
 use Rattle.counter_book.specs.Counts.{counted_under, count_after_packet}
 use Rattle.counter_book.specs.declared.tally.Count.{Count}
 use Rattle.fw_base.specs.declared.port.Port.{Port}
@@ -72,21 +75,40 @@ placed {X} p xs x is =
         let past : length xs ≤ position_or_len p xs = grind arith in
         absurd (missing x (sym (slice_get_past xs (position_or_len p xs) past) ∙ there))
 
+-- where there is such a rule it has a place
+pub not_placed : {X : Type 0} (p : X → Bool) (xs : List X) (x : X) → find p xs ≡ Some x → None ≡ position p xs → ⊥
+not_placed p xs x is none = missing (position_or_len p xs) (none ∙ (placed p xs x is).first)
+  where
+    missing : (place : ℕ) → None ≡ Some place → ⊥
+    missing place is = cc
+
+-- and no other one
+pub one_place : {X : Type 0} (p : X → Bool) (xs : List X) (x : X) (place : ℕ) → find p xs ≡ Some x → Some place ≡ position p xs → (d : X) → get_or xs place d ≡ x
+one_place {X} p xs x place is there d =
+    let at = placed p xs x is in
+    let same : place ≡ position_or_len p xs = equal place (position_or_len p xs) (there ∙ at.first) in
+    ap (λ n. get_or xs n d) same ∙ at.read d
+  where
+    equal : (m n : ℕ) → Some m ≡ Some n → m ≡ n
+    equal m n is = grind arith
+
+-- of shared rules it is the place of one
+pub shared_place : (p : Rule → Bool) (rules : List Rule) (shared : List (Arc Rule Global)) (rule : Rule) (place : ℕ) → map arc_value shared ≡ rules → find p rules ≡ Some rule → Some place ≡ position p rules
+    → place < length shared
+shared_place p rules shared rule place are is there =
+    let at = placed p rules rule is in
+    let first = at.first in
+    let within = at.within in
+    let same : place ≡ position_or_len p rules = equal place (position_or_len p rules) (there ∙ first) in
+    let long : length rules ≡ length shared = ap (λ (rs : List Rule). length rs) (sym are) ∙ map_length arc_value shared in
+    omega arith
+  where
+    equal : (m n : ℕ) → Some m ≡ Some n → m ≡ n
+    equal m n is = grind arith
+
 module _ (edition : Published) (port : Port) (packet : Fields) (second : ℕ) where
   abbrev asked : Question
   asked = question_on edition port packet second
-
-  -- nothing of an edition with a rule that goes on
-  pub nothing_of_others : is_cacheable edition.config.rules ≡ false → IsToKeep asked None
-  nothing_of_others is = record { fits = rw is refl; once = tt }
-
-  never : (b : Bool) → (b && false) ≡ false
-  never true = refl
-  never false = refl
-
-  -- nothing of a packet that asks
-  pub nothing_of_asks : (op : Op) → (evaluate asked []).asks ≡ op ∷ [] → IsToKeep asked None
-  nothing_of_asks op is = record { fits = rw is (sym (never (is_cacheable edition.config.rules))); once = tt }
 
   whole_is : (a b : Judgement) → Whole a ≡ Whole b → a ≡ b
   whole_is a b is = grind arith

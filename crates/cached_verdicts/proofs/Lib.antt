@@ -10,3 +10,5 @@ pub mod Recent
 pub mod Truth
 -- how an evaluation begins, and what is kept of one
 pub mod Begun
+-- a look into a cache
+pub mod Looked

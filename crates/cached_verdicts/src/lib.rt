@@ -3,6 +3,9 @@
 #![tactic(auto)]
 
 pub use kept_verdict::KeptVerdict;
+pub use lane_cache::LaneCache;
 
+mod beginning;
 mod kept_verdict;
+mod lane_cache;
 pub mod laws;
