@@ -1,0 +1,143 @@
+ghost use Rattle.std.specs.Prelude.{◌≡◌, ℕ, ◌<◌, ◌≤◌, Some, [], List, length, find, OnOk, OnErr, IfOk};
+ghost use Rattle.counter_book.specs.declared.tally.Count.{Count};
+ghost use Rattle.fw_base.specs.declared.port.Port.{Port};
+ghost use Rattle.fw_rule.specs.declared.rule.Rule.{Rule};
+ghost use Rattle.packet_headers.specs.Fields.{Fields};
+ghost use Rattle.rule_chain.specs.Chain.{IsConfiguration};
+ghost use Rattle.generation_store.specs.Published.{is_identity};
+ghost use Rattle.verdict_cache.specs.Cache.{WasMissed};
+ghost use Rattle.eval_engine.specs.Evaluation.{evaluate};
+ghost use Rattle.eval_engine.specs.Question.{Question};
+ghost use Rattle.eval_engine.specs.Standing.{StandsAt};
+ghost use Rattle.cached_verdicts.specs.LaneCache.{with_value, IsVisited, IsToKeep};
+ghost use Rattle.cached_verdicts.specs.Verdicts.{question_on, evaluated_at_once, KeepsVerdicts};
+ghost use Rattle.cached_verdicts.specs.Visits.{visit_of};
+
+use crate::KeptVerdict;
+use counter_book::Tally;
+use eval_engine::{Judgement, Stage, begin};
+use fw_base::{OutOfMemory, Port};
+use generation_store::Edition;
+use ip6_headers::AnyIp;
+use verdict_cache::{Key, VerdictCache};
+
+/// How far an evaluation is, and whether the cache told its end.
+#[derive(Clone, Copy, Debug)]
+pub(crate) struct Begun {
+    pub(crate) stage: Stage,
+    pub(crate) is_hit: bool,
+}
+
+/// Begins the evaluation of a packet with a look into the cache, which a packet of IPv6 passes by. What the
+/// cache doesn't know is evaluated, and kept where it may be.
+pub(crate) fn begin_by_cache(
+    kept: &mut VerdictCache<KeptVerdict>,
+    edition: &Edition,
+    packet: &AnyIp<'_>,
+    port: &Port,
+    second: u32,
+    tally: &mut Tally,
+) -> Result<Begun, OutOfMemory>
+    requires fitted { edition.now.config.greatest_counter < length tally.old }
+    requires kept { KeepsVerdicts edition.now port.now kept.old }
+    ensures stands { IfOk result (λ begun. StandsAt (record {
+      edition = edition.now;
+      packet = packet.now;
+      port = port.now;
+      second = second;
+    }) [] [] tally.old begun.stage tally.new) }
+    ensures visited { IfOk result (λ begun. IsVisited (visit_of (record {
+      edition = edition.now;
+      packet = packet.now;
+      port = port.now;
+      second = second;
+    })) begun.is_hit kept.old kept.new) }
+    ensures kept { KeepsVerdicts edition.now port.now kept.new }
+{
+    let AnyIp::Four(ip) = packet else {
+        let stage = begin(edition, packet, port, second, tally);
+        return Ok(Begun {
+            stage,
+            is_hit: false,
+        });
+    };
+    lawful(edition);
+    let key = Key::of(ip);
+    match kept.look(edition.number(), key) {
+        Some(verdict) => {
+            tally.hit(verdict.counter, packet.total());
+            Ok(Begun {
+                stage: Stage::Judged(verdict.judgement),
+                is_hit: true,
+            })
+        }
+        None => {
+            let stage = begin(edition, packet, port, second, tally);
+            keep(
+                kept,
+                edition.number(),
+                key,
+                verdict_to_keep(edition, &stage),
+            )?;
+            Ok(Begun {
+                stage,
+                is_hit: false,
+            })
+        }
+    }
+}
+
+/// The rules of an edition are those of a configuration.
+fn lawful(edition: &Edition)
+    ensures { IsConfiguration edition.now.config }
+{
+    let _rules = edition.config().rules();
+}
+
+/// Keeps the value, if there is one, for a key that the look before didn't find.
+fn keep(
+    kept: &mut VerdictCache<KeptVerdict>,
+    number: u64,
+    key: Key,
+    verdict: Option<KeptVerdict>,
+) -> Result<(), OutOfMemory>
+    requires { WasMissed number key kept.old }
+    ensures kept { OnOk result (kept.new ≡ with_value key verdict kept.old) }
+    ensures unchanged { OnErr result (kept.new ≡ kept.old) }
+{
+    match verdict {
+        Some(verdict) => kept.keep(number, key, verdict),
+        None => Ok(()),
+    }
+}
+
+/// What is to be kept of the evaluation of an IPv4 packet that has come to this stage with no reply: nothing
+/// where it asks, or where some rule of the edition doesn't end the search.
+fn verdict_to_keep(edition: &Edition, stage: &Stage) -> Option<KeptVerdict>
+    ensures { (packet : Fields) (port : Port) (second : ℕ) (start tally : List Count)
+        → StandsAt (question_on edition.now port packet second) [] [] start stage.now tally
+        → IsToKeep (question_on edition.now port packet second) result }
+{
+    if !edition.is_cacheable() {
+        return None;
+    }
+    match stage {
+        Stage::Judged(judgement) => verdict_by_rule(edition, *judgement),
+        Stage::Asks(..) => None,
+    }
+}
+
+/// The judgement with the counter of its rule; none where the edition hasn't the rule.
+fn verdict_by_rule(edition: &Edition, judgement: Judgement) -> Option<KeptVerdict>
+    ensures lawful { IsConfiguration edition.now.config }
+    ensures found { (rule : Rule)
+        → find (is_identity judgement.rule.id) edition.now.config.rules ≡ Some rule
+        → result ≡ Some (record { judgement = judgement; counter = rule.counter }) }
+{
+    let rules = edition.config().rules();
+    let place = edition.place_of(judgement.rule.id)?;
+    Some(KeptVerdict {
+        judgement,
+        counter: rules[place].counter,
+    })
+}

@@ -1,0 +1,9 @@
+use eval_engine::Judgement;
+
+/// What is kept for the packets of one key: their judgement, and the counter number of the rule that decides
+/// them.
+#[derive(Clone, Copy, Debug, PartialEq, Eq)]
+pub struct KeptVerdict {
+    pub judgement: Judgement,
+    pub counter: u32,
+}
