@@ -1,0 +1,15 @@
+-- the lines of a text
+mod LineEnds
+-- words, and one step after another
+mod Words
+-- numbers
+mod Digits
+mod DigitSteps
+mod Numbers
+mod RuleNumbers
+-- the lines of records
+mod NameSteps
+mod RecordsAgain
+mod RecordsTold
+-- the lines of lanes and of publications
+mod LaneLaws

@@ -1,0 +1,9 @@
+-- the lines of a text
+pub mod Lines
+-- what the kinds of lines are made of, and one step after another
+pub mod Steps
+pub mod Parts
+-- the lines of records
+pub mod RecordLines
+-- the lines of lanes and of publications
+pub mod LaneLines

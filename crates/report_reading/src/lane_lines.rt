@@ -1,0 +1,69 @@
+ghost use Rattle.std.specs.Prelude.{◌≡◌, ℕ, Some, IfSome};
+ghost use Rattle.report_reading.specs.LaneLines as spec;
+ghost use Rattle.fw_report.specs.JournalText.{lane_line, publish_line};
+
+use crate::parts::{behind, is_end, number, positive};
+
+/// What the line of a lane tells.
+#[derive(Clone, Copy, Debug, PartialEq, Eq)]
+pub struct LaneLine {
+    /// The capture whose lane it is, 1 to 16.
+    pub lane: u64,
+    /// How many entries into a section were refused to it.
+    pub refused: u64,
+    /// Its tracker's word.
+    pub tracker: u64,
+}
+
+#[tactic(auto, unfolding(crate::specs::LaneLines::lane_in))]
+fn lane_in(line: &[u8]) -> Option<LaneLine>
+    ensures { result ≡ spec.lane_in line.now }
+{
+    let (lane, rest) = positive(behind(b"lane ", line)?, 16)?;
+    let (refused, rest) = number(behind(b" refused ", rest)?, u64::MAX)?;
+    let (tracker, rest) = number(behind(b" tracker ", rest)?, u64::MAX)?;
+    lane_of(lane, refused, tracker, rest)
+}
+
+/// A lane, where the line ends here.
+fn lane_of(lane: u64, refused: u64, tracker: u64, rest: &[u8]) -> Option<LaneLine>
+    ensures { result ≡ spec.lane_of lane refused tracker rest.now }
+{
+    if is_end(rest) {
+        Some(LaneLine {
+            lane,
+            refused,
+            tracker,
+        })
+    } else {
+        None
+    }
+}
+
+/// What the line of a lane tells; `None` where the line is none.
+pub fn read_lane(line: &[u8]) -> Option<LaneLine>
+    ensures found { IfSome result (λ told. line.now ≡ lane_line told.lane told.refused told.tracker) }
+    ensures within { IfSome result (λ told. spec.IsLane told.lane told.refused told.tracker) }
+    ensures only { (lane refused tracker : ℕ) → spec.IsLane lane refused tracker
+        → line.now ≡ lane_line lane refused tracker
+        → result ≡ Some (record { lane = lane; refused = refused; tracker = tracker }) }
+{
+    lane_in(line)
+}
+
+#[tactic(auto, unfolding(crate::specs::LaneLines::publication_in))]
+fn publication_in(line: &[u8]) -> Option<u64>
+    ensures { result ≡ spec.publication_in line.now }
+{
+    let (number, rest) = positive(behind(b"publish ", line)?, u64::MAX)?;
+    if is_end(rest) { Some(number) } else { None }
+}
+
+/// The edition whose publication the line tells; `None` where the line is none.
+pub fn read_publication(line: &[u8]) -> Option<u64>
+    ensures found { IfSome result (λ number. line.now ≡ publish_line number) }
+    ensures within { IfSome result spec.IsPublication }
+    ensures only { (number : ℕ) → spec.IsPublication number → line.now ≡ publish_line number → result ≡ Some number }
+{
+    publication_in(line)
+}

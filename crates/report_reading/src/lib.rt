@@ -1,0 +1,11 @@
+//! Lines of a report, read back as what they tell.
+#![tactic(auto)]
+
+pub use lane_lines::{LaneLine, read_lane, read_publication};
+pub use lines::next_line;
+pub use record_lines::{RecordLine, read_record};
+
+mod lane_lines;
+mod lines;
+mod parts;
+mod record_lines;
