@@ -161,7 +161,10 @@ fn check_behind(
     let next = Edition::build_behind(alloc, last, 8, config)?;
     assert_eq!(rt; next.number(), 8);
     assert_eq!(rt; next.config().rules().len(), rules.len().saturating_add(1));
-    assert_eq!(rt; next.gates().as_slice().len(), rules.len().saturating_add(1));
+    assert_eq!(rt;
+        next.gates().as_slice().len(),
+        rules.len().saturating_add(1)
+    );
     Ok(())
 }
 
