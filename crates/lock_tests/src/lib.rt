@@ -13,6 +13,8 @@ mod ledger;
 #[cfg(test)]
 mod lock_rows;
 #[cfg(test)]
+mod marked;
+#[cfg(test)]
 mod table_rows;
 #[cfg(test)]
 mod told_rows;
