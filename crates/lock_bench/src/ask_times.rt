@@ -14,7 +14,7 @@ use std::time::Clock;
 /// Of so many sections that are timed without an ask one is timed with it: a journal keeps all its asks.
 pub const SECTIONS_AN_ASK: u32 = 10;
 
-/// Sections with an ask in each, through the lock's calls.
+/// Sections with an ask in each, through the lock's calls, and the same asks of a book in std's mutex.
 pub fn print_asks<R: Threads + Wait + Clock + Print + Sync>(
     rt: &R,
     alloc: Global,
@@ -37,19 +37,7 @@ pub fn print_asks<R: Threads + Wait + Clock + Print + Sync>(
             requires { asker.table_id ≡ table.now }
         { asks(rt, table, asker, rounds).ok() },
     )?;
-    print_mean(rt, "take_book, ask, give_book", times.as_slice(), rounds)
-}
-
-/// The same asks of a book behind std's mutex.
-pub fn print_asks_under_mutex<R: Threads + Wait + Clock + Print + Sync>(
-    rt: &R,
-    alloc: Global,
-    threads: u32,
-    rounds: u32,
-) -> anyhow::Result<()>
-    requires some { 0 < threads }
-    requires few { threads ≤ 64 }
-{
+    print_mean(rt, "take_book, ask, give_book", times.as_slice(), rounds)?;
     let book = Mutex::new(Book::open(alloc, threads, first_facts(alloc)?)?);
     let times = thread::map_indices(
         rt,

@@ -1,5 +1,4 @@
-ghost use Rattle.std.specs.Prelude.{◌≡◌, ◌<◌, ◌≤◌, All, IfOk, IsTrue};
-ghost use Rattle.state_asks.specs.Facts.{is_rule_list};
+ghost use Rattle.std.specs.Prelude.{◌≡◌, ◌<◌, ◌≤◌, All, IfOk};
 
 use crate::ask::look_up;
 use crate::boxed_book::BoxedBook;
@@ -7,7 +6,7 @@ use crate::facts_edition::{FactsEdition, editions_of};
 use crate::timing::nanoseconds;
 use anyhow::Result;
 use fw_base::OutOfMemory;
-use fw_rule::{MOST_STATES, Settings};
+use fw_rule::default_settings;
 use rm_lock::{Entry, Opened, Processor, RmLock};
 use state_asks::{Facts, Identities};
 use state_journal::Book;
@@ -19,7 +18,7 @@ pub type AskedLock = RmLock<FactsEdition, BoxedBook>;
 
 pub type Asker = Processor<FactsEdition, BoxedBook>;
 
-/// What the publication of number 1 tells the states: no rule but rule 65535.
+/// What the publication of number 1 tells the states: no rule but rule 65535, and the usual settings.
 pub fn first_facts(alloc: Global) -> Result<Facts, OutOfMemory>
     ensures { IfOk result (λ facts. facts.number ≡ 1) }
 {
@@ -27,16 +26,7 @@ pub fn first_facts(alloc: Global) -> Result<Facts, OutOfMemory>
     Ok(Facts {
         number: 1,
         rules: Identities::new(alloc, rules)?,
-        settings: Settings {
-            ack: 300,
-            syn: 20,
-            fin: 1,
-            rst: 1,
-            udp: 10,
-            short: 5,
-            max: MOST_STATES,
-            keep: false,
-        },
+        settings: default_settings(),
     })
 }
 

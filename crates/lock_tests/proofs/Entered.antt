@@ -1,22 +1,22 @@
 -- A book that was taken, had an entry added, and is given back.
-use Rattle.std.proofs.Common.{◌≡◌, ◌≢◌, ℕ, ◌-◌, ◌^◌, ◌<◌, Option, Some, refl, sym, ◌∙◌, ap, subst, arith}
+use Rattle.std.proofs.Common.{◌≡◌, ◌≢◌, ℕ, ◌-◌, ◌^◌, ◌<◌, Some, sym, ◌∙◌, ap, subst, arith}
 use Rattle.std.specs.Prelude.{slice_index_or, slice_set, replicate, nat_lt}
 use Rattle.std.proofs.lemmas.List.{get_or-set_other}
 use Rattle.rm_table.specs.declared.view.View.{View}
 use Rattle.rm_table.specs.Meanings.{Meanings, meanings}
 use Rattle.rm_table.specs.Moves.{LeftBy}
 use Rattle.rm_lock.specs.Calls.{TakesBook, IsAsTaken}
-use Rattle.lock_tests.specs.declared.marked.Mark.{Mark}
-use Rattle.lock_tests.specs.declared.marked.Marked.{Marked}
-use Rattle.lock_tests.specs.declared.marked.Pages.{Pages}
-use Rattle.lock_tests.specs.contracts.marked.MarkedNumbered.TheImpl as edition
-use Rattle.lock_tests.specs.contracts.marked.PagesKept.TheImpl as pages
+use Rattle.lock_tests.specs.declared.marked_edition.Mark.{Mark}
+use Rattle.lock_tests.specs.declared.marked_edition.MarkedEdition.{MarkedEdition}
+use Rattle.lock_tests.specs.declared.entry_counts.EntryCounts.{EntryCounts}
+use Rattle.lock_tests.specs.contracts.marked_edition.MarkedEditionNumbered.TheImpl as edition
+use Rattle.lock_tests.specs.contracts.entry_counts.EntryCountsKept.TheImpl as counts
 
-abbrev pub means : Meanings Marked Pages Mark ℕ ℕ
-means = meanings edition.ghosts pages.ghosts
+abbrev pub means : Meanings MarkedEdition EntryCounts Mark ℕ ℕ
+means = meanings edition.ghosts counts.ghosts
 
 -- one entry more in one list leaves the other lists
-entry_leaves : (place length : ℕ) (taken book : Pages) → 0 < place → book.last ≡ taken.last → book.lengths ≡ slice_set taken.lengths place length → LeftBy means place taken book
+entry_leaves : (place length : ℕ) (taken book : EntryCounts) → 0 < place → book.last ≡ taken.last → book.lengths ≡ slice_set taken.lengths place length → LeftBy means place taken book
 entry_leaves place length taken book above last lengths = record {
   number = ap (λ (m : Mark). m.number) last;
   tag = last;
@@ -28,14 +28,14 @@ entry_leaves place length taken book above last lengths = record {
     same k other = ap (λ xs. slice_index_or xs k 0) lengths ∙ get_or-set_other taken.lengths place k length 0 other
 
 -- who took this book, and added an entry of its own, may give it back
-pub entered_as_taken : (place length : ℕ) (before after : View Marked Pages Mark ℕ ℕ) (found seen book : Pages) → TakesBook means before after found → seen ≡ found → before.place ≡ place → 0 < place
+pub entered_as_taken : (place length : ℕ) (before after : View MarkedEdition EntryCounts Mark ℕ ℕ) (found seen book : EntryCounts) → TakesBook means before after found → seen ≡ found → before.place ≡ place → 0 < place
     → book.last ≡ seen.last → book.lengths ≡ slice_set seen.lengths place length → IsAsTaken means after book
 entered_as_taken place length before after found seen book taking same at above last lengths taken is =
-    let found_is : found ≡ taken = some_is (sym (ap (λ (v : View Marked Pages Mark ℕ ℕ). v.book) taking.after_is) ∙ is) in
+    let found_is : found ≡ taken = some_is (sym (ap (λ (v : View MarkedEdition EntryCounts Mark ℕ ℕ). v.book) taking.after_is) ∙ is) in
     let seen_is : seen ≡ taken = same ∙ found_is in
-    let place_is : after.place ≡ place = ap (λ (v : View Marked Pages Mark ℕ ℕ). v.place) taking.after_is ∙ at in
+    let place_is : after.place ≡ place = ap (λ (v : View MarkedEdition EntryCounts Mark ℕ ℕ). v.place) taking.after_is ∙ at in
     subst (λ (p : ℕ). LeftBy means p taken book) (sym place_is)
-    (entry_leaves place length taken book above (last ∙ ap (λ (b : Pages). b.last) seen_is) (lengths ∙ ap (λ (b : Pages). slice_set b.lengths place length) seen_is))
+    (entry_leaves place length taken book above (last ∙ ap (λ (b : EntryCounts). b.last) seen_is) (lengths ∙ ap (λ (b : EntryCounts). slice_set b.lengths place length) seen_is))
   where
-    some_is : {a b : Pages} → Some a ≡ Some b → a ≡ b
+    some_is : {a b : EntryCounts} → Some a ≡ Some b → a ≡ b
     some_is e = cc

@@ -1,7 +1,8 @@
 ghost use Rattle.std.specs.Prelude.{◌≡◌, ◌<◌, ◌≤◌, IfOk};
 ghost use Rattle.std.specs.Thread.{IsSync};
 
-use crate::marked::{Marked, Pages};
+use crate::entry_counts::EntryCounts;
+use crate::marked_edition::MarkedEdition;
 use fw_base::{Kept, Numbered};
 use rm_lock::{Closed, Entry, Opened, Operator, Processor, Reading, RmLock};
 use std::alloc::{AllocError, Global};
@@ -10,11 +11,11 @@ use std::sync::Wait;
 use std::test::Fail;
 use std::thread::{Threads, join};
 
-type Lock = RmLock<Marked, Pages>;
+type Lock = RmLock<MarkedEdition, EntryCounts>;
 
-type Reader = Processor<Marked, Pages>;
+type Reader = Processor<MarkedEdition, EntryCounts>;
 
-type Writer = Operator<Marked, Pages>;
+type Writer = Operator<MarkedEdition, EntryCounts>;
 
 /// The turns of each of two readers, and the publications beside them.
 const ROWS: [(u32, u32); 4] = [(1000, 0), (1000, 10), (1000, 100), (100, 1000)];
@@ -42,9 +43,9 @@ fn open_pair(rt: &impl Abort, alloc: Global) -> Result<(Lock, Tokens), Fail>
     ensures operator { IfOk result (λ p. (p.1.operator.table_id ≡ p.0)
         × (p.1.operator.view.count ≡ 2) × (p.1.operator.view.number ≡ 1)) }
 {
-    let edition = Marked::of(1);
+    let edition = MarkedEdition::of(1);
     let editions = vec![in alloc; edition; 2]?;
-    let book = Pages {
+    let book = EntryCounts {
         last: edition.tag,
         lengths: [1, 0, 0],
     };
@@ -70,7 +71,7 @@ fn open_pair(rt: &impl Abort, alloc: Global) -> Result<(Lock, Tokens), Fail>
 fn section<R: Abort + Wait>(
     rt: &R,
     lock: &Lock,
-    r: Reading<Marked, Pages>,
+    r: Reading<MarkedEdition, EntryCounts>,
     place: u32,
     met: &mut Met,
 ) -> Reader
@@ -82,7 +83,7 @@ fn section<R: Abort + Wait>(
     ensures place { result.view.place ≡ place }
 {
     let edition = *r.edition();
-    assert_eq!(rt; edition, Marked::of(r.number()));
+    assert_eq!(rt; edition, MarkedEdition::of(r.number()));
     assert!(rt; edition.tag.number >= met.last);
     let mut h = lock.take_book(rt, r);
     let book = h.book();
@@ -161,7 +162,7 @@ fn all_publications<R: Abort + Wait>(
         let ready = k.book().is_ready();
         assert!(rt; ready);
         let o = lock.shut_book(k);
-        let edition = Marked::of(next);
+        let edition = MarkedEdition::of(next);
         let editions = vec![in alloc; edition; 2]?;
         let writing = lock.begin_write(rt, o);
         let (o, _) = lock.publish(writing, editions, edition.tag);
@@ -247,7 +248,11 @@ fn turns_beside_publications<R: Threads + Abort + Wait + Sync>(
 }
 
 /// Ends a lock of two processors.
-fn close_pair(alloc: Global, lock: Lock, tokens: Tokens) -> Result<Closed<Marked, Pages>, Fail>
+fn close_pair(
+    alloc: Global,
+    lock: Lock,
+    tokens: Tokens,
+) -> Result<Closed<MarkedEdition, EntryCounts>, Fail>
     requires first { (tokens.first.table_id ≡ lock) × (tokens.first.view.place ≡ 1) }
     requires second { (tokens.second.table_id ≡ lock) × (tokens.second.view.place ≡ 2) }
     requires operator { (tokens.operator.table_id ≡ lock) × (tokens.operator.view.count ≡ 2) }
@@ -261,14 +266,14 @@ fn close_pair(alloc: Global, lock: Lock, tokens: Tokens) -> Result<Closed<Marked
 /// What is left of a lock after such turns and publications.
 fn check_left(
     rt: &impl Abort,
-    closed: &Closed<Marked, Pages>,
+    closed: &Closed<MarkedEdition, EntryCounts>,
     met: (Met, Met),
     turns: u32,
     publications: u32,
 ) {
     let turns = u64::from(turns);
     let published = u64::from(publications) + 1;
-    let last = Marked::of(published);
+    let last = MarkedEdition::of(published);
     assert_eq!(rt; closed.trackers.as_slice(), [2 * turns; 2].as_slice());
     assert_eq!(rt; closed.editions.as_slice(), [last; 2].as_slice());
     let (first, second) = met;

@@ -1,63 +1,18 @@
 ghost use Rattle.std.specs.Prelude.{◌≡◌, ℕ, ◌+◌, ◌-◌, ◌^◌, ◌≤◌, min, nat_lt, replicate, slice_index_or, slice_set};
-ghost use Rattle.lock_tests.specs.Marked.{marked};
 
-use fw_base::{Kept, Numbered};
-
-/// What a publication tells the book: its number, and a mark that is another number.
-#[derive(Clone, Copy, Debug, PartialEq, Eq)]
-pub(crate) struct Mark {
-    pub(crate) number: u64,
-    pub(crate) mark: u64,
-}
-
-/// An edition whose number, tag and name differ.
-#[derive(Clone, Copy, Debug, PartialEq, Eq)]
-pub(crate) struct Marked {
-    pub(crate) tag: Mark,
-    pub(crate) name: u64,
-}
-
-impl Marked {
-    /// The edition of this number.
-    pub(crate) fn of(number: u64) -> Marked
-        ensures { result ≡ marked number }
-    {
-        Marked {
-            tag: Mark {
-                number,
-                mark: u64::MAX - number,
-            },
-            name: number / 2,
-        }
-    }
-}
-
-impl Numbered for Marked {
-    type Tag = Mark;
-
-    type Label = u64;
-
-    ghost number = { λ e. e.tag.number };
-
-    ghost tag = { λ e. e.tag };
-
-    ghost name = { λ e. e.name };
-
-    fn number(&self) -> u64 {
-        self.tag.number
-    }
-}
+use crate::marked_edition::Mark;
+use fw_base::Kept;
 
 /// A book that counts its publications and the entries of each of two processors. Its lists are as long as
 /// the counts.
 #[derive(Debug, Drop)]
-pub(crate) struct Pages {
+pub(crate) struct EntryCounts {
     pub(crate) last: Mark,
     /// By list, its length: at 0 the publications, at each place the entries of that processor.
     pub(crate) lengths: [u64; 3],
 }
 
-impl Pages {
+impl EntryCounts {
     /// One more entry of the processor at that place. At its type's end the count stands still.
     pub(crate) fn add_entry(&mut self, place: u32)
         requires { place ≤ 2 }
@@ -71,7 +26,7 @@ impl Pages {
     }
 }
 
-impl Kept for Pages {
+impl Kept for EntryCounts {
     type Facts = Mark;
 
     type Item = u64;

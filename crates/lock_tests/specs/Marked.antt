@@ -1,7 +1,0 @@
--- Editions whose numbers, tags and names differ.
-use Rattle.std.specs.Prelude.{ℕ, ◌-◌, ◌^◌, ◌/◌}
-use Rattle.lock_tests.specs.declared.marked.Marked.{Marked}
-
--- the edition of this number
-abbrev pub marked : ℕ → Marked
-marked number = record { tag = record { number = number; mark = 2 ^ 64 - 1 - number }; name = number / 2 }
