@@ -1,5 +1,5 @@
 -- The record of a world and its lanes is legal.
-use Rattle.std.proofs.Common.{◌≡◌, ℕ, suc, ◌+◌, ◌-◌, ◌≤◌, List, [], ◌∷◌, length, map, Option, Some, None, refl, sym, ap, ◌∙◌, subst, arith}
+use Rattle.std.proofs.Common.{◌≡◌, ℕ, suc, ◌+◌, ◌-◌, ◌≤◌, List, [], ◌∷◌, ◌++◌, length, map, Option, Some, None, refl, sym, ap, ◌∙◌, subst, arith}
 use Rattle.std.specs.Prelude.{IfSome, unwrap_or, ⊤}
 use Rattle.std.specs.List.{AllByRecursion}
 use Rattle.counter_book.specs.declared.tally.Count.{Count}
@@ -88,6 +88,15 @@ counts_before capacity editions docket (Some own) inputs counts room stands =
 counts_nothing : (cache : Option LaneCacheValue) (counts : List ℕ) → capacity_of cache ≡ None → counted_before cache counts ≡ counts
 counts_nothing None counts room = refl
 counts_nothing (Some own) counts room = cc
+
+-- the hits of one lane more
+pub counted_by-append : (lanes : List LaneValue) (lane : LaneValue) → counted_by (lanes ++ lane ∷ []) ≡ counted_by lanes ++ counted_before lane.cache []
+counted_by-append [] lane = refl
+counted_by-append (first ∷ lanes) lane = ap (counted_before first.cache) (counted_by-append lanes lane) ∙ before first.cache
+  where
+    before : (cache : Option LaneCacheValue) → counted_before cache (counted_by lanes ++ counted_before lane.cache []) ≡ counted_before cache (counted_by lanes) ++ counted_before lane.cache []
+    before None = refl
+    before (Some own) = refl
 
 -- The hits that the lanes' caches have counted are those of the lanes' packets.
 pub TellsHits-world : (world : WorldValue) (lanes : List LaneValue) (cache : Option ℕ) (inputs : List (List Input)) → EachHasRoom cache lanes → EachStandsFor world lanes inputs → TellsHits cache inputs (record_of_world world lanes)
