@@ -94,7 +94,7 @@ fn find<L: Library>(
                 script,
                 captures,
             },
-        ) => replay_files(alloc, journal, script, &captures, library),
+        ) => replay_files(alloc, journal, None, script, &captures, library),
         Some(Invocation::Load(records)) => Ok(without_sources(alloc, replay_load(alloc, records)?)),
         None
         | Some(
