@@ -1,5 +1,5 @@
 -- What the library makes of all the words: a fault, or what the options and the operands give.
-use Rattle.std.proofs.Common.{◌≡◌, ℕ, ◌+◌, ◌≤◌, Bool, true, false, ◌||◌, if◌then◌else◌, Some, None, Option, List, [], ◌∷◌, ◌++◌, length, map, drop, refl, sym, ap, ap₂, ◌∙◌, subst, arith, inl, inr, ◌⊎◌, codes, String, string_bytes, is_some, length-append, append_assoc, option_map}
+use Rattle.std.proofs.Common.{◌≡◌, ◌+◌, ◌≤◌, Bool, true, false, ◌||◌, if◌then◌else◌, Some, None, Option, List, [], ◌∷◌, ◌++◌, length, map, drop, refl, sym, ap, ap₂, ◌∙◌, subst, arith, inl, inr, ◌⊎◌, codes, String, string_bytes, is_some, length-append, append_assoc, option_map}
 use Rattle.std.specs.Prelude.{IsSomeAnd, option_and_then}
 use Rattle.std.specs.List.{fold}
 use Rattle.std.proofs.lemmas.Str.{IsUtf8-string_bytes}
@@ -12,7 +12,7 @@ use Rattle.clap.specs.Faults.{fault_of, walk_fault, turn_fault, entered_fault, s
 use Rattle.clap.specs.declared.error.kind.ErrorKind.{ErrorKind}
 use Rattle.command_words.specs.CommandLine.{command_app}
 use Rattle.command_words.specs.Words.{Given, operands, given_by, is_divider, is_option}
-use Rattle.command_words.proofs.Giving.{after, merged, told, value_merged, journal_merged, second_merged, after_divider, after_none, after_option, after_plain, behind_plain}
+use Rattle.command_words.proofs.Giving.{after, merged, value_merged, journal_merged, second_merged, after_divider, after_none, after_option, after_plain, behind_plain}
 use Rattle.command_words.proofs.Rows.{row_of_name, other_row, new_row, has_row-is}
 use Rattle.command_words.proofs.Sorts.{IsFaulty, divider, journal_word, cache_word, cache_value, long, short, operand, faulty_front, journal, cache, operand_rule, rules, shape, sort_of}
 use Rattle.command_words.proofs.Walks.{Pending, words, wants, has, walk_at, held_at, settled_at, count_at, shown, IsFlag, Tells, more_operands, more_values, closed, settled_tells, value_tells, journal_tells, rows_behind, pending_behind, walked_behind, fault_behind, no_settle_fault, walked_divider, fault_divider, rows_plain, pending_plain, walked_plain, fault_plain, walked_journal, fault_journal, fault_second, walked_cache, fault_cache, walked_value, fault_value, fault_long, fault_short}

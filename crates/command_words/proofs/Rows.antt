@@ -1,10 +1,8 @@
 -- What a use of an argument does to the rows that were found, seen by their names.
-use Rattle.std.proofs.Common.{◌≡◌, ℕ, Bool, true, false, cond, Some, None, Option, List, [], ◌∷◌, ◌++◌, refl, sym, ap, ◌∙◌, subst, find, unwrap_or, option_map, is_some, codes}
-use Rattle.std.proofs.lemmas.Bool.{cases_Bool}
+use Rattle.std.proofs.Common.{◌≡◌, Bool, true, false, cond, Some, None, Option, List, [], ◌∷◌, ◌++◌, refl, ap, ◌∙◌, find, unwrap_or, option_map, is_some}
 use Rattle.std.specs.Prelude.{◌||◌}
-use Rattle.std.specs.List.{list_any}
 use Rattle.std.specs.Str.{bytes_eq}
-use Rattle.clap.specs.Walk.{Row, Text, all_of, one_of, row_text, has_row, more_values, with_values, without}
+use Rattle.clap.specs.Walk.{Row, Text, all_of, has_row, more_values, with_values, without}
 use Rattle.clap.specs.declared.builder.value_parser.Reading.{Reading}
 use Rattle.clap.specs.declared.parser.matches.ValueSource.{ValueSource}
 use Rattle.command_words.proofs.Sorts.{same_text, same_itself}

@@ -1,24 +1,21 @@
 -- What the library makes of the words, one after the other.
-use Rattle.std.proofs.Common.{◌≡◌, ℕ, ◌+◌, ◌≤◌, Bool, true, false, not, ◌&&◌, ◌||◌, cond, if◌then◌else◌, Some, None, Option, suc, List, [], ◌∷◌, ◌++◌, length, refl, sym, ap, ap₂, ◌∙◌, subst, arith, codes, slice_get, nat_lt, unwrap_or, option_map}
+use Rattle.std.proofs.Common.{◌≡◌, ℕ, ◌≤◌, Bool, true, false, ◌&&◌, if◌then◌else◌, Some, None, Option, suc, List, [], ◌∷◌, ◌++◌, length, refl, sym, ap, ap₂, ◌∙◌, subst, arith, codes, slice_get, nat_lt, unwrap_or, option_map}
 use Rattle.std.specs.Prelude.{IsSomeAnd}
 use Rattle.std.specs.Option.{option_map_or}
-use Rattle.std.specs.List.{fold}
 use Rattle.std.specs.Str.{IsUtf8, chars, encode_utf8_all}
 use Rattle.std.specs.Char.{encode_utf8}
 use Rattle.std.proofs.lemmas.Str.{IsUtf8-past_char, chars_past_char}
 use Rattle.std.proofs.lemmas.Bool.{le-ltb}
-use Rattle.std.proofs.lemmas.List.{append-nil, append_assoc}
+use Rattle.std.proofs.lemmas.List.{append-nil}
 use Rattle.clap.specs.Lexer.{usize_max, long_of, short_of}
-use Rattle.clap.specs.Walk.{Held, Row, Rule, Step, Text, Waiting, Walk, idle, option, positional, trailing, walked, word_met, long_or_other, short_or_plain, plain_word, after_step, used, settled_rows, all_of, has_row, row_text}
+use Rattle.clap.specs.Walk.{Held, Row, Text, Waiting, Walk, idle, option, positional, trailing, walked, word_met, long_or_other, short_or_plain, plain_word, after_step, used, settled_rows, all_of, has_row, row_text}
 use Rattle.clap.specs.Kinds.{Kinds, or_else, range_kinds, values_kinds}
 use Rattle.clap.specs.Faults.{walk_fault, turn_fault, word_fault, step_fault, settle_fault, flag_word_fault, bundle_fault, flags_fault, bundle_step_fault}
 use Rattle.clap.specs.declared.builder.value_parser.ValueParser.TheVariants.{String as String_parser}
 use Rattle.clap.specs.declared.error.kind.ErrorKind.TheVariants.{UnknownArgument, ArgumentConflict, TooFewValues, TooManyValues}
-use Rattle.command_words.specs.Bytes.{is_same}
-use Rattle.command_words.specs.Chain.{◌>>=◌}
-use Rattle.command_words.specs.Words.{Given, operands, with_journal, with_value, with_operand, without_value, by_option, given_by, is_option, is_divider}
-use Rattle.command_words.proofs.Rows.{row_of_name, other_row, own_values, new_row, without_none, has_row-is}
-use Rattle.command_words.proofs.Sorts.{IsFaulty, faulty_front, faulty_back, journal, cache, rules, shape}
+use Rattle.command_words.specs.Words.{Given, is_divider}
+use Rattle.command_words.proofs.Rows.{row_of_name, other_row, own_values, new_row, without_none}
+use Rattle.command_words.proofs.Sorts.{IsFaulty, faulty_front, journal, cache, rules, shape}
 
 -- what is pending behind the words so far: operands, if there were any, a `--cache` that awaits its value, or one
 -- that has it

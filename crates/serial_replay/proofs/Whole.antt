@@ -58,7 +58,6 @@ lanes-first cache world place (suc count) total least within lanes some = (
   record { first = least; last = omega arith; held = some; heard = tt; judged = λ k d less. absurd (omega arith); cached = nothing_kept cache },
   lanes-first cache world (place + 1) count total (omega arith) (omega arith) lanes some,
 )
-
   where
     nothing_kept : (cache : Option ℕ) → IsCacheAmong world.editions (first_cache cache)
     nothing_kept None = tt

@@ -13,7 +13,7 @@ use Rattle.fw_world.specs.CommitFaults.{RefusesCommand}
 use Rattle.fw_world.specs.Inputs.{Input}
 use Rattle.fw_world.specs.Lane.{LaneValue}
 use Rattle.serial_world.specs.Steps.{Publishes}
-use Rattle.fw_world.specs.World.{WorldValue, IsLaneOf, LaneStandsFor, DeskStandsFor}
+use Rattle.fw_world.specs.World.{IsLaneOf, LaneStandsFor, DeskStandsFor}
 use Rattle.rule_chain.specs.Configuration.{Configuration}
 use Rattle.rule_edits.specs.declared.apply_fault.ApplyFault.{ApplyFault}
 use Rattle.capture_tracks.specs.Commands.{Standing, listing_of, line_answer, after_line}

@@ -1,4 +1,4 @@
-use Rattle.std.proofs.Common.{rules, ◌≡◌, ◌≤◌, ◌∙◌, ℕ, Bool, ap, ap₂, sym, subst, codes, map, drop, length, string_bytes, Some, None, Option, List, [], unwrap_or, option_map, inl, inr}
+use Rattle.std.proofs.Common.{rules, ◌≡◌, ◌≤◌, ◌∙◌, ℕ, Bool, ap, ap₂, sym, subst, codes, map, length, string_bytes, Some, None, Option, List, [], unwrap_or, option_map, inl, inr}
 use Rattle.clap.specs.Lexer.{usize_max}
 use Rattle.clap.specs.Kinds.{IsAmong}
 use Rattle.clap.specs.Matches.{found_of}
@@ -8,7 +8,7 @@ use Rattle.clap.specs.Faults.{fault_of, is_simple_and_free}
 use Rattle.clap.proofs.WalkLemmas.{one_text-rows}
 use Rattle.command_words.specs.Chain.{◌>>=◌}
 use Rattle.command_words.specs.CommandLine.{command_app}
-use Rattle.command_words.specs.Words.{Arguments, Given, arguments_from, arguments_of, cache_of, given_by}
+use Rattle.command_words.specs.Words.{Arguments, Given, arguments_from, cache_of}
 use Rattle.command_words.proofs.Ends.{refused_words, taken_words, flag_is}
 use Rattle.command_words.proofs.Walks.{shown_is}
 use Rattle.command_words.proofs.arguments.arguments_in.Goals as goal

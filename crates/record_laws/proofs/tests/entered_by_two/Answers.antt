@@ -1,4 +1,4 @@
-use Rattle.std.proofs.Common.{◌≡◌, ℕ, None, List, [], ◌∷◌, length, get_or, slice_set, IsPermutation, refl, sym, ap, ◌∙◌, subst, arith}
+use Rattle.std.proofs.Common.{◌≡◌, None, List, [], ◌∷◌, length, get_or, slice_set, IsPermutation, refl, sym, ap, ◌∙◌, subst, arith}
 use Rattle.std.proofs.lemmas.List.Sorted.{IsPermutation-refl}
 use Rattle.eval_engine.specs.declared.docket_entry.DocketEntry.TheVariants.{Other}
 use Rattle.fw_world.specs.Closing.{AreLanesFrom, by_place}
