@@ -1,0 +1,39 @@
+ghost use Rattle.std.specs.Prelude.{◌≡◌};
+
+use crate::shared_book::SharedBook;
+use fw_world::LaneWork;
+use generation_store::Edition;
+use rm_lock::Processor;
+use std::marker::Model;
+use std::sync::Arc;
+
+/// A lane of a shared world outside of a section: who judges the records of one capture.
+#[derive(Drop)]
+pub struct Lane {
+    pub(crate) processor: Processor<Arc<Edition>, SharedBook>,
+    pub(crate) work: LaneWork,
+}
+
+impl Model for Lane {
+    ghost use Rattle.shared_world.specs.SharedLane.{SharedLane, lane_of};
+
+    ghost Value = { SharedLane };
+
+    ghost view = { λ l. lane_of l.processor.table_id l.processor.view l.work };
+}
+
+impl Lane {
+    /// Its place among the world's lanes, from 1.
+    pub fn place(&self) -> u32
+        ensures { result ≡ self.now.place }
+    {
+        self.processor.place()
+    }
+
+    /// The number of the edition that it last held or regained.
+    pub fn number(&self) -> u64
+        ensures { result ≡ self.now.number }
+    {
+        self.processor.number()
+    }
+}
