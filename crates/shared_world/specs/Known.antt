@@ -2,7 +2,7 @@
 use Rattle.std.specs.Prelude.{length}
 use Rattle.std.specs.Arc.{arc_value}
 use Rattle.std.specs.declared.sync.Arc.{Arc}
-use Rattle.std_heap.specs.declared.Global.{Global}
+use Rattle.std.proofs.Common.{Global}
 use Rattle.generation_store.specs.Published.{Published}
 use Rattle.rm_table.specs.Meanings.{Meanings, meanings}
 use Rattle.rm_table.specs.declared.view.View.{View}

@@ -1,6 +1,5 @@
 -- What contracts see of a lane of a shared world, and of one within a section.
-use Rattle.std.specs.Prelude.{ℕ, zero, suc, ◌+◌, ◌%◌, ◌^◌, Bool, false, not, is_some, Option, Some, None, List, [], ◌∷◌, ◌++◌}
-use Rattle.core.specs.Option.{option_map}
+use Rattle.std.specs.Prelude.{ℕ, ◌+◌, ◌%◌, ◌^◌, Bool, false, not, is_some, Option, Some, None, option_map, List, [], ◌∷◌, ◌++◌}
 use Rattle.std.specs.Arc.{arc_value}
 use Rattle.atomic_table.specs.Seated.{TableId}
 use Rattle.counter_book.specs.declared.tally.Count.{Count}

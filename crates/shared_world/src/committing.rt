@@ -26,6 +26,7 @@ impl World {
         requires changing { IsChanging command.now }
         ensures committed { Commits desk result.0 command.now result.1 }
     {
+        self.is_stub();
         unreachable!()
     }
 }

@@ -25,6 +25,7 @@ impl World {
         ensures next { JudgesNext inside result.0 packet.now port.now second result.1 }
         ensures world { result.0.lane.world ≡ inside.lane.world }
     {
+        self.is_stub();
         unreachable!()
     }
 }

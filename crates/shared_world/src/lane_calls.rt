@@ -13,6 +13,7 @@ impl World {
         requires lane { lane.world ≡ self.now }
         ensures entry { EntersLane lane result }
     {
+        self.is_stub();
         unreachable!()
     }
 
@@ -21,6 +22,7 @@ impl World {
         requires lane { inside.lane.world ≡ self.now }
         ensures left { LeavesLane inside result }
     {
+        self.is_stub();
         unreachable!()
     }
 
@@ -31,6 +33,7 @@ impl World {
         requires refused { IsSome lane.refusal }
         ensures regained { RegainsLane lane result }
     {
+        self.is_stub();
         unreachable!()
     }
 
@@ -40,6 +43,7 @@ impl World {
         ensures entered { SkipsNext lane result.0 entry result.1 }
         ensures world { result.0.world ≡ lane.world }
     {
+        self.is_stub();
         unreachable!()
     }
 }

@@ -26,3 +26,12 @@ impl Model for World {
     // STUB
     ghost invariant = { λ w. ⊥ };
 }
+
+impl World {
+    // STUB
+    pub(crate) fn is_stub(&self)
+        ensures { ⊥ }
+    {
+        let _ = &self.lock;
+    }
+}

@@ -1,0 +1,2 @@
+-- lanes in the order of their places
+pub mod Arranging
