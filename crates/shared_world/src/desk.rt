@@ -2,10 +2,11 @@ ghost use Rattle.std.specs.Prelude.{◌≡◌, length};
 ghost use Rattle.fw_world.specs.Editions.{IsLastOf};
 ghost use Rattle.generation_store.specs.Published.{Published};
 
+use crate::closing_room::ClosingRoom;
 use crate::shared_book::SharedBook;
-use fw_world::{Columns, last_edition};
+use fw_world::last_edition;
 use generation_store::{Edition, Store};
-use rm_lock::{Operator, Processor};
+use rm_lock::Operator;
 use rule_chain::Config;
 use std::marker::Model;
 use std::sync::Arc;
@@ -15,24 +16,26 @@ use std::sync::Arc;
 pub struct Desk {
     pub(crate) operator: Operator<Arc<Edition>, SharedBook>,
     pub(crate) store: Store,
-    pub(crate) columns: Columns,
-    pub(crate) processors: Vec<Processor<Arc<Edition>, SharedBook>>,
+    pub(crate) lanes: u32,
+    pub(crate) room: ClosingRoom,
 }
 
 impl Model for Desk {
-    ghost use Rattle.std.specs.Prelude.{◌≤◌, length};
+    ghost use Rattle.std.specs.Prelude.{◌≡◌};
+    ghost use Rattle.shared_world.specs.DeskKept.{IsSharedDesk};
     ghost use Rattle.shared_world.specs.SharedDesk.{SharedDesk};
 
     ghost Value = { SharedDesk };
 
     ghost view = { λ d. record {
       world = d.operator.table_id;
-      lanes = d.operator.view.count;
+      lanes = d.lanes;
       editions = d.store.editions;
       steps = d.operator.view.steps;
     } };
 
-    ghost invariant = { λ d. 1 ≤ length d.store.editions };
+    ghost invariant = { λ d. IsSharedDesk d.lanes d.operator.view d.store.editions
+        × (d.room ≡ d.lanes) };
 }
 
 impl Desk {

@@ -9,11 +9,15 @@ use std::sync::Arc;
 #[derive(Drop)]
 pub struct Inside {
     pub(crate) reading: Reading<Arc<Edition>, SharedBook>,
+    pub(crate) place: u32,
     pub(crate) work: LaneWork,
     pub(crate) judged: bool,
 }
 
 impl Model for Inside {
+    ghost use Rattle.std.specs.Prelude.{◌≡◌};
+    ghost use Rattle.fw_world.specs.LaneKept.{pending_of};
+    ghost use Rattle.shared_world.specs.LaneKept.{IsSharedLane, ReadsSeen};
     ghost use Rattle.shared_world.specs.SharedLane.{SharedInside, lane_of, edition_read};
 
     ghost Value = { SharedInside };
@@ -23,4 +27,7 @@ impl Model for Inside {
       edition = edition_read i.reading.view;
       judged = i.judged;
     } };
+
+    ghost invariant = { λ i. IsSharedLane (pending_of i.judged) i.reading.view i.work
+        × ReadsSeen i.reading.view × (i.reading.view.place ≡ i.place) };
 }

@@ -1,6 +1,7 @@
 ghost use Rattle.std.specs.Prelude.{◌≡◌, false};
 ghost use Rattle.shared_world.specs.Judging.{JudgesNext};
 
+use crate::asking::Asking;
 use crate::{Inside, World};
 use eval_engine::Judgement;
 use fw_base::{OutOfMemory, Port};
@@ -25,7 +26,20 @@ impl World {
         ensures next { JudgesNext inside result.0 packet.now port.now second result.1 }
         ensures world { result.0.lane.world ≡ inside.lane.world }
     {
-        self.is_stub();
-        unreachable!()
+        let Inside {
+            reading,
+            place,
+            mut work,
+            judged: _,
+        } = inside;
+        let mut asking = Asking::new(rt, &self.lock, reading);
+        let outcome = work.judge(&mut asking, place, packet, port, second);
+        let inside = Inside {
+            reading: asking.into_reading(),
+            place,
+            work,
+            judged: outcome.is_ok(),
+        };
+        (inside, outcome)
     }
 }

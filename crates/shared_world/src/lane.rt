@@ -1,9 +1,13 @@
-ghost use Rattle.std.specs.Prelude.{◌≡◌};
+ghost use Rattle.std.specs.Prelude.{◌≡◌, []};
+ghost use Rattle.shared_world.specs.LaneKept.{IsNewSeat};
+ghost use Rattle.shared_world.specs.SharedLane.{new_lane};
+ghost use Rattle.shared_world.specs.Standing.{LaneStandsFor};
 
 use crate::shared_book::SharedBook;
 use fw_world::LaneWork;
 use generation_store::Edition;
 use rm_lock::Processor;
+use std::alloc::Global;
 use std::marker::Model;
 use std::sync::Arc;
 
@@ -15,14 +19,29 @@ pub struct Lane {
 }
 
 impl Model for Lane {
+    ghost use Rattle.shared_world.specs.LaneKept.{IsSharedLane};
     ghost use Rattle.shared_world.specs.SharedLane.{SharedLane, lane_of};
 
     ghost Value = { SharedLane };
 
     ghost view = { λ l. lane_of l.processor.table_id l.processor.view l.work };
+
+    ghost invariant = { λ l. IsSharedLane 0 l.processor.view l.work };
 }
 
 impl Lane {
+    /// The lane of a processor of a new lock.
+    pub(crate) fn new(alloc: Global, processor: Processor<Arc<Edition>, SharedBook>) -> Lane
+        requires { IsNewSeat processor.view }
+        ensures lane { result ≡ new_lane processor.table_id processor.view.place }
+        ensures stands { LaneStandsFor result [] }
+    {
+        Lane {
+            processor,
+            work: LaneWork::new(alloc),
+        }
+    }
+
     /// Its place among the world's lanes, from 1.
     pub fn place(&self) -> u32
         ensures { result ≡ self.now.place }
@@ -35,5 +54,12 @@ impl Lane {
         ensures { result ≡ self.now.number }
     {
         self.processor.number()
+    }
+
+    /// Whether want of memory failed it.
+    pub(crate) fn has_failed(&self) -> bool
+        ensures { result ≡ self.now.failed }
+    {
+        self.work.failed
     }
 }

@@ -1,9 +1,12 @@
 ghost use Rattle.std.specs.Prelude.{◌≡◌, IsSome};
+ghost use Rattle.generation_store.specs.Published.{IsEdition};
 ghost use Rattle.shared_world.specs.LaneCalls.{EntersLane, RegainsLane, LeavesLane, SkipsNext};
 
 use crate::{Inside, Lane, LaneEntry, World};
 use fw_base::OutOfMemory;
-use fw_world::Skipped;
+use fw_world::{Skipped, skipped_entry};
+use generation_store::Edition;
+use rm_lock::Entry;
 use std::sync::Wait;
 
 impl World {
@@ -13,8 +16,27 @@ impl World {
         requires lane { lane.world ≡ self.now }
         ensures entry { EntersLane lane result }
     {
-        self.is_stub();
-        unreachable!()
+        let Lane {
+            processor,
+            mut work,
+        } = lane;
+        let place = processor.place();
+        work.loosen(processor.is_refused());
+        match self.lock.enter(processor) {
+            Entry::In(reading) => {
+                is_edition(reading.edition());
+                LaneEntry::In(Inside {
+                    reading,
+                    place,
+                    work,
+                    judged: false,
+                })
+            }
+            Entry::Revoked(processor, number) => {
+                work.docket.refuse();
+                LaneEntry::Revoked(Lane { processor, work }, number)
+            }
+        }
     }
 
     /// Ends the section. It waits for nobody and takes no memory.
@@ -22,8 +44,15 @@ impl World {
         requires lane { inside.lane.world ≡ self.now }
         ensures left { LeavesLane inside result }
     {
-        self.is_stub();
-        unreachable!()
+        let Inside {
+            reading,
+            place: _,
+            mut work,
+            judged,
+        } = inside;
+        work.loosen(!judged);
+        let processor = self.lock.leave(reading);
+        Lane { processor, work }
     }
 
     /// The lane, which was refused, takes up what is published under the lock behind, for which it waits. It
@@ -33,8 +62,9 @@ impl World {
         requires refused { IsSome lane.refusal }
         ensures regained { RegainsLane lane result }
     {
-        self.is_stub();
-        unreachable!()
+        let Lane { processor, work } = lane;
+        let processor = self.lock.regain(rt, processor);
+        Lane { processor, work }
     }
 
     /// Enters a record of the lane that isn't judged. Where memory is wanted the lane has failed. It waits
@@ -43,7 +73,18 @@ impl World {
         ensures entered { SkipsNext lane result.0 entry result.1 }
         ensures world { result.0.world ≡ lane.world }
     {
-        self.is_stub();
-        unreachable!()
+        let Lane {
+            processor,
+            mut work,
+        } = lane;
+        let outcome = work.enter(skipped_entry(entry));
+        (Lane { processor, work }, outcome)
     }
+}
+
+/// Does nothing, and says that the edition has the facts of its configuration.
+fn is_edition(edition: &Edition)
+    ensures { IsEdition edition.now }
+{
+    let _config = edition.config();
 }

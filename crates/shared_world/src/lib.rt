@@ -9,7 +9,9 @@ pub use lane_entry::LaneEntry;
 pub use open_world::OpenWorld;
 pub use world::{MOST_LANES, World};
 
+mod asking;
 mod closing;
+mod closing_room;
 mod committing;
 mod desk;
 mod inside;
@@ -19,11 +21,7 @@ mod lane_calls;
 mod lane_entry;
 mod open_world;
 mod opening;
+mod preparing;
 mod shared_book;
 mod world;
 
-#[cfg(test)]
-mod tests {
-    #[test]
-    fn nothing() {}
-}

@@ -23,15 +23,4 @@ impl Model for World {
 
     ghost view = { λ w. w.lock };
 
-    // STUB
-    ghost invariant = { λ w. ⊥ };
-}
-
-impl World {
-    // STUB
-    pub(crate) fn is_stub(&self)
-        ensures { ⊥ }
-    {
-        let _ = &self.lock;
-    }
 }
