@@ -1,7 +1,8 @@
 ghost use Rattle.std.specs.Prelude.{◌≡◌, ◌≤◌, ◌<◌, ◌^◌, true, length, IfOk, OnOk, OnErr};
 ghost use Rattle.dyn_states.specs.StateObject.{reply_of};
 ghost use Rattle.state_asks.specs.Flags.{HasKeptFlags};
-ghost use Rattle.state_journal.specs.Journal.{IsJournal, first_journal, with_ask, NamesRuleOf, IsFoundOf, last_rules};
+ghost use Rattle.state_journal.specs.Journal.{IsJournal, first_journal, with_ask, NamesRuleOf, IsFoundOf};
+ghost use Rattle.state_journal.specs.Items.{last_facts};
 
 use fw_base::{Kept, OutOfMemory};
 use generation_store::Edition;
@@ -53,11 +54,11 @@ impl SharedBook {
     /// nothing has changed.
     pub(crate) fn ask(&mut self, lane: u32, at: u64, op: Op) -> Result<Reply, OutOfMemory>
         requires lane { (1 ≤ lane) × (lane ≤ self.old.lanes) }
-        requires rule { NamesRuleOf (last_rules self.old.facts) op }
+        requires rule { NamesRuleOf (last_facts self.old.facts).rules op }
         requires flags { HasKeptFlags op }
         ensures reply { IfOk result (λ reply. reply ≡ reply_of self.old.object op) }
         ensures entered { IfOk result (λ reply. self.new ≡ with_ask self.old lane at op reply) }
-        ensures found { IfOk result (IsFoundOf (last_rules self.old.facts)) }
+        ensures found { IfOk result (IsFoundOf (last_facts self.old.facts).rules) }
         ensures unchanged { OnErr result (self.new ≡ self.old) }
         ensures journal { IsJournal self.old }
         ensures counted { length self.new.entries < 2 ^ 64 }
