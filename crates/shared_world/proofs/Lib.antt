@@ -2,5 +2,11 @@
 pub mod Standing
 pub mod Sections
 pub mod Visits
--- lanes in the order of their places
+-- lanes in the order of their places, and taken apart
 pub mod Arranging
+pub mod Apart
+-- a world that closes
+pub mod LastBook
+pub mod LastLanes
+-- desks that go on
+pub mod DeskSteps

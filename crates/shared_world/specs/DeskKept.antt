@@ -3,13 +3,14 @@ use Rattle.std.specs.Prelude.{◌≡◌, ℕ, ◌+◌, ◌≤◌, true, List, []
 use Rattle.std.specs.List.{AllByRecursion}
 use Rattle.std.specs.Arc.{arc_value}
 use Rattle.fw_world.specs.Editions.{AreNumbered}
-use Rattle.generation_store.specs.Published.{Published}
+use Rattle.generation_store.specs.Published.{Published, IsEdition}
 use Rattle.rule_chain.specs.Configuration.{Configuration}
 use Rattle.state_asks.specs.declared.facts.Facts.{Facts}
 use Rattle.state_journal.specs.declared.entry.Item.{Item}
 use Rattle.state_journal.specs.declared.entry.Item.TheVariants as item
 use Rattle.shared_world.specs.Known.{Known, SharedEdition}
 use Rattle.shared_world.specs.SharedDesk.{AreOnBook}
+use Rattle.shared_world.specs.declared.preparing.NextEdition.{NextEdition}
 
 -- what the lock's history has of these editions
 abbrev pub names_of : List Published → List (Configuration × Facts)
@@ -50,6 +51,20 @@ desk_view v = record { count = v.count; number = v.number; opened = v.opened; hi
 -- one edition more was published
 abbrev pub with_published : DeskView → Published → DeskView
 with_published d edition = record d { number = d.number + 1; history = d.history ++ (edition.config, edition.facts) ∷ []; own = d.own ++ item.Published edition.facts ∷ [] }
+
+-- It is the edition behind the published one, with its number, its facts and a share for each processor.
+pub record IsPrepared (v : Known) (next : NextEdition) : Type 0 where
+  pub number : next.number ≡ v.number + 1
+  pub numbered : (arc_value next.edition).number ≡ v.number + 1
+  pub lawful : IsEdition (arc_value next.edition)
+  pub shares : AreShares (arc_value next.edition) v.count next.shares.items
+  pub facts : next.facts ≡ (arc_value next.edition).facts
+
+-- It was published, stands last among the editions, and its number is told.
+pub record PublishesNext (before after : Known) (next : NextEdition) (editions more : List Published) (number : ℕ) : Type 0 where
+  pub view : desk_view after ≡ with_published (desk_view before) (arc_value next.edition)
+  pub stored : more ≡ editions ++ arc_value next.edition ∷ []
+  pub told : number ≡ next.number
 
 -- The operator knows what it knew, and made no step but on the word that tells who has the book.
 pub record VisitsDesk (before after : Known) : Type 0 where

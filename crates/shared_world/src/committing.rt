@@ -1,10 +1,11 @@
 ghost use Rattle.std.specs.Prelude.{◌≡◌, ◌+◌, ◌^◌, ◌<◌, ◌-◌, ◌∷◌, [], ◌++◌, true, false, IfOk, IfErr, OnOk, OnErr, length};
 ghost use Rattle.std.specs.Arc.{arc_value};
 ghost use Rattle.fw_rule.specs.WellFormed.{IsWellFormed};
+ghost use Rattle.fw_world.specs.declared.commit_fault.CommitFault.TheVariants.{OutOfMemory};
 ghost use Rattle.generation_store.specs.Published.{Published, IsEdition};
 ghost use Rattle.rule_edits.specs.Changing.{IsChanging};
 ghost use Rattle.shared_world.specs.Commits.{Commits};
-ghost use Rattle.shared_world.specs.DeskKept.{AreShares, VisitsDesk, desk_view, with_published};
+ghost use Rattle.shared_world.specs.DeskKept.{AreShares, IsPrepared, PublishesNext, VisitsDesk, desk_view, with_published};
 
 use crate::preparing::{NextEdition, prepared};
 use crate::shared_book::SharedBook;
@@ -57,21 +58,25 @@ fn publish_shares<R: Wait>(
 }
 
 impl World {
-    /// Publishes the edition that was prepared, if it was.
+    /// Publishes the edition that was prepared, for which the store has room. Where the book has no room
+    /// for it, nobody was held up.
     fn publish_prepared<R: Wait>(
         &self,
         rt: &R,
         operator: Operator<Arc<Edition>, SharedBook>,
         store: &mut Store,
-        next: Result<NextEdition, CommitFault>,
+        next: NextEdition,
     ) -> (Operator<Arc<Edition>, SharedBook>, Result<u64, CommitFault>)
         requires lock { operator.table_id ≡ self.now }
+        requires next { IsPrepared operator.view next }
+        requires room { store.old.ready ≡ true }
         ensures lock { result.0.table_id ≡ self.now }
+        ensures published { IfOk result.1
+            (PublishesNext operator.view result.0.view next store.old.editions store.new.editions) }
+        ensures cause { IfErr result.1 (λ fault. fault ≡ OutOfMemory) }
+        ensures unchanged { OnErr result.1
+            (VisitsDesk operator.view result.0.view × (store.new.editions ≡ store.old.editions)) }
     {
-        let next = match next {
-            Ok(next) => next,
-            Err(fault) => return (operator, Err(fault)),
-        };
         let (operator, made) = ready_book(rt, &self.lock, operator);
         if made.is_err() {
             return (operator, Err(CommitFault::OutOfMemory));
@@ -109,14 +114,26 @@ impl World {
             lanes,
             room,
         } = desk;
-        let next = prepared(alloc, &mut store, lanes, command);
-        let (operator, outcome) = self.publish_prepared(rt, operator, &mut store, next);
-        let desk = Desk {
-            operator,
-            store,
-            lanes,
-            room,
-        };
-        (desk, outcome)
+        match prepared(alloc, &mut store, lanes, command) {
+            Ok(next) => {
+                let (operator, outcome) = self.publish_prepared(rt, operator, &mut store, next);
+                let desk = Desk {
+                    operator,
+                    store,
+                    lanes,
+                    room,
+                };
+                (desk, outcome)
+            }
+            Err(fault) => {
+                let desk = Desk {
+                    operator,
+                    store,
+                    lanes,
+                    room,
+                };
+                (desk, Err(fault))
+            }
+        }
     }
 }
