@@ -1,7 +1,7 @@
 -- Lanes that are taken apart: their seats of the lock and their work.
 use Rattle.std.proofs.Common.{◌≡◌, ℕ, zero, suc, ◌+◌, ◌<◌, ◌≤◌, List, [], ◌∷◌, ◌++◌, length, map, Option, Some, refl, sym, ap, ◌∙◌, subst, arith}
 use Rattle.std.specs.Prelude.{slice_get}
-use Rattle.std.specs.List.{AllByRecursion}
+use Rattle.std.specs.List.{AllByRecursion, zip}
 use Rattle.atomic_table.specs.Seated.{TableId}
 use Rattle.eval_engine.specs.Dockets.{DocketValue}
 use Rattle.counter_book.specs.declared.tally.Count.{Count}
@@ -109,3 +109,21 @@ AreNewOf-push [] [] seat lane are is stands = (is, stands, tt)
 AreNewOf-push [] (l ∷ lanes) seat lane are is stands = absurd are
 AreNewOf-push (s ∷ seats) [] seat lane are is stands = absurd are
 AreNewOf-push (s ∷ seats) (l ∷ lanes) seat lane are is stands = (are.0, are.1, AreNewOf-push seats lanes seat lane are.2 is stands)
+
+pub map_itself : {X : Type 0} (xs : List X) → map (λ x. x) xs ≡ xs
+map_itself [] = refl
+map_itself (x ∷ xs) = ap (λ rest. x ∷ rest) (map_itself xs)
+
+-- a column of what stands first in pairs
+pub of_firsts : {X Y Z : Type 0} (f : X → Z) (xs : List X) (ys : List Y) → length ys ≡ length xs → map (λ (pair : X × Y). f pair.0) (zip xs ys) ≡ map f xs
+of_firsts f [] [] many = refl
+of_firsts f [] (y ∷ ys) many = refl
+of_firsts f (x ∷ xs) [] many = absurd (omega (arith, many))
+of_firsts f (x ∷ xs) (y ∷ ys) many = ap (λ rest. f x ∷ rest) (of_firsts f xs ys (omega (arith, many)))
+
+-- there are as many new lanes as seats
+pub new-many : (seats : List Seat) (lanes : List SharedLane) → AreNewOf seats lanes → length lanes ≡ length seats
+new-many [] [] are = refl
+new-many [] (l ∷ lanes) are = absurd are
+new-many (s ∷ seats) [] are = absurd are
+new-many (s ∷ seats) (l ∷ lanes) are = ap suc (new-many seats lanes are.2)

@@ -8,5 +8,6 @@ pub mod Apart
 -- a world that closes
 pub mod LastBook
 pub mod LastLanes
+pub mod Closes
 -- desks that go on
 pub mod DeskSteps

@@ -1,7 +1,7 @@
 ghost use Rattle.std.specs.Prelude.{◌≡◌, ◌+◌, ◌^◌, ◌<◌, ◌-◌, ◌∷◌, [], ◌++◌, true, false, IfOk, IfErr, OnOk, OnErr, length};
 ghost use Rattle.std.specs.Arc.{arc_value};
 ghost use Rattle.fw_rule.specs.WellFormed.{IsWellFormed};
-ghost use Rattle.fw_world.specs.declared.commit_fault.CommitFault.TheVariants.{OutOfMemory};
+ghost use Rattle.fw_world.specs.declared.commit_fault.CommitFault.TheVariants as refusal;
 ghost use Rattle.generation_store.specs.Published.{Published, IsEdition};
 ghost use Rattle.rule_edits.specs.Changing.{IsChanging};
 ghost use Rattle.shared_world.specs.Commits.{Commits};
@@ -73,7 +73,7 @@ impl World {
         ensures lock { result.0.table_id ≡ self.now }
         ensures published { IfOk result.1
             (PublishesNext operator.view result.0.view next store.old.editions store.new.editions) }
-        ensures cause { IfErr result.1 (λ fault. fault ≡ OutOfMemory) }
+        ensures cause { IfErr result.1 (λ fault. fault ≡ refusal.OutOfMemory) }
         ensures unchanged { OnErr result.1
             (VisitsDesk operator.view result.0.view × (store.new.editions ≡ store.old.editions)) }
     {
