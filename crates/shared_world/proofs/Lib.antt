@@ -5,6 +5,8 @@ pub mod Visits
 -- lanes in the order of their places, and taken apart
 pub mod Arranging
 pub mod Apart
+-- a world that opens
+pub mod NewWorld
 -- a world that closes
 pub mod LastBook
 pub mod LastLanes
