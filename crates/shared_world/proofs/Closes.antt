@@ -24,10 +24,11 @@ use Rattle.rm_lock.specs.Ends.{ClosesAs, EndsFor}
 use Rattle.rule_chain.specs.Configuration.{Configuration}
 use Rattle.state_journal.specs.Journal.{Journal, IsJournal}
 use Rattle.shared_world.proofs.Apart.{column, placed, works-many}
+use Rattle.shared_world.proofs.Arranging.{length-by_place}
 use Rattle.shared_world.proofs.LastBook as last_book
 use Rattle.shared_world.proofs.LastLanes.{each_seat, last_world, are-lanes, are-kept, each-stands, each-asks, trackers-are}
 use Rattle.shared_world.specs.Apart.{AreApart, Seat}
-use Rattle.shared_world.specs.Closing.{AreLanesFrom, EachStandsFor, IsRecordOf}
+use Rattle.shared_world.specs.Closing.{AreLanesFrom, EachStandsFor, IsRecordOf, by_place}
 use Rattle.shared_world.specs.DeskKept.{IsSharedDesk}
 use Rattle.shared_world.specs.Known.{Known, SharedEdition, means}
 use Rattle.shared_world.specs.SharedDesk.{SharedDesk}
@@ -42,6 +43,15 @@ plain_column f (lane ∷ all) = ap (λ rest. f (plain_lane lane) ∷ rest) (plai
 plain_loose : (all : List SharedLane) → AllByRecursion (λ (lane : SharedLane). lane.loose ≡ 0) all → AllByRecursion (λ (lane : LaneValue). lane.loose ≡ 0) (map plain_lane all)
 plain_loose [] none = tt
 plain_loose (lane ∷ all) none = (none.0, plain_loose all none.1)
+
+-- the lanes that were taken apart are those in order
+pub in_order : (world : TableId) (given ordered : List SharedLane) (seats : List Seat) (works : List LaneWork) → ((w : TableId) (place : ℕ) → AreLanesFrom w place (by_place given) → ordered ≡ by_place given) → AreLanesFrom world 1 (by_place given) → AreApart ordered seats works
+    → AreApart (by_place given) seats works
+in_order world given ordered seats works same are apart = subst (λ (all : List SharedLane). AreApart all seats works) (same world 1 are) apart
+
+-- they are as many as the desk knows
+pub as_known : (given : List SharedLane) (shown inside : SharedDesk) → length given ≡ shown.lanes → inside ≡ shown → length (by_place given) ≡ inside.lanes
+as_known given shown inside many same = length-by_place given ∙ many ∙ sym (ap (λ (d : SharedDesk). d.lanes) same)
 
 module _ (lanes : ℕ) (v : Known) (editions : List Published) (desk : IsSharedDesk lanes v editions) (world : TableId) (all : List SharedLane) (seats : List Seat) (works : List LaneWork) (book : Journal) (trackers : List ℕ) (left : List SharedEdition)
     (are : AreLanesFrom world 1 all) (many : length all ≡ lanes) (apart : AreApart all seats works) (closes : ClosesAs means v seats book trackers left) where

@@ -9,29 +9,30 @@ use Rattle.state_journal.specs.Entries.{publications}
 use Rattle.state_journal.specs.Items.{items_of}
 use Rattle.state_journal.specs.Journal.{Journal, IsJournal}
 use Rattle.state_journal.specs.declared.entry.Item.{Item}
-use Rattle.state_journal.specs.declared.entry.Item.TheVariants.{Lanes, Published, Asked}
+use Rattle.state_journal.specs.declared.entry.Item.TheVariants.{Lanes, Asked}
+use Rattle.state_journal.specs.declared.entry.Item.TheVariants as item
 use Rattle.shared_world.specs.DeskKept.{publications_of}
 
 -- the facts of the publications among these items
 facts_in : List Item → List Facts
 facts_in [] = []
 facts_in (Lanes count ∷ items) = facts_in items
-facts_in (Published facts ∷ items) = facts ∷ facts_in items
+facts_in (item.Published facts ∷ items) = facts ∷ facts_in items
 facts_in (Asked after entry ∷ items) = facts_in items
 
 -- how many lanes these items begin with, 0 where they don't
 lanes_in : List Item → ℕ
 lanes_in [] = 0
 lanes_in (Lanes count ∷ items) = count
-lanes_in (Published facts ∷ items) = 0
+lanes_in (item.Published facts ∷ items) = 0
 lanes_in (Asked after entry ∷ items) = 0
 
-facts_in-facts : (facts : List Facts) → facts_in (map Published facts) ≡ facts
+facts_in-facts : (facts : List Facts) → facts_in (map item.Published facts) ≡ facts
 unfolding facts_in
 facts_in-facts [] = refl
 facts_in-facts (first ∷ facts) = ap (λ (all : List Facts). first ∷ all) (facts_in-facts facts)
 
-facts_in-editions : (editions : List Published) → facts_in (map (λ (edition : Published). Published edition.facts) editions) ≡ facts_of editions
+facts_in-editions : (editions : List Published) → facts_in (map (λ (edition : Published). item.Published edition.facts) editions) ≡ facts_of editions
 unfolding facts_in
 facts_in-editions [] = refl
 facts_in-editions (first ∷ editions) = ap (λ (all : List Facts). first.facts ∷ all) (facts_in-editions editions)

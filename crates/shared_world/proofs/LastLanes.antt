@@ -52,7 +52,7 @@ heard None number most same all = tt
 heard (Some refused) number most same all = omega (arith, all refused refl, same)
 
 -- each fact of an index is one of each seat
-each_seat : (P : Seat → Type 0) (seats : List Seat) → ((j : ℕ) (seat : Seat) → slice_get seats j ≡ Some seat → P seat) → AllByRecursion P seats
+pub each_seat : (P : Seat → Type 0) (seats : List Seat) → ((j : ℕ) (seat : Seat) → slice_get seats j ≡ Some seat → P seat) → AllByRecursion P seats
 each_seat P [] one = tt
 each_seat P (seat ∷ seats) one = (one 0 seat refl, each_seat P seats (λ j other is. one (suc j) other is))
 

@@ -13,3 +13,4 @@ pub mod LastLanes
 pub mod Closes
 -- desks that go on
 pub mod DeskSteps
+pub mod Committed

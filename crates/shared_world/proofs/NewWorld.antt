@@ -13,8 +13,7 @@ use Rattle.rule_chain.specs.Configuration.{Configuration}
 use Rattle.state_asks.specs.declared.facts.Facts.{Facts}
 use Rattle.state_journal.specs.Items.{items_of}
 use Rattle.state_journal.specs.Journal.{Journal, first_journal}
-use Rattle.state_journal.specs.declared.entry.Item.{Item}
-use Rattle.state_journal.specs.declared.entry.Item.TheVariants.{Published as ItemPublished}
+use Rattle.state_journal.specs.declared.entry.Item.TheVariants as item
 use Rattle.shared_world.proofs.Apart.{new-many}
 use Rattle.shared_world.specs.Apart.{AreNewOf, Seat}
 use Rattle.shared_world.specs.Closing.{AreNewLanes}
@@ -61,7 +60,7 @@ new_seats : (table : TableId) (n lanes : ℕ) (share : SharedEdition) (facts : F
 new_seats table n lanes share facts place zero first most = tt
 new_seats table n lanes share facts place (suc count) first most = (
   record {
-    of_book = record { first = first; count = lanes; rest = map ItemPublished (facts ∷ []); opened = refl; last = omega (arith, most) };
+    of_book = record { first = first; count = lanes; rest = map item.Published (facts ∷ []); opened = refl; last = omega (arith, most) };
     held = refl;
     refusal = refl;
     sections = refl;

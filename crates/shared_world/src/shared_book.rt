@@ -77,10 +77,12 @@ impl SharedBook {
         self.book.ready()
     }
 
-    /// The book itself.
+    /// The book itself, which is a journal.
     pub(crate) fn into_book(self) -> Book
-        ensures { result ≡ self }
+        ensures value { result ≡ self }
+        ensures journal { IsJournal result }
     {
+        self.is_journal();
         Box::into_inner(self.book)
     }
 }
