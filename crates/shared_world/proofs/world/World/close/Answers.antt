@@ -1,6 +1,7 @@
 use Rattle.std.proofs.Common.{◌≡◌, List, length, map, sym, ap, ◌∙◌, subst}
 use Rattle.std.proofs.lemmas.List.Elements.{All-from_recursion}
 use Rattle.std.specs.Prelude.{All}
+use Rattle.std.specs.Arc.{arc_value}
 use Rattle.atomic_table.specs.Seated.{TableId}
 use Rattle.fw_world.specs.Columns.{no_columns}
 use Rattle.fw_world.specs.Publications.{IsPublished}
@@ -14,6 +15,7 @@ use Rattle.shared_world.proofs.world.World.close.Goals as goal
 use Rattle.shared_world.proofs.world.World.close.Goals.{After-new}
 use Rattle.shared_world.specs.Apart.{AreApart, Seat}
 use Rattle.shared_world.specs.Closing.{IsRecordOf, by_place}
+use Rattle.shared_world.specs.Known.{SharedEdition}
 use Rattle.shared_world.specs.SharedDesk.{SharedDesk}
 use Rattle.shared_world.specs.SharedLane.{SharedLane}
 
@@ -53,7 +55,7 @@ new-requires c =
         closes.is_published c.desk.inside.lanes c.desk.inside.operator.view c.desk.inside.store.editions c.desk.invariant.0 c.args.self (by_place c.args.lanes.items)
     c.taken_apart-processors.result.0.items c.taken_apart-processors.result.1.items c.close-book.result.book c.close-book.result.trackers.items c.close-book.result.editions.items
     c.requires.lanes many apart c.close-book.ensures.closed journal in
-    subst (λ (j : Journal). IsPublished _ j) (sym c.into_book.ensures.value) (subst (λ (all : List Published). IsPublished all c.close-book.result.book) (sym c.into_all.ensures) published)
+    subst (λ (j : Journal). IsPublished (map (λ (e : SharedEdition). arc_value e) c.into_all.result.items) j) (sym c.into_book.ensures.value) (subst (λ (all : List Published). IsPublished all c.close-book.result.book) (sym c.into_all.ensures) published)
 
 apart : (c : After-new) → AreApart (by_place c.args.lanes.items) c.taken_apart-processors.result.0.items c.taken_apart-processors.result.1.items
 apart c = (closes.in_order c.args.self c.args.lanes.items c.ordered.result.items c.taken_apart-processors.result.0.items c.taken_apart-processors.result.1.items c.ordered.ensures.lanes c.requires.lanes c.taken_apart-processors.ensures)
