@@ -189,7 +189,7 @@ module _ (table : TableId) (v : Known) (work : LaneWork) (reads : ReadsSeen v) (
   -- the lane that judged stands for the packet behind its inputs
   stands : (judgement : Judgement) → Evaluates (Enters at) old new question work.tally w.tally judgement → w.docket.entries ≡ work.docket.entries ++ judged_entry judgement ∷ [] → steady_view u ≡ steady_view v
       → (inputs : List Input) → LaneStandsFor (lane_of table v work) inputs → LaneStandsFor (lane_of t u w) (inputs ++ Packet packet port second ∷ [])
-  unfolding LaneStandsFor
+  unfolding LaneStandsFor judged
   stands judgement ran entries same inputs stood = λ editions are.
       let j = judged judgement ran in
       let ops : List Op = (evaluate question ran.replies).asks in
