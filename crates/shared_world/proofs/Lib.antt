@@ -3,5 +3,8 @@ pub mod Standing
 pub mod Sections
 pub mod Visits
 pub mod Judged
+-- editions that are published
+pub mod Shares
+pub mod Publications
 -- lanes in the order of their places
 pub mod Arranging

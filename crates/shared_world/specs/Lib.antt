@@ -11,6 +11,7 @@ pub mod LaneCalls
 pub mod Judging
 pub mod Visits
 pub mod Commits
+pub mod Publishing
 -- the world as it opens and as it closes
 pub mod Closing
 pub mod Apart

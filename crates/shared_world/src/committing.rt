@@ -4,7 +4,8 @@ ghost use Rattle.fw_rule.specs.WellFormed.{IsWellFormed};
 ghost use Rattle.generation_store.specs.Published.{Published, IsEdition};
 ghost use Rattle.rule_edits.specs.Changing.{IsChanging};
 ghost use Rattle.shared_world.specs.Commits.{Commits};
-ghost use Rattle.shared_world.specs.DeskKept.{AreShares, VisitsDesk, desk_view, with_published};
+ghost use Rattle.shared_world.specs.Publishing.{IsPrepared, PublishesPrepared};
+ghost use Rattle.shared_world.specs.DeskKept.{AreShares, IsSharedDesk, VisitsDesk, desk_view, with_published};
 
 use crate::preparing::{NextEdition, prepared};
 use crate::shared_book::SharedBook;
@@ -66,7 +67,13 @@ impl World {
         next: Result<NextEdition, CommitFault>,
     ) -> (Operator<Arc<Edition>, SharedBook>, Result<u64, CommitFault>)
         requires lock { operator.table_id ≡ self.now }
+        requires kept { IsSharedDesk operator.view.count operator.view store.old.editions }
+        requires next { IfOk next (IsPrepared operator.view.count store.old.editions) }
+        requires room { OnOk next (store.old.ready ≡ true) }
         ensures lock { result.0.table_id ≡ self.now }
+        ensures kept { IsSharedDesk operator.view.count result.0.view store.new.editions }
+        ensures published { PublishesPrepared operator.view result.0.view store.old.editions
+            store.new.editions next result.1 }
     {
         let next = match next {
             Ok(next) => next,

@@ -1,20 +1,19 @@
-use Rattle.std.proofs.Common.{rules, ◌≡◌, ◌≤◌, ◌+◌, true, length, IfOk, IfErr, OnOk, ℕ, ◌-◌, ◌*◌, ◌<◌, ◌/◌, ◌%◌, Bool, false, nat_eq, nat_lt, List, [], ◌∷◌, ◌++◌, slice_index_or, slice_set, bit_and, bit_or, Fits, w8, w32, w64, Bor, MutBor}
+use Rattle.std.proofs.Common.{◌≡◌, ℕ, ◌+◌, [], length, sym, ap, subst, arith, List, refl}
 use Rattle.std.specs.Arc.{arc_value}
-use Rattle.fw_rule.specs.WellFormed.{IsWellFormed}
-use Rattle.fw_world.specs.CommitFaults.{IsCauseOf}
-use Rattle.fw_world.specs.Editions.{IsNextEdition}
-use Rattle.rule_edits.specs.Changing.{IsChanging}
-use Rattle.shared_world.specs.DeskKept.{AreShares}
+use Rattle.shared_world.proofs.Shares.{AreShares-push}
 use Rattle.shared_world.proofs.preparing.shares_of.Goals as goal
+use Rattle.shared_world.specs.DeskKept.{AreShares}
+use Rattle.shared_world.specs.Known.{SharedEdition}
 
--- src/preparing.rt:35:5
 pub loop-index-init : goal.loop-index-init
-loop-index-init c = ?
+loop-index-init c = subst (λ (shares : List SharedEdition). AreShares (arc_value c.args.edition.now) 0 shares) (sym c.in_ok-shares.ensures.items) (record { many = refl; each = tt })
 
--- src/preparing.rt:35:5
 pub loop-index-preserved : goal.loop-index-preserved
-loop-index-preserved c = ?
+loop-index-preserved c =
+    subst (λ (shares : List SharedEdition). AreShares (arc_value c.args.edition.now) (c.loop-index._index + 1) shares) (sym c.in_ok-push.ensures.items)
+    (AreShares-push (arc_value c.args.edition.now) c.loop-index._index c.loop-index.shares.items c.in_ok-share_edition.field-0 c.loop-index.invariant c.in_ok-share_edition.ensures)
 
--- src/preparing.rt:27:1
 pub returns : goal.returns
-returns c = ?
+returns c =
+    let same : c.loop-index._index ≡ c.args.count = omega (arith, c.loop-index-test.false, c.loop-index.auto._index-end) in
+    subst (λ (n : ℕ). AreShares (arc_value c.args.edition.now) n c.loop-index.shares.items) same c.loop-index.invariant
