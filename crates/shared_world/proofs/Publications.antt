@@ -1,17 +1,27 @@
 -- What the operator knows behind a visit to the book, and behind a publication.
 use Rattle.std.proofs.Common.{◌≡◌, ℕ, ◌+◌, List, [], ◌∷◌, ◌++◌, length, map, Option, Some, refl, sym, ap, ◌∙◌, subst, arith, append_assoc}
 use Rattle.std.proofs.lemmas.List.{append-nil, length-append, map-append}
-use Rattle.std.specs.Prelude.{slice_get}
+use Rattle.std.specs.Prelude.{slice_get, Result, Ok, Err, IfOk, IfErr}
 use Rattle.std.specs.Arc.{arc_value}
+use Rattle.atomic_table.specs.Seated.{TableId}
+use Rattle.fw_rule.specs.declared.command.Command.{Command}
+use Rattle.fw_world.proofs.Accepting.{accepts_one_more}
 use Rattle.fw_world.proofs.Numbering.{AreNumbered-append}
+use Rattle.fw_world.specs.CommitFaults.{IsCauseOf}
+use Rattle.fw_world.specs.Editions.{AreEditions, IsNextEdition}
+use Rattle.fw_world.specs.declared.commit_fault.CommitFault.{CommitFault}
 use Rattle.generation_store.specs.Published.{Published, IsEdition}
 use Rattle.rm_lock.specs.Calls.{OpensBook, BeginsWrite, PublishesEditions, after_taking_book, after_giving_book, after_write, with_loads}
 use Rattle.rm_table.specs.Layout.{book_index}
 use Rattle.rule_chain.specs.Configuration.{Configuration}
 use Rattle.shared_world.proofs.Shares.{all_at, all_push, shares-same}
+use Rattle.shared_world.specs.Commits.{Commits}
 use Rattle.shared_world.specs.DeskKept.{AreShares, DeskView, IsSharedDesk, VisitsDesk, desk_view, with_published, names_of, publications_of}
 use Rattle.shared_world.specs.Known.{Known, SharedEdition, means}
-use Rattle.shared_world.specs.SharedDesk.{AreOnBook}
+use Rattle.shared_world.specs.Publishing.{IsPrepared, PublishesPrepared}
+use Rattle.shared_world.specs.SharedDesk.{SharedDesk, AreOnBook}
+use Rattle.shared_world.specs.Standing.{DeskStandsFor}
+use Rattle.shared_world.specs.declared.preparing.NextEdition.{NextEdition}
 use Rattle.state_asks.specs.declared.facts.Facts.{Facts}
 use Rattle.state_journal.specs.Journal.{Journal}
 use Rattle.state_journal.specs.declared.entry.Item.{Item}
@@ -87,4 +97,47 @@ kept-still lanes v u editions is same = record {
   published = ap (λ (d : DeskView). d.number) same ∙ is.published;
   history = ap (λ (d : DeskView). d.history) same ∙ is.history;
   own = ap (λ (d : DeskView). d.own) same ∙ is.own;
+}
+
+-- the edition that was prepared
+pub prepared-is : (count : ℕ) (editions : List Published) (result : Result NextEdition CommitFault) (next : NextEdition) → result ≡ Ok next → IfOk result (IsPrepared count editions) → IsPrepared count editions next
+prepared-is count editions result next is prepared = subst (λ (r : Result NextEdition CommitFault). IfOk r (IsPrepared count editions)) is prepared
+
+-- the desk of a seat that made these steps
+abbrev pub desk_of : TableId → ℕ → List Published → List (ℕ × ℕ) → SharedDesk
+desk_of world lanes editions steps = record { world = world; lanes = lanes; editions = editions; steps = steps }
+
+-- what a commit does
+pub commits : (table t : TableId) (lanes : ℕ) (v u : Known) (old new : List Published) (command : Command) (next : Result NextEdition CommitFault) (result : Result ℕ CommitFault) → t ≡ table
+    → IfOk next (λ n. IsNextEdition old command (arc_value n.edition)) → IfErr next (IsCauseOf old command) → PublishesPrepared v u old new next result → Commits (desk_of table lanes old v.steps) (desk_of t lanes new u.steps) command result
+unfolding DeskStandsFor
+commits table t lanes v u old new command (Ok n) (Ok number) a made cause is = record {
+  published = record { edition = arc_value n.edition; next = made; editions = is.0 };
+  number = is.1;
+  accepts = λ first commands stood. subst (λ (all : List Published). AreEditions first (commands ++ command ∷ []) all) (sym is.0) (accepts_one_more old command (arc_value n.edition) first commands made stood);
+  cause = tt;
+  unchanged = tt;
+  world = a;
+  lanes = refl;
+}
+commits table t lanes v u old new command (Ok n) (Err fault) a made cause is = record {
+  published = tt;
+  number = tt;
+  accepts = tt;
+  cause = subst (λ (f : CommitFault). IsCauseOf old command f) (sym is.0) tt;
+  unchanged = record { more = is.2.more; on_book = is.2.on_book; after_is = λ i. record { world = a i; lanes = lanes; editions = is.1 i; steps = is.2.steps i } };
+  world = a;
+  lanes = refl;
+}
+commits table t lanes v u old new command (Err first) (Ok number) a made cause is = absurd is
+commits table t lanes v u old new command (Err first) (Err fault) a made cause is = record {
+  published = tt;
+  number = tt;
+  accepts = tt;
+  cause = subst (λ (f : CommitFault). IsCauseOf old command f) (sym is.0) cause;
+  unchanged =
+      let steps : u.steps ≡ v.steps ++ [] = ap (λ (x : Known). x.steps) is.2 ∙ sym (append-nil v.steps) in
+      record { more = []; on_book = tt; after_is = λ i. record { world = a i; lanes = lanes; editions = is.1 i; steps = steps i } };
+  world = a;
+  lanes = refl;
 }
