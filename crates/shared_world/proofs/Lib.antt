@@ -6,5 +6,7 @@ pub mod Judged
 -- editions that are published
 pub mod Shares
 pub mod Publications
+-- worlds that open and close
+pub mod NewLanes
 -- lanes in the order of their places
 pub mod Arranging

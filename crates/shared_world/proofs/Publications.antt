@@ -14,7 +14,8 @@ use Rattle.generation_store.specs.Published.{Published, IsEdition}
 use Rattle.rm_lock.specs.Calls.{OpensBook, BeginsWrite, PublishesEditions, after_taking_book, after_giving_book, after_write, with_loads}
 use Rattle.rm_table.specs.Layout.{book_index}
 use Rattle.rule_chain.specs.Configuration.{Configuration}
-use Rattle.shared_world.proofs.Shares.{all_at, all_push, shares-same}
+use Rattle.fw_base.proofs.Lists.{all_push}
+use Rattle.shared_world.proofs.Shares.{all_at, shares-same}
 use Rattle.shared_world.specs.Commits.{Commits}
 use Rattle.shared_world.specs.DeskKept.{AreShares, DeskView, IsSharedDesk, VisitsDesk, desk_view, with_published, names_of, publications_of}
 use Rattle.shared_world.specs.Known.{Known, SharedEdition, means}

@@ -4,17 +4,13 @@ use Rattle.std.proofs.lemmas.List.{length-append}
 use Rattle.std.specs.Prelude.{slice_get}
 use Rattle.std.specs.List.{AllByRecursion}
 use Rattle.std.specs.Arc.{arc_value}
+use Rattle.fw_base.proofs.Lists.{all_push}
 use Rattle.generation_store.specs.Published.{Published, IsEdition}
 use Rattle.rm_lock.specs.Calls.{AreNext}
 use Rattle.rule_chain.specs.Configuration.{Configuration}
 use Rattle.shared_world.specs.DeskKept.{AreShares}
 use Rattle.shared_world.specs.Known.{SharedEdition, means}
 use Rattle.state_asks.specs.declared.facts.Facts.{Facts}
-
--- what holds of each and of one behind them
-pub all_push : {A : Type 0} (P : A → Type 0) (xs : List A) (x : A) → AllByRecursion P xs → P x → AllByRecursion P (xs ++ x ∷ [])
-all_push P [] x all last = (last, tt)
-all_push P (first ∷ xs) x all last = (all.0, all_push P xs x all.1 last)
 
 -- what holds of each holds of the one at a place
 pub all_at : {A : Type 0} (P : A → Type 0) (xs : List A) (j : ℕ) (x : A) → AllByRecursion P xs → slice_get xs j ≡ Some x → P x
