@@ -2,6 +2,10 @@
 pub mod Standing
 pub mod Sections
 pub mod Visits
+pub mod Judged
+-- desks that go on
+pub mod DeskSteps
+pub mod Committed
 -- lanes in the order of their places, and taken apart
 pub mod Arranging
 pub mod Apart
@@ -11,6 +15,3 @@ pub mod NewWorld
 pub mod LastBook
 pub mod LastLanes
 pub mod Closes
--- desks that go on
-pub mod DeskSteps
-pub mod Committed

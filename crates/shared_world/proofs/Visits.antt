@@ -1,7 +1,9 @@
 -- What a visit to the book tells a lane in its section.
 use Rattle.std.proofs.Common.{◌≡◌, ◌≢◌, ℕ, zero, suc, ◌+◌, ◌^◌, ◌<◌, ◌≤◌, true, false, List, [], ◌∷◌, ◌++◌, length, Option, Some, None, refl, sym, ap, ◌∙◌, subst, arith}
-use Rattle.std.specs.Prelude.{Result, Ok, Err, IfOk, OnErr, unwrap_or, option_map}
+use Rattle.std.proofs.lemmas.List.{length-append}
+use Rattle.std.specs.Prelude.{Result, Ok, Err, IfOk, OnErr, is_ok, unwrap_or, option_map, slice_get}
 use Rattle.std.specs.Arc.{arc_value}
+use Rattle.atomic_table.specs.Seated.{TableId}
 use Rattle.dyn_states.specs.StateObject.{reply_of}
 use Rattle.eval_engine.specs.Standing.{InstallsRuleOf, is_reply_to}
 use Rattle.fw_base.specs.declared.failure.OutOfMemory.{OutOfMemory}
@@ -22,9 +24,10 @@ use Rattle.state_journal.specs.Journal.{Journal, IsJournal, IsFoundOf, NamesRule
 use Rattle.state_journal.specs.declared.entry.Entry.TheVariants.{Ask}
 use Rattle.state_journal.specs.declared.entry.Item.{Item}
 use Rattle.state_journal.specs.declared.entry.Item.TheVariants.{Asked}
+use Rattle.shared_world.specs.Apart.{Seat}
 use Rattle.shared_world.specs.Known.{Known, SharedEdition, means}
-use Rattle.shared_world.specs.LaneKept.{ReadsSeen}
-use Rattle.shared_world.specs.Visits.{AsksOnce, MissesOnce, VisitsBook, edition_of, steady_view}
+use Rattle.shared_world.specs.LaneKept.{ReadsSeen, IsOfBook}
+use Rattle.shared_world.specs.Visits.{IsAskingBy, AsksOnce, MissesOnce, VisitsBook, edition_of, steady_view}
 
 -- the edition that a seat reads is the one that it reads
 pub edition_of-reads : (v : Known) (e : SharedEdition) → v.part.reading ≡ Some e → edition_of v ≡ arc_value e
@@ -120,3 +123,55 @@ module _ (before held : Known) (taken : Journal) (takes : TakesBook means before
       counted few =
           let is : after.part.own ≡ items_of book before.place = ap (λ (v : Known). v.part.own) same in
           subst (λ (items : List Item). length items < 2 ^ 64) (sym is) (let short = own_length before.place book first in omega (arith, short, few))
+
+-- visits leave what is read
+pub reads_after : (before after : Known) → steady_view after ≡ steady_view before → ReadsSeen before → ReadsSeen after
+reads_after before after steady is = record {
+  edition = is.edition;
+  reading = ap (λ (v : Known). v.part.reading) steady ∙ is.reading;
+  held = is.held ∙ sym (ap (λ (v : Known). v.part.held) steady);
+  lawful = is.lawful;
+  index = is.index;
+  seen = subst (λ (pairs : List (ℕ × Configuration)). slice_get pairs is.index ≡ Some ((arc_value is.edition).number, (arc_value is.edition).config)) (sym (ap (λ (v : Known). v.part.pairs) steady)) is.seen;
+}
+
+-- and whose the seat is
+pub of_book_after : (before after : Known) → steady_view after ≡ steady_view before → IsOfBook before → IsOfBook after
+of_book_after before after steady is = record {
+  first = subst (λ (n : ℕ). 1 ≤ n) (sym (ap (λ (v : Known). v.place) steady)) is.first;
+  count = is.count;
+  rest = is.rest;
+  opened = ap (λ (v : Known). v.part.first) steady ∙ is.opened;
+  last = subst (λ (n : ℕ). n ≤ is.count) (sym (ap (λ (v : Known). v.place) steady)) is.last;
+}
+
+some_seat : (a b : Seat) → ◌≡◌ {A = Option Seat} (Some a) (Some b) → a ≡ b
+some_seat a b same = cc
+
+module _ (lock : TableId) (reading : Option Seat) (asks : ℕ) (is : IsAskingBy lock reading asks) (token next : Seat) (there : Some token ≡ reading) (table : next.table_id ≡ lock) where
+  same_token : token ≡ is.token
+  same_token = some_seat token is.token (there ∙ is.is_there)
+
+  kept : (own : List Item) (more : ℕ) → VisitsBook token.view next.view own → more ≤ length own → IsAskingBy lock (Some next) more
+  kept own more visits few = record {
+    token = next;
+    is_there = refl;
+    of_lock = table;
+    reads = reads_after token.view next.view visits.steady (subst (λ (t : Seat). ReadsSeen t.view) (sym same_token) is.reads);
+    of_book = of_book_after token.view next.view visits.steady (subst (λ (t : Seat). IsOfBook t.view) (sym same_token) is.of_book);
+    counted = subst (λ (items : List Item). more ≤ length items) (sym visits.own_is) few;
+  }
+
+  few : asks ≤ length token.view.part.own
+  few = subst (λ (t : Seat). asks ≤ length t.view.part.own) (sym same_token) is.counted
+
+  -- the lane's seat, and the count, after an ask that was answered
+  pub kept_asked : (at : ℕ) (op : Op) (result : Result Reply OutOfMemory) → is_ok result ≡ true → IfOk result (λ reply. AsksOnce token.view at op reply next.view) → IsAskingBy lock (Some next) (asks + 1)
+  kept_asked at op (Ok reply) ok asked =
+      kept (token.view.part.own ++ Asked token.view.part.held (Ask token.view.place op reply at) ∷ []) (asks + 1) asked (omega (arith, few, length-append token.view.part.own (Asked token.view.part.held (Ask token.view.place op reply at) ∷ [])))
+  kept_asked at op (Err fault) ok asked = absurd cc
+
+  -- and after one that wanted memory
+  pub kept_missed : (result : Result Reply OutOfMemory) → is_ok result ≡ false → OnErr result (MissesOnce token.view next.view) → IsAskingBy lock (Some next) asks
+  kept_missed (Ok reply) ok missed = absurd cc
+  kept_missed (Err fault) ok missed = kept token.view.part.own asks missed few
