@@ -1,10 +1,8 @@
 -- Lanes that are taken apart: their seats of the lock and their work.
-use Rattle.std.proofs.Common.{◌≡◌, ℕ, zero, suc, ◌+◌, ◌<◌, ◌≤◌, List, [], ◌∷◌, ◌++◌, length, map, Option, Some, refl, sym, ap, ◌∙◌, subst, arith}
+use Rattle.std.proofs.Common.{◌≡◌, ℕ, zero, suc, ◌+◌, ◌<◌, ◌≤◌, List, [], ◌∷◌, ◌++◌, length, map, Some, refl, sym, ap, ◌∙◌, arith}
 use Rattle.std.specs.Prelude.{slice_get}
 use Rattle.std.specs.List.{AllByRecursion, zip}
 use Rattle.atomic_table.specs.Seated.{TableId}
-use Rattle.eval_engine.specs.Dockets.{DocketValue}
-use Rattle.counter_book.specs.declared.tally.Count.{Count}
 use Rattle.fw_world.specs.declared.lane_work.LaneWork.{LaneWork}
 use Rattle.rm_lock.specs.Ends.{EachOnce}
 use Rattle.shared_world.specs.Apart.{AreApart, AreNewOf, Seat}

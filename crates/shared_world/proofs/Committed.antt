@@ -1,6 +1,6 @@
 -- What a commit does to a desk.
 use Rattle.std.proofs.Common.{◌≡◌, ℕ, ◌+◌, List, [], ◌∷◌, ◌++◌, length, Ok, Err, refl, sym, ap, ◌∙◌, subst, arith}
-use Rattle.std.proofs.lemmas.List.{append-nil, length-append}
+use Rattle.std.proofs.lemmas.List.{length-append}
 use Rattle.std.specs.Prelude.{Result, IfOk, IfErr, OnErr}
 use Rattle.std.specs.Arc.{arc_value}
 use Rattle.atomic_table.specs.Seated.{TableId}
@@ -11,7 +11,6 @@ use Rattle.fw_world.specs.Editions.{AreEditions, IsNextEdition}
 use Rattle.fw_world.specs.declared.commit_fault.CommitFault.{CommitFault}
 use Rattle.fw_world.specs.declared.commit_fault.CommitFault.TheVariants as refusal
 use Rattle.generation_store.specs.Published.{Published}
-use Rattle.rule_chain.specs.Configuration.{Configuration}
 use Rattle.shared_world.proofs.DeskSteps.{published-kept, visited-kept}
 use Rattle.shared_world.specs.Commits.{Commits, StaysAsItWas}
 use Rattle.shared_world.specs.DeskKept.{AreShares, IsPrepared, IsSharedDesk, PublishesNext, VisitsDesk}

@@ -1,5 +1,5 @@
 -- Desks that visit the book and publish.
-use Rattle.std.proofs.Common.{◌≡◌, ℕ, ◌+◌, List, [], ◌∷◌, ◌++◌, length, map, Option, Some, refl, sym, ap, ◌∙◌, subst, arith, append_assoc}
+use Rattle.std.proofs.Common.{◌≡◌, ℕ, ◌+◌, List, [], ◌∷◌, ◌++◌, Option, Some, refl, sym, ap, ◌∙◌, arith, append_assoc}
 use Rattle.std.proofs.lemmas.List.{append-nil, length-append, map-append}
 use Rattle.std.specs.Prelude.{slice_get}
 use Rattle.std.specs.Arc.{arc_value}
@@ -7,14 +7,13 @@ use Rattle.fw_base.proofs.Lists.{all_push}
 use Rattle.fw_world.proofs.Numbering.{AreNumbered-append}
 use Rattle.generation_store.specs.Published.{Published, IsEdition}
 use Rattle.rm_lock.specs.Calls.{OpensBook, PublishesEditions, BeginsWrite, after_giving_book, after_taking_book, with_loads}
-use Rattle.rm_lock.specs.Calls as calls
 use Rattle.rm_table.specs.Layout.{book_index}
 use Rattle.rule_chain.specs.Configuration.{Configuration}
 use Rattle.state_asks.specs.declared.facts.Facts.{Facts}
 use Rattle.state_journal.specs.Journal.{Journal}
 use Rattle.state_journal.specs.declared.entry.Item.{Item}
 use Rattle.state_journal.specs.declared.entry.Item.TheVariants as item
-use Rattle.shared_world.specs.DeskKept.{IsSharedDesk, AreShares, DeskView, VisitsDesk, desk_view, names_of, publications_of, with_published}
+use Rattle.shared_world.specs.DeskKept.{IsSharedDesk, AreShares, DeskView, VisitsDesk, desk_view, with_published}
 use Rattle.shared_world.specs.Known.{Known, SharedEdition, means}
 use Rattle.shared_world.specs.SharedDesk.{AreOnBook}
 

@@ -1,11 +1,10 @@
 -- Lanes that judge a packet in their section.
-use Rattle.std.proofs.Common.{◌≡◌, ℕ, ◌+◌, ◌-◌, ◌≤◌, Bool, true, false, List, [], ◌∷◌, ◌++◌, length, Option, Some, None, refl, sym, ap, ◌∙◌, subst, arith, inl, inr, append_assoc}
+use Rattle.std.proofs.Common.{◌≡◌, ℕ, ◌+◌, ◌≤◌, Bool, true, false, List, [], ◌∷◌, ◌++◌, length, Option, Some, None, refl, sym, ap, ◌∙◌, subst, arith, inl, inr, append_assoc}
 use Rattle.std.proofs.lemmas.List.{append-nil}
 use Rattle.std.proofs.lemmas.List.Elements.{All-push}
-use Rattle.std.specs.Prelude.{All, Result, Ok, Err, IfOk, OnOk, OnErr, is_ok, IsSomeAnd, option_map, slice_get, ◌⊎◌}
+use Rattle.std.specs.Prelude.{All, Result, Ok, Err, IfOk, OnOk, OnErr, is_ok, IsSomeAnd, option_map, ◌⊎◌}
 use Rattle.std.specs.Arc.{arc_value}
 use Rattle.atomic_table.specs.Seated.{TableId}
-use Rattle.counter_book.specs.declared.tally.Count.{Count}
 use Rattle.eval_engine.proofs.Hits.{judgement_names_edition}
 use Rattle.eval_engine.specs.Dockets.{DocketValue, judged_entry}
 use Rattle.eval_engine.specs.Evaluation.{evaluate}
@@ -36,13 +35,12 @@ use Rattle.shared_world.proofs.Visits.{edition_of-reads, reads_after, of_book_af
 use Rattle.shared_world.specs.Judging.{Judges, BeginsJudging, JudgesNext}
 use Rattle.shared_world.specs.Known.{Known, SharedEdition}
 use Rattle.shared_world.specs.LaneKept.{IsSharedLane, ReadsSeen, plain_of}
-use Rattle.shared_world.specs.SharedLane.{SharedLane, SharedInside, lane_of, edition_read}
+use Rattle.shared_world.specs.SharedLane.{lane_of, edition_read}
 use Rattle.shared_world.specs.Standing.{LaneStandsFor}
 use Rattle.shared_world.specs.Visits.{AskingValue, AsksOnce, MissesOnce, edition_of, steady_view}
 use Rattle.state_asks.specs.declared.op.Op.{Op}
 use Rattle.state_asks.specs.declared.reply.Reply.{Reply}
 use Rattle.state_journal.specs.declared.entry.Entry.TheVariants.{Ask}
-use Rattle.state_journal.specs.declared.entry.Item.{Item}
 use Rattle.state_journal.specs.declared.entry.Item.TheVariants.{Asked}
 
 -- what an ask for that record means while a lane asks

@@ -1,11 +1,10 @@
 -- What the book of a world that closes tells, by what the operator knows of its list 0.
-use Rattle.std.proofs.Common.{◌≡◌, ℕ, suc, ◌+◌, ◌≤◌, List, [], ◌∷◌, ◌++◌, length, map, refl, sym, ap, ◌∙◌, subst, arith}
+use Rattle.std.proofs.Common.{◌≡◌, ℕ, ◌+◌, List, [], ◌∷◌, ◌++◌, map, refl, sym, ap, ◌∙◌}
 use Rattle.fw_world.specs.Editions.{AreNumbered}
-use Rattle.fw_world.specs.Publications.{IsPublished, PublishesEach, facts_of}
+use Rattle.fw_world.specs.Publications.{IsPublished, facts_of}
 use Rattle.generation_store.specs.Published.{Published}
 use Rattle.rm_table.specs.Meanings.{BeginsWith}
 use Rattle.state_asks.specs.declared.facts.Facts.{Facts}
-use Rattle.state_journal.specs.Entries.{publications}
 use Rattle.state_journal.specs.Items.{items_of}
 use Rattle.state_journal.specs.Journal.{Journal, IsJournal}
 use Rattle.state_journal.specs.declared.entry.Item.{Item}

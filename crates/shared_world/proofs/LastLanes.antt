@@ -1,15 +1,14 @@
 -- What the lanes of a world that closes stand for, beside its editions and its book.
-use Rattle.std.proofs.Common.{◌≡◌, ℕ, zero, suc, ◌+◌, ◌-◌, ◌*◌, ◌%◌, ◌^◌, ◌<◌, ◌≤◌, List, [], ◌∷◌, length, map, Option, Some, None, refl, sym, ap, ◌∙◌, subst, arith}
-use Rattle.std.specs.Prelude.{All, IfSome, IsSomeAnd, slice_get}
+use Rattle.std.proofs.Common.{◌≡◌, ℕ, zero, suc, ◌+◌, ◌-◌, ◌≤◌, List, [], ◌∷◌, length, map, Option, Some, None, refl, sym, ap, ◌∙◌, subst, arith}
+use Rattle.std.specs.Prelude.{IfSome, IsSomeAnd, slice_get}
 use Rattle.std.specs.List.{AllByRecursion}
 use Rattle.atomic_table.specs.Seated.{TableId}
 use Rattle.fw_world.specs.Asks.{LaneAsk, asks_in, lane_asks}
 use Rattle.fw_world.specs.Closing as serial
 use Rattle.fw_world.specs.Editions.{AreNumbered, edition_numbered}
 use Rattle.fw_world.specs.Inputs.{Input}
-use Rattle.fw_world.specs.Lane.{LaneValue}
 use Rattle.fw_world.specs.LaneKept.{IsLane}
-use Rattle.fw_world.specs.Sections.{judged_editions, tracker_after}
+use Rattle.fw_world.specs.Sections.{tracker_after}
 use Rattle.fw_world.specs.Standing.{StandFor, AreSeenOf}
 use Rattle.fw_world.specs.World.{WorldValue, IsLaneOf}
 use Rattle.fw_world.specs.declared.lane_work.LaneWork.{LaneWork}
@@ -126,7 +125,7 @@ module _ (lanes : ℕ) (v : Known) (editions : List Published) (book : Journal) 
   each-stands (l ∷ all) (s ∷ seats) [] (met ∷ inputs) apart ends each = absurd apart
   each-stands (l ∷ all) (s ∷ seats) (w ∷ works) (met ∷ inputs) apart ends each = (
     let own = subst (λ (lane : SharedLane). LaneStandsFor lane met) apart.0 each.0 in
-    subst (λ (lane : SharedLane). StandFor editions (lane_asks lane.place book.entries) lane.docket lane.tally met) (sym apart.0) (stands s w apart.1 ends.0 met own),
+        subst (λ (lane : SharedLane). StandFor editions (lane_asks lane.place book.entries) lane.docket lane.tally met) (sym apart.0) (stands s w apart.1 ends.0 met own),
     each-stands all seats works inputs apart.2 ends.1 each.1,
   )
 

@@ -1,11 +1,11 @@
 -- A world that opens.
-use Rattle.std.proofs.Common.{◌≡◌, ℕ, zero, suc, ◌+◌, ◌<◌, ◌≤◌, List, [], ◌∷◌, length, map, Option, Some, None, refl, sym, ap, ◌∙◌, subst, arith}
+use Rattle.std.proofs.Common.{◌≡◌, ℕ, zero, suc, ◌+◌, ◌≤◌, List, [], ◌∷◌, length, map, Option, Some, refl, sym, ap, ◌∙◌, subst, arith}
 use Rattle.std.specs.Prelude.{slice_get}
 use Rattle.std.specs.Arc.{arc_value}
 use Rattle.std.specs.List.{AllByRecursion}
 use Rattle.atomic_table.specs.Seated.{TableId}
 use Rattle.generation_store.specs.Published.{Published, IsBuilt}
-use Rattle.rm_lock.specs.Ends.{OpensAs, first_token, unkept_view}
+use Rattle.rm_lock.specs.Ends.{OpensAs, first_token}
 use Rattle.rm_table.proofs.Base.{length-values}
 use Rattle.rm_table.specs.Ends.{OpensTable}
 use Rattle.rm_table.specs.Meanings.{values_from}
@@ -42,8 +42,7 @@ opens-with edition config lanes (share ∷ shares) book built least are is = (
     some_there = omega arith;
     same = λ j e at.
         let one : arc_value e ≡ edition = share-is edition (share ∷ shares) are.each j e at in
-        let first : arc_value share ≡ edition = are.each.0 in
-        (
+        let first : arc_value share ≡ edition = are.each.0 in (
           ap (λ (p : Published). p.number) one ∙ built.numbered ∙ sym (ap (λ (b : Journal). length b.facts) is),
           ap (λ (p : Published). p.config) (one ∙ sym first),
           ap (λ (p : Published). p.facts) one ∙ sym (ap (λ (b : Journal). means.book_tag b) is),

@@ -1,27 +1,25 @@
 -- Lanes that begin a section, are refused, leave, regain and pass over records.
-use Rattle.std.proofs.Common.{◌≡◌, ℕ, ◌+◌, ◌*◌, ◌%◌, ◌^◌, ◌<◌, ◌≤◌, max, Bool, true, false, List, [], ◌∷◌, ◌++◌, length, Option, Some, None, refl, sym, ap, ◌∙◌, subst, arith}
+use Rattle.std.proofs.Common.{◌≡◌, ℕ, ◌+◌, ◌%◌, ◌^◌, ◌<◌, ◌≤◌, Bool, true, false, List, [], ◌∷◌, ◌++◌, length, Option, Some, None, refl, sym, ap, ◌∙◌, subst, arith}
 use Rattle.std.proofs.lemmas.List.{append-nil}
-use Rattle.std.specs.Prelude.{All, IfSome, is_some, not, slice_get, Result, Ok, Err, OnOk, OnErr}
+use Rattle.std.specs.Prelude.{All, IfSome, is_some, not, Result, Ok, Err, OnOk, OnErr}
 use Rattle.std.specs.Arc.{arc_value}
 use Rattle.atomic_table.specs.Seated.{TableId}
 use Rattle.eval_engine.specs.declared.docket_entry.DocketEntry.{DocketEntry}
 use Rattle.fw_base.specs.declared.failure.OutOfMemory.{OutOfMemory}
 use Rattle.fw_world.proofs.Judging.{StandFor-skipped}
-use Rattle.fw_world.proofs.LaneSteps.{IsLane-entered, IsLane-refused, IsLane-skipped, judged_editions-append}
+use Rattle.fw_world.proofs.LaneSteps.{IsLane-entered, IsLane-skipped, judged_editions-append}
 use Rattle.fw_world.proofs.Records.{slice_get-last}
 use Rattle.fw_world.specs.Inputs.{Input}
 use Rattle.fw_world.specs.Lane.{one_looser}
 use Rattle.fw_world.specs.LaneKept.{IsLane}
 use Rattle.fw_world.specs.Sections.{judged_editions, tracker_after}
 use Rattle.fw_world.specs.Skips.{entry_for, skipped_input}
-use Rattle.fw_world.specs.Standing.{StandFor, AreSeenOf}
 use Rattle.fw_world.specs.declared.lane_work.LaneWork.{LaneWork}
 use Rattle.fw_world.specs.declared.skipped.Skipped.{Skipped}
 use Rattle.fw_world.specs.declared.skipped.Skipped.TheVariants.{Other, Malformed}
-use Rattle.generation_store.specs.Published.{Published, IsEdition}
+use Rattle.generation_store.specs.Published.{IsEdition}
 use Rattle.rm_lock.specs.Calls.{after_entry, after_refusal, after_lower, after_regain, Regains}
-use Rattle.rm_table.specs.Moves.{greater_refusal, SeenUpTo}
-use Rattle.rule_chain.specs.Configuration.{Configuration}
+use Rattle.rm_table.specs.Moves.{SeenUpTo}
 use Rattle.shared_world.proofs.Standing.{keeps-standing}
 use Rattle.shared_world.specs.Known.{Known, SharedEdition, means}
 use Rattle.shared_world.specs.LaneCalls.{EntersIn, IsRefused, RegainsLane, LeavesLane, SkipsNext}

@@ -5,7 +5,6 @@ use Rattle.counter_book.specs.declared.tally.Count.{Count}
 use Rattle.fw_world.proofs.Judging.{StandFor-entries}
 use Rattle.fw_world.proofs.Seen.{StandForSeen-more}
 use Rattle.fw_world.specs.Asks.{LaneAsk, asks_in}
-use Rattle.fw_world.specs.Inputs.{Input}
 use Rattle.fw_world.specs.Standing.{StandFor, AreSeenOf}
 use Rattle.generation_store.specs.Published.{Published}
 use Rattle.rule_chain.specs.Configuration.{Configuration}

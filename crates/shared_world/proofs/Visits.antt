@@ -1,5 +1,5 @@
 -- What a visit to the book tells a lane in its section.
-use Rattle.std.proofs.Common.{◌≡◌, ◌≢◌, ℕ, zero, suc, ◌+◌, ◌^◌, ◌<◌, ◌≤◌, true, false, List, [], ◌∷◌, ◌++◌, length, Option, Some, None, refl, sym, ap, ◌∙◌, subst, arith}
+use Rattle.std.proofs.Common.{◌≡◌, ◌≢◌, ℕ, zero, suc, ◌+◌, ◌^◌, ◌<◌, ◌≤◌, true, false, List, [], ◌∷◌, ◌++◌, length, Option, Some, refl, sym, ap, ◌∙◌, subst, arith}
 use Rattle.std.proofs.lemmas.List.{length-append}
 use Rattle.std.specs.Prelude.{Result, Ok, Err, IfOk, OnErr, is_ok, unwrap_or, option_map, slice_get}
 use Rattle.std.specs.Arc.{arc_value}
@@ -18,7 +18,6 @@ use Rattle.state_asks.specs.declared.facts.Facts.{Facts}
 use Rattle.state_asks.specs.declared.op.Op.{Op}
 use Rattle.state_asks.specs.declared.reply.Reply.{Reply}
 use Rattle.state_journal.proofs.ItemLists.{own_ask, other_ask, asks_of-length}
-use Rattle.state_journal.specs.Entries.{last_number}
 use Rattle.state_journal.specs.Items.{asks_of, items_of, last_facts, no_facts}
 use Rattle.state_journal.specs.Journal.{Journal, IsJournal, IsFoundOf, NamesRuleOf, with_ask}
 use Rattle.state_journal.specs.declared.entry.Entry.TheVariants.{Ask}

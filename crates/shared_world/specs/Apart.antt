@@ -1,5 +1,5 @@
 -- Lanes that are taken apart when their world closes.
-use Rattle.std.specs.Prelude.{◌≡◌, ℕ, ⊤, List, [], ◌∷◌}
+use Rattle.std.specs.Prelude.{◌≡◌, ⊤, List, [], ◌∷◌}
 use Rattle.fw_world.specs.declared.lane_work.LaneWork.{LaneWork}
 use Rattle.rm_lock.specs.Tokens.{TokenState}
 use Rattle.rule_chain.specs.Configuration.{Configuration}

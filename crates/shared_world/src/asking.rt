@@ -39,7 +39,10 @@ fn ask_once<R: Wait>(
     lane: u32,
     at: u64,
     op: Op,
-) -> (Reading<Arc<Edition>, SharedBook>, Result<Reply, OutOfMemory>)
+) -> (
+    Reading<Arc<Edition>, SharedBook>,
+    Result<Reply, OutOfMemory>,
+)
     requires lock { reading.table_id ≡ lock.now }
     requires reads { ReadsSeen reading.view }
     requires of_book { IsOfBook reading.view }

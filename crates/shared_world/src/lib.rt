@@ -24,4 +24,3 @@ mod opening;
 mod preparing;
 mod shared_book;
 mod world;
-

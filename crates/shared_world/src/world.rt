@@ -22,5 +22,4 @@ impl Model for World {
     ghost coded = { table_id_coded };
 
     ghost view = { λ w. w.lock };
-
 }

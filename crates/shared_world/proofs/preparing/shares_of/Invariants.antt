@@ -1,6 +1,4 @@
-use Rattle.std.proofs.Common.{◌≡◌, length}
 use Rattle.std.specs.Arc.{arc_value}
-use Rattle.std.specs.List.{AllByRecursion}
 use Rattle.shared_world.specs.DeskKept.{AreShares}
 use Rattle.shared_world.proofs.preparing.shares_of.Given as goal
 

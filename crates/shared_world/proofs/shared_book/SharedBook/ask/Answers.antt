@@ -1,7 +1,6 @@
-use Rattle.std.proofs.Common.{◌≡◌, List, ℕ, subst, sym, ap, ◌∙◌}
+use Rattle.std.proofs.Common.{List, ℕ, subst, sym, ◌∙◌}
 use Rattle.std.specs.Prelude.{IfOk}
 use Rattle.state_journal.proofs.ItemLists.{last_rules_of_journal}
-use Rattle.state_journal.specs.Items.{last_facts}
 use Rattle.state_journal.specs.Journal.{Journal, NamesRuleOf, IsFoundOf, last_rules}
 use Rattle.shared_world.proofs.shared_book.SharedBook.ask.Goals as goal
 

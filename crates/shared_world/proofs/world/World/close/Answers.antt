@@ -52,7 +52,7 @@ new-requires c =
     let many = (closes.as_known c.args.lanes.items c.args.desk _ c.requires.all c.desk.view_is) in
     let journal = subst (λ (j : Journal). IsJournal j) c.into_book.ensures.value c.into_book.ensures.journal in
     let published =
-        closes.is_published c.desk.inside.lanes c.desk.inside.operator.view c.desk.inside.store.editions c.desk.invariant.0 c.args.self (by_place c.args.lanes.items)
+    closes.is_published c.desk.inside.lanes c.desk.inside.operator.view c.desk.inside.store.editions c.desk.invariant.0 c.args.self (by_place c.args.lanes.items)
     c.taken_apart-processors.result.0.items c.taken_apart-processors.result.1.items c.close-book.result.book c.close-book.result.trackers.items c.close-book.result.editions.items
     c.requires.lanes many apart c.close-book.ensures.closed journal in
     subst (λ (j : Journal). IsPublished (map (λ (e : SharedEdition). arc_value e) c.into_all.result.items) j) (sym c.into_book.ensures.value) (subst (λ (all : List Published). IsPublished all c.close-book.result.book) (sym c.into_all.ensures) published)

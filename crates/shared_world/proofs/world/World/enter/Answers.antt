@@ -1,6 +1,5 @@
-use Rattle.std.proofs.Common.{◌≡◌, ℕ, ◌+◌, ◌%◌, ◌^◌, Bool, subst, sym, ap, ◌∙◌, Some, false}
+use Rattle.std.proofs.Common.{◌≡◌, ◌+◌, ◌%◌, ◌^◌, Bool, subst, sym, ap, ◌∙◌, false}
 use Rattle.std.specs.Prelude.{is_some}
-use Rattle.std.specs.Arc.{arc_value}
 use Rattle.eval_engine.specs.Dockets.{DocketValue}
 use Rattle.fw_world.specs.declared.lane_work.LaneWork.{LaneWork}
 use Rattle.generation_store.specs.Published.{Published, IsEdition}
@@ -23,8 +22,7 @@ invariant_of-result c =
     let number = c.in-In.ensures.entry.1.2 in
     let kept = subst (λ (u : Known). IsSharedLane 1 u (loosened (is_some v.part.refusal) c.lane.inside.work)) (sym view) (entered-kept v c.lane.inside.work e c.lane.invariant) in
     let lawful = subst (λ (p : Published). IsEdition p) c.deref.ensures c.is_edition.ensures in
-    let reads = entered-reads v e c.edition.result.now number (sym (ap (λ (u : Known). u.part.reading) view) ∙ c.edition.ensures) lawful in
-    (
+    let reads = entered-reads v e c.edition.result.now number (sym (ap (λ (u : Known). u.part.reading) view) ∙ c.edition.ensures) lawful in (
       subst (λ (w : LaneWork). IsSharedLane 1 c.in-In.reading.view w) (sym (counted c)) kept,
       subst (λ (u : Known). ReadsSeen u) (sym view) reads,
       ap (λ (u : Known). u.place) view ∙ sym c.place-place.ensures,

@@ -1,5 +1,5 @@
-use Rattle.std.proofs.Common.{◌≡◌, ℕ, ◌+◌, Bool, false, length, ◌∙◌, sym, ap, subst}
-use Rattle.std.specs.Prelude.{IfOk, is_ok}
+use Rattle.std.proofs.Common.{◌≡◌, ◌+◌, Bool, false, length, ◌∙◌, sym, ap, subst}
+use Rattle.std.specs.Prelude.{IfOk}
 use Rattle.fw_world.specs.AskRuns.{Evaluates, AsksFront}
 use Rattle.fw_world.specs.Entries.{question_under}
 use Rattle.fw_world.specs.LaneKept.{pending_of}
@@ -37,8 +37,7 @@ invariant_of-inside g c =
     let fresh : c.inside.inside.judged ≡ false = ap (λ (i : SharedInside). i.judged) c.inside.view_is ∙ c.requires.fresh in
     let before : IsSharedLane 1 c.inside.inside.reading.view c.inside.inside.work = subst (λ (b : Bool). IsSharedLane (pending_of b) c.inside.inside.reading.view c.inside.inside.work) fresh c.inside.invariant.0 in
     let after = kept c.inside.inside.reading.table_id c.inside.inside.reading.view c.inside.inside.work c.inside.invariant.1 c.args.packet.now c.args.port.now c.args.second c.new-asking.result c.judge-outcome.new.book
-    c.into_reading.result.table_id c.into_reading.result.view c.judge-outcome.new.self (begun g c) c.into_reading.ensures.view c.judge-outcome.result (ran g c) c.judge-outcome.ensures.entered c.judge-outcome.ensures.working (asked g c) c.judge-outcome.ensures.failed before in
-    (
+    c.into_reading.result.table_id c.into_reading.result.view c.judge-outcome.new.self (begun g c) c.into_reading.ensures.view c.judge-outcome.result (ran g c) c.judge-outcome.ensures.entered c.judge-outcome.ensures.working (asked g c) c.judge-outcome.ensures.failed before in (
       subst (λ (b : Bool). IsSharedLane (pending_of b) c.into_reading.result.view c.judge-outcome.new.self) (sym c.is_ok.ensures.value) after,
       reads_still c.inside.inside.reading.table_id c.inside.inside.reading.view c.inside.inside.work c.inside.invariant.1 c.args.packet.now c.args.port.now c.args.second c.new-asking.result c.judge-outcome.new.book
           c.into_reading.result.table_id c.into_reading.result.view c.judge-outcome.new.self (begun g c) c.into_reading.ensures.view c.judge-outcome.result (ran g c) c.judge-outcome.ensures.entered c.judge-outcome.ensures.working (asked g c) c.judge-outcome.ensures.failed,

@@ -1,5 +1,4 @@
-use Rattle.std.proofs.Common.{◌≡◌, subst, sym, ap, ◌∙◌}
-use Rattle.atomic_table.specs.Seated.{TableId}
+use Rattle.std.proofs.Common.{subst, sym, ap, ◌∙◌}
 use Rattle.shared_world.proofs.Sections.{left}
 use Rattle.shared_world.proofs.world.World.leave.Goals as goal
 use Rattle.shared_world.specs.LaneCalls.{LeavesLane}

@@ -1,4 +1,4 @@
-use Rattle.std.proofs.Common.{◌≡◌, subst, sym, ap, ◌∙◌}
+use Rattle.std.proofs.Common.{subst, sym, ap, ◌∙◌}
 use Rattle.shared_world.proofs.Sections.{regained}
 use Rattle.shared_world.proofs.world.World.regain.Goals as goal
 use Rattle.shared_world.specs.LaneCalls.{RegainsLane}
