@@ -13,7 +13,10 @@ use Rattle.serial_world.specs.Steps.{Judges, JudgesAdmitted}
 
 -- a lane that is admitted stands for what it stood for
 pub LaneStandsFor-admitted : (world : WorldValue) (number : ℕ) (lane : LaneValue) (inputs : List Input) → LaneStandsFor world lane inputs → LaneStandsFor world (lane_after_admission number lane) inputs
-LaneStandsFor-admitted world number lane inputs stands = record { entered = stands.entered; evaluated = stands.evaluated; tallied = stands.tallied; asked = stands.asked }
+LaneStandsFor-admitted world number lane inputs stands = record {
+  stands = record { entered = stands.stands.entered; evaluated = stands.stands.evaluated; tallied = stands.stands.tallied; asked = stands.stands.asked };
+  cached = stands.cached;
+}
 
 module _ (old new : WorldValue) (before after : LaneValue) (packet : AnyIp) (port : Port) (second : ℕ) where
   -- its packet was judged
@@ -24,9 +27,9 @@ module _ (old new : WorldValue) (before after : LaneValue) (packet : AnyIp) (por
 
   -- its entry stands last in the docket
   pub lane-admitted : (result : Result Judgement OutOfMemory) → JudgesAdmitted old new before after packet port second result
-      → IfOk result (λ judgement. after ≡ record (with_docket_entry (judged_entry judgement) (lane_after_admission (published_count old) before)) { tally = after.tally })
+      → IfOk result (λ judgement. after ≡ record (with_docket_entry (judged_entry judgement) (lane_after_admission (published_count old) before)) { tally = after.tally; cache = after.cache })
   lane-admitted (Ok judgement) next =
-      subst (λ (l : LaneValue). l ≡ record (with_docket_entry (judged_entry judgement) (lane_after_admission (published_count old) before)) { tally = l.tally }) (sym next.2) next.1.lane
+      subst (λ (l : LaneValue). l ≡ record (with_docket_entry (judged_entry judgement) (lane_after_admission (published_count old) before)) { tally = l.tally; cache = l.cache }) (sym next.2) next.1.lane
   lane-admitted (Err fault) next = tt
 
   -- it stands for one packet more
