@@ -1,14 +1,18 @@
 -- Lanes that are taken apart: their seats of the lock and their work.
-use Rattle.std.proofs.Common.{◌≡◌, ℕ, zero, suc, ◌+◌, ◌<◌, ◌≤◌, List, [], ◌∷◌, ◌++◌, length, map, Some, refl, sym, ap, ◌∙◌, arith}
+use Rattle.std.proofs.Common.{◌≡◌, ℕ, zero, suc, ◌+◌, ◌<◌, ◌≤◌, List, [], ◌∷◌, ◌++◌, length, map, Some, refl, sym, ap, ◌∙◌, arith, None, Option}
+use Rattle.std.proofs.lemmas.List.{map-append}
 use Rattle.std.specs.Prelude.{slice_get}
 use Rattle.std.specs.List.{AllByRecursion, zip}
 use Rattle.atomic_table.specs.Seated.{TableId}
+use Rattle.cached_verdicts.specs.LaneCache.{LaneCacheValue}
+use Rattle.fw_world.specs.Caches.{counted_before}
+use Rattle.fw_world.specs.RecordedHits.{counted_by}
 use Rattle.fw_world.specs.declared.lane_work.LaneWork.{LaneWork}
 use Rattle.rm_lock.specs.Ends.{EachOnce}
-use Rattle.shared_world.specs.Apart.{AreApart, AreNewOf, Seat}
+use Rattle.shared_world.specs.Apart.{AreApart, AreNewOf, Seat, counted_in}
 use Rattle.shared_world.specs.Closing.{AreLanesFrom}
 use Rattle.shared_world.specs.LaneKept.{IsSharedLane}
-use Rattle.shared_world.specs.SharedLane.{SharedLane, lane_of, new_lane}
+use Rattle.shared_world.specs.SharedLane.{SharedLane, lane_of, new_lane, plain_lane}
 use Rattle.shared_world.specs.Standing.{LaneStandsFor}
 
 -- one lane more is taken apart
@@ -102,11 +106,11 @@ each_once world lanes seats works count are apart many = record {
         (j, there.0, there.1, omega (arith, at.0))
 
 -- one new lane more
-pub AreNewOf-push : (seats : List Seat) (lanes : List SharedLane) (seat : Seat) (lane : SharedLane) → AreNewOf seats lanes → lane ≡ new_lane seat.table_id seat.view.place → LaneStandsFor lane [] → AreNewOf (seats ++ seat ∷ []) (lanes ++ lane ∷ [])
-AreNewOf-push [] [] seat lane are is stands = (is, stands, tt)
-AreNewOf-push [] (l ∷ lanes) seat lane are is stands = absurd are
-AreNewOf-push (s ∷ seats) [] seat lane are is stands = absurd are
-AreNewOf-push (s ∷ seats) (l ∷ lanes) seat lane are is stands = (are.0, are.1, AreNewOf-push seats lanes seat lane are.2 is stands)
+pub AreNewOf-push : (cache : Option ℕ) (seats : List Seat) (lanes : List SharedLane) (seat : Seat) (lane : SharedLane) → AreNewOf cache seats lanes → lane ≡ new_lane seat.table_id cache seat.view.place → LaneStandsFor lane [] → AreNewOf cache (seats ++ seat ∷ []) (lanes ++ lane ∷ [])
+AreNewOf-push cache [] [] seat lane are is stands = (is, stands, tt)
+AreNewOf-push cache [] (l ∷ lanes) seat lane are is stands = absurd are
+AreNewOf-push cache (s ∷ seats) [] seat lane are is stands = absurd are
+AreNewOf-push cache (s ∷ seats) (l ∷ lanes) seat lane are is stands = (are.0, are.1, AreNewOf-push cache seats lanes seat lane are.2 is stands)
 
 pub map_itself : {X : Type 0} (xs : List X) → map (λ x. x) xs ≡ xs
 map_itself [] = refl
@@ -120,8 +124,38 @@ of_firsts f (x ∷ xs) [] many = absurd (omega (arith, many))
 of_firsts f (x ∷ xs) (y ∷ ys) many = ap (λ rest. f x ∷ rest) (of_firsts f xs ys (omega (arith, many)))
 
 -- there are as many new lanes as seats
-pub new-many : (seats : List Seat) (lanes : List SharedLane) → AreNewOf seats lanes → length lanes ≡ length seats
-new-many [] [] are = refl
-new-many [] (l ∷ lanes) are = absurd are
-new-many (s ∷ seats) [] are = absurd are
-new-many (s ∷ seats) (l ∷ lanes) are = ap suc (new-many seats lanes are.2)
+pub new-many : (cache : Option ℕ) (seats : List Seat) (lanes : List SharedLane) → AreNewOf cache seats lanes → length lanes ≡ length seats
+new-many cache [] [] are = refl
+new-many cache [] (l ∷ lanes) are = absurd are
+new-many cache (s ∷ seats) [] are = absurd are
+new-many cache (s ∷ seats) (l ∷ lanes) are = ap suc (new-many cache seats lanes are.2)
+
+-- the hits of one lane more
+pub counted_in-append : (works : List LaneWork) (work : LaneWork) → counted_in (works ++ work ∷ []) ≡ counted_in works ++ counted_before work.cache []
+counted_in-append [] work = refl
+counted_in-append (first ∷ works) work = ap (counted_before first.cache) (counted_in-append works work) ∙ before first.cache
+  where
+    before : (cache : Option LaneCacheValue) → counted_before cache (counted_in works ++ counted_before work.cache []) ≡ counted_before cache (counted_in works) ++ counted_before work.cache []
+    before None = refl
+    before (Some own) = refl
+
+-- the hits of what the lanes did are theirs
+pub counted-are : (lanes : List SharedLane) (seats : List Seat) (works : List LaneWork) → AreApart lanes seats works → counted_in works ≡ counted_by (map plain_lane lanes)
+counted-are [] [] [] apart = refl
+counted-are [] [] (w ∷ works) apart = absurd apart
+counted-are [] (s ∷ seats) works apart = absurd apart
+counted-are (l ∷ lanes) [] works apart = absurd apart
+counted-are (l ∷ lanes) (s ∷ seats) [] apart = absurd apart
+counted-are (l ∷ lanes) (s ∷ seats) (w ∷ works) apart =
+    ap (counted_before w.cache) (counted-are lanes seats works apart.2)
+    ∙ ap (λ (lane : SharedLane). counted_before lane.cache (counted_by (map plain_lane lanes))) (sym apart.0)
+
+-- there are as many pairs
+pub zip-length : {X Y : Type 0} (xs : List X) (ys : List Y) → length ys ≡ length xs → length (zip xs ys) ≡ length xs
+zip-length [] ys many = refl
+zip-length (x ∷ xs) [] many = absurd (omega (arith, many))
+zip-length (x ∷ xs) (y ∷ ys) many = ap suc (zip-length xs ys (omega (arith, many)))
+
+-- a column of one lane more
+pub one_more : {X Y : Type 0} (f : X → Y) (column : List Y) (entries : List X) (entry : X) → column ≡ map f entries → column ++ f entry ∷ [] ≡ map f (entries ++ entry ∷ [])
+one_more f column entries entry is = ap (λ some. some ++ f entry ∷ []) is ∙ sym (map-append f entries (entry ∷ []))

@@ -1,5 +1,5 @@
 -- The record of a world that closes.
-use Rattle.std.proofs.Common.{◌≡◌, ℕ, ◌-◌, List, [], ◌∷◌, length, map, Some, refl, sym, ap, ◌∙◌, subst, arith}
+use Rattle.std.proofs.Common.{◌≡◌, ℕ, ◌-◌, List, [], ◌∷◌, length, map, Some, refl, sym, ap, ◌∙◌, subst, arith, Option}
 use Rattle.std.proofs.lemmas.List.{length-map}
 use Rattle.std.specs.Prelude.{slice_get}
 use Rattle.std.specs.List.{AllByRecursion}
@@ -7,7 +7,7 @@ use Rattle.atomic_table.specs.Seated.{TableId}
 use Rattle.counter_book.specs.declared.tally.Count.{Count}
 use Rattle.eval_engine.specs.Dockets.{DocketValue}
 use Rattle.fw_rule.specs.declared.command.Command.{Command}
-use Rattle.fw_world.proofs.Recording.{as_many, lanes-stand, lanes-count, lanes-rise}
+use Rattle.fw_world.proofs.Recording.{as_many, lanes-stand, lanes-count, lanes-rise, TellsHits-world}
 use Rattle.fw_world.specs.Closing.{record_of_world}
 use Rattle.fw_world.specs.Editions.{AreEditions}
 use Rattle.fw_world.specs.Inputs.{Input}
@@ -16,17 +16,19 @@ use Rattle.fw_world.specs.Lanes.{EachLane, LaneStands, LaneCounts, LaneRises}
 use Rattle.fw_world.specs.Legal.{IsLegal, IsLegalButSections}
 use Rattle.fw_world.specs.Publications.{IsPublished}
 use Rattle.fw_world.specs.RecordValue.{RecordValue}
+use Rattle.fw_world.specs.Caches.{capacity_of}
+use Rattle.fw_world.specs.RecordedHits.{EachHasRoom, TellsHits}
 use Rattle.fw_world.specs.Sections.{tracker_after}
 use Rattle.fw_world.specs.declared.lane_work.LaneWork.{LaneWork}
 use Rattle.generation_store.specs.Published.{Published}
 use Rattle.rm_lock.specs.Ends.{ClosesAs, EndsFor}
 use Rattle.rule_chain.specs.Configuration.{Configuration}
 use Rattle.state_journal.specs.Journal.{Journal, IsJournal}
-use Rattle.shared_world.proofs.Apart.{column, placed, works-many}
+use Rattle.shared_world.proofs.Apart.{column, counted-are, placed, works-many}
 use Rattle.shared_world.proofs.Arranging.{length-by_place}
 use Rattle.shared_world.proofs.LastBook as last_book
 use Rattle.shared_world.proofs.LastLanes.{each_seat, last_world, are-lanes, are-kept, each-stands, each-asks, trackers-are}
-use Rattle.shared_world.specs.Apart.{AreApart, Seat}
+use Rattle.shared_world.specs.Apart.{AreApart, Seat, counted_in}
 use Rattle.shared_world.specs.Closing.{AreLanesFrom, EachStandsFor, IsRecordOf, by_place}
 use Rattle.shared_world.specs.DeskKept.{IsSharedDesk}
 use Rattle.shared_world.specs.Known.{Known, SharedEdition, means}
@@ -51,6 +53,10 @@ in_order world given ordered seats works same are apart = subst (λ (all : List 
 -- they are as many as the desk knows
 pub as_known : (given : List SharedLane) (shown inside : SharedDesk) → length given ≡ shown.lanes → inside ≡ shown → length (by_place given) ≡ inside.lanes
 as_known given shown inside many same = length-by_place given ∙ many ∙ sym (ap (λ (d : SharedDesk). d.lanes) same)
+
+plain_rooms : (cache : Option ℕ) (all : List SharedLane) → AllByRecursion (λ (lane : SharedLane). capacity_of lane.cache ≡ cache) all → EachHasRoom cache (map plain_lane all)
+plain_rooms cache [] rooms = tt
+plain_rooms cache (lane ∷ all) rooms = (rooms.0, plain_rooms cache all rooms.1)
 
 module _ (lanes : ℕ) (v : Known) (editions : List Published) (desk : IsSharedDesk lanes v editions) (world : TableId) (all : List SharedLane) (seats : List Seat) (works : List LaneWork) (book : Journal) (trackers : List ℕ) (left : List SharedEdition)
     (are : AreLanesFrom world 1 all) (many : length all ≡ lanes) (apart : AreApart all seats works) (closes : ClosesAs means v seats book trackers left) where
@@ -82,14 +88,15 @@ module _ (lanes : ℕ) (v : Known) (editions : List Published) (desk : IsSharedD
   last_record = record_of_world (last_world lanes v editions book trackers desk closes.list_0) (map plain_lane all)
 
   -- a record of these columns is that one
-  pub is_last : (held : List Published) (journal : Journal) (dockets : List DocketValue) (tallies : List (List Count)) (tracked : List ℕ) → held ≡ editions → journal ≡ book
-      → dockets ≡ map (λ (work : LaneWork). work.docket) works → tallies ≡ map (λ (work : LaneWork). work.tally) works → tracked ≡ trackers
-      → (let r : RecordValue = record { editions = held; journal = journal; dockets = dockets; tallies = tallies; trackers = tracked } in r ≡ last_record)
-  is_last held journal dockets tallies tracked e j d t k =
+  pub is_last : (held : List Published) (journal : Journal) (dockets : List DocketValue) (tallies : List (List Count)) (tracked hits : List ℕ) → held ≡ editions → journal ≡ book
+      → dockets ≡ map (λ (work : LaneWork). work.docket) works → tallies ≡ map (λ (work : LaneWork). work.tally) works → tracked ≡ trackers → hits ≡ counted_in works
+      → (let r : RecordValue = record { editions = held; journal = journal; dockets = dockets; tallies = tallies; trackers = tracked; hits = hits } in r ≡ last_record)
+  is_last held journal dockets tallies tracked hits e j d t k h =
       let entered = d ∙ column (λ (lane : SharedLane). lane.docket) (λ (work : LaneWork). work.docket) (λ table seat work. refl) all seats works apart ∙ plain_column (λ (lane : LaneValue). lane.docket) all in
       let counted = t ∙ column (λ (lane : SharedLane). lane.tally) (λ (work : LaneWork). work.tally) (λ table seat work. refl) all seats works apart ∙ plain_column (λ (lane : LaneValue). lane.tally) all in
       let told = k ∙ words ∙ plain_column (λ (lane : LaneValue). lane.tracker) all in
-      rw (e, j, entered, counted, told) refl
+      let hit = h ∙ counted-are all seats works apart in
+      rw (e, j, entered, counted, told, hit) refl
 
   -- it is the record of desk and lanes
   pub is_record : (shown : SharedDesk) → shown.editions ≡ editions → shown.lanes ≡ lanes → IsRecordOf shown all last_record
@@ -98,9 +105,15 @@ module _ (lanes : ℕ) (v : Known) (editions : List Published) (desk : IsSharedD
     dockets = sym (plain_column (λ (lane : LaneValue). lane.docket) all);
     tallies = sym (plain_column (λ (lane : LaneValue). lane.tally) all);
     trackers = sym (plain_column (λ (lane : LaneValue). lane.tracker) all);
+    hits = refl;
     lanes_are = journal_lanes ∙ sym lanes_are;
     asks = each-asks lanes v editions book trackers desk closes.list_0 all seats works apart ends;
   }
+
+  -- it tells the hits of the lanes' packets
+  pub tells : (r : RecordValue) → r ≡ last_record → (cache : Option ℕ) (inputs : List (List Input)) → AllByRecursion (λ (lane : SharedLane). capacity_of lane.cache ≡ cache) all → EachStandsFor all inputs → TellsHits cache inputs r
+  tells r same cache inputs rooms stand = subst (λ (x : RecordValue). TellsHits cache inputs x) (sym same)
+      (TellsHits-world (last_world lanes v editions book trackers desk closes.list_0) (map plain_lane all) cache inputs (plain_rooms cache all rooms) (each-stands lanes v editions book trackers desk closes.list_0 all seats works inputs apart ends stand))
 
   module _ (shown : SharedDesk) (editions_are : shown.editions ≡ editions) (r : RecordValue) (same : r ≡ last_record) (first : Configuration) (commands : List Command) (inputs : List (List Input)) (accepted : DeskStandsFor shown first commands) (stand : EachStandsFor all inputs) where
     made : AreEditions first commands editions

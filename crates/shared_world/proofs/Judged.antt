@@ -2,7 +2,7 @@
 use Rattle.std.proofs.Common.{◌≡◌, ℕ, ◌+◌, ◌≤◌, Bool, true, false, List, [], ◌∷◌, ◌++◌, length, Option, Some, None, refl, sym, ap, ◌∙◌, subst, arith, inl, inr, append_assoc}
 use Rattle.std.proofs.lemmas.List.{append-nil}
 use Rattle.std.proofs.lemmas.List.Elements.{All-push}
-use Rattle.std.specs.Prelude.{All, Result, Ok, Err, IfOk, OnOk, OnErr, is_ok, IsSomeAnd, option_map, ◌⊎◌}
+use Rattle.std.specs.Prelude.{All, Result, Ok, Err, IfOk, OnOk, OnErr, is_ok, IsSomeAnd, option_map, ◌⊎◌, slice_get}
 use Rattle.std.specs.Arc.{arc_value}
 use Rattle.atomic_table.specs.Seated.{TableId}
 use Rattle.eval_engine.proofs.Hits.{judgement_names_edition}
@@ -12,6 +12,12 @@ use Rattle.eval_engine.specs.Question.{Question}
 use Rattle.eval_engine.specs.declared.judgement.Judgement.{Judgement}
 use Rattle.fw_base.specs.declared.failure.OutOfMemory.{OutOfMemory}
 use Rattle.fw_base.specs.declared.port.Port.{Port}
+use Rattle.std.specs.List.{AllByRecursion}
+use Rattle.std.proofs.lemmas.List.Elements.{recursion_from_All}
+use Rattle.fw_base.proofs.Lists.{all_push}
+use Rattle.fw_world.proofs.Caching.{CacheStandsFor-judged, capacity-behind, IsPortFor-behind}
+use Rattle.fw_world.specs.Caches.{IsPortFor, IsTrueFor, IsCacheBehind, IsCacheAfter, IsCacheSeen}
+use Rattle.shared_world.proofs.SeenCaches.{IsCacheSeen-behind, IsTrueFor-seen, seen-below}
 use Rattle.fw_world.proofs.AskLists.{record_asks, asks_in-append}
 use Rattle.fw_world.proofs.Judging.{StandFor-judged}
 use Rattle.fw_world.proofs.LaneSteps.{IsLane-judged, IsLane-failed, judged_editions-judged}
@@ -34,7 +40,7 @@ use Rattle.shared_world.proofs.Sections.{inside_of}
 use Rattle.shared_world.proofs.Visits.{edition_of-reads, reads_after, of_book_after}
 use Rattle.shared_world.specs.Judging.{Judges, BeginsJudging, JudgesNext}
 use Rattle.shared_world.specs.Known.{Known, SharedEdition}
-use Rattle.shared_world.specs.LaneKept.{IsSharedLane, ReadsSeen, plain_of}
+use Rattle.shared_world.specs.LaneKept.{IsSharedLane, IsSeenIn, ReadsSeen, plain_of}
 use Rattle.shared_world.specs.SharedLane.{lane_of, edition_read}
 use Rattle.shared_world.specs.Standing.{LaneStandsFor}
 use Rattle.shared_world.specs.Visits.{AskingValue, AsksOnce, MissesOnce, edition_of, steady_view}
@@ -184,31 +190,42 @@ module _ (table : TableId) (v : Known) (work : LaneWork) (reads : ReadsSeen v) (
   still : AsksFront (Enters at) Misses old new question → steady_view u ≡ steady_view v
   still f = let fr = front f in steady fr.visits (record_asks old.view.part.held at f.ops f.replies) fr.asks
 
+  -- each number that was judged was seen, and isn't past the edition's
+  each_below : (numbers : List ℕ) → All (λ n. n ≤ v.part.held) numbers → AllByRecursion (IsSeenIn v.part.pairs) numbers → AllByRecursion (λ n. (n ≤ edition.number) × IsSeenIn v.part.pairs n) numbers
+  each_below numbers few known = both_of numbers (recursion_from_All (λ n. n ≤ v.part.held) numbers few) known
+    where
+      both_of : (ns : List ℕ) → AllByRecursion (λ n. n ≤ v.part.held) ns → AllByRecursion (IsSeenIn v.part.pairs) ns → AllByRecursion (λ n. (n ≤ edition.number) × IsSeenIn v.part.pairs n) ns
+      both_of [] first second = tt
+      both_of (n ∷ ns) first second = ((omega (arith, first.0, held), second.0), both_of ns first.1 second.1)
+
   -- the lane that judged stands for the packet behind its inputs
   stands : (judgement : Judgement) → Evaluates (Enters at) old new question work.tally w.tally judgement → w.docket.entries ≡ work.docket.entries ++ judged_entry judgement ∷ [] → steady_view u ≡ steady_view v
+      → IsCacheAfter question work.cache w.cache → All (λ n. n ≤ v.part.held) (judged_editions work.docket.entries) → AllByRecursion (IsSeenIn v.part.pairs) (judged_editions work.docket.entries)
       → (inputs : List Input) → LaneStandsFor (lane_of table v work) inputs → LaneStandsFor (lane_of t u w) (inputs ++ Packet packet port second ∷ [])
   unfolding LaneStandsFor judged
-  stands judgement ran entries same inputs stood = λ editions are.
+  stands judgement ran entries same sees few known inputs stood = λ editions are.
       let j = judged judgement ran in
       let ops : List Op = (evaluate question ran.replies).asks in
       let seen : AreSeenOf editions v.part.pairs = subst (λ (pairs : List (ℕ × Configuration)). AreSeenOf editions pairs) (ap (λ (x : Known). x.part.pairs) same) are in
       let there : edition_numbered editions judgement.edition ≡ Some edition = ap (edition_numbered editions) j.numbered ∙ found editions seen in
-      let more = StandFor-judged editions (asks_in v.part.own) work.docket work.tally inputs (stood editions seen) edition packet port second ops ran.replies judgement w.tally there j.asked ran.outcome refl ran.counted w.docket entries in
+      let more = StandFor-judged editions (asks_in v.part.own) work.docket work.tally inputs (stood editions seen).stands edition packet port second ops ran.replies judgement w.tally there j.asked ran.outcome refl ran.counted w.docket entries in
       let own : asks_in v.part.own ++ record_asks judgement.edition at ops ran.replies ≡ asks_in u.part.own = ap (λ (n : ℕ). asks_in v.part.own ++ record_asks n at ops ran.replies) j.numbered ∙ sym j.asks in
-      subst (λ (asks : List LaneAsk). StandFor editions asks w.docket w.tally (inputs ++ Packet packet port second ∷ [])) own more
+      let below = seen-below editions v.part.pairs edition.number (judged_editions work.docket.entries) seen (each_below (judged_editions work.docket.entries) few known) in
+      let cached = CacheStandsFor-judged editions work.docket inputs (stood editions seen).stands.entered work.cache w.cache edition packet port second judgement w.docket there below sees entries (stood editions seen).cached in
+      record { stands = subst (λ (asks : List LaneAsk). StandFor editions asks w.docket w.tally (inputs ++ Packet packet port second ∷ [])) own more; cached = cached }
 
   abbrev IsEntered : Result Judgement OutOfMemory → Type 0
-  IsEntered result = IfOk result (λ judgement. w ≡ record work { docket = record work.docket { entries = work.docket.entries ++ judged_entry judgement ∷ [] }; tally = w.tally })
+  IsEntered result = IfOk result (λ judgement. w ≡ record work { docket = record work.docket { entries = work.docket.entries ++ judged_entry judgement ∷ [] }; tally = w.tally; cache = w.cache })
 
   abbrev IsFailed : Result Judgement OutOfMemory → Type 0
-  IsFailed result = OnErr result (w ≡ record work { tally = w.tally; failed = true })
+  IsFailed result = OnErr result (w ≡ record work { tally = w.tally; cache = w.cache; failed = true })
 
   loose_is : (result : Result Judgement OutOfMemory) → IsEntered result → IsFailed result → w.loose ≡ work.loose
   loose_is (Ok judgement) entered failed = ap (λ (x : LaneWork). x.loose) entered
   loose_is (Err fault) entered failed = ap (λ (x : LaneWork). x.loose) failed
 
   alike : t ≡ table → steady_view u ≡ steady_view v → w.loose ≡ work.loose
-      → lane_of t u w ≡ record (lane_of table v work) { docket = w.docket; tally = w.tally; asks = asks_in u.part.own; book_taken = u.part.book_taken; failed = w.failed }
+      → lane_of t u w ≡ record (lane_of table v work) { docket = w.docket; tally = w.tally; cache = w.cache; asks = asks_in u.part.own; book_taken = u.part.book_taken; failed = w.failed }
   alike a s l = λ i. record {
     world = a i;
     place = (s i).place;
@@ -221,21 +238,24 @@ module _ (table : TableId) (v : Known) (work : LaneWork) (reads : ReadsSeen v) (
     book_taken = u.part.book_taken;
     docket = w.docket;
     tally = w.tally;
+    cache = w.cache;
     failed = w.failed;
     loose = l i;
   }
 
   module _ (result : Result Judgement OutOfMemory) (ran : IfOk result (Evaluates (Enters at) old new question work.tally w.tally)) (entered : IsEntered result) (working : OnOk result (work.failed ≡ false))
-      (asked : AsksFront (Enters at) Misses old new question) (failed : IsFailed result) where
+      (asked : AsksFront (Enters at) Misses old new question) (failed : IsFailed result) (behind : IsCacheBehind edition port work.cache w.cache) (sees : OnOk result (IsCacheAfter question work.cache w.cache)) (at_port : IsPortFor work.cache port) where
     -- the next record of the lane was judged, or memory was wanted
-    pub next : (b : Bool) → t ≡ table → (work.failed ≡ true → new ≡ old) → JudgesNext (inside_of table v work b) (inside_of t u w (is_ok result)) packet port second result
-    next b own idle = record {
+    pub next : (b : Bool) → IsSharedLane 1 v work → t ≡ table → (work.failed ≡ true → new ≡ old) → JudgesNext (inside_of table v work b) (inside_of t u w (is_ok result)) packet port second result
+    next b is own idle = record {
       edition = edition;
       reads = reading;
       judged = judged_by result ran;
       entered = entered_by result entered;
       same = alike own (still asked) (loose_is result entered failed);
-      stands = stands_by result ran entered;
+      room = capacity-behind edition port work.cache w.cache behind;
+      at_port = IsPortFor-behind edition port work.cache w.cache behind at_port;
+      stands = stands_by result ran entered sees;
       working = working_by result entered working;
       idle = λ was.
           let same : u ≡ v = ended ∙ ap (λ (a : AskingValue). a.view) (idle was) ∙ begun in
@@ -254,10 +274,10 @@ module _ (table : TableId) (v : Known) (work : LaneWork) (reads : ReadsSeen v) (
         entered_by (Ok judgement) entered = ap (λ (x : LaneWork). x.docket) entered
         entered_by (Err fault) entered = tt
 
-        stands_by : (r : Result Judgement OutOfMemory) → IfOk r (Evaluates (Enters at) old new question work.tally w.tally) → IsEntered r
+        stands_by : (r : Result Judgement OutOfMemory) → IfOk r (Evaluates (Enters at) old new question work.tally w.tally) → IsEntered r → OnOk r (IsCacheAfter question work.cache w.cache)
             → OnOk r ((inputs : List Input) → LaneStandsFor (lane_of table v work) inputs → LaneStandsFor (lane_of t u w) (inputs ++ Packet packet port second ∷ []))
-        stands_by (Ok judgement) ran entered = stands judgement ran (ap (λ (x : LaneWork). x.docket.entries) entered) (still asked)
-        stands_by (Err fault) ran entered = tt
+        stands_by (Ok judgement) ran entered saw = stands judgement ran (ap (λ (x : LaneWork). x.docket.entries) entered) (still asked) saw is.judged is.seen
+        stands_by (Err fault) ran entered saw = tt
 
         working_by : (r : Result Judgement OutOfMemory) → IsEntered r → OnOk r (work.failed ≡ false) → OnOk r ((work.failed ≡ false) × (w.failed ≡ false))
         working_by (Ok judgement) entered working = (working, ap (λ (x : LaneWork). x.failed) entered ∙ working)
@@ -266,6 +286,13 @@ module _ (table : TableId) (v : Known) (work : LaneWork) (reads : ReadsSeen v) (
         failed_by : (r : Result Judgement OutOfMemory) → IsFailed r → OnErr r ((w.failed ≡ true) × (w.docket ≡ work.docket))
         failed_by (Ok judgement) failed = tt
         failed_by (Err fault) failed = (ap (λ (x : LaneWork). x.failed) failed, ap (λ (x : LaneWork). x.docket) failed)
+
+    -- its cache keeps what is true
+    cached_still : IsSharedLane 1 v work → IsCacheSeen u.part.pairs w.cache
+    cached_still is =
+        let pair : slice_get v.part.pairs reads.index ≡ Some (edition.number, edition.config) = subst (λ (p : Published). slice_get v.part.pairs reads.index ≡ Some (p.number, p.config)) (sym edition_is) reads.seen in
+        subst (λ (pairs : List (ℕ × Configuration)). IsCacheSeen pairs w.cache) (sym (ap (λ (x : Known). x.part.pairs) (still asked)))
+        (IsCacheSeen-behind v.part.pairs reads.index edition port work.cache w.cache lawful pair at_port behind is.cached)
 
     -- what holds of it
     pub kept : IsSharedLane 1 v work → IsSharedLane (pending_of (is_ok result)) u w
@@ -278,7 +305,7 @@ module _ (table : TableId) (v : Known) (work : LaneWork) (reads : ReadsSeen v) (
         kept_by (Ok judgement) ran entered failed =
             let number : judgement.edition ≡ v.part.held = judgement_names_edition question ran.replies judgement ran.outcome ∙ held in
             let below : All (λ n. n ≤ judgement.edition) (judged_editions work.docket.entries) = subst (λ (top : ℕ). All (λ n. n ≤ top) (judged_editions work.docket.entries)) (sym number) is.judged in
-            let before : LaneValue = record (with_docket_entry (judged_entry judgement) (plain_of v work)) { tally = w.tally } in
+            let before : LaneValue = record (with_docket_entry (judged_entry judgement) (plain_of v work)) { tally = w.tally; cache = w.cache } in
             let same : plain_of u w ≡ before = (λ i. record {
               place = (of_seat i).place;
               number = (of_seat i).part.held;
@@ -286,20 +313,26 @@ module _ (table : TableId) (v : Known) (work : LaneWork) (reads : ReadsSeen v) (
               tracker = tracker_after (of_seat i).part.sections;
               docket = (entered i).docket;
               tally = w.tally;
+              cache = w.cache;
               failed = (entered i).failed;
               loose = (entered i).loose;
             }) in
             let more : All (λ n. n ≤ judgement.edition) (judged_editions work.docket.entries ++ judgement.edition ∷ []) = All-push (λ n. n ≤ judgement.edition) (judged_editions work.docket.entries) judgement.edition below (omega arith) in
             let entries : judged_editions w.docket.entries ≡ judged_editions work.docket.entries ++ judgement.edition ∷ [] = ap (λ (x : LaneWork). judged_editions x.docket.entries) entered ∙ judged_editions-judged work.docket.entries judgement in
             record {
-              plain = subst (λ (l : LaneValue). IsLane 0 l) (sym same) (IsLane-judged (plain_of v work) judgement w.tally is.plain below);
+              plain = subst (λ (l : LaneValue). IsLane 0 l) (sym same) (IsLane-judged (plain_of v work) judgement w.tally w.cache is.plain below);
               of_book = of_book_after v u of_seat is.of_book;
               judged =
                   subst (λ (top : ℕ). All (λ n. n ≤ top) (judged_editions w.docket.entries)) (number ∙ sym (ap (λ (x : Known). x.part.held) of_seat))
                   (subst (λ (numbers : List ℕ). All (λ n. n ≤ judgement.edition) numbers) (sym entries) more);
+              seen =
+                  let one : IsSeenIn v.part.pairs judgement.edition = record { index = reads.index; config = (arc_value reads.edition).config; pair = subst (λ (n : ℕ). slice_get v.part.pairs reads.index ≡ Some (n, (arc_value reads.edition).config)) (reads.held ∙ sym number) reads.seen } in
+                  subst (λ (pairs : List (ℕ × Configuration)). AllByRecursion (IsSeenIn pairs) (judged_editions w.docket.entries)) (sym (ap (λ (x : Known). x.part.pairs) of_seat))
+                  (subst (λ (numbers : List ℕ). AllByRecursion (IsSeenIn v.part.pairs) numbers) (sym entries) (all_push (IsSeenIn v.part.pairs) (judged_editions work.docket.entries) judgement.edition is.seen one));
+              cached = cached_still is;
             }
         kept_by (Err fault) ran entered failed =
-            let before : LaneValue = record (plain_of v work) { tally = w.tally; failed = true } in
+            let before : LaneValue = record (plain_of v work) { tally = w.tally; cache = w.cache; failed = true } in
             let same : plain_of u w ≡ before = (λ i. record {
               place = (of_seat i).place;
               number = (of_seat i).part.held;
@@ -307,15 +340,20 @@ module _ (table : TableId) (v : Known) (work : LaneWork) (reads : ReadsSeen v) (
               tracker = tracker_after (of_seat i).part.sections;
               docket = (failed i).docket;
               tally = w.tally;
+              cache = w.cache;
               failed = (failed i).failed;
               loose = (failed i).loose;
             }) in
             record {
-              plain = subst (λ (l : LaneValue). IsLane 1 l) (sym same) (IsLane-failed 1 (plain_of v work) w.tally is.plain);
+              plain = subst (λ (l : LaneValue). IsLane 1 l) (sym same) (IsLane-failed 1 (plain_of v work) w.tally w.cache is.plain);
               of_book = of_book_after v u of_seat is.of_book;
               judged =
                   subst (λ (top : ℕ). All (λ n. n ≤ top) (judged_editions w.docket.entries)) (sym (ap (λ (x : Known). x.part.held) of_seat))
                   (subst (λ (x : DocketValue). All (λ n. n ≤ v.part.held) (judged_editions x.entries)) (sym (ap (λ (x : LaneWork). x.docket) failed)) is.judged);
+              seen =
+                  subst (λ (pairs : List (ℕ × Configuration)). AllByRecursion (IsSeenIn pairs) (judged_editions w.docket.entries)) (sym (ap (λ (x : Known). x.part.pairs) of_seat))
+                  (subst (λ (x : DocketValue). AllByRecursion (IsSeenIn v.part.pairs) (judged_editions x.entries)) (sym (ap (λ (x : LaneWork). x.docket) failed)) is.seen);
+              cached = cached_still is;
             }
 
     pub reads_still : ReadsSeen u
@@ -326,3 +364,8 @@ module _ (table : TableId) (v : Known) (work : LaneWork) (reads : ReadsSeen v) (
 
     pub lock_still : new.lock ≡ old.lock
     lock_still = (front asked).asks.lock
+
+-- under the edition that is read all that the cache keeps is true
+pub is_true : (v : Known) (work : LaneWork) → ReadsSeen v → IsCacheSeen v.part.pairs work.cache → IsTrueFor (edition_of v) work.cache
+is_true v work reads is =
+    subst (λ (p : Published). IsTrueFor p work.cache) (sym (edition_of-reads v reads.edition reads.reading)) (IsTrueFor-seen v.part.pairs (arc_value reads.edition) work.cache reads.lawful reads.named is)

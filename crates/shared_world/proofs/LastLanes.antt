@@ -3,13 +3,14 @@ use Rattle.std.proofs.Common.{◌≡◌, ℕ, zero, suc, ◌+◌, ◌-◌, ◌�
 use Rattle.std.specs.Prelude.{IfSome, IsSomeAnd, slice_get}
 use Rattle.std.specs.List.{AllByRecursion}
 use Rattle.atomic_table.specs.Seated.{TableId}
+use Rattle.fw_world.proofs.Caching.{IsCacheAmong-seen}
 use Rattle.fw_world.specs.Asks.{LaneAsk, asks_in, lane_asks}
 use Rattle.fw_world.specs.Closing as serial
 use Rattle.fw_world.specs.Editions.{AreNumbered, edition_numbered}
 use Rattle.fw_world.specs.Inputs.{Input}
 use Rattle.fw_world.specs.LaneKept.{IsLane}
 use Rattle.fw_world.specs.Sections.{tracker_after}
-use Rattle.fw_world.specs.Standing.{StandFor, AreSeenOf}
+use Rattle.fw_world.specs.Standing.{StandWithCache, AreSeenOf}
 use Rattle.fw_world.specs.World.{WorldValue, IsLaneOf}
 use Rattle.fw_world.specs.declared.lane_work.LaneWork.{LaneWork}
 use Rattle.generation_store.specs.Published.{Published, IsBuilt}
@@ -81,6 +82,7 @@ module _ (lanes : ℕ) (v : Known) (editions : List Published) (book : Journal) 
       held = omega (arith, ends.held, desk.published);
       heard = heard seat.view.part.refusal v.number (length editions) desk.published ends.refusal;
       judged = λ k d within. omega (arith, is.judged k d within, ends.held, desk.published);
+      cached = IsCacheAmong-seen editions seat.view.part.pairs work.cache (seen-of seat.view ends) is.cached;
     }
 
     -- its asks in the journal are its own
@@ -88,9 +90,9 @@ module _ (lanes : ℕ) (v : Known) (editions : List Published) (book : Journal) 
     asks-are = lane_asks-items seat.view.place book is.of_book.first ∙ ap asks_in ends.list
 
     -- it stands for what it stood for
-    stands : (inputs : List Input) → LaneStandsFor (lane_of seat.table_id seat.view work) inputs → StandFor editions (lane_asks seat.view.place book.entries) work.docket work.tally inputs
+    stands : (inputs : List Input) → LaneStandsFor (lane_of seat.table_id seat.view work) inputs → StandWithCache editions (lane_asks seat.view.place book.entries) work.docket work.tally work.cache inputs
     unfolding LaneStandsFor
-    stands inputs seen = subst (λ (asks : List LaneAsk). StandFor editions asks work.docket work.tally inputs) (sym asks-are) (seen editions (seen-of seat.view ends))
+    stands inputs seen = subst (λ (asks : List LaneAsk). StandWithCache editions asks work.docket work.tally work.cache inputs) (sym asks-are) (seen editions (seen-of seat.view ends))
 
   -- all lanes are the world's
   pub are-lanes : (world : TableId) (place : ℕ) (all : List SharedLane) (seats : List Seat) (works : List LaneWork) → AreLanesFrom world place all → AreApart all seats works → AllByRecursion (λ (seat : Seat). EndsFor means v book trackers seat.view) seats
@@ -125,7 +127,7 @@ module _ (lanes : ℕ) (v : Known) (editions : List Published) (book : Journal) 
   each-stands (l ∷ all) (s ∷ seats) [] (met ∷ inputs) apart ends each = absurd apart
   each-stands (l ∷ all) (s ∷ seats) (w ∷ works) (met ∷ inputs) apart ends each = (
     let own = subst (λ (lane : SharedLane). LaneStandsFor lane met) apart.0 each.0 in
-        subst (λ (lane : SharedLane). StandFor editions (lane_asks lane.place book.entries) lane.docket lane.tally met) (sym apart.0) (stands s w apart.1 ends.0 met own),
+        subst (λ (lane : SharedLane). StandWithCache editions (lane_asks lane.place book.entries) lane.docket lane.tally lane.cache met) (sym apart.0) (stands s w apart.1 ends.0 met own),
     each-stands all seats works inputs apart.2 ends.1 each.1,
   )
 

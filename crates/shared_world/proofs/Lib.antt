@@ -2,6 +2,7 @@
 pub mod Standing
 pub mod Sections
 pub mod Visits
+pub mod SeenCaches
 pub mod Judged
 -- desks that go on
 pub mod DeskSteps

@@ -72,13 +72,13 @@ new_seats table n lanes share facts place (suc count) first most = (
 )
 
 -- and its lanes
-new_lanes : (table : TableId) (n : ℕ) (share : SharedEdition) (book : Journal) (place count : ℕ) (lanes : List SharedLane) → AreNewOf (values_from (first_token means table n share book) place count) lanes → AreNewLanes table place lanes
-new_lanes table n share book place zero [] are = tt
-new_lanes table n share book place zero (lane ∷ lanes) are = absurd are
-new_lanes table n share book place (suc count) [] are = absurd are
-new_lanes table n share book place (suc count) (lane ∷ lanes) are =
+new_lanes : (cache : Option ℕ) (table : TableId) (n : ℕ) (share : SharedEdition) (book : Journal) (place count : ℕ) (lanes : List SharedLane) → AreNewOf cache (values_from (first_token means table n share book) place count) lanes → AreNewLanes table cache place lanes
+new_lanes cache table n share book place zero [] are = tt
+new_lanes cache table n share book place zero (lane ∷ lanes) are = absurd are
+new_lanes cache table n share book place (suc count) [] are = absurd are
+new_lanes cache table n share book place (suc count) (lane ∷ lanes) are =
     let next : suc place ≡ place + 1 = omega arith in
-    (are.0, are.1, subst (λ (k : ℕ). AreNewLanes table k lanes) next (new_lanes table n share book (suc place) count lanes are.2))
+    (are.0, are.1, subst (λ (k : ℕ). AreNewLanes table cache k lanes) next (new_lanes cache table n share book (suc place) count lanes are.2))
 
 module _ (lanes n : ℕ) (config : Configuration) (edition : Published) (share : SharedEdition) (book : Journal) (table : TableId) (seats : List Seat) (operator : Seat) (built : IsBuilt 1 config edition) (shared : arc_value share ≡ edition) (many : n ≡ lanes)
     (is : book ≡ first_journal lanes edition.facts) (opens : OpensAs means n share book table seats operator) where
@@ -90,12 +90,12 @@ module _ (lanes n : ℕ) (config : Configuration) (edition : Published) (share :
       subst (λ (all : List Seat). AllByRecursion (λ (seat : Seat). IsNewSeat seat.view) all) (sym opens.processors) of_book
 
   -- the lanes are new
-  pub lanes-new : (all : List SharedLane) → AreNewOf seats all → AreNewLanes table 1 all
-  lanes-new all are = new_lanes table n share book 1 n all (subst (λ (ss : List Seat). AreNewOf ss all) opens.processors are)
+  pub lanes-new : (cache : Option ℕ) (all : List SharedLane) → AreNewOf cache seats all → AreNewLanes table cache 1 all
+  lanes-new cache all are = new_lanes cache table n share book 1 n all (subst (λ (ss : List Seat). AreNewOf cache ss all) opens.processors are)
 
   -- and as many as wanted
-  pub lanes-count : (all : List SharedLane) → AreNewOf seats all → length all ≡ lanes
-  lanes-count all are = new-many seats all are ∙ ap length opens.processors ∙ length-values (first_token means table n share book) 1 n ∙ many
+  pub lanes-count : (cache : Option ℕ) (all : List SharedLane) → AreNewOf cache seats all → length all ≡ lanes
+  lanes-count cache all are = new-many cache seats all are ∙ ap length opens.processors ∙ length-values (first_token means table n share book) 1 n ∙ many
 
   -- what holds of every desk holds of this one
   pub desk-kept : lanes ≤ 64 → IsSharedDesk lanes operator.view (edition ∷ [])

@@ -132,6 +132,7 @@ reads_after before after steady is = record {
   lawful = is.lawful;
   index = is.index;
   seen = subst (λ (pairs : List (ℕ × Configuration)). slice_get pairs is.index ≡ Some ((arc_value is.edition).number, (arc_value is.edition).config)) (sym (ap (λ (v : Known). v.part.pairs) steady)) is.seen;
+  named = λ j other at. is.named j other (subst (λ (pairs : List (ℕ × Configuration)). slice_get pairs j ≡ Some ((arc_value is.edition).number, other)) (ap (λ (v : Known). v.part.pairs) steady) at);
 }
 
 -- and whose the seat is

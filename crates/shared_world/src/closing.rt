@@ -1,12 +1,14 @@
-ghost use Rattle.std.specs.Prelude.{◌≡◌, ℕ, ◌≤◌, List, [], length, map, is_err, IfOk, vec_capacity};
+ghost use Rattle.std.specs.Prelude.{◌≡◌, ℕ, ◌≤◌, Option, List, [], length, map, is_err, IfOk, vec_capacity};
 ghost use Rattle.std.specs.List.{list_any, AllByRecursion};
 ghost use Rattle.atomic_table.specs.Seated.{TableId};
 ghost use Rattle.fw_rule.specs.declared.command.Command.{Command};
+ghost use Rattle.fw_world.specs.Caches.{capacity_of};
 ghost use Rattle.fw_world.specs.Columns.{no_columns};
 ghost use Rattle.fw_world.specs.Inputs.{Input};
 ghost use Rattle.fw_world.specs.Legal.{IsLegalButSections, IsLegal};
+ghost use Rattle.fw_world.specs.RecordedHits.{TellsHits};
 ghost use Rattle.rule_chain.specs.Configuration.{Configuration};
-ghost use Rattle.shared_world.specs.Apart.{AreApart};
+ghost use Rattle.shared_world.specs.Apart.{AreApart, counted_in};
 ghost use Rattle.shared_world.specs.Closing.{AreLanesFrom, by_place, EachStandsFor, IsRecordOf};
 ghost use Rattle.shared_world.specs.Standing.{DeskStandsFor};
 
@@ -21,8 +23,8 @@ use std::sync::Arc;
 
 impl World {
     /// The record of the world, of its lanes, each once and in any order, and of its desk: dockets, tallies
-    /// and tracker words come in the order of the lanes' places. It takes no memory; want of memory comes
-    /// exactly where a lane has failed.
+    /// and tracker words come in the order of the lanes' places, and so do hits where the lanes have a cache.
+    /// It takes no memory; want of memory comes exactly where a lane has failed.
     pub fn close(self, lanes: Vec<Lane>, desk: Desk) -> Result<Record, OutOfMemory>
         requires lanes { AreLanesFrom self 1 (by_place lanes.items) }
         requires all { length lanes.items ≡ desk.lanes }
@@ -37,6 +39,9 @@ impl World {
             (first : Configuration) (commands : List Command) (inputs : List (List Input))
             → DeskStandsFor desk first commands → EachStandsFor (by_place lanes.items) inputs
             → IsLegalButSections first commands inputs r) }
+        ensures hits { IfOk result (λ r. (cache : Option ℕ) (inputs : List (List Input))
+            → AllByRecursion (λ lane. capacity_of lane.cache ≡ cache) lanes.items
+            → EachStandsFor (by_place lanes.items) inputs → TellsHits cache inputs r) }
     {
         if any_failed(&lanes) {
             return Err(OutOfMemory);
@@ -107,6 +112,7 @@ fn filled(mut columns: Columns, works: Vec<LaneWork>, trackers: Vec<u64>) -> Col
     ensures dockets { result.dockets ≡ map (λ work. work.docket) works.items }
     ensures tallies { result.tallies ≡ map (λ work. work.tally) works.items }
     ensures trackers { result.trackers ≡ trackers.items }
+    ensures hits { result.hits ≡ counted_in works.items }
 {
     for (work, tracker) in works.into_iter().zip(trackers) {
         columns.add(work, tracker);

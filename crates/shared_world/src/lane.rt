@@ -1,10 +1,12 @@
-ghost use Rattle.std.specs.Prelude.{◌≡◌, []};
+ghost use Rattle.std.specs.Prelude.{◌≡◌, [], IfOk};
+ghost use Rattle.fw_world.specs.Caches.{IsCacheSize};
 ghost use Rattle.shared_world.specs.LaneKept.{IsNewSeat};
 ghost use Rattle.shared_world.specs.SharedLane.{new_lane};
 ghost use Rattle.shared_world.specs.Standing.{LaneStandsFor};
 
 use crate::shared_book::SharedBook;
-use fw_world::LaneWork;
+use fw_base::OutOfMemory;
+use fw_world::{LaneWork, open_cache};
 use generation_store::Edition;
 use rm_lock::Processor;
 use std::alloc::Global;
@@ -30,16 +32,23 @@ impl Model for Lane {
 }
 
 impl Lane {
-    /// The lane of a processor of a new lock.
-    pub(crate) fn new(alloc: Global, processor: Processor<Arc<Edition>, SharedBook>) -> Lane
-        requires { IsNewSeat processor.view }
-        ensures lane { result ≡ new_lane processor.table_id processor.view.place }
-        ensures stands { LaneStandsFor result [] }
+    /// The lane of a processor of a new lock, with a cache for so many verdicts or with none.
+    pub(crate) fn new(
+        alloc: Global,
+        processor: Processor<Arc<Edition>, SharedBook>,
+        cache: Option<u32>,
+    ) -> Result<Lane, OutOfMemory>
+        requires seat { IsNewSeat processor.view }
+        requires cache { IsCacheSize cache }
+        ensures lane { IfOk result (λ lane.
+            lane ≡ new_lane processor.table_id cache processor.view.place) }
+        ensures stands { IfOk result (λ lane. LaneStandsFor lane []) }
     {
-        Lane {
+        let cache = open_cache(alloc, cache)?;
+        Ok(Lane {
             processor,
-            work: LaneWork::new(alloc),
-        }
+            work: LaneWork::new(alloc, cache),
+        })
     }
 
     /// Its place among the world's lanes, from 1.

@@ -1,5 +1,6 @@
 ghost use Rattle.std.specs.Prelude.{◌≡◌, ◌≤◌, IfOk, length};
 ghost use Rattle.std.specs.List.{AllByRecursion};
+ghost use Rattle.fw_world.specs.Caches.{IsCacheSize};
 ghost use Rattle.shared_world.specs.Apart.{AreNewOf};
 ghost use Rattle.shared_world.specs.Closing.{AreNewLanes};
 ghost use Rattle.shared_world.specs.LaneKept.{IsNewSeat};
@@ -17,28 +18,39 @@ use rule_chain::Config;
 use std::alloc::Global;
 use std::sync::Arc;
 
-/// The lanes of the processors of a new lock.
+/// The lanes of the processors of a new lock, each with a cache for so many verdicts or with none.
 fn lanes_of(
     alloc: Global,
     processors: Vec<Processor<Arc<Edition>, SharedBook>>,
+    cache: Option<u32>,
 ) -> Result<Vec<Lane>, OutOfMemory>
-    requires { AllByRecursion (λ p. IsNewSeat p.view) processors.items }
-    ensures { IfOk result (λ lanes. AreNewOf processors.items lanes.items) }
+    requires seats { AllByRecursion (λ p. IsNewSeat p.view) processors.items }
+    requires cache { IsCacheSize cache }
+    ensures { IfOk result (λ lanes. AreNewOf cache processors.items lanes.items) }
 {
     let mut lanes = Vec::with_capacity(alloc, processors.len())?;
     for processor in processors {
-        lanes.push(Lane::new(alloc, processor))?;
+        let lane = Lane::new(alloc, processor, cache)?;
+        lanes.push(lane)?;
     }
     Ok(lanes)
 }
 
 impl World {
-    /// A world of so many lanes that shows the configuration as edition 1, with its lanes and its desk.
-    /// The memory that closing it needs is taken here.
-    pub fn open(alloc: Global, config: Config, lanes: u32) -> Result<OpenWorld, OutOfMemory>
+    /// A world of so many lanes that shows the configuration as edition 1, with its lanes and its desk. Each
+    /// lane has a cache for so many verdicts, 1 to 65,536, or none has one. The memory that closing it needs
+    /// is taken here.
+    pub fn open(
+        alloc: Global,
+        config: Config,
+        lanes: u32,
+        cache: Option<u32>,
+    ) -> Result<OpenWorld, OutOfMemory>
         requires least { 1 ≤ lanes }
         requires most { lanes ≤ MOST_LANES }
-        ensures lanes { IfOk result (λ opened. AreNewLanes opened.world 1 opened.lanes.items) }
+        requires cache { IsCacheSize cache }
+        ensures lanes { IfOk result (λ opened.
+            AreNewLanes opened.world cache 1 opened.lanes.items) }
         ensures count { IfOk result (λ opened. length opened.lanes.items ≡ lanes) }
         ensures desk { IfOk result (λ opened. IsNewDesk config lanes opened.world opened.desk) }
     {
@@ -52,7 +64,7 @@ impl World {
             processors,
             operator,
         } = RmLock::open(alloc, shares, book)?;
-        let opened = lanes_of(alloc, processors)?;
+        let opened = lanes_of(alloc, processors, cache)?;
         Ok(OpenWorld {
             world: World { lock },
             lanes: opened,

@@ -3,6 +3,7 @@ use Rattle.std.proofs.lemmas.List.Elements.{All-from_recursion}
 use Rattle.std.specs.Prelude.{All}
 use Rattle.std.specs.Arc.{arc_value}
 use Rattle.atomic_table.specs.Seated.{TableId}
+use Rattle.fw_world.specs.Caches.{capacity_of}
 use Rattle.fw_world.specs.Columns.{no_columns}
 use Rattle.fw_world.specs.Publications.{IsPublished}
 use Rattle.fw_world.specs.RecordValue.{RecordValue}
@@ -72,7 +73,7 @@ same c =
     ∙ closes.is_last c.desk.inside.lanes c.desk.inside.operator.view c.desk.inside.store.editions c.desk.invariant.0 c.args.self (by_place c.args.lanes.items)
     c.taken_apart-processors.result.0.items c.taken_apart-processors.result.1.items c.close-book.result.book c.close-book.result.trackers.items c.close-book.result.editions.items
     c.requires.lanes (many c) (apart c) c.close-book.ensures.closed
-    _ _ _ _ _ c.into_all.ensures c.into_book.ensures.value c.filled-columns.ensures.dockets c.filled-columns.ensures.tallies c.filled-columns.ensures.trackers
+    _ _ _ _ _ _ c.into_all.ensures c.into_book.ensures.value c.filled-columns.ensures.dockets c.filled-columns.ensures.tallies c.filled-columns.ensures.trackers c.filled-columns.ensures.hits
 
 -- the editions are the desk's
 shown : (c : After-new) → c.args.desk.editions ≡ c.desk.inside.store.editions
@@ -100,3 +101,10 @@ returns-clause-nearly c = λ first commands inputs accepted stand.
     c.taken_apart-processors.result.0.items c.taken_apart-processors.result.1.items c.close-book.result.book c.close-book.result.trackers.items c.close-book.result.editions.items
     c.requires.lanes (many c) (apart c) c.close-book.ensures.closed
     c.args.desk (shown c) c.new.result (same c) first commands inputs accepted stand (c.new.ensures.nearly first commands inputs)
+
+pub returns-clause-hits : goal.returns-clause-hits
+returns-clause-hits c = λ cache inputs rooms stand.
+    closes.tells c.desk.inside.lanes c.desk.inside.operator.view c.desk.inside.store.editions c.desk.invariant.0 c.args.self (by_place c.args.lanes.items)
+    c.taken_apart-processors.result.0.items c.taken_apart-processors.result.1.items c.close-book.result.book c.close-book.result.trackers.items c.close-book.result.editions.items
+    c.requires.lanes (many c) (apart c) c.close-book.ensures.closed
+    c.new.result (same c) cache inputs (all-by_place (λ (lane : SharedLane). capacity_of lane.cache ≡ cache) c.args.lanes.items rooms) stand

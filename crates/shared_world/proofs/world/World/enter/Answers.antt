@@ -22,7 +22,7 @@ invariant_of-result c =
     let number = c.in-In.ensures.entry.1.2 in
     let kept = subst (λ (u : Known). IsSharedLane 1 u (loosened (is_some v.part.refusal) c.lane.inside.work)) (sym view) (entered-kept v c.lane.inside.work e c.lane.invariant) in
     let lawful = subst (λ (p : Published). IsEdition p) c.deref.ensures c.is_edition.ensures in
-    let reads = entered-reads v e c.edition.result.now number (sym (ap (λ (u : Known). u.part.reading) view) ∙ c.edition.ensures) lawful in (
+    let reads = entered-reads v e c.edition.result.now number (sym (ap (λ (u : Known). u.part.reading) view) ∙ c.edition.ensures) lawful c.in-In.ensures.entry.1.4 in (
       subst (λ (w : LaneWork). IsSharedLane 1 c.in-In.reading.view w) (sym (counted c)) kept,
       subst (λ (u : Known). ReadsSeen u) (sym view) reads,
       ap (λ (u : Known). u.place) view ∙ sym c.place-place.ensures,
@@ -43,9 +43,9 @@ returns-in-Revoked c = record {
       let v = c.lane.inside.processor.view in
       let counted : c.loosen.new.self ≡ loosened (is_some v.part.refusal) c.lane.inside.work = c.loosen.ensures ∙ ap (λ (b : Bool). loosened b c.lane.inside.work) c.is_refused.ensures in
       let docket = c.refuse.ensures ∙ ap (λ (w : LaneWork). let d : DocketValue = record { entries = w.docket.entries; refused = (w.docket.refused + 1) % 2 ^ 64 } in d) counted in
-      let work : LaneWork = record { docket = c.refuse.new.self; tally = c.loosen.new.self.tally; failed = c.loosen.new.self.failed; loose = c.loosen.new.self.loose } in
+      let work : LaneWork = record { docket = c.refuse.new.self; tally = c.loosen.new.self.tally; cache = c.loosen.new.self.cache; failed = c.loosen.new.self.failed; loose = c.loosen.new.self.loose } in
       let same : work ≡ record (loosened (is_some v.part.refusal) c.lane.inside.work) { docket = record c.lane.inside.work.docket { refused = (c.lane.inside.work.docket.refused + 1) % 2 ^ 64 } } =
-      (λ i. record { docket = docket i; tally = (counted i).tally; failed = (counted i).failed; loose = (counted i).loose }) in
+      (λ i. record { docket = docket i; tally = (counted i).tally; cache = (counted i).cache; failed = (counted i).failed; loose = (counted i).loose }) in
       subst (λ (l : SharedLane). IsRefused l (lane_of c.in-Revoked.processor.table_id c.in-Revoked.processor.view work) c.in-Revoked.number) c.lane.view_is
       (refused c.lane.inside.processor.table_id c.in-Revoked.processor.table_id v c.in-Revoked.processor.view c.lane.inside.work work c.in-Revoked.number c.in-Revoked.ensures.entry.0
       c.in-Revoked.ensures.entry.1 same c.in-Revoked.ensures.entry.2);

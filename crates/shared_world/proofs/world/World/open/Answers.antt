@@ -12,8 +12,8 @@ pub open-requires-2-clause-opens : goal.open-requires-2-clause-opens
 open-requires-2-clause-opens c =
     opens-with (arc_value c.in_ok-edition.edition) c.args.config c.args.lanes c.in_ok-shares.shares.items c.in_ok-book.book c.in_ok-edition.ensures c.requires.least c.in_ok-shares.ensures (c.in_ok-book.ensures ∙ ap (λ (p : Published). first_journal c.args.lanes p.facts) c.deref.ensures)
 
-pub lanes_of-requires : goal.lanes_of-requires
-lanes_of-requires c =
+pub lanes_of-requires-clause-seats : goal.lanes_of-requires-clause-seats
+lanes_of-requires-clause-seats c =
     let share = opens-with (arc_value c.in_ok-edition.edition) c.args.config c.args.lanes c.in_ok-shares.shares.items c.in_ok-book.book c.in_ok-edition.ensures c.requires.least c.in_ok-shares.ensures (c.in_ok-book.ensures ∙ ap (λ (p : Published). first_journal c.args.lanes p.facts) c.deref.ensures) in
     seats-new c.args.lanes (vec_len c.in_ok-shares.shares) c.args.config (arc_value c.in_ok-edition.edition) share.0 c.in_ok-book.book c.in_ok-lock.field-0.lock c.in_ok-lock.field-0.processors.items c.in_ok-lock.field-0.operator c.in_ok-edition.ensures (first_share (arc_value c.in_ok-edition.edition) c.args.lanes c.in_ok-shares.shares.items share.0 c.in_ok-shares.ensures share.1) (c.in_ok-shares.shares.ok.0 ∙ c.in_ok-shares.ensures.many) (c.in_ok-book.ensures ∙ ap (λ (p : Published). first_journal c.args.lanes p.facts) c.deref.ensures) (c.in_ok-lock.ensures.opened share.0 share.1)
 
@@ -26,12 +26,12 @@ invariant_of-result c =
 pub returns-clause-lanes : goal.returns-clause-lanes
 returns-clause-lanes c =
     let share = opens-with (arc_value c.in_ok-edition.edition) c.args.config c.args.lanes c.in_ok-shares.shares.items c.in_ok-book.book c.in_ok-edition.ensures c.requires.least c.in_ok-shares.ensures (c.in_ok-book.ensures ∙ ap (λ (p : Published). first_journal c.args.lanes p.facts) c.deref.ensures) in
-    lanes-new c.args.lanes (vec_len c.in_ok-shares.shares) c.args.config (arc_value c.in_ok-edition.edition) share.0 c.in_ok-book.book c.in_ok-lock.field-0.lock c.in_ok-lock.field-0.processors.items c.in_ok-lock.field-0.operator c.in_ok-edition.ensures (first_share (arc_value c.in_ok-edition.edition) c.args.lanes c.in_ok-shares.shares.items share.0 c.in_ok-shares.ensures share.1) (c.in_ok-shares.shares.ok.0 ∙ c.in_ok-shares.ensures.many) (c.in_ok-book.ensures ∙ ap (λ (p : Published). first_journal c.args.lanes p.facts) c.deref.ensures) (c.in_ok-lock.ensures.opened share.0 share.1) c.in_ok-opened.opened.items c.in_ok-opened.ensures
+    lanes-new c.args.lanes (vec_len c.in_ok-shares.shares) c.args.config (arc_value c.in_ok-edition.edition) share.0 c.in_ok-book.book c.in_ok-lock.field-0.lock c.in_ok-lock.field-0.processors.items c.in_ok-lock.field-0.operator c.in_ok-edition.ensures (first_share (arc_value c.in_ok-edition.edition) c.args.lanes c.in_ok-shares.shares.items share.0 c.in_ok-shares.ensures share.1) (c.in_ok-shares.shares.ok.0 ∙ c.in_ok-shares.ensures.many) (c.in_ok-book.ensures ∙ ap (λ (p : Published). first_journal c.args.lanes p.facts) c.deref.ensures) (c.in_ok-lock.ensures.opened share.0 share.1) c.args.cache c.in_ok-opened.opened.items c.in_ok-opened.ensures
 
 pub returns-clause-count : goal.returns-clause-count
 returns-clause-count c =
     let share = opens-with (arc_value c.in_ok-edition.edition) c.args.config c.args.lanes c.in_ok-shares.shares.items c.in_ok-book.book c.in_ok-edition.ensures c.requires.least c.in_ok-shares.ensures (c.in_ok-book.ensures ∙ ap (λ (p : Published). first_journal c.args.lanes p.facts) c.deref.ensures) in
-    lanes-count c.args.lanes (vec_len c.in_ok-shares.shares) c.args.config (arc_value c.in_ok-edition.edition) share.0 c.in_ok-book.book c.in_ok-lock.field-0.lock c.in_ok-lock.field-0.processors.items c.in_ok-lock.field-0.operator c.in_ok-edition.ensures (first_share (arc_value c.in_ok-edition.edition) c.args.lanes c.in_ok-shares.shares.items share.0 c.in_ok-shares.ensures share.1) (c.in_ok-shares.shares.ok.0 ∙ c.in_ok-shares.ensures.many) (c.in_ok-book.ensures ∙ ap (λ (p : Published). first_journal c.args.lanes p.facts) c.deref.ensures) (c.in_ok-lock.ensures.opened share.0 share.1) c.in_ok-opened.opened.items c.in_ok-opened.ensures
+    lanes-count c.args.lanes (vec_len c.in_ok-shares.shares) c.args.config (arc_value c.in_ok-edition.edition) share.0 c.in_ok-book.book c.in_ok-lock.field-0.lock c.in_ok-lock.field-0.processors.items c.in_ok-lock.field-0.operator c.in_ok-edition.ensures (first_share (arc_value c.in_ok-edition.edition) c.args.lanes c.in_ok-shares.shares.items share.0 c.in_ok-shares.ensures share.1) (c.in_ok-shares.shares.ok.0 ∙ c.in_ok-shares.ensures.many) (c.in_ok-book.ensures ∙ ap (λ (p : Published). first_journal c.args.lanes p.facts) c.deref.ensures) (c.in_ok-lock.ensures.opened share.0 share.1) c.args.cache c.in_ok-opened.opened.items c.in_ok-opened.ensures
 
 pub returns-clause-desk : goal.returns-clause-desk
 returns-clause-desk c =
