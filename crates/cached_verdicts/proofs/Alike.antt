@@ -21,7 +21,7 @@ use Rattle.verdict_cache.proofs.FlowByKey.{equal_keys_have_one_flow}
 use Rattle.generation_store.specs.Published.{Published}
 use Rattle.eval_engine.specs.Encounter.{is_check_state, is_body_met, is_disabled, is_rule_met, looks_up, name_at, state_of, any_flow_of, flags_of, rule_ref, state_limit_of}
 use Rattle.eval_engine.specs.Evaluated.{Evaluated}
-use Rattle.eval_engine.specs.Evaluation.{evaluate, outcome_of, asks_at_stop}
+use Rattle.eval_engine.specs.Evaluation.{asks_at_stop}
 use Rattle.eval_engine.specs.Question.{Question}
 use Rattle.eval_engine.specs.Trace.{Seen, is_name_due, no_names, Pause, Stop, EndsWith, WaitsFor, Mismatch, Trace, PassesOver, Counts, Stops, hits_of, stop_of_trace}
 use Rattle.eval_engine.specs.Walk.{Walk, walk, follows, call_from, return_to, installs, tests, looks, lookup_flow, meets, pause_at, deeper_walk, way_back, first_trace}

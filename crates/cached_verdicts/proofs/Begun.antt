@@ -1,5 +1,5 @@
 -- How an evaluation begins with a look, and what is to be kept of one.
-use Rattle.std.proofs.Common.{◌≡◌, ℕ, ◌≤◌, ◌<◌, Bool, true, false, ◌&&◌, nat_lt, is_some, IfSome, Option, Some, None, List, [], ◌∷◌, length, find, get_or, All, refl, ap, sym, ◌∙◌, arith, subst, slice_set, slice_get, map, Global}
+use Rattle.std.proofs.Common.{◌≡◌, ℕ, ◌≤◌, ◌<◌, Bool, true, false, nat_lt, Option, Some, None, List, [], length, find, get_or, All, refl, ap, sym, ◌∙◌, arith, subst, slice_set, slice_get, map, Global}
 use Rattle.std.proofs.lemmas.List.Elements.{All-head}
 use Rattle.std.proofs.lemmas.List.Folds.{find_at}
 use Rattle.std.proofs.lemmas.Option.{slice_get_past, get_or_from_slice_get}
@@ -15,19 +15,17 @@ use Rattle.ip6_headers.specs.Either.{total_of}
 use Rattle.packet_headers.specs.Fields.{Fields}
 use Rattle.rule_chain.specs.Chain.{IsConfiguration}
 use Rattle.rule_gates.specs.Cacheable.{is_cacheable}
-use Rattle.state_asks.specs.declared.op.Op.{Op}
 use Rattle.generation_store.specs.Published.{Published, is_identity}
-use Rattle.eval_engine.specs.Evaluated.{Evaluated, Outcome, Whole}
+use Rattle.eval_engine.specs.Evaluated.{Evaluated, Whole}
 use Rattle.eval_engine.specs.Evaluation.{evaluate}
 use Rattle.eval_engine.specs.Laws.{judgement_by}
 use Rattle.eval_engine.specs.Question.{Question}
 use Rattle.eval_engine.specs.Standing.{StandsAt, counts_after}
 use Rattle.eval_engine.specs.declared.judgement.Judgement.{Judgement}
-use Rattle.eval_engine.specs.declared.stage.Stage.TheVariants.{Judged, Asks}
+use Rattle.eval_engine.specs.declared.stage.Stage.TheVariants.{Judged}
 use Rattle.eval_engine.proofs.Hits.{hits_are_given_out}
 use Rattle.cached_verdicts.specs.LaneCache.{IsToKeep}
 use Rattle.cached_verdicts.specs.Verdicts.{question_on, evaluated_at_once}
-use Rattle.cached_verdicts.specs.Visits.{asks_nothing, may_keep}
 use Rattle.cached_verdicts.specs.declared.kept_verdict.KeptVerdict.{KeptVerdict}
 use Rattle.cached_verdicts.proofs.First.{stops_whole}
 use Rattle.cached_verdicts.proofs.Once.{cacheable_editions_hit_once}

@@ -1,10 +1,9 @@
 -- What an evaluation with no reply comes to is told by its first trace.
-use Rattle.std.proofs.Common.{◌≡◌, ℕ, List, [], ◌∷◌, refl, ap, ◌∙◌, sym, arith}
-use Rattle.state_asks.specs.declared.op.Op.{Op}
-use Rattle.eval_engine.specs.Evaluated.{Evaluated, Outcome, Whole, OpenAt, Neither}
-use Rattle.eval_engine.specs.Evaluation.{evaluate, progress_of, progress_from, progress_by, outcome_of, asks_at_stop}
+use Rattle.std.proofs.Common.{◌≡◌, ℕ, List, [], refl, ap, ◌∙◌, sym, arith}
+use Rattle.eval_engine.specs.Evaluated.{Evaluated, Whole}
+use Rattle.eval_engine.specs.Evaluation.{evaluate, progress_of, progress_from, outcome_of, asks_at_stop}
 use Rattle.eval_engine.specs.Question.{Question}
-use Rattle.eval_engine.specs.Trace.{Stop, EndsWith, WaitsFor, Mismatch, Trace, hits_of, stop_of_trace}
+use Rattle.eval_engine.specs.Trace.{Stop, EndsWith, WaitsFor, Mismatch, hits_of, stop_of_trace}
 use Rattle.eval_engine.specs.Walk.{first_trace}
 use Rattle.eval_engine.specs.declared.judgement.Judgement.{Judgement}
 use Rattle.cached_verdicts.specs.Laws.{WholeEvaluationsAskNothing}

@@ -1,5 +1,5 @@
 -- An IPv4 packet that is looked up: what it hits, and what the cache keeps behind it.
-use Rattle.std.proofs.Common.{◌≡◌, ℕ, Bool, true, false, is_some, IfSome, Option, Some, None, List, [], refl, ap, sym, ◌∙◌, subst}
+use Rattle.std.proofs.Common.{◌≡◌, ℕ, false, is_some, IfSome, Option, Some, None, [], refl, ap, sym, ◌∙◌, subst}
 use Rattle.fw_base.specs.declared.port.Port.{Port}
 use Rattle.ip6_headers.specs.declared.any_ip.AnyIp.{AnyIp}
 use Rattle.ip6_headers.specs.declared.any_ip.AnyIp.TheVariants.{Four}

@@ -1,17 +1,16 @@
 -- In an edition of which each rule ends the search where it matches, an evaluation that asks nothing hits once.
-use Rattle.std.proofs.Common.{◌≡◌, ◌≢◌, ℕ, zero, suc, ◌+◌, ◌<◌, ◌%◌, ◌/◌, ◌^◌, Bool, true, false, ◌==◌, nat_eq, nat_lt, Option, Some, None, List, [], ◌∷◌, find, refl, ap, sym, ◌∙◌, arith, subst}
+use Rattle.std.proofs.Common.{◌≡◌, ◌≢◌, ℕ, Bool, true, false, nat_eq, nat_lt, Option, Some, None, List, [], ◌∷◌, find, refl, ap, sym, ◌∙◌, arith, subst}
 use Rattle.std.proofs.lemmas.Bool.{and_parts}
 use Rattle.std.proofs.Math.Nat.{div-eq_of_lt}
-use Rattle.std.specs.List.{AllByRecursion, list_all}
+use Rattle.std.specs.List.{AllByRecursion}
 use Rattle.fw_base.specs.declared.port.Port.{Port}
 use Rattle.fw_rule.specs.declared.action.Action.{Action}
 use Rattle.fw_rule.specs.declared.action.Action.TheVariants.{Allow, Deny, Reset, Unreach, Count, SkipTo, Call, Return, CheckState}
 use Rattle.fw_rule.specs.declared.rule.Rule.{Rule}
 use Rattle.fw_rule.specs.declared.state_opt.StateOpt.{StateOpt}
-use Rattle.fw_rule.specs.Bits.{has_bit}
 use Rattle.packet_headers.specs.Fields.{Fields}
 use Rattle.packet_headers.specs.declared.flows.Flow.{Flow}
-use Rattle.rule_chain.specs.Chain.{AscendsFrom, DifferBy, HaveOwnIds, IsConfiguration}
+use Rattle.rule_chain.specs.Chain.{AscendsFrom, HaveOwnIds, IsConfiguration}
 use Rattle.rule_chain.specs.LastRule.{last_rule}
 use Rattle.rule_gates.specs.Cacheable.{is_final, is_cacheable}
 use Rattle.rule_match.specs.Holds.{holds}
@@ -19,12 +18,12 @@ use Rattle.state_asks.specs.declared.op.Op.{Op}
 use Rattle.generation_store.specs.Published.{Published, is_identity}
 use Rattle.eval_engine.specs.Encounter.{is_check_state, is_disabled, is_rule_met, state_of, any_flow_of}
 use Rattle.eval_engine.specs.Evaluated.{Evaluated}
-use Rattle.eval_engine.specs.Evaluation.{evaluate, asks_at_stop}
+use Rattle.eval_engine.specs.Evaluation.{asks_at_stop}
 use Rattle.eval_engine.specs.Laws.{judgement_by}
 use Rattle.eval_engine.specs.Question.{Question}
-use Rattle.eval_engine.specs.Trace.{Seen, no_names, Pause, Stop, EndsWith, WaitsFor, Mismatch, Trace, PassesOver, Counts, Stops, hits_of, stop_of_trace}
+use Rattle.eval_engine.specs.Trace.{Seen, no_names, Pause, Stop, EndsWith, WaitsFor, Trace, PassesOver, Counts, Stops, hits_of, stop_of_trace}
 use Rattle.eval_engine.specs.Walk.{Walk, walk, follows, installs, tests, looks, lookup_flow, meets, pause_at, deeper_walk, way_back, first_trace}
-use Rattle.cached_verdicts.specs.Laws.{CacheableEditionsHitOnce, IsDecidedAtOnce}
+use Rattle.cached_verdicts.specs.Laws.{CacheableEditionsHitOnce}
 use Rattle.cached_verdicts.specs.Verdicts.{question_on}
 use Rattle.cached_verdicts.proofs.First.{result_of, evaluated_first}
 

@@ -1,15 +1,15 @@
 -- The cache beside the definition of hits: it keeps the values of the recent keys.
-use Rattle.std.proofs.Common.{◌≡◌, ℕ, zero, suc, ◌+◌, ◌-◌, ◌^◌, ◌≤◌, ◌<◌, min, Bool, true, false, ◌==◌, if◌then◌else◌, nat_eq, is_some, unwrap_or, Option, Some, None, List, [], ◌∷◌, ◌++◌, take, map, refl, ap, sym, ◌∙◌, arith}
+use Rattle.std.proofs.Common.{◌≡◌, ℕ, ◌+◌, ◌-◌, ◌^◌, ◌≤◌, ◌<◌, min, Bool, true, false, ◌==◌, if◌then◌else◌, is_some, Option, Some, None, List, [], ◌∷◌, ◌++◌, take, refl, ap, sym, ◌∙◌, arith}
 use Rattle.std.proofs.lemmas.List.{take-map}
 use Rattle.std.proofs.lemmas.Map.Made.{is_some-lookup}
-use Rattle.std.specs.Map.{keys_of, lookup, lookup_entry, remove_entry}
+use Rattle.std.specs.Map.{keys_of, lookup_entry, remove_entry}
 use Rattle.lru.specs.LruCache.{promoted}
-use Rattle.verdict_cache.specs.Cache.{Kept, is_given, at_number, kept_value_of, with_key_first, with_pair}
+use Rattle.verdict_cache.specs.Cache.{Kept, is_given, at_number, kept_value_of}
 use Rattle.verdict_cache.specs.Key.{same_key}
 use Rattle.verdict_cache.specs.declared.key.Key.{Key}
 use Rattle.verdict_cache.proofs.SameKey.{same_key-equal}
-use Rattle.cached_verdicts.specs.Visits.{Visit, Recent, has_key, without_key, keys_under, is_hit, keys_after, keys_by, recent_after, no_recent, recent_from, recent_of, hits_in, last_number}
-use Rattle.cached_verdicts.specs.LaneCache.{IsNoneBefore, KeepsRecent, with_value, kept_by_key, kept_behind, finds, IsVisited, LaneCacheValue, hits_after, HasRecent, empty_lane_cache}
+use Rattle.cached_verdicts.specs.Visits.{Visit, Recent, has_key, without_key, keys_under, is_hit, keys_after, recent_after, no_recent, recent_from, recent_of, last_number}
+use Rattle.cached_verdicts.specs.LaneCache.{IsNoneBefore, KeepsRecent, kept_by_key, kept_behind, finds, IsVisited, LaneCacheValue, hits_after, HasRecent, empty_lane_cache}
 
 -- ---- keys of pairs
 

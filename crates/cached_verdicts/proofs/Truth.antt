@@ -1,19 +1,19 @@
 -- What a cache keeps is true of packets of its keys.
-use Rattle.std.proofs.Common.{◌≡◌, ℕ, zero, suc, Bool, true, false, nat_eq, is_some, IfSome, Option, Some, None, List, [], ◌∷◌, take, refl, ap, sym, ◌∙◌, arith, subst}
+use Rattle.std.proofs.Common.{◌≡◌, ℕ, zero, suc, Bool, true, false, nat_eq, IfSome, Option, Some, None, List, [], ◌∷◌, take, refl, ap, sym, ◌∙◌, arith, subst}
 use Rattle.std.proofs.lemmas.Bool.{eq-eqb}
 use Rattle.std.specs.List.{AllByRecursion}
 use Rattle.std.specs.Map.{lookup, lookup_entry, remove_entry}
 use Rattle.fw_base.specs.declared.port.Port.{Port}
 use Rattle.lru.specs.LruCache.{promoted}
 use Rattle.packet_headers.specs.Fields.{Fields}
-use Rattle.verdict_cache.specs.Cache.{Kept, is_given, at_number, kept_value_of, with_key_first, with_pair}
+use Rattle.verdict_cache.specs.Cache.{Kept, at_number, kept_value_of, with_key_first, with_pair}
 use Rattle.verdict_cache.specs.Key.{key_of, same_key}
 use Rattle.verdict_cache.specs.declared.key.Key.{Key}
 use Rattle.verdict_cache.proofs.SameKey.{same_key-equal}
 use Rattle.generation_store.specs.Published.{Published}
 use Rattle.eval_engine.specs.Evaluated.{Evaluated}
 use Rattle.eval_engine.specs.Evaluation.{evaluate}
-use Rattle.cached_verdicts.specs.LaneCache.{with_value, kept_by_key}
+use Rattle.cached_verdicts.specs.LaneCache.{with_value}
 use Rattle.cached_verdicts.specs.Laws.{OtherEditionsKeepNothing}
 use Rattle.cached_verdicts.specs.Verdicts.{question_on, evaluated_at_once, IsVerdictOf, KeepsVerdicts}
 use Rattle.cached_verdicts.specs.declared.kept_verdict.KeptVerdict.{KeptVerdict}

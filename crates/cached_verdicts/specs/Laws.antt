@@ -1,9 +1,7 @@
 -- Laws behind a cache of verdicts.
-use Rattle.std.specs.Prelude.{◌≡◌, ℕ, ◌<◌, true, false, Some, [], ◌∷◌, List, find}
-use Rattle.std.specs.Option.{option_map}
+use Rattle.std.specs.Prelude.{◌≡◌, ℕ, true, false, Some, [], find}
 use Rattle.fw_base.specs.declared.port.Port.{Port}
 use Rattle.fw_rule.specs.declared.rule.Rule.{Rule}
-use Rattle.ip6_headers.specs.declared.any_ip.AnyIp.TheVariants.{Four}
 use Rattle.packet_headers.specs.Fields.{Fields}
 use Rattle.rule_chain.specs.Chain.{IsConfiguration}
 use Rattle.rule_gates.specs.Cacheable.{is_cacheable}

@@ -1,5 +1,5 @@
 -- What is kept for the packets of one key, and when it is true.
-use Rattle.std.specs.Prelude.{◌≡◌, ℕ, Option, IfSome, List, [], ◌∷◌}
+use Rattle.std.specs.Prelude.{◌≡◌, ℕ, [], ◌∷◌}
 use Rattle.std.specs.List.{AllByRecursion}
 use Rattle.fw_base.specs.declared.port.Port.{Port}
 use Rattle.packet_headers.specs.Fields.{Fields}

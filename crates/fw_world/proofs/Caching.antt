@@ -1,19 +1,20 @@
 -- A lane's cache behind one record more, and what it keeps of an edition.
-use Rattle.std.proofs.Common.{◌≡◌, ℕ, ◌+◌, ◌-◌, ◌^◌, ◌<◌, ◌≤◌, Bool, true, false, T, List, [], ◌∷◌, ◌++◌, map, refl, sym, ap, ◌∙◌, subst, arith, append_assoc, nat_eq, inl, inr, min}
+use Rattle.std.proofs.Common.{◌≡◌, ℕ, ◌+◌, ◌≤◌, Bool, true, false, T, List, [], ◌∷◌, ◌++◌, refl, sym, ap, ◌∙◌, subst, append_assoc, inl, inr}
 use Rattle.std.proofs.Math.Facts.{eqb_yes}
 use Rattle.std.proofs.lemmas.List.{append-nil}
-use Rattle.std.specs.Prelude.{◌⊎◌, ◌==◌, Option, Some, None, IfSome, IsSomeAnd, unwrap_or, option_and_then, slice_get}
+use Rattle.std.specs.Prelude.{◌⊎◌, slice_get, ◌==◌, Option, Some, None, IfSome, IsSomeAnd, unwrap_or, option_and_then}
 use Rattle.std.specs.List.{AllByRecursion}
 use Rattle.fw_base.specs.declared.port.Port.{Port}
 use Rattle.ip6_headers.specs.declared.any_ip.AnyIp.{AnyIp}
 use Rattle.rule_chain.specs.Configuration.{Configuration}
-use Rattle.generation_store.specs.Published.{Published, IsBuilt}
+use Rattle.generation_store.proofs.OneEdition.{same_edition}
+use Rattle.generation_store.specs.Published.{Published, IsEdition, IsBuilt}
 use Rattle.verdict_cache.specs.Cache.{Kept, is_given}
 use Rattle.eval_engine.proofs.Dockets.{judgement_in-judged}
-use Rattle.eval_engine.specs.Dockets.{DocketValue, judged_entry, judgement_in, judgements}
+use Rattle.eval_engine.specs.Dockets.{DocketValue, judged_entry, judgement_in}
 use Rattle.eval_engine.specs.declared.docket_entry.DocketEntry.{DocketEntry}
 use Rattle.eval_engine.specs.declared.judgement.Judgement.{Judgement}
-use Rattle.cached_verdicts.specs.LaneCache.{LaneCacheValue, IsNoneBefore, HasRecent, IsPortOf, IsLookedInto}
+use Rattle.cached_verdicts.specs.LaneCache.{LaneCacheValue, IsNoneBefore, HasRecent, IsPortOf}
 use Rattle.cached_verdicts.specs.Verdicts.{KeepsVerdicts}
 use Rattle.cached_verdicts.specs.Visits.{Visit, last_number, visit_of}
 use Rattle.cached_verdicts.specs.declared.kept_verdict.KeptVerdict.{KeptVerdict}
@@ -195,3 +196,49 @@ IsCacheAmong-seen editions seen (Some own) are is = by_last own.kept.number is
         by_edition : (one : Option Published) → IsSomeAnd one (IsBuilt number is.config) → IsSomeAnd one (λ e. KeepsUnder e own)
         by_edition None built = built
         by_edition (Some e) built = is.kept e built
+
+module _ (seen : List (ℕ × Configuration)) (edition : Published) (factual : IsEdition edition) (one : (place : ℕ) (config : Configuration) → slice_get seen place ≡ Some (edition.number, config) → config ≡ edition.config) where
+  -- Under an edition that was seen all that a cache keeps is true, where no other configuration was seen under its number.
+  pub IsTrueFor-seen : (cache : Option LaneCacheValue) → IsCacheSeen seen cache → IsTrueFor edition cache
+  IsTrueFor-seen None is = tt
+  IsTrueFor-seen (Some own) is = λ port at. by_number own.kept.number refl is port at
+    where
+      by_number : (last : Option ℕ) → own.kept.number ≡ last → IfSome last (λ number. KeepsSeen seen number own) → (port : Port) → IsPortOf own port → KeepsVerdicts edition port own.kept
+      by_number None given is port at = keeps_nothing edition port own.kept (rw given refl)
+      by_number (Some number) given is port at = decided (number == edition.number) refl
+        where
+          decided : (b : Bool) → b ≡ (number == edition.number) → KeepsVerdicts edition port own.kept
+          decided true same =
+              let equal : number ≡ edition.number = eqb_yes (subst T same tt) in
+              let config : is.config ≡ edition.config = one is.place is.config (subst (λ (n : ℕ). slice_get seen is.place ≡ Some (n, is.config)) equal is.pair) in
+              keeps_at edition own port (is.kept edition (record { numbered = sym equal; configured = sym config; factual = factual })) at
+          decided false other = keeps_nothing edition port own.kept (rw given (sym other))
+
+  -- The cache behind a packet keeps what is true under what was seen, where its edition was.
+  pub IsCacheSeen-behind : (port : Port) (before after : Option LaneCacheValue) (place : ℕ) → slice_get seen place ≡ Some (edition.number, edition.config) → IsPortFor before port → IsCacheBehind edition port before after
+      → IsCacheSeen seen before → IsCacheSeen seen after
+  IsCacheSeen-behind port None after place there at is among = subst (λ (o : Option LaneCacheValue). IsCacheSeen seen o) (sym is) tt
+  IsCacheSeen-behind port (Some old) None place there at is among = tt
+  IsCacheSeen-behind port (Some old) (Some new) place there at (inl same) among = subst (λ (own : LaneCacheValue). IsCacheSeen seen (Some own)) (sym same) among
+  IsCacheSeen-behind port (Some old) (Some new) place there at (inr looked) among = by_given looked.given
+    where
+      by_last : (last : Option ℕ) → new.kept ≡ old.kept → IfSome last (λ number. KeepsSeen seen number old) → IfSome last (λ number. KeepsSeen seen number new)
+      by_last None same is = tt
+      by_last (Some number) same is = record {
+        place = is.place;
+        config = is.config;
+        pair = is.pair;
+        kept = λ e built. keeps_of e new port looked.port_is (subst (λ (k : Kept KeptVerdict). KeepsVerdicts e port k) (sym same) (keeps_at e old port (is.kept e built) at));
+      }
+
+      by_given : (new.kept ≡ old.kept) ⊎ (new.kept.number ≡ Some edition.number) → IsCacheSeen seen (Some new)
+      by_given (inl same) = subst (λ (last : Option ℕ). IfSome last (λ number. KeepsSeen seen number new)) (sym (ap (λ (k : Kept KeptVerdict). k.number) same)) (by_last old.kept.number same among)
+      by_given (inr given) =
+          let own : IsPortOf new port = subst (λ (o : Option Port). IfSome o (λ p. p ≡ port)) (sym looked.port_is) refl in
+          subst (λ (last : Option ℕ). IfSome last (λ number. KeepsSeen seen number new)) (sym given) (record {
+            place = place;
+            config = edition.config;
+            pair = there;
+            kept = λ e built.
+                subst (λ (e : Published). KeepsUnder e new) (same_edition edition e (sym built.numbered) (sym built.configured) factual built.factual) (keeps_of edition new port looked.port_is (looked.kept port own));
+          })

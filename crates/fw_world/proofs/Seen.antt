@@ -1,6 +1,6 @@
 -- What a lane saw, and what it sees later.
 use Rattle.std.proofs.Common.{List, ◌++◌}
-use Rattle.std.specs.Prelude.{ℕ, Option, Some, None, IfSome, slice_get}
+use Rattle.std.specs.Prelude.{ℕ, Option, Some, None, IfSome}
 use Rattle.counter_book.specs.declared.tally.Count.{Count}
 use Rattle.eval_engine.specs.Dockets.{DocketValue}
 use Rattle.generation_store.specs.Published.{Published}

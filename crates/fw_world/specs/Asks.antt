@@ -1,5 +1,5 @@
 -- The asks of a lane, each with the number of the last publication before it.
-use Rattle.std.specs.Prelude.{◌≡◌, ℕ, ◌-◌, ◌≤◌, ◌==◌, ⊤, IsSomeAnd, List, [], ◌∷◌, map, filter, slice_get}
+use Rattle.std.specs.Prelude.{◌≡◌, ℕ, ◌-◌, ◌≤◌, ◌==◌, IsSomeAnd, List, [], ◌∷◌, map, filter, slice_get}
 use Rattle.std.specs.List.Sorted.{IsNonDecreasing}
 use Rattle.std.specs.List.{AllByRecursion}
 use Rattle.state_asks.specs.declared.op.Op.{Op}

@@ -5,7 +5,7 @@ use std::fmt::Write;
 use std::test::Fail;
 
 /// Lists of words that are no command.
-const NO_COMMANDS: [&str; 71] = [
+const NO_COMMANDS: [&str; 90] = [
     // the first word
     "",
     "help",
@@ -56,6 +56,26 @@ const NO_COMMANDS: [&str; 71] = [
     "serial|--journal|--journal|s|in:em0:c",
     "serial|--journal|s|in:em0:c|--journal",
     "live|s|--journal|in:em0:c|--journal|--",
+    // a cache
+    "serial|--cache|s|in:em0:c",
+    "serial|--cache|0|s|in:em0:c",
+    "serial|--cache=0|s|in:em0:c",
+    "serial|--cache=|s|in:em0:c",
+    "serial|--cache||s|in:em0:c",
+    "serial|--cache|65537|s|in:em0:c",
+    "serial|--cache=000001|s|in:em0:c",
+    "serial|--cache|+1|s|in:em0:c",
+    "serial|--cache|-1|s|in:em0:c",
+    "serial|--cache|1|--cache|1|s|in:em0:c",
+    "serial|--cache=1|s|in:em0:c|--cache=2",
+    "serial|--cache|--|s|in:em0:c",
+    "serial|s|in:em0:c|--cache",
+    "serial|s|in:em0:c|--cache|--",
+    "live|--cache|--journal|1|s|in:em0:c",
+    "serial|--caches=1|s|in:em0:c",
+    "serial|-cache=1|s|in:em0:c",
+    "load|--cache|1|1",
+    "load|--cache=1|1",
     // captures
     "serial|s|in:em0:",
     "serial|s|in::c",
@@ -86,7 +106,7 @@ const NO_COMMANDS: [&str; 71] = [
 ];
 
 /// Lists of words that are a command, and what they name.
-const COMMANDS: [(&str, &str); 32] = [
+const COMMANDS: [(&str, &str); 39] = [
     ("serial|s|in:em0:c", "Serial false s, In em0 c"),
     ("live|s|out:em0:c", "Live false s, Out em0 c"),
     ("serial|--journal|s|in:em0:c", "Serial true s, In em0 c"),
@@ -133,6 +153,34 @@ const COMMANDS: [(&str, &str); 32] = [
         "live|s|in:a:1|in:a:2|in:a:3|in:a:4|in:a:5|in:a:6|in:a:7|in:a:8|in:a:9|in:a:10|in:a:11|in:a:12|in:a:13|in:a:14|in:a:15|in:a:16",
         "Live false s, In a 1, In a 2, In a 3, In a 4, In a 5, In a 6, In a 7, In a 8, In a 9, In a 10, In a 11, In a 12, In a 13, In a 14, In a 15, In a 16",
     ),
+    (
+        "serial|--cache|1|s|in:em0:c",
+        "Serial false cache 1 s, In em0 c",
+    ),
+    (
+        "serial|--cache|00005|s|in:em0:c",
+        "Serial false cache 5 s, In em0 c",
+    ),
+    (
+        "serial|--cache=65536|s|in:em0:c",
+        "Serial false cache 65536 s, In em0 c",
+    ),
+    (
+        "live|s|--cache|4|in:em0:c|--journal",
+        "Live true cache 4 s, In em0 c",
+    ),
+    (
+        "serial|s|in:em0:c|--cache=4|--",
+        "Serial false cache 4 s, In em0 c",
+    ),
+    (
+        "serial|s|--cache|4|--|in:em0:c",
+        "Serial false cache 4 s, In em0 c",
+    ),
+    (
+        "serial|--|--cache|in:em0:c",
+        "Serial false --cache, In em0 c",
+    ),
     ("load|1", "load 1"),
     ("load|1000000", "load 1000000"),
     ("load|0000001", "load 1"),
@@ -156,11 +204,16 @@ fn told(alloc: Global, line: &str) -> Result<String, Fail> {
             Invocation::Replay {
                 mode,
                 journal,
+                cache,
                 script,
                 captures,
             },
         ) => {
-            write!(text, "{mode:?} {journal} {}", str::from_utf8(script)?)?;
+            write!(text, "{mode:?} {journal} ")?;
+            if let Some(verdicts) = cache {
+                write!(text, "cache {verdicts} ")?;
+            }
+            write!(text, "{}", str::from_utf8(script)?)?;
             tell_captures(&mut text, &captures)?;
         }
     }

@@ -20,7 +20,7 @@ abbrev pub KnownSeat : Type 0
 KnownSeat = Me (Slot Edition Book) (View Edition Book ℕ ℕ ℕ)
 
 abbrev pub means : Meanings Edition Book ℕ ℕ ℕ
-means = meanings edition.ghosts.number edition.ghosts.tag edition.ghosts.name ledger.ghosts.number ledger.ghosts.tag ledger.ghosts.ready ledger.ghosts.of ledger.ghosts.facts_item
+means = meanings edition.ghosts ledger.ghosts
 
 -- one entry more in one list leaves the other lists
 entry_leaves : (place length : ℕ) (taken book : Book) → 0 < place → book.number ≡ taken.number → book.lengths ≡ slice_set taken.lengths place length → LeftBy means place taken book

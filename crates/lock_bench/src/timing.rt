@@ -1,5 +1,6 @@
 ghost use Rattle.std.specs.Prelude.{◌<◌, ◌≤◌};
 
+use crate::ask_times::{SECTIONS_AN_ASK, print_asks};
 use crate::call_times::{print_calls, print_calls_beside_publications};
 use crate::own_words::OwnWords;
 use crate::shared::{Means, Shared};
@@ -134,5 +135,6 @@ pub fn print_times<R: Threads + Wait + Clock + Print + Sync>(
     print_calls_beside_publications(rt, alloc, threads, rounds)?;
     print_shared(rt, alloc, threads, rounds, "RwLock: read", Means::RwLock)?;
     print_shared(rt, alloc, threads, rounds, "Mutex: lock", Means::Mutex)?;
-    print_shared(rt, alloc, threads, rounds, "Arc: clone, drop", Means::Arc)
+    print_shared(rt, alloc, threads, rounds, "Arc: clone, drop", Means::Arc)?;
+    print_asks(rt, alloc, threads, rounds / SECTIONS_AN_ASK)
 }

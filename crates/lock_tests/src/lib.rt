@@ -9,9 +9,13 @@ mod core_rows;
 #[cfg(test)]
 mod edition;
 #[cfg(test)]
+mod entry_counts;
+#[cfg(test)]
 mod ledger;
 #[cfg(test)]
 mod lock_rows;
+#[cfg(test)]
+mod marked_edition;
 #[cfg(test)]
 mod table_rows;
 #[cfg(test)]

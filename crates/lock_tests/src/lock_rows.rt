@@ -1,3 +1,4 @@
+mod beside;
 pub(crate) mod calls;
 pub(crate) mod one_processor;
 mod stress;

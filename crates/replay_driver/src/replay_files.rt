@@ -1,4 +1,5 @@
-ghost use Rattle.std.specs.Prelude.{◌≡◌, ◌≤◌, ◌∷◌, IfOk, None, map, length};
+ghost use Rattle.std.specs.Prelude.{◌≡◌, ◌≤◌, ◌∷◌, IfOk, map, length};
+ghost use Rattle.fw_world.specs.Caches.{IsCacheSize};
 ghost use Rattle.command_words.specs.Invocation.{capture_names};
 ghost use Rattle.command_words.specs.declared.invocation.Mode.TheVariants as modes;
 ghost use Rattle.replay_driver.specs.Found.{FindsReplay};
@@ -32,15 +33,17 @@ fn with_script<S: Drop>(script: S, found: Found<S>) -> Result<Found<S>, OutOfMem
 fn replay_opened<S: Source>(
     alloc: Global,
     journal: bool,
+    cache: Option<u32>,
     script: &[u8],
     opened: Vec<OpenedCapture<S>>,
 ) -> Result<Found<S>, OutOfMemory>
-    requires { (1 ≤ length opened.items) × (length opened.items ≤ MOST_CAPTURES) }
+    requires captures { (1 ≤ length opened.items) × (length opened.items ≤ MOST_CAPTURES) }
+    requires cache { IsCacheSize cache }
     ensures writable { IfOk result (λ found. IsWritable found.result) }
-    ensures replays { IfOk result (λ found. ReplaysOpened S.left S.faults modes.Serial journal script.now
-        opened.items found.result found.sources.items) }
+    ensures replays { IfOk result (λ found. ReplaysOpened S.left S.faults modes.Serial journal cache
+        script.now opened.items found.result found.sources.items) }
 {
-    match replay_script(alloc, script, opened)? {
+    match replay_script(alloc, cache, script, opened)? {
         ScriptReplay::Unready(error, sources) => Ok(Found {
             result: RunResult::Unready(error),
             sources,
@@ -64,15 +67,17 @@ fn replay_opened<S: Source>(
 fn find_captures<L: Library>(
     alloc: Global,
     journal: bool,
+    cache: Option<u32>,
     captures: &[CaptureWord<'_>],
     script: &[u8],
     library: &mut L,
 ) -> Result<Found<L::Reader>, OutOfMemory>
-    requires { (1 ≤ length captures.now) × (length captures.now ≤ MOST_CAPTURES) }
+    requires captures { (1 ≤ length captures.now) × (length captures.now ≤ MOST_CAPTURES) }
+    requires cache { IsCacheSize cache }
     ensures writable { IfOk result (λ found. IsWritable found.result) }
     ensures finds { IfOk result (λ found.
         FindsCaptures ⟦<L as LibraryView>⟧.files
-        modes.Serial journal (map capture_names captures.now) library.old library.new script.now
+        modes.Serial journal cache (map capture_names captures.now) library.old library.new script.now
         found.result found.sources.items) }
 {
     match open_captures(alloc, captures, library)? {
@@ -80,26 +85,29 @@ fn find_captures<L: Library>(
             result: RunResult::Unread(name),
             sources: into_sources(alloc, opened)?,
         }),
-        CaptureOpenings::All(opened) => replay_opened(alloc, journal, script, opened),
+        CaptureOpenings::All(opened) => replay_opened(alloc, journal, cache, script, opened),
     }
 }
 
-/// Opens and reads what the words name, 1 to 16 captures beside a script, and replays it in serial mode.
+/// Opens and reads what the words name, 1 to 16 captures beside a script, and replays it in serial mode. Each capture's lane has a
+/// cache for so many verdicts, 1 to 65,536, or none has one.
 pub(crate) fn replay_files<L: Library>(
     alloc: Global,
     journal: bool,
+    cache: Option<u32>,
     script: &[u8],
     captures: &[CaptureWord<'_>],
     library: &mut L,
 ) -> Result<Found<L::Reader>, OutOfMemory>
-    requires { (1 ≤ length captures.now) × (length captures.now ≤ MOST_CAPTURES) }
+    requires captures { (1 ≤ length captures.now) × (length captures.now ≤ MOST_CAPTURES) }
+    requires cache { IsCacheSize cache }
     ensures writable { IfOk result (λ found. IsWritable found.result) }
     ensures finds { IfOk result (λ found.
         FindsReplay ⟦<L as LibraryView>⟧.files
         (record {
           mode = modes.Serial;
           journal = journal;
-          cache = None;
+          cache = cache;
           script = script.now;
           captures = map capture_names captures.now;
         })
@@ -114,7 +122,7 @@ pub(crate) fn replay_files<L: Library>(
         ),
         ScriptSource::Read(source, bytes) => with_script(
             source,
-            find_captures(alloc, journal, captures, &bytes, library)?,
+            find_captures(alloc, journal, cache, captures, &bytes, library)?,
         ),
     }
 }

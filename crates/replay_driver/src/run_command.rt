@@ -91,10 +91,11 @@ fn find<L: Library>(
             Invocation::Replay {
                 mode: Mode::Serial,
                 journal,
+                cache,
                 script,
                 captures,
             },
-        ) => replay_files(alloc, journal, script, &captures, library),
+        ) => replay_files(alloc, journal, cache, script, &captures, library),
         Some(Invocation::Load(records)) => Ok(without_sources(alloc, replay_load(alloc, records)?)),
         None
         | Some(
@@ -128,7 +129,8 @@ fn run_words<L: Library, K: Sink>(
 /// Replays the captures that the words name beside the script that they name, or a load, and writes the
 /// report, or the summary, in pieces of 64 KiB. Nothing stays in a buffer.
 ///
-/// The words are `serial [--journal] [--] SCRIPT in|out:IF:CAPTURE ..`, with 1 to 16 captures, or `load [--] N`.
+/// The words are `serial [--journal] [--cache N] [--] SCRIPT in|out:IF:CAPTURE ..`, with 1 to 16 captures and N from
+/// 1 to 65,536, or `load [--] N`.
 /// The status is 0; 1 where the words are no command; 2 where a script line isn't read or its command is
 /// refused; 3 where a capture has a fault; 4 where a name could not be opened or read, or a capture's source
 /// failed; 5 where the sink failed; 6 where memory ran out.

@@ -1,4 +1,5 @@
 ghost use Rattle.std.specs.Prelude.{◌≡◌, ◌≤◌, ◌∷◌, ◌++◌, IfOk, vec_len};
+ghost use Rattle.fw_world.specs.Caches.{IsCacheSize};
 ghost use Rattle.command_words.specs.declared.invocation.Mode.TheVariants as modes;
 ghost use Rattle.replay_driver.specs.Openings.{sources_of};
 ghost use Rattle.replay_driver.specs.ScriptReplay.{CanReport, ReplaysScript};
@@ -55,14 +56,18 @@ fn join_answers(
     Ok(Items::from_vec(answers))
 }
 
-/// Replays opened captures, 1 to 16, beside a script in serial mode.
+/// Replays opened captures, 1 to 16, beside a script in serial mode. Each capture's lane has a cache for so many
+/// verdicts, 1 to 65,536, or none has one.
 pub(crate) fn replay_script<S: Source>(
     alloc: Global,
+    cache: Option<u32>,
     script: &[u8],
     opened: Vec<OpenedCapture<S>>,
 ) -> Result<ScriptReplay<S>, OutOfMemory>
-    requires { (1 ≤ vec_len opened) × (vec_len opened ≤ MOST_CAPTURES) }
-    ensures replays { IfOk result (ReplaysScript S.left S.faults modes.Serial script.now opened.items) }
+    requires captures { (1 ≤ vec_len opened) × (vec_len opened ≤ MOST_CAPTURES) }
+    requires cache { IsCacheSize cache }
+    ensures replays { IfOk result (ReplaysScript S.left S.faults modes.Serial cache script.now
+        opened.items) }
     ensures reportable { IfOk result CanReport }
 {
     let FirstEdition {
@@ -80,7 +85,7 @@ pub(crate) fn replay_script<S: Source>(
         record: kept,
         ends,
         sources,
-    } = replay_serial(alloc, config, live.as_slice(), opened)?;
+    } = replay_serial(alloc, config, live.as_slice(), cache, opened)?;
     let Ends {
         captures,
         answers: behind,

@@ -15,9 +15,7 @@ impl<E: Numbered<Tag = B::Facts>, B: Kept> RmLock<E, B> {
     pub fn take_book<R: Wait>(&self, rt: &R, r: Reading<E, B>) -> Holding<E, B>
         requires lock { r.table_id ≡ self.now }
         ensures lock { result.table_id ≡ self.now }
-        ensures taken { TakesBook
-            (meanings E.number E.tag E.name B.number B.tag B.ready B.of B.facts_item) r.view
-            result.view result.book }
+        ensures taken { TakesBook (meanings E.Numbered B.Kept) r.view result.view result.book }
     {
         let Reading {
             mut seat,
@@ -39,8 +37,7 @@ impl<E: Numbered<Tag = B::Facts>, B: Kept> RmLock<E, B> {
     /// `take_book` by one try, which waits for nobody. `Busy` tells whom that try saw to have the book.
     pub fn try_take_book(&self, r: Reading<E, B>) -> Result<Holding<E, B>, Busy<Reading<E, B>>>
         requires lock { r.table_id ≡ self.now }
-        ensures tried { TriesToTakeBook
-            (meanings E.number E.tag E.name B.number B.tag B.ready B.of B.facts_item) r result }
+        ensures tried { TriesToTakeBook (meanings E.Numbered B.Kept) r result }
     {
         let Reading {
             mut seat,
@@ -75,13 +72,10 @@ impl<E: Numbered<Tag = B::Facts>, B: Kept> RmLock<E, B> {
     /// ready if it was. It waits for nobody.
     pub fn give_book(&self, h: Holding<E, B>) -> Reading<E, B>
         requires lock { h.table_id ≡ self.now }
-        requires left { IsAsTaken
-            (meanings E.number E.tag E.name B.number B.tag B.ready B.of B.facts_item) h.view
-            h.book }
+        requires left { IsAsTaken (meanings E.Numbered B.Kept) h.view h.book }
         ensures lock { result.table_id ≡ self.now }
         ensures given { result.view
-            ≡ after_giving_book (meanings E.number E.tag E.name B.number B.tag B.ready B.of B.facts_item)
-            h.view h.book }
+            ≡ after_giving_book (meanings E.Numbered B.Kept) h.view h.book }
     {
         let Holding {
             mut seat,
@@ -105,9 +99,7 @@ impl<E: Numbered<Tag = B::Facts>, B: Kept> RmLock<E, B> {
     pub fn open_book<R: Wait>(&self, rt: &R, o: Operator<E, B>) -> Keeping<E, B>
         requires lock { o.table_id ≡ self.now }
         ensures lock { result.table_id ≡ self.now }
-        ensures opened { OpensBook
-            (meanings E.number E.tag E.name B.number B.tag B.ready B.of B.facts_item) o.view
-            result.view result.book }
+        ensures opened { OpensBook (meanings E.Numbered B.Kept) o.view result.view result.book }
     {
         let Operator {
             mut seat,
@@ -128,13 +120,10 @@ impl<E: Numbered<Tag = B::Facts>, B: Kept> RmLock<E, B> {
     /// Where it is ready the operator knows it, until the publication. It waits for nobody.
     pub fn shut_book(&self, k: Keeping<E, B>) -> Operator<E, B>
         requires lock { k.table_id ≡ self.now }
-        requires left { IsAsFound
-            (meanings E.number E.tag E.name B.number B.tag B.ready B.of B.facts_item) k.view
-            k.book }
+        requires left { IsAsFound (meanings E.Numbered B.Kept) k.view k.book }
         ensures lock { result.table_id ≡ self.now }
         ensures given { result.view
-            ≡ after_giving_book (meanings E.number E.tag E.name B.number B.tag B.ready B.of B.facts_item)
-            k.view k.book }
+            ≡ after_giving_book (meanings E.Numbered B.Kept) k.view k.book }
     {
         let Keeping {
             mut seat,

@@ -12,8 +12,7 @@ impl<E: Numbered<Tag = B::Facts>, B: Kept> RmLock<E, B> {
         requires lock { operator.table_id ≡ self }
         requires locks { All (λ p. p.table_id ≡ self) processors.items }
         requires each { EachOnce operator.view.count processors.items }
-        ensures closed { ClosesAs
-            (meanings E.number E.tag E.name B.number B.tag B.ready B.of B.facts_item) operator.view
+        ensures closed { ClosesAs (meanings E.Numbered B.Kept) operator.view
             processors.items result.book result.trackers.items result.editions.items }
     {
         let RmLock { table } = self;

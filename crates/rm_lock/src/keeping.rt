@@ -25,8 +25,7 @@ impl<E: Numbered<Tag = B::Facts>, B: Kept> Model for Keeping<E, B> {
     ghost view = { λ k. record { table_id = k.seat.table_id; view = k.seat.me.0; book = k.book } };
 
     ghost invariant = { λ k.
-        KeepsBy (meanings E.number E.tag E.name B.number B.tag B.ready B.of B.facts_item)
-        k.processors k.number k.seat.me.0 k.seat.me.1 };
+        KeepsBy (meanings E.Numbered B.Kept) k.processors k.number k.seat.me.0 k.seat.me.1 };
 }
 
 impl<E: Numbered<Tag = B::Facts>, B: Kept> Keeping<E, B> {

@@ -52,10 +52,9 @@ impl<E: Numbered<Tag = B::Facts>, B: Kept> RmLock<E, B> {
     pub fn open(alloc: Global, editions: Vec<E>, book: B) -> Result<Opened<E, B>, OutOfMemory>
         requires most { vec_len editions ≤ 64 }
         requires opens { (edition : E) × (slice_get editions.items 0 ≡ Some edition)
-            × OpensTable (meanings E.number E.tag E.name B.number B.tag B.ready B.of B.facts_item)
-            editions.items edition book }
+            × OpensTable (meanings E.Numbered B.Kept) editions.items edition book }
         ensures opened { IfOk result (λ o. (edition : E) → slice_get editions.items 0 ≡ Some edition
-            → OpensAs (meanings E.number E.tag E.name B.number B.tag B.ready B.of B.facts_item)
+            → OpensAs (meanings E.Numbered B.Kept)
             (vec_len editions) edition book o.lock o.processors.items o.operator) }
     {
         let processors = editions.len() as u32;

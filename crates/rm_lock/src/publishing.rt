@@ -57,9 +57,7 @@ pub(crate) fn drain_all<E: Numbered<Tag = B::Facts>, B: Kept, R: Wait>(
     requires size { length seat.old.me.0.drained ≡ processors + 1 }
     requires hand { seat.old.me.1 ≡ [] }
     ensures table { seat.new.table_id ≡ seat.old.table_id }
-    ensures found { HasFoundAll
-        (meanings E.number E.tag E.name B.number B.tag B.ready B.of B.facts_item) seat.old.me
-        seat.new.me }
+    ensures found { HasFoundAll (meanings E.Numbered B.Kept) seat.old.me seat.new.me }
 {
     for done in 0..processors {
         waits::drain(table, rt, seat, processors - done);
@@ -119,8 +117,7 @@ fn take_free_book<E: Numbered<Tag = B::Facts>, B: Kept>(
     ensures table { seat.new.table_id ≡ seat.old.table_id }
     ensures taken { (seat.new.me
         ≡ (with_step (book_taken seat.old.me.0 result) book_index 0, (0, Book None) ∷ seat.old.me.1))
-        × FoundBy (meanings E.number E.tag E.name B.number B.tag B.ready B.of B.facts_item)
-        seat.old.me.0 result }
+        × FoundBy (meanings E.Numbered B.Kept) seat.old.me.0 result }
 {
     let _ = table.take_book(seat);
     take_out_book(table, seat)
@@ -136,16 +133,14 @@ pub(crate) fn publish_book<E: Numbered<Tag = B::Facts>, B: Kept>(
     requires writing { IsWriting seat.old.me.0 }
     requires editions { (editions : List E) × (length editions ≡ seat.old.me.0.count)
         × (seat.old.me.1 ≡ editions_from 1 editions [])
-        × AreNext (meanings E.number E.tag E.name B.number B.tag B.ready B.of B.facts_item)
-        seat.old.me.0.number editions facts }
+        × AreNext (meanings E.Numbered B.Kept) seat.old.me.0.number editions facts }
     requires facts { B.facts_number facts ≡ seat.old.me.0.number + 1 }
     ensures table { seat.new.table_id ≡ seat.old.table_id }
     ensures hand { seat.new.me.1 ≡ [] }
     ensures published { (editions : List E) → length editions ≡ seat.old.me.0.count
         → seat.old.me.1 ≡ editions_from 1 editions []
-        → AreNext (meanings E.number E.tag E.name B.number B.tag B.ready B.of B.facts_item)
-        seat.old.me.0.number editions facts
-        → PublishesEditions (meanings E.number E.tag E.name B.number B.tag B.ready B.of B.facts_item)
+        → AreNext (meanings E.Numbered B.Kept) seat.old.me.0.number editions facts
+        → PublishesEditions (meanings E.Numbered B.Kept)
         seat.old.me.0 editions facts seat.new.me.0 }
 {
     let mut book = take_free_book(table, seat);

@@ -34,8 +34,7 @@ impl<E: Numbered<Tag = B::Facts>, B: Kept> RmLock<E, B> {
     /// one load of its token saw, which is greater than the processor's own. It waits for nobody.
     pub fn enter(&self, p: Processor<E, B>) -> Entry<E, B>
         requires lock { p.table_id ≡ self.now }
-        ensures entry { Enters
-            (meanings E.number E.tag E.name B.number B.tag B.ready B.of B.facts_item) p result }
+        ensures entry { Enters (meanings E.Numbered B.Kept) p result }
     {
         let Processor {
             mut seat,

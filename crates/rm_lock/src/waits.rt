@@ -56,9 +56,7 @@ pub(crate) fn take_book<E: Numbered<Tag = B::Facts>, B: Kept, R: Wait>(
     requires working { IsWorking seat.old.me.0 }
     requires inside { seat.old.me.0.role ≡ Role.Processor → seat.old.me.0.phase ≡ Phase.In }
     ensures table { seat.new.table_id ≡ seat.old.table_id }
-    ensures taken { WaitsForBook
-        (meanings E.number E.tag E.name B.number B.tag B.ready B.of B.facts_item) seat.old.me
-        seat.new.me }
+    ensures taken { WaitsForBook (meanings E.Numbered B.Kept) seat.old.me seat.new.me }
 {
     let mut turns = 0;
     for _ in rt.forever() {
@@ -84,8 +82,7 @@ pub(crate) fn drain<E: Numbered<Tag = B::Facts>, B: Kept, R: Wait>(
     requires revoked { is_revoked seat.old.me.0 processor ≡ true }
     requires undrained { is_drained seat.old.me.0 processor ≡ false }
     ensures table { seat.new.table_id ≡ seat.old.table_id }
-    ensures out { WaitsForProcessor (meanings E.number E.tag E.name B.number B.tag B.ready B.of B.facts_item)
-        seat.old.me processor seat.new.me }
+    ensures out { WaitsForProcessor (meanings E.Numbered B.Kept) seat.old.me processor seat.new.me }
 {
     let mut turns = 0;
     for _ in rt.forever() {

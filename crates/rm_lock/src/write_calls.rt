@@ -44,16 +44,12 @@ impl<E: Numbered<Tag = B::Facts>, B: Kept> RmLock<E, B> {
     ) -> (Operator<E, B>, Vec<E>)
         requires lock { w.table_id ≡ self.now }
         requires count { vec_len editions ≡ w.view.count }
-        requires next { AreNext
-            (meanings E.number E.tag E.name B.number B.tag B.ready B.of B.facts_item) w.view.number
-            editions.items facts }
+        requires next { AreNext (meanings E.Numbered B.Kept) w.view.number editions.items facts }
         requires facts { B.facts_number facts ≡ w.view.number + 1 }
         ensures lock { result.0.table_id ≡ self.now }
-        ensures published { PublishesEditions
-            (meanings E.number E.tag E.name B.number B.tag B.ready B.of B.facts_item) w.view
+        ensures published { PublishesEditions (meanings E.Numbered B.Kept) w.view
             editions.items facts result.0.view }
-        ensures old { AreOld (meanings E.number E.tag E.name B.number B.tag B.ready B.of
-            B.facts_item) w.view result.1.items }
+        ensures old { AreOld (meanings E.Numbered B.Kept) w.view result.1.items }
     {
         let Writing {
             mut seat,

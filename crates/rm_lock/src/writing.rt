@@ -21,8 +21,7 @@ impl<E: Numbered<Tag = B::Facts>, B: Kept> Model for Writing<E, B> {
     ghost view = { λ w. record { table_id = w.seat.table_id; view = w.seat.me.0 } };
 
     ghost invariant = { λ w.
-        WritesBy (meanings E.number E.tag E.name B.number B.tag B.ready B.of B.facts_item)
-        w.processors w.number w.seat.me.0 w.seat.me.1 };
+        WritesBy (meanings E.Numbered B.Kept) w.processors w.number w.seat.me.0 w.seat.me.1 };
 }
 
 impl<E: Numbered<Tag = B::Facts>, B: Kept> Writing<E, B> {

@@ -1,4 +1,6 @@
 -- What an edition and a book mean to the lock, and what of a step is plain data.
+use Rattle.fw_base.specs.declared.numbered.Numbered.{Ghosts as Edition}
+use Rattle.fw_base.specs.declared.kept.Kept.{Ghosts as Book}
 use Rattle.std.specs.Prelude.{◌≡◌, ℕ, zero, suc, ◌+◌, ◌==◌, Bool, List, [], ◌∷◌, ◌++◌, if◌then◌else◌}
 
 -- Number, tag and name of an edition; number, tag, readiness and lists of a book; and the item that a tag is in a list.
@@ -12,9 +14,18 @@ pub record Meanings (E B T L I : Type 0) : Type 0 where
   pub of : B → ℕ → List I
   pub item : T → I
 
--- the meanings of these parts
-abbrev pub meanings : {E B T L I : Type 0} → (E → ℕ) → (E → T) → (E → L) → (B → ℕ) → (B → T) → (B → Bool) → (B → ℕ → List I) → (T → I) → Meanings E B T L I
-meanings number tag name book_number book_tag book_ready of item = record { number = number; tag = tag; name = name; book_number = book_number; book_tag = book_tag; book_ready = book_ready; of = of; item = item }
+-- what the ghosts of an edition's and a book's traits mean to the lock
+abbrev pub meanings : {E B T L I : Type 0} → Edition E T L → Book B T I → Meanings E B T L I
+meanings edition book = record {
+  number = edition.number;
+  tag = edition.tag;
+  name = edition.name;
+  book_number = book.number;
+  book_tag = book.tag;
+  book_ready = book.ready;
+  of = book.of;
+  item = book.facts_item;
+}
 
 -- f, but a at p
 unfoldable pub with_value_at : {A : Type 0} → (ℕ → A) → ℕ → A → ℕ → A

@@ -57,9 +57,7 @@ impl<E: Numbered<Tag = B::Facts>, B: Kept> RmTable<E, B> {
         requires working { IsWorking seat.old.me.0 }
         requires inside { seat.old.me.0.role ≡ Role.Processor → seat.old.me.0.phase ≡ Phase.In }
         ensures table { seat.new.table_id ≡ seat.old.table_id }
-        ensures step { AnswersBookTry
-            (meanings E.number E.tag E.name B.number B.tag B.ready B.of B.facts_item) seat.old.me
-            result seat.new.me }
+        ensures step { AnswersBookTry (meanings E.Numbered B.Kept) seat.old.me result seat.new.me }
         ensures free { seat.old.me.0.role ≡ Role.Operator → AllDrained seat.old.me.0
             → seat.old.me.0.book ≡ None → result ≡ Tried.Taken }
     {
@@ -81,16 +79,12 @@ impl<E: Numbered<Tag = B::Facts>, B: Kept> RmTable<E, B> {
     pub fn give_book(&self, seat: &mut RmSeat<E, B>)
         requires table { seat.old.table_id ≡ self.now }
         requires working { IsWorking seat.old.me.0 }
-        requires book { HasBook
-            (meanings E.number E.tag E.name B.number B.tag B.ready B.of B.facts_item) seat.old.me.0
-            seat.old.me.1 }
+        requires book { HasBook (meanings E.Numbered B.Kept) seat.old.me.0 seat.old.me.1 }
         ensures table { seat.new.table_id ≡ seat.old.table_id }
         ensures step { (book : B) → seat.old.me.1 ≡ (0, Book (Some book)) ∷ rest seat.old.me.1
             → seat.new.me
             ≡ (
-              with_step (book_given
-                  (meanings E.number E.tag E.name B.number B.tag B.ready B.of B.facts_item) seat.old.me.0
-                  book) book_index 0,
+              with_step (book_given (meanings E.Numbered B.Kept) seat.old.me.0 book) book_index 0,
               rest seat.old.me.1,
             ) }
     {

@@ -104,8 +104,8 @@ impl<E: Numbered<Tag = B::Facts>, B: Kept> RmTable<E, B> {
         requires joined { AllJoined operator.me.0 }
         requires undrained { NoneDrained operator.me.0 }
         requires bookless { operator.me.0.book ≡ None }
-        ensures { ClosesWith (meanings E.number E.tag E.name B.number B.tag B.ready B.of
-            B.facts_item) operator.me.0 result.book result.trackers.items result.editions.items }
+        ensures { ClosesWith (meanings E.Numbered B.Kept) operator.me.0
+            result.book result.trackers.items result.editions.items }
     {
         let RmTable {
             table,

@@ -25,8 +25,7 @@ impl<E: Numbered<Tag = B::Facts>, B: Kept> RmTable<E, B> {
         requires table { seat.old.table_id ≡ self.now }
         requires working { IsWorking seat.old.me.0 }
         ensures table { seat.new.table_id ≡ seat.old.table_id }
-        ensures step { AnswersBehindTry
-            (meanings E.number E.tag E.name B.number B.tag B.ready B.of B.facts_item) seat.old.me
+        ensures step { AnswersBehindTry (meanings E.Numbered B.Kept) seat.old.me
             result seat.new.me }
     {
         let place = u64::from(seat.place);
@@ -62,8 +61,7 @@ impl<E: Numbered<Tag = B::Facts>, B: Kept> RmTable<E, B> {
         requires table { seat.old.table_id ≡ self.now }
         requires working { IsWorking seat.old.me.0 }
         ensures table { seat.new.table_id ≡ seat.old.table_id }
-        ensures step { AnswersNumberRead
-            (meanings E.number E.tag E.name B.number B.tag B.ready B.of B.facts_item) seat.old.me
+        ensures step { AnswersNumberRead (meanings E.Numbered B.Kept) seat.old.me
             result seat.new.me }
     {
         self.table

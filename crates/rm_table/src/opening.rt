@@ -52,14 +52,12 @@ impl<E: Numbered<Tag = B::Facts>, B: Kept> RmTable<E, B> {
     pub fn open(alloc: Global, editions: Vec<E>, book: B) -> Result<OpenTable<E, B>, OutOfMemory>
         requires most { vec_len editions ≤ 64 }
         requires opens { (edition : E) × (slice_get editions.items 0 ≡ Some edition)
-            × OpensTable (meanings E.number E.tag E.name B.number B.tag B.ready B.of B.facts_item)
-            editions.items edition book }
+            × OpensTable (meanings E.Numbered B.Kept) editions.items edition book }
         ensures table { IfOk result (λ o. o.seat.table_id ≡ o.table) }
         ensures seat { IfOk result (λ o. (edition : E) → slice_get editions.items 0 ≡ Some edition
             → o.seat.me
             ≡ (
-              first_view (meanings E.number E.tag E.name B.number B.tag B.ready B.of B.facts_item)
-                  (vec_len editions) edition book,
+              first_view (meanings E.Numbered B.Kept) (vec_len editions) edition book,
               [],
             )) }
     {

@@ -38,9 +38,7 @@ impl<E: Numbered<Tag = B::Facts>, B: Kept> RmTable<E, B> {
         requires processor { seat.old.me.0.role ≡ Role.Processor }
         requires raised { seat.old.me.0.phase ≡ Phase.Raised }
         ensures table { seat.new.table_id ≡ seat.old.table_id }
-        ensures step { AnswersCheck
-            (meanings E.number E.tag E.name B.number B.tag B.ready B.of B.facts_item) seat.old.me
-            result seat.new.me }
+        ensures step { AnswersCheck (meanings E.Numbered B.Kept) seat.old.me result seat.new.me }
     {
         let word = token_at(seat.processors, seat.place);
         let found = self.table.shared.load::<Check>(&mut seat.seat, word);
@@ -59,8 +57,7 @@ impl<E: Numbered<Tag = B::Facts>, B: Kept> RmTable<E, B> {
         requires begun { (seat.old.me.0.phase ≡ Phase.Raised) ⊎ (seat.old.me.0.phase ≡ Phase.In) }
         requires bookless { seat.old.me.0.book ≡ None }
         requires edition { seat.old.me.0.phase ≡ Phase.In
-            → HasEdition (meanings E.number E.tag E.name B.number B.tag B.ready B.of B.facts_item)
-            seat.old.me.0 seat.old.me.1 }
+            → HasEdition (meanings E.Numbered B.Kept) seat.old.me.0 seat.old.me.1 }
         ensures table { seat.new.table_id ≡ seat.old.table_id }
         ensures step { seat.new.me
             ≡ (
@@ -85,9 +82,7 @@ impl<E: Numbered<Tag = B::Facts>, B: Kept> RmTable<E, B> {
         requires behind { seat.old.me.0.behind ≡ true }
         requires read { IsSome seat.old.me.0.part.read }
         ensures table { seat.new.table_id ≡ seat.old.table_id }
-        ensures step { AnswersRegain
-            (meanings E.number E.tag E.name B.number B.tag B.ready B.of B.facts_item) seat.old.me
-            seat.new.me }
+        ensures step { AnswersRegain (meanings E.Numbered B.Kept) seat.old.me seat.new.me }
     {
         let word = token_at(seat.processors, seat.place);
         self.table.shared.store::<Regain>(&mut seat.seat, word, 0);

@@ -28,10 +28,8 @@ impl<E: Numbered<Tag = B::Facts>, B: Kept> TableRule<
     LockView<E, B>,
     Opening<E, B>,
 > for LockRule {
-    ghost holds = { λ key.
-        Whole (meanings E.number E.tag E.name B.number B.tag B.ready B.of B.facts_item) };
+    ghost holds = { λ key. Whole (meanings E.Numbered B.Kept) };
 
     ghost first = { λ key.
-        first_view (meanings E.number E.tag E.name B.number B.tag B.ready B.of B.facts_item)
-        key.processors key.edition.value key.book.value };
+        first_view (meanings E.Numbered B.Kept) key.processors key.edition.value key.book.value };
 }

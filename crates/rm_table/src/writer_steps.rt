@@ -46,8 +46,7 @@ impl<E: Numbered<Tag = B::Facts>, B: Kept> RmTable<E, B> {
         requires revoked { is_revoked seat.old.me.0 processor ≡ true }
         requires undrained { is_drained seat.old.me.0 processor ≡ false }
         ensures table { seat.new.table_id ≡ seat.old.table_id }
-        ensures step { AnswersDrain
-            (meanings E.number E.tag E.name B.number B.tag B.ready B.of B.facts_item) seat.old.me
+        ensures step { AnswersDrain (meanings E.Numbered B.Kept) seat.old.me
             processor result seat.new.me }
     {
         // the seat tells that its table has at most 64 processors
@@ -70,14 +69,11 @@ impl<E: Numbered<Tag = B::Facts>, B: Kept> RmTable<E, B> {
         requires behind { seat.old.me.0.behind ≡ true }
         requires book { IsSome seat.old.me.0.book }
         requires room { seat.old.me.0.number < 2 ^ 64 - 1 }
-        requires editions { HasNext
-            (meanings E.number E.tag E.name B.number B.tag B.ready B.of B.facts_item) seat.old.me.0
-            seat.old.me.1 }
+        requires editions { HasNext (meanings E.Numbered B.Kept) seat.old.me.0 seat.old.me.1 }
         ensures table { seat.new.table_id ≡ seat.old.table_id }
         ensures step { seat.new.me
             ≡ (
-              with_step (published_view
-                  (meanings E.number E.tag E.name B.number B.tag B.ready B.of B.facts_item) seat.old.me.0
+              with_step (published_view (meanings E.Numbered B.Kept) seat.old.me.0
                   seat.old.me.1) number_index (seat.old.me.0.number + 1),
               rest_from seat.old.me.0.count seat.old.me.1,
             ) }

@@ -9,8 +9,6 @@ use fw_base::{Kept, Numbered};
 /// calls it made in between and whatever other threads called, and at every depth of a section its edition is
 /// the one that it entered.
 pub fn told_readers_meet_the_edition<E: Numbered<Tag = B::Facts>, B: Kept>()
-    ensures told { ToldLaw
-        (meanings E.number E.tag E.name B.number B.tag B.ready B.of B.facts_item) }
-    ensures depth { DepthLaw
-        (meanings E.number E.tag E.name B.number B.tag B.ready B.of B.facts_item) }
+    ensures told { ToldLaw (meanings E.Numbered B.Kept) }
+    ensures depth { DepthLaw (meanings E.Numbered B.Kept) }
 {}

@@ -73,10 +73,8 @@ impl<E: Numbered<Tag = B::Facts>, B: Kept> Told<E, B> {
     /// number is at least `told` of the processor. It waits for nobody.
     pub fn enter(&self, p: Processor<E, B>) -> DeepEntry<E, B>
         requires lock { p.table_id ≡ self.now }
-        ensures entry { EntersAtOne
-            (meanings E.number E.tag E.name B.number B.tag B.ready B.of B.facts_item) p result }
-        ensures told { MeetsTold
-            (meanings E.number E.tag E.name B.number B.tag B.ready B.of B.facts_item) p result }
+        ensures entry { EntersAtOne (meanings E.Numbered B.Kept) p result }
+        ensures told { MeetsTold (meanings E.Numbered B.Kept) p result }
     {
         match self.lock.enter(p) {
             Entry::In(reading) => DeepEntry::In(Deep { reading, depth: 1 }),

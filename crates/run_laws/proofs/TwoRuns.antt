@@ -42,6 +42,6 @@ only_serial words = by_command (command_of words)
   where
     by_command : (found : Option CommandWords) → IfSome (option_and_then job_of_command found) IsSerialJob
     by_command None = tt
-    by_command (Some (Replay Serial journal script captures)) = refl
-    by_command (Some (Replay Live journal script captures)) = tt
+    by_command (Some (Replay Serial journal cache script captures)) = refl
+    by_command (Some (Replay Live journal cache script captures)) = tt
     by_command (Some (Load n)) = tt

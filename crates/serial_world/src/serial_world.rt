@@ -61,11 +61,7 @@ impl Model for SerialWorld {
 }
 
 /// The lanes of a world that is opened.
-fn open_lanes(
-    alloc: Global,
-    lanes: u32,
-    cache: Option<u32>,
-) -> Result<Vec<SerialLane>, OutOfMemory>
+fn open_lanes(alloc: Global, lanes: u32, cache: Option<u32>) -> Result<Vec<SerialLane>, OutOfMemory>
     requires most { lanes ≤ MOST_LANES }
     requires cache { IsCacheSize cache }
     ensures { IfOk result (λ opened. opened.items ≡ first_lanes cache 1 lanes) }

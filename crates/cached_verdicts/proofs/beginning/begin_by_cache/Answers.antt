@@ -1,4 +1,4 @@
-use Rattle.std.proofs.Common.{◌≡◌, ◌<◌, Some, [], length, refl, ap, sym, ◌∙◌, arith, subst}
+use Rattle.std.proofs.Common.{[], sym, ◌∙◌, arith, subst}
 use Rattle.ip6_headers.specs.declared.any_ip.AnyIp.{AnyIp}
 use Rattle.eval_engine.specs.Question.{Question}
 use Rattle.eval_engine.specs.Standing.{StandsAt}

@@ -1,10 +1,8 @@
-use Rattle.std.proofs.Common.{◌≡◌, Some, None, ap, sym, ◌∙◌}
-use Rattle.std.specs.Arc.{arc_value}
+use Rattle.std.proofs.Common.{◌≡◌, Some, ap, sym, ◌∙◌}
 use Rattle.fw_rule.specs.declared.rule.Rule.{Rule}
 use Rattle.rule_chain.specs.Configuration.{Configuration}
 use Rattle.generation_store.specs.Published.{is_identity}
 use Rattle.eval_engine.proofs.Configured.{shared_there}
-use Rattle.cached_verdicts.specs.declared.kept_verdict.KeptVerdict.{KeptVerdict}
 use Rattle.cached_verdicts.proofs.Begun.{not_placed, one_place, shared_place}
 use Rattle.cached_verdicts.proofs.beginning.verdict_by_rule.Goals as goal
 

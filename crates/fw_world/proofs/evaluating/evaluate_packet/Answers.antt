@@ -1,4 +1,4 @@
-use Rattle.std.proofs.Common.{◌≡◌, ◌<◌, ℕ, true, List, length, refl, [], ◌∷◌, ◌++◌, arith, subst, sym, ◌∙◌}
+use Rattle.std.proofs.Common.{◌≡◌, true, List, length, refl, [], ◌∷◌, ◌++◌, arith, subst, sym, ◌∙◌}
 use Rattle.counter_book.specs.declared.tally.Count.{Count}
 use Rattle.state_asks.specs.declared.op.Op.{Op}
 use Rattle.state_asks.specs.declared.reply.Reply.{Reply}

@@ -15,7 +15,7 @@ open-requires-clause-opens c =
 pub returns-clause-opening : goal.returns-clause-opening
 returns-clause-opening c =
     let e : Edition = record { number = 1 } in
-    opens_me (meanings edition.ghosts.number edition.ghosts.tag edition.ghosts.name ledger.ghosts.number ledger.ghosts.tag ledger.ghosts.ready ledger.ghosts.of ledger.ghosts.facts_item) c.in_ok-editions.editions.len e c.new.result _ (search rules) (c.in_ok-open.ensures.seat e (rw c.in_ok-editions.ensures.copies (first_of-replicate e c.args.processors c.requires.some)))
+    opens_me (meanings edition.ghosts ledger.ghosts) c.in_ok-editions.editions.len e c.new.result _ (search rules) (c.in_ok-open.ensures.seat e (rw c.in_ok-editions.ensures.copies (first_of-replicate e c.args.processors c.requires.some)))
 
 pub returns-clause-count : goal.returns-clause-count
 returns-clause-count c =

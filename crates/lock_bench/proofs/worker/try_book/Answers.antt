@@ -5,4 +5,4 @@ use Rattle.rm_table.proofs.Writes.{book_on_top}
 use Rattle.lock_bench.proofs.worker.try_book.Goals as goal
 
 pub exchange_book-requires-clause-on_top : goal.exchange_book-requires-clause-on_top
-exchange_book-requires-clause-on_top c = book_on_top (meanings edition.ghosts.number edition.ghosts.tag edition.ghosts.name ledger.ghosts.number ledger.ghosts.tag ledger.ghosts.ready ledger.ghosts.of ledger.ghosts.facts_item) c.args.seat.now.me c.take_book.result c.take_book.new.seat.me c.in-Taken.is c.take_book.ensures.step
+exchange_book-requires-clause-on_top c = book_on_top (meanings edition.ghosts ledger.ghosts) c.args.seat.now.me c.take_book.result c.take_book.new.seat.me c.in-Taken.is c.take_book.ensures.step

@@ -9,4 +9,4 @@ pub returns-clause-told : goal.returns-clause-told
 returns-clause-told g c = told_holds _
 
 pub returns-clause-heard : goal.returns-clause-heard
-returns-clause-heard g c = heard_holds (meanings g.E.Numbered.number g.E.Numbered.tag g.E.Numbered.name g.B.Kept.number g.B.Kept.tag g.B.Kept.ready g.B.Kept.of g.B.Kept.facts_item)
+returns-clause-heard g c = heard_holds (meanings g.E.Numbered g.B.Kept)

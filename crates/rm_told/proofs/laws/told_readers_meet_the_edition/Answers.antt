@@ -6,4 +6,4 @@ pub returns-clause-told : goal.returns-clause-told
 returns-clause-told g c = told_holds _
 
 pub returns-clause-depth : goal.returns-clause-depth
-returns-clause-depth g c = depth_holds (meanings g.E.Numbered.number g.E.Numbered.tag g.E.Numbered.name g.B.Kept.number g.B.Kept.tag g.B.Kept.ready g.B.Kept.of g.B.Kept.facts_item)
+returns-clause-depth g c = depth_holds (meanings g.E.Numbered g.B.Kept)

@@ -6,4 +6,4 @@ use Rattle.rm_table.proofs.Writes.{edition_on_top}
 use Rattle.lock_tests.proofs.table_rows.publication_of_two.renew_edition.Goals as goal
 
 pub exchange_edition-old-requires-clause-on_top : goal.exchange_edition-old-requires-clause-on_top
-exchange_edition-old-requires-clause-on_top g c = edition_on_top (meanings edition.ghosts.number edition.ghosts.tag edition.ghosts.name ledger.ghosts.number ledger.ghosts.tag ledger.ghosts.ready ledger.ghosts.of ledger.ghosts.facts_item) c.args.operator.now.me c.args.place c.drain.result c.drain.new.seat.me (search rules) c.drain.ensures.step
+exchange_edition-old-requires-clause-on_top g c = edition_on_top (meanings edition.ghosts ledger.ghosts) c.args.operator.now.me c.args.place c.drain.result c.drain.new.seat.me (search rules) c.drain.ensures.step

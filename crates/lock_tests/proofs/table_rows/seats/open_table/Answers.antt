@@ -16,7 +16,7 @@ pub returns-clause-opening : goal.returns-clause-opening
 returns-clause-opening c =
     let e : Edition = record { number = 1 } in
     let is : c.in_ok-editions.editions.items ≡ replicate c.args.processors e = c.in_ok-editions.ensures.items_if_clones_equal (search rules) in
-    opens_me (meanings edition.ghosts.number edition.ghosts.tag edition.ghosts.name ledger.ghosts.number ledger.ghosts.tag ledger.ghosts.ready ledger.ghosts.of ledger.ghosts.facts_item) c.in_ok-editions.editions.len e (record { number = 1; publications = 1; entries = 0 }) _ (search rules) (c.in_ok-open.ensures.seat e (rw is (first_of-replicate e c.args.processors c.requires.some)))
+    opens_me (meanings edition.ghosts ledger.ghosts) c.in_ok-editions.editions.len e (record { number = 1; publications = 1; entries = 0 }) _ (search rules) (c.in_ok-open.ensures.seat e (rw is (first_of-replicate e c.args.processors c.requires.some)))
 
 pub returns-clause-count : goal.returns-clause-count
 returns-clause-count c =

@@ -31,4 +31,4 @@ returns g c =
     let gives = c.into_iter-processor-iterator.ensures.into_iter_gives in
     let list = YieldsList-from_vec c.args.processors.items gives.0 (gives.1 ∙ c.args.processors.ok.0) in
     let end = YieldsList-end list c.loop-processor.yielded c.loop-processor.processor-iterator c.loop-processor.yielded_by c.next.result c.next.new.self c.in-None.is c.next.ensures.steps in
-    record { closed = closes_now (meanings g.E.Numbered.number g.E.Numbered.tag g.E.Numbered.name g.B.Kept.number g.B.Kept.tag g.B.Kept.ready g.B.Kept.of g.B.Kept.facts_item) c.args.operator c.operator.inside.seat.table_id c.operator.inside.processors c.operator.inside.number c.operator.inside.seat.me c.args.processors.items c.loop-processor.yielded c.loop-processor.seat.me c.close.result.book c.close.result.trackers.items c.close.result.editions.items c.operator.view_is c.operator.invariant c.requires.each (sym (map-id c.loop-processor.yielded) ∙ end.0) c.loop-processor.invariant.3 c.close.ensures }
+    record { closed = closes_now (meanings g.E.Numbered g.B.Kept) c.args.operator c.operator.inside.seat.table_id c.operator.inside.processors c.operator.inside.number c.operator.inside.seat.me c.args.processors.items c.loop-processor.yielded c.loop-processor.seat.me c.close.result.book c.close.result.trackers.items c.close.result.editions.items c.operator.view_is c.operator.invariant c.requires.each (sym (map-id c.loop-processor.yielded) ∙ end.0) c.loop-processor.invariant.3 c.close.ensures }

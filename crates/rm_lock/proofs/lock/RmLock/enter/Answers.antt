@@ -14,5 +14,5 @@ invariant_of-result g c = record {
   place_is = search rules;
   number_is = search rules;
   refused_is = search rules;
-  told_is = told_in (meanings g.E.Numbered.number g.E.Numbered.tag g.E.Numbered.name g.B.Kept.number g.B.Kept.tag g.B.Kept.ready g.B.Kept.of g.B.Kept.facts_item) c.raise.new.seat.me c.check.new.seat.me c.take_edition-edition.new.seat.me _ c.in-Held.ensures.step c.take_edition-edition.ensures.now;
+  told_is = told_in (meanings g.E.Numbered g.B.Kept) c.raise.new.seat.me c.check.new.seat.me c.take_edition-edition.new.seat.me _ c.in-Held.ensures.step c.take_edition-edition.ensures.now;
 }

@@ -7,7 +7,7 @@ pub returns-in-Taken : goal.returns-in-Taken
 returns-in-Taken g c = record {
   tried = (
     search rules,
-    takes_book_at_once (meanings g.E.Numbered.number g.E.Numbered.tag g.E.Numbered.name g.B.Kept.number g.B.Kept.tag g.B.Kept.ready g.B.Kept.of g.B.Kept.facts_item) c.args.r c.r.inside.seat.table_id c.r.inside.seat.me c.take_book.new.seat.me c.take_out_book-book.new.seat.me c.take_out_book-book.result c.r.inside.place c.r.inside.refused c.r.inside.edition c.r.view_is c.r.invariant c.in-Taken.ensures.step c.take_out_book-book.ensures.was c.take_out_book-book.ensures.now,
+    takes_book_at_once (meanings g.E.Numbered g.B.Kept) c.args.r c.r.inside.seat.table_id c.r.inside.seat.me c.take_book.new.seat.me c.take_out_book-book.new.seat.me c.take_out_book-book.result c.r.inside.place c.r.inside.refused c.r.inside.edition c.r.view_is c.r.invariant c.in-Taken.ensures.step c.take_out_book-book.ensures.was c.take_out_book-book.ensures.now,
   );
 }
 

@@ -17,7 +17,7 @@ split_seat-right-requires g c =
     let kept : kept_at v c.args.place ≡ Some (Some c.requires.kept.0) = rw me c.requires.kept.1 in (
       same,
       search rules,
-      subst (λ k. Splits (Whole (meanings g.E.Numbered.number g.E.Numbered.tag g.E.Numbered.name g.B.Kept.number g.B.Kept.tag g.B.Kept.ready g.B.Kept.of g.B.Kept.facts_item)) c.seat.inside.seat.id v (split_off v k) (right_of v k (kept_at v k))) (sym c.requires.picked)
+      subst (λ k. Splits (Whole (meanings g.E.Numbered g.B.Kept)) c.seat.inside.seat.id v (split_off v k) (right_of v k (kept_at v k))) (sym c.requires.picked)
           (splits _ _ _ _ c.requires.kept.0 (rw me c.requires.operator) kept),
     )
 

@@ -23,7 +23,7 @@ pub invariant_of-seat : goal.invariant_of-seat
 invariant_of-seat g c =
     let old = c.seat.invariant in
     let got = c.load-found.ensures.2 c.args.processor (search rules) in
-    let e = drain_same (meanings g.E.Numbered.number g.E.Numbered.tag g.E.Numbered.name g.B.Kept.number g.B.Kept.tag g.B.Kept.ready g.B.Kept.of g.B.Kept.facts_item) _ _ _ _ _ _ got in
+    let e = drain_same (meanings g.E.Numbered g.B.Kept) _ _ _ _ _ _ got in
     record {
       sized = search rules;
       placed = old.placed;

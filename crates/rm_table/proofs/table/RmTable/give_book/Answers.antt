@@ -17,7 +17,7 @@ pub invariant_of-seat : goal.invariant_of-seat
 invariant_of-seat g c =
     let me = ap (λ z. z.me) c.seat.view_is in
     let old = c.seat.invariant in
-    let h : HasBook (meanings g.E.Numbered.number g.E.Numbered.tag g.E.Numbered.name g.B.Kept.number g.B.Kept.tag g.B.Kept.ready g.B.Kept.of g.B.Kept.facts_item) c.seat.inside.seat.me.0 c.seat.inside.seat.me.1 = rw me c.requires.book in
+    let h : HasBook (meanings g.E.Numbered g.B.Kept) c.seat.inside.seat.me.0 c.seat.inside.seat.me.1 = rw me c.requires.book in
     let e = c.store.ensures.2 h.book h.hand_is in
     record {
       sized = search rules;
@@ -33,4 +33,4 @@ invariant_of-seat g c =
 pub returns-clause-step : goal.returns-clause-step
 returns-clause-step g c =
     let me = ap (λ z. z.me) c.seat.view_is in
-    rw (sym me) (λ book top. c.store.ensures.2 book top ∙ ap (λ i. (with_step (book_given (meanings g.E.Numbered.number g.E.Numbered.tag g.E.Numbered.name g.B.Kept.number g.B.Kept.tag g.B.Kept.ready g.B.Kept.of g.B.Kept.facts_item) c.seat.inside.seat.me.0 book) i 0, rest c.seat.inside.seat.me.1)) c.book_at.ensures)
+    rw (sym me) (λ book top. c.store.ensures.2 book top ∙ ap (λ i. (with_step (book_given (meanings g.E.Numbered g.B.Kept) c.seat.inside.seat.me.0 book) i 0, rest c.seat.inside.seat.me.1)) c.book_at.ensures)

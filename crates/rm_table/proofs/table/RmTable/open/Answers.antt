@@ -12,7 +12,7 @@ new-requires g c =
     let o = c.requires.opens in
     let size : c.args.editions.len ≡ length c.args.editions.items = c.args.editions.ok.0 in
     let first : c.of.result.value ≡ o.0 = c.of.ensures ∙ c.index.ensures ∙ get_or_from_slice_get c.args.editions.items 0 o.0 c.index.result.now o.1 in
-    opens_whole (meanings g.E.Numbered.number g.E.Numbered.tag g.E.Numbered.name g.B.Kept.number g.B.Kept.tag g.B.Kept.ready g.B.Kept.of g.B.Kept.facts_item) c.args.editions.items o.0 c.args.book c.from.result c.as_slice.result.now c.in_ok-slots.slots.items c.of.result.value c.of-2.result.value o.2 (search rules) (search rules) (search rules) (search rules) first (search rules)
+    opens_whole (meanings g.E.Numbered g.B.Kept) c.args.editions.items o.0 c.args.book c.from.result c.as_slice.result.now c.in_ok-slots.slots.items c.of.result.value c.of-2.result.value o.2 (search rules) (search rules) (search rules) (search rules) first (search rules)
 
 pub invariant_of-result-in-Ok : goal.invariant_of-result-in-Ok
 invariant_of-result-in-Ok g c =
@@ -34,5 +34,5 @@ invariant_of-result-in-Ok g c =
       place_is = search rules;
       number_is = search rules;
       tracker_is = search rules;
-      unbegun = rw (ap (λ z. z.0.closing) e, ap (λ z. z.0.kept) e) (unbegun_first (meanings g.E.Numbered.number g.E.Numbered.tag g.E.Numbered.name g.B.Kept.number g.B.Kept.tag g.B.Kept.ready g.B.Kept.of g.B.Kept.facts_item) c.of-2.result.value c.from.result);
+      unbegun = rw (ap (λ z. z.0.closing) e, ap (λ z. z.0.kept) e) (unbegun_first (meanings g.E.Numbered g.B.Kept) c.of-2.result.value c.from.result);
     }

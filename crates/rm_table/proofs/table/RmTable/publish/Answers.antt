@@ -20,7 +20,7 @@ pub invariant_of-seat : goal.invariant_of-seat
 invariant_of-seat g c =
     let me = ap (λ z. z.me) c.seat.view_is in
     let old = c.seat.invariant in
-    let p = published_is (meanings g.E.Numbered.number g.E.Numbered.tag g.E.Numbered.name g.B.Kept.number g.B.Kept.tag g.B.Kept.ready g.B.Kept.of g.B.Kept.facts_item) c.seat.inside.seat.me.0 c.seat.inside.seat.me.1 (rw me c.requires.editions) (search rules) in
+    let p = published_is (meanings g.E.Numbered g.B.Kept) c.seat.inside.seat.me.0 c.seat.inside.seat.me.1 (rw me c.requires.editions) (search rules) in
     let e = c.store.ensures.2 ∙ (λ j. (with_step (p j) c.number_at.result (c.seat.inside.number + 1), rest_from c.seat.inside.seat.me.0.count c.seat.inside.seat.me.1)) in
     record {
       sized = search rules;

@@ -4,4 +4,4 @@ use Rattle.rm_told.proofs.told.Told.enter.Goals as goal
 
 pub returns-in-In-clause-told : goal.returns-in-In-clause-told
 returns-in-In-clause-told g c =
-    entered_meets (meanings g.E.Numbered.number g.E.Numbered.tag g.E.Numbered.name g.B.Kept.number g.B.Kept.tag g.B.Kept.ready g.B.Kept.of g.B.Kept.facts_item) c.args.p c.in-In.reading c.in-In.ensures.entry
+    entered_meets (meanings g.E.Numbered g.B.Kept) c.args.p c.in-In.reading c.in-In.ensures.entry

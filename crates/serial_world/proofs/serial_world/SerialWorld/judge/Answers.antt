@@ -38,8 +38,7 @@ invariant_of-lane c =
 
 pub returns-clause-next : goal.returns-clause-next
 returns-clause-next c =
-    let world = c.args.self.now in
-    (
+    let world = c.args.self.now in (
       c.judge_record-outcome.new.lane,
       subst (λ (l : LaneValue). JudgesNext world c.judge_record-outcome.new.self l c.judge_record-outcome.new.lane c.args.packet.now c.args.port.now c.args.second c.judge_record-outcome.result) (let_in c.args.self.now c.published-published.result c.lane.inside.state c.args.lane.now c.admit.new.self c.admit.ensures c.published-published.ensures c.lane.view_is) c.judge_record-outcome.ensures.next,
       c.leave.ensures ∙ ap (λ (b : Bool). lane_after_leave (record { lane = c.judge_record-outcome.new.lane; judged = b })) c.is_ok.ensures.value,
