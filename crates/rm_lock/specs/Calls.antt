@@ -7,7 +7,7 @@ use Rattle.rm_table.specs.declared.padded_slot.Slot.TheVariants.{Edition, Book}
 use Rattle.rm_table.specs.declared.view.View.{View}
 use Rattle.rm_table.specs.Layout.{number_index, behind_index, book_index, tracker_index, token_index, tracker_word}
 use Rattle.rm_table.specs.Meanings.{Meanings, values_from, BeginsWith}
-use Rattle.rm_table.specs.Moves.{with_step, raised_view, entered_view, refused_view, lowered_view, behind_taken, behind_given, number_read, regained_view, book_taken, book_given, drained_view, published_as, SeenUpTo, IsLast, LeftBy, FoundBy, AllRevoked, AllDrained}
+use Rattle.rm_table.specs.Moves.{with_step, raised_view, entered_view, refused_view, lowered_view, behind_taken, behind_given, number_read, regained_view, book_taken, book_given, drained_view, published_as, SeenUpTo, SeenAs, IsLast, LeftBy, FoundBy, AllRevoked, AllDrained}
 use Rattle.rm_lock.specs.Tokens.{TokenState, BookTokenState}
 use Rattle.rm_lock.specs.declared.reader_calls.Busy.{Busy}
 use Rattle.rm_lock.specs.declared.reader_calls.Entry.{Entry}
@@ -103,11 +103,12 @@ module _ {E B T L I : Type 0} where
     abbrev pub after_entry : View E B T L I → E → View E B T L I
     after_entry v e = with_step (entered_view m (after_raise v) e) (token_index v.count v.place) 0
 
-    -- What a call to enter does. In: the edition is of the number that the processor knew, which was the published one at the check, and no
-    -- earlier than any that it saw. Refused: the load of its token saw the number, which is greater than the one that it knew.
+    -- What a call to enter does. In: the edition is of the number that the processor knew, which was the published one at the check, no
+    -- earlier than any that it saw, and of every name that it saw under this number. Refused: the load of its token saw the number, which is greater than the one that it knew.
     abbrev pub Enters : TokenState E B T L I → Entry E B L T I → Type 0
     Enters before (In r) = (r.table_id ≡ before.table_id)
-        × ((e : E) × (r.view ≡ after_entry before.view e) × (m.number e ≡ before.view.part.held) × SeenUpTo before.view.part (m.number e))
+        × ((e : E) × (r.view ≡ after_entry before.view e) × (m.number e ≡ before.view.part.held) × SeenUpTo before.view.part (m.number e)
+        × SeenAs before.view.part (m.number e) (m.name e))
     Enters before (Revoked p number) = (p.table_id ≡ before.table_id)
         × (p.view ≡ after_refusal before.view number) × (before.view.part.held < number)
 

@@ -15,14 +15,14 @@ use Rattle.rm_table.specs.declared.view.View.{View}
 use Rattle.rm_table.specs.Layout.{tracker_index, token_index, tracker_word, token_word}
 use Rattle.rm_table.specs.Meanings.{Meanings}
 use Rattle.rm_table.specs.Rule.{WholeState, core_of, Current, Live, Shows, Whole}
-use Rattle.rm_table.specs.Moves.{Hand, with_step, raised_view, begun_part, lowered_view, left_part, hand_left, refused_view, refused_part, entered_view, entered_part, regained_view, regained_part, SeenUpTo, HasEdition}
+use Rattle.rm_table.specs.Moves.{Hand, with_step, raised_view, begun_part, lowered_view, left_part, hand_left, refused_view, refused_part, entered_view, entered_part, regained_view, regained_part, SeenUpTo, SeenAs, HasEdition}
 use Rattle.rm_core.specs.declared.event.Event.TheVariants.{Check}
 use Rattle.rm_core.specs.CoreState.{MayCome, after}
 use Rattle.rm_table.specs.Laws.{RaiseLaw, CheckLaw, LowerLaw, RegainLaw}
 use Rattle.rm_table.specs.Plays.{Seated, TellsRaise, TellsCheck, TellsLower, TellsRegain}
 use Rattle.fw_base.proofs.Logic.{match_true, match_false}
 use Rattle.rm_table.proofs.Base.{there, is_there}
-use Rattle.rm_table.proofs.Own.{own_core, processor_live, seen_published}
+use Rattle.rm_table.proofs.Own.{own_core, processor_live, seen_published, seen_as_published}
 use Rattle.rm_table.proofs.Slots.{at_home}
 use Rattle.rm_table.proofs.Sections.{raise_event, check_held_event, check_refused_event, lower_event, regain_event, regain_may, raise_shows, check_held_shows, check_refused_shows, held_not_drained, lower_raised_shows, lower_in_shows, regain_shows, number_read_is, refusal_published, same_reading}
 
@@ -80,6 +80,11 @@ module _ {E B T L I : Type 0} (m : Meanings E B T L I) where
       seen : (x : ℕ) → x ≡ c.number → SeenUpTo v.part x
       seen x is = subst (SeenUpTo v.part) (sym is) (subst (λ (y : Part E L I). SeenUpTo y c.number) (sym live.part) (seen_published m c t whole.1 v.place live.low high))
 
+      named : (e : E) → m.number e ≡ c.number → m.name e ≡ c.name → SeenAs v.part (m.number e) (m.name e)
+      named e number name =
+          subst (λ (x : ℕ). SeenAs v.part x (m.name e)) (sym number) (subst (λ (l : L). SeenAs v.part c.number l) (sym name)
+          (subst (λ (y : Part E L I). SeenAs y c.number c.name) (sym live.part) (seen_as_published m c t whole.1 v.place live.low high)))
+
       found_is : found ≡ token_word (c.state v.place).token
       found_is = ap (slice_index t.words) (i_is ∙ ap (λ (n : ℕ). token_index n v.place) live.count) ∙ whole.1.words.tokens v.place live.low high
 
@@ -97,7 +102,7 @@ module _ {E B T L I : Type 0} (m : Meanings E B T L I) where
             takes v.place (Edition (Some e)),
             home.1,
             (own_core c v.place (record (c.state v.place) { phase = In }) (entered_part m v.part e), check_held_shows m c t id v whole.1 is_at role i me.1 e up held home.1 home.2, (may, check_held_event m c t id v whole.1 is_at role (entered_part m v.part e) held)),
-            match_true _ _ (found == 0) (eq-eqb found 0 zero_found) (e, refl, known, seen (m.number e) home.2.number_is),
+            match_true _ _ (found == 0) (eq-eqb found 0 zero_found) (e, refl, known, seen (m.number e) home.2.number_is, named e home.2.number_is home.2.name_is),
           )
       by_token (Revoked s) revoked =
           let is : found ≡ s = found_is ∙ ap token_word revoked in

@@ -23,9 +23,14 @@ use Rattle.rm_table.specs.declared.view.View.{View}
 use Rattle.rm_table.specs.Layout.{holder_word, is_held_by}
 use Rattle.rm_table.specs.Meanings.{Meanings, with_value_at, BeginsWith}
 use Rattle.rm_table.specs.Rule.{WholeState, core_of, lent_book, LockWords, tracker_of, token_of, Sound, IsPending, InHistory, Current, Slots, Numbers, Live, Shows}
-use Rattle.rm_table.specs.Moves.{SeenUpTo}
+use Rattle.rm_table.specs.Moves.{SeenUpTo, SeenAs}
 use Rattle.rm_table.proofs.Base.{put_here, put_else, at_put, put_keeps, there, get_within, slice_at}
 use Rattle.rm_table.proofs.Keeping.{Beside, begins_same, each_after, every_seat_after}
+
+-- the name that was found, another where there is none
+abbrev name_at : {L T : Type 0} → L → at.Option (L × T) → L
+name_at other at.none = other
+name_at other (at.some named) = named.0
 
 module _ {E B T L I : Type 0} where
   -- an event keeps the core sound
@@ -115,6 +120,12 @@ module _ {E B T L I : Type 0} (m : Meanings E B T L I) where
   -- no pair that a processor saw is past the published number
   pub seen_published : (c : WholeState E B T L I) (t : State (Slot E B) (View E B T L I)) → Shows m c t → (k : ℕ) → 0 < k → k ≤ c.count → SeenUpTo (c.part k) c.number
   seen_published c t shows k low high j x name is = in_history c t shows x name (shows.insides.pairs k low high j x name (slice_at (c.part k).pairs j (x, name) is))
+
+  -- each name that it saw under the published number is the published one
+  pub seen_as_published : (c : WholeState E B T L I) (t : State (Slot E B) (View E B T L I)) → Shows m c t → (k : ℕ) → 0 < k → k ≤ c.count → SeenAs (c.part k) c.number c.name
+  seen_as_published c t shows k low high j other is =
+      let found = shows.insides.pairs k low high j c.number other (slice_at (c.part k).pairs j (c.number, other) is) in
+      ap (name_at other) (sym found.1.1 ∙ shows.past.last)
 
   -- What a processor's step has to bring: r and a are its state and part after it, w its view.
   pub record OwnStep (c : WholeState E B T L I) (t : State (Slot E B) (View E B T L I)) (id : ℕ) (v : View E B T L I) (e : Event) (r : ProcessorState) (a : Part E L I) (w : View E B T L I) (words : List ℕ) (homes : List (at.Option (Slot E B))) : Type 0 where

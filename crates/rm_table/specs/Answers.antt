@@ -8,14 +8,15 @@ use Rattle.rm_table.specs.declared.lock_steps.Tried.TheVariants.{Taken, HeldBy}
 use Rattle.rm_table.specs.declared.padded_slot.Slot.TheVariants.{Edition, Book}
 use Rattle.rm_table.specs.Layout.{number_index, behind_index, book_index, tracker_index, token_index}
 use Rattle.rm_table.specs.Meanings.{Meanings}
-use Rattle.rm_table.specs.Moves.{with_step, refused_view, behind_taken, regained_view, drained_view, number_read, book_taken, entered_view, SeenUpTo, IsLast, FoundBy}
+use Rattle.rm_table.specs.Moves.{with_step, refused_view, behind_taken, regained_view, drained_view, number_read, book_taken, entered_view, SeenUpTo, SeenAs, IsLast, FoundBy}
 use Rattle.rm_table.specs.Plays.{Seated}
 
 module _ {E B T L I : Type 0} (m : Meanings E B T L I) where
-  -- a check: its load saw 0, and the processor is in with the edition of its slot, of the number that it knew and no earlier than any that it
-  -- saw, or its load saw the number of the refusal, which is greater
+  -- a check: its load saw 0, and the processor is in with the edition of its slot, of the number that it knew, no earlier than any that it
+  -- saw, and of every name that it saw under this number, or its load saw the number of the refusal, which is greater
   abbrev pub AnswersCheck : Seated m → Heard → Seated m → Type 0
   AnswersCheck me Held after = (e : E) × (after ≡ (with_step (entered_view m me.0 e) (token_index me.0.count me.0.place) 0, (me.0.place, Edition (Some e)) ∷ me.1)) × (m.number e ≡ me.0.part.held) × SeenUpTo me.0.part (m.number e)
+      × SeenAs me.0.part (m.number e) (m.name e)
   AnswersCheck me (Revoked s) after = (after ≡ (with_step (refused_view me.0 s) (token_index me.0.count me.0.place) s, me.1)) × (me.0.part.held < s)
   AnswersCheck me Drained after = ⊥
   AnswersCheck me NotOut after = ⊥

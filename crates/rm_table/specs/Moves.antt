@@ -33,6 +33,10 @@ module _ {E L I : Type 0} where
   abbrev pub SeenUpTo : Part E L I → ℕ → Type 0
   SeenUpTo part number = (j x : ℕ) (name : L) → slice_get part.pairs j ≡ Some (x, name) → x ≤ number
 
+  -- each name that the processor has seen under this number is this one
+  abbrev pub SeenAs : Part E L I → ℕ → L → Type 0
+  SeenAs part number name = (j : ℕ) (other : L) → slice_get part.pairs j ≡ Some (number, other) → other ≡ name
+
   -- join seat, of a receipt: the processor has seen each number and name of that history, the first of which has the number `opened`
   abbrev pub informed_part : {T : Type 0} → Part E L I → ℕ → List (L × T) → Part E L I
   informed_part part opened history = record part { pairs = part.pairs ++ numbered_names opened history }

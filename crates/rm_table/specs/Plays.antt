@@ -8,7 +8,7 @@ use Rattle.rm_table.specs.declared.padded_slot.Slot.TheVariants.{Edition, Book}
 use Rattle.rm_table.specs.declared.view.View.{View}
 use Rattle.rm_table.specs.Layout.{tracker_index, token_index}
 use Rattle.rm_table.specs.Meanings.{Meanings}
-use Rattle.rm_table.specs.Moves.{with_step, raised_view, refused_view, lowered_view, hand_left, behind_taken, behind_given, regained_view, revoked_view, drained_view, number_read, book_taken, entered_view, published_view, rest_from, book_given, SeenUpTo, IsLast, FoundBy, AllDrained}
+use Rattle.rm_table.specs.Moves.{with_step, raised_view, refused_view, lowered_view, hand_left, behind_taken, behind_given, regained_view, revoked_view, drained_view, number_read, book_taken, entered_view, published_view, rest_from, book_given, SeenUpTo, SeenAs, IsLast, FoundBy, AllDrained}
 
 module _ {E B T L I : Type 0} (m : Meanings E B T L I) where
   -- a seat between two steps: its view and the slots in its hand
@@ -23,11 +23,11 @@ module _ {E B T L I : Type 0} (m : Meanings E B T L I) where
   abbrev pub TellsRaise : Telling
   TellsRaise s me found after = after ≡ (with_step (raised_view me.0) s.word found, me.1)
 
-  -- the token is held, and the edition in the slot is of the number that the processor knows, which no pair that it saw is past, or the token
-  -- is revoked for a later number
+  -- the token is held, and the edition in the slot is of the number that the processor knows, which no pair that it saw is past, and of every
+  -- name that it saw under this number, or the token is revoked for a later number
   abbrev pub TellsCheck : Telling
   TellsCheck s me found after = MatchBool (found == 0)
-      ((e : E) × (after ≡ (with_step (entered_view m me.0 e) s.word found, (me.0.place, Edition (Some e)) ∷ me.1)) × (m.number e ≡ me.0.part.held) × SeenUpTo me.0.part (m.number e))
+      ((e : E) × (after ≡ (with_step (entered_view m me.0 e) s.word found, (me.0.place, Edition (Some e)) ∷ me.1)) × (m.number e ≡ me.0.part.held) × SeenUpTo me.0.part (m.number e) × SeenAs me.0.part (m.number e) (m.name e))
       ((after ≡ (with_step (refused_view me.0 found) s.word found, me.1)) × (me.0.part.held < found))
 
   -- the processor is out, and its edition, if it was in, is back in its slot

@@ -1,0 +1,52 @@
+use Rattle.std.proofs.Common.{◌≡◌, ◌+◌, ◌%◌, ◌^◌, Bool, subst, sym, ap, ◌∙◌, false}
+use Rattle.std.specs.Prelude.{is_some}
+use Rattle.eval_engine.specs.Dockets.{DocketValue}
+use Rattle.fw_world.specs.declared.lane_work.LaneWork.{LaneWork}
+use Rattle.generation_store.specs.Published.{Published, IsEdition}
+use Rattle.shared_world.proofs.Sections.{entered, entered-kept, entered-reads, refused, inside_of, loosened}
+use Rattle.shared_world.proofs.world.World.enter.Goals as goal
+use Rattle.shared_world.proofs.world.World.enter.Goals.{After-is_edition, After-refuse}
+use Rattle.shared_world.specs.Known.{Known}
+use Rattle.shared_world.specs.LaneCalls.{EntersIn, IsRefused}
+use Rattle.shared_world.specs.LaneKept.{IsSharedLane, ReadsSeen}
+use Rattle.shared_world.specs.SharedLane.{SharedLane, lane_of}
+
+counted : (c : After-is_edition) → c.loosen.new.self ≡ loosened (is_some c.lane.inside.processor.view.part.refusal) c.lane.inside.work
+counted c = c.loosen.ensures ∙ ap (λ (b : Bool). loosened b c.lane.inside.work) c.is_refused.ensures
+
+pub invariant_of-result : goal.invariant_of-result
+invariant_of-result c =
+    let v = c.lane.inside.processor.view in
+    let e = c.in-In.ensures.entry.1.0 in
+    let view = c.in-In.ensures.entry.1.1 in
+    let number = c.in-In.ensures.entry.1.2 in
+    let kept = subst (λ (u : Known). IsSharedLane 1 u (loosened (is_some v.part.refusal) c.lane.inside.work)) (sym view) (entered-kept v c.lane.inside.work e c.lane.invariant) in
+    let lawful = subst (λ (p : Published). IsEdition p) c.deref.ensures c.is_edition.ensures in
+    let reads = entered-reads v e c.edition.result.now number (sym (ap (λ (u : Known). u.part.reading) view) ∙ c.edition.ensures) lawful c.in-In.ensures.entry.1.4 in (
+      subst (λ (w : LaneWork). IsSharedLane 1 c.in-In.reading.view w) (sym (counted c)) kept,
+      subst (λ (u : Known). ReadsSeen u) (sym view) reads,
+      ap (λ (u : Known). u.place) view ∙ sym c.place-place.ensures,
+    )
+
+pub returns-in-In : goal.returns-in-In
+returns-in-In c = record {
+  entry =
+      let t = c.in-In.ensures.entry.0 in
+      subst (λ (l : SharedLane). EntersIn l (inside_of c.in-In.reading.table_id c.in-In.reading.view c.loosen.new.self false)) c.lane.view_is
+      (entered c.lane.inside.processor.table_id c.in-In.reading.table_id c.lane.inside.processor.view c.in-In.reading.view c.lane.inside.work c.loosen.new.self c.in-In.ensures.entry.1.0 t
+      c.in-In.ensures.entry.1.1 (counted c) c.in-In.ensures.entry.1.2 c.in-In.ensures.entry.1.3);
+}
+
+pub returns-in-Revoked : goal.returns-in-Revoked
+returns-in-Revoked c = record {
+  entry =
+      let v = c.lane.inside.processor.view in
+      let counted : c.loosen.new.self ≡ loosened (is_some v.part.refusal) c.lane.inside.work = c.loosen.ensures ∙ ap (λ (b : Bool). loosened b c.lane.inside.work) c.is_refused.ensures in
+      let docket = c.refuse.ensures ∙ ap (λ (w : LaneWork). let d : DocketValue = record { entries = w.docket.entries; refused = (w.docket.refused + 1) % 2 ^ 64 } in d) counted in
+      let work : LaneWork = record { docket = c.refuse.new.self; tally = c.loosen.new.self.tally; cache = c.loosen.new.self.cache; failed = c.loosen.new.self.failed; loose = c.loosen.new.self.loose } in
+      let same : work ≡ record (loosened (is_some v.part.refusal) c.lane.inside.work) { docket = record c.lane.inside.work.docket { refused = (c.lane.inside.work.docket.refused + 1) % 2 ^ 64 } } =
+      (λ i. record { docket = docket i; tally = (counted i).tally; cache = (counted i).cache; failed = (counted i).failed; loose = (counted i).loose }) in
+      subst (λ (l : SharedLane). IsRefused l (lane_of c.in-Revoked.processor.table_id c.in-Revoked.processor.view work) c.in-Revoked.number) c.lane.view_is
+      (refused c.lane.inside.processor.table_id c.in-Revoked.processor.table_id v c.in-Revoked.processor.view c.lane.inside.work work c.in-Revoked.number c.in-Revoked.ensures.entry.0
+      c.in-Revoked.ensures.entry.1 same c.in-Revoked.ensures.entry.2);
+}

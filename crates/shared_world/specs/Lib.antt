@@ -1,0 +1,16 @@
+-- what the lock's tokens know of a world
+pub mod Known
+-- what contracts see of its lanes and of its desk, and what holds of each
+pub mod SharedLane
+pub mod LaneKept
+pub mod SharedDesk
+pub mod DeskKept
+pub mod Standing
+-- what the calls do
+pub mod LaneCalls
+pub mod Judging
+pub mod Visits
+pub mod Commits
+-- the world as it opens and as it closes
+pub mod Closing
+pub mod Apart

@@ -1,0 +1,26 @@
+//! The world for many threads: lanes and a desk on the read-mostly lock, over shared editions and the one
+//! book of the states.
+#![tactic(auto)]
+
+pub use desk::Desk;
+pub use inside::Inside;
+pub use lane::Lane;
+pub use lane_entry::LaneEntry;
+pub use open_world::OpenWorld;
+pub use world::{MOST_LANES, World};
+
+mod asking;
+mod closing;
+mod closing_room;
+mod committing;
+mod desk;
+mod inside;
+mod judging;
+mod lane;
+mod lane_calls;
+mod lane_entry;
+mod open_world;
+mod opening;
+mod preparing;
+mod shared_book;
+mod world;
