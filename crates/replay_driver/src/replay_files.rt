@@ -1,12 +1,12 @@
 ghost use Rattle.std.specs.Prelude.{◌≡◌, ◌≤◌, ◌∷◌, IfOk, None, map, length};
 ghost use Rattle.command_words.specs.Invocation.{capture_names};
-ghost use Rattle.command_words.specs.declared.invocation.Mode.TheVariants as modes;
 ghost use Rattle.replay_driver.specs.Found.{FindsReplay};
 ghost use Rattle.replay_driver.specs.RunResult.{IsWritable};
 ghost use Rattle.replay_driver.specs.ReplayFiles.{FindsCaptures, ReplaysOpened};
 
 use crate::LibraryView;
 use crate::capture_openings::{CaptureOpenings, open_captures};
+use crate::replayer::Replayer;
 use crate::run_result::{Found, RunResult, without_sources};
 use crate::script_replay::{ScriptReplay, into_sources, replay_script};
 use crate::script_source::{ScriptSource, read_script_source};
@@ -28,19 +28,20 @@ fn with_script<S: Drop>(script: S, found: Found<S>) -> Result<Found<S>, OutOfMem
     Ok(Found { result, sources })
 }
 
-/// Replays the captures in serial mode, all of which were opened, and hands back their sources.
-fn replay_opened<S: Source>(
+/// Replays the captures, all of which were opened, and hands back their sources.
+fn replay_opened<S: Source + Send, P: Replayer>(
     alloc: Global,
+    replayer: &P,
     journal: bool,
     script: &[u8],
     opened: Vec<OpenedCapture<S>>,
 ) -> Result<Found<S>, OutOfMemory>
     requires { (1 ≤ length opened.items) × (length opened.items ≤ MOST_CAPTURES) }
     ensures writable { IfOk result (λ found. IsWritable found.result) }
-    ensures replays { IfOk result (λ found. ReplaysOpened S.left S.faults modes.Serial journal script.now
+    ensures replays { IfOk result (λ found. ReplaysOpened S.left S.faults P.mode journal script.now
         opened.items found.result found.sources.items) }
 {
-    match replay_script(alloc, script, opened)? {
+    match replay_script(alloc, replayer, script, opened)? {
         ScriptReplay::Unready(error, sources) => Ok(Found {
             result: RunResult::Unready(error),
             sources,
@@ -60,19 +61,22 @@ fn replay_opened<S: Source>(
     }
 }
 
-/// Opens the captures and replays them in serial mode beside the script of these bytes, and hands back the captures' sources.
-fn find_captures<L: Library>(
+/// Opens the captures and replays them beside the script of these bytes, and hands back the captures' sources.
+fn find_captures<L: Library, P: Replayer>(
     alloc: Global,
+    replayer: &P,
     journal: bool,
     captures: &[CaptureWord<'_>],
     script: &[u8],
     library: &mut L,
 ) -> Result<Found<L::Reader>, OutOfMemory>
+where
+    L::Reader: Send,
     requires { (1 ≤ length captures.now) × (length captures.now ≤ MOST_CAPTURES) }
     ensures writable { IfOk result (λ found. IsWritable found.result) }
     ensures finds { IfOk result (λ found.
         FindsCaptures ⟦<L as LibraryView>⟧.files
-        modes.Serial journal (map capture_names captures.now) library.old library.new script.now
+        P.mode journal (map capture_names captures.now) library.old library.new script.now
         found.result found.sources.items) }
 {
     match open_captures(alloc, captures, library)? {
@@ -80,24 +84,27 @@ fn find_captures<L: Library>(
             result: RunResult::Unread(name),
             sources: into_sources(alloc, opened)?,
         }),
-        CaptureOpenings::All(opened) => replay_opened(alloc, journal, script, opened),
+        CaptureOpenings::All(opened) => replay_opened(alloc, replayer, journal, script, opened),
     }
 }
 
-/// Opens and reads what the words name, 1 to 16 captures beside a script, and replays it in serial mode.
-pub(crate) fn replay_files<L: Library>(
+/// Opens and reads what the words name, 1 to 16 captures beside a script, and replays it.
+pub(crate) fn replay_files<L: Library, P: Replayer>(
     alloc: Global,
+    replayer: &P,
     journal: bool,
     script: &[u8],
     captures: &[CaptureWord<'_>],
     library: &mut L,
 ) -> Result<Found<L::Reader>, OutOfMemory>
+where
+    L::Reader: Send,
     requires { (1 ≤ length captures.now) × (length captures.now ≤ MOST_CAPTURES) }
     ensures writable { IfOk result (λ found. IsWritable found.result) }
     ensures finds { IfOk result (λ found.
         FindsReplay ⟦<L as LibraryView>⟧.files
         (record {
-          mode = modes.Serial;
+          mode = P.mode;
           journal = journal;
           cache = None;
           script = script.now;
@@ -114,7 +121,7 @@ pub(crate) fn replay_files<L: Library>(
         ),
         ScriptSource::Read(source, bytes) => with_script(
             source,
-            find_captures(alloc, journal, captures, &bytes, library)?,
+            find_captures(alloc, replayer, journal, captures, &bytes, library)?,
         ),
     }
 }

@@ -10,3 +10,4 @@ pub mod Judging
 pub mod Commits
 -- the world as it opens and as it closes
 pub mod Closing
+pub mod Stub

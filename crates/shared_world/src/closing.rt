@@ -30,6 +30,7 @@ impl World {
             → DeskStandsFor desk first commands → EachStandsFor (by_place lanes.items) inputs
             → IsLegalButSections first commands inputs r) }
     {
+        self.is_stub();
         unreachable!()
     }
 }

@@ -24,11 +24,14 @@ impl Model for World {
     ghost view = { λ w. w.lock };
 
     // STUB
-    ghost invariant = { λ w. ⊥ };
+    ghost use Rattle.shared_world.specs.Stub.{Never};
+
+    ghost invariant = { λ w. Never w.lock };
 }
 
 impl World {
     // STUB
+    #[tactic(auto, unfolding(crate::specs::Stub::Never))]
     pub(crate) fn is_stub(&self)
         ensures { ⊥ }
     {

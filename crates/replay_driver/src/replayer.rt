@@ -1,0 +1,87 @@
+ghost use Rattle.std.specs.Prelude.{◌≡◌, ◌≤◌, IfOk, vec_len};
+ghost use Rattle.std.specs.List.{AllByRecursion};
+ghost use Rattle.command_words.specs.declared.invocation.Mode.TheVariants as modes;
+ghost use Rattle.fw_command.specs.WellFormed.{IsStepInRange};
+ghost use Rattle.replay_driver.specs.Replayer.{IsReplayIn};
+ghost use Rattle.replay_driver.specs.Served.{pace_of};
+
+use capture_tracks::{OpenedCapture, Replayed};
+use command_words::MOST_CAPTURES;
+use fw_base::{Gate, OutOfMemory, Source};
+use fw_command::{Pace, Step};
+use live_replay::replay_live;
+use rule_chain::Config;
+use serial_replay::replay_serial;
+use std::alloc::Global;
+use std::sync::Wait;
+use std::thread::Threads;
+
+/// How captures are replayed beside what a script has behind `live`.
+pub(crate) trait Replayer {
+    ghost use Rattle.command_words.specs.declared.invocation.Mode.{Mode};
+
+    ghost mode: { Mode };
+
+    /// The pace of the script's steps.
+    fn pace(&self) -> Pace
+        ensures { result ≡ pace_of mode };
+
+    /// Replays 1 to 16 captures beside these steps.
+    fn replay<S: Source + Send>(
+        &self,
+        alloc: Global,
+        config: Config,
+        steps: &[Step],
+        captures: Vec<OpenedCapture<S>>,
+    ) -> Result<Replayed<S>, OutOfMemory>
+        requires some { 1 ≤ vec_len captures }
+        requires few { vec_len captures ≤ MOST_CAPTURES }
+        requires steps { AllByRecursion IsStepInRange steps.now }
+        ensures { IfOk result
+            (IsReplayIn S.left S.faults mode config steps.now captures.items) };
+}
+
+/// One record or command after the other, in the order of the schedule and in one thread.
+pub(crate) struct InTurn;
+
+impl Replayer for InTurn {
+    ghost mode = { modes.Serial };
+
+    fn pace(&self) -> Pace {
+        Pace::Serial
+    }
+
+    fn replay<S: Source + Send>(
+        &self,
+        alloc: Global,
+        config: Config,
+        steps: &[Step],
+        captures: Vec<OpenedCapture<S>>,
+    ) -> Result<Replayed<S>, OutOfMemory> {
+        replay_serial(alloc, config, steps, captures)
+    }
+}
+
+/// Each capture by a thread of its own, beside one that runs the commands.
+pub(crate) struct AtOnce<'a, R, G> {
+    pub(crate) rt: &'a R,
+    pub(crate) gate: &'a G,
+}
+
+impl<R: Threads + Wait + Sync, G: Gate + Sync> Replayer for AtOnce<'_, R, G> {
+    ghost mode = { modes.Live };
+
+    fn pace(&self) -> Pace {
+        Pace::Live
+    }
+
+    fn replay<S: Source + Send>(
+        &self,
+        alloc: Global,
+        config: Config,
+        steps: &[Step],
+        captures: Vec<OpenedCapture<S>>,
+    ) -> Result<Replayed<S>, OutOfMemory> {
+        replay_live(self.rt, alloc, config, steps, captures, self.gate)
+    }
+}
