@@ -42,6 +42,7 @@ pub(crate) trait Replayer {
 }
 
 /// One record or command after the other, in the order of the schedule and in one thread.
+#[derive(Drop)]
 pub(crate) struct InTurn;
 
 impl Replayer for InTurn {
@@ -63,6 +64,7 @@ impl Replayer for InTurn {
 }
 
 /// Each capture by a thread of its own, beside one that runs the commands.
+#[derive(Drop)]
 pub(crate) struct AtOnce<'a, R, G> {
     pub(crate) rt: &'a R,
     pub(crate) gate: &'a G,
