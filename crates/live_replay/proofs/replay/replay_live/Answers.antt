@@ -7,7 +7,7 @@ use Rattle.live_replay.proofs.Whole.{ran_over, can_close, comes_to}
 use Rattle.live_replay.proofs.replay.replay_live.Goals as goal
 
 pub run-requires-clause-tasks : goal.run-requires-clause-tasks
-run-requires-clause-tasks g c =
+run-requires-clause-tasks g c κs within =
     tasks_ready c.in_ok-world.field-0.world c.limit_for-limit.result c.args.captures.items c.in_ok-world.field-0.lanes.items c.in_ok-open_tasks.field-0.items c.limit_for-limit.ensures.some c.limit_for-limit.ensures.most c.in_ok-world.ensures.lanes c.in_ok-open_tasks.ensures
 
 pub close-requires : goal.close-requires
