@@ -1,4 +1,4 @@
-ghost use Rattle.std.specs.Prelude.{◌≡◌, ℕ, ◌<◌, ◌≤◌, Some, [], List, length, find, OnOk, OnErr, IfOk};
+ghost use Rattle.std.specs.Prelude.{◌≡◌, ℕ, ◌<◌, ◌≤◌, ◌⊎◌, Some, [], List, length, find, OnOk, OnErr, IfOk};
 ghost use Rattle.counter_book.specs.declared.tally.Count.{Count};
 ghost use Rattle.fw_base.specs.declared.port.Port.{Port};
 ghost use Rattle.fw_rule.specs.declared.rule.Rule.{Rule};
@@ -53,6 +53,8 @@ pub(crate) fn begin_by_cache(
       second = second;
     })) begun.is_hit kept.old kept.new) }
     ensures kept { KeepsVerdicts edition.now port.now kept.new }
+    ensures room { kept.new.capacity ≡ kept.old.capacity }
+    ensures given { (kept.new ≡ kept.old) ⊎ (kept.new.number ≡ Some edition.now.number) }
 {
     let AnyIp::Four(ip) = packet else {
         let stage = begin(edition, packet, port, second, tally);

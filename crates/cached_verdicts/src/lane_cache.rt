@@ -1,10 +1,7 @@
-ghost use Rattle.std.specs.Prelude.{◌≡◌, ℕ, ◌<◌, ◌≤◌, [], ◌∷◌, ◌++◌, List, length, OnOk, IfOk};
-ghost use Rattle.fw_base.specs.declared.port.Port as port_value;
+ghost use Rattle.std.specs.Prelude.{◌≡◌, ◌<◌, ◌≤◌, [], length, OnOk, IfOk};
 ghost use Rattle.generation_store.specs.Published.{Published};
 ghost use Rattle.eval_engine.specs.Standing.{StandsAt};
-ghost use Rattle.cached_verdicts.specs.LaneCache.{empty_lane_cache, IsNoneBefore, HasRecent};
-ghost use Rattle.cached_verdicts.specs.Verdicts.{KeepsVerdicts};
-ghost use Rattle.cached_verdicts.specs.Visits.{Visit, last_number, visit_of};
+ghost use Rattle.cached_verdicts.specs.LaneCache.{empty_lane_cache, IsPortOf, IsTrueUnder, IsLookedInto, SeesPacket, HasRecent};
 
 use crate::KeptVerdict;
 use crate::beginning::begin_by_cache;
@@ -15,21 +12,29 @@ use generation_store::Edition;
 use ip6_headers::AnyIp;
 use std::alloc::Global;
 use std::marker::Model;
+use std::snapshot::Snapshot;
 use verdict_cache::{MOST_VERDICTS, VerdictCache};
 
 /// The cache of one lane, whose packets are captured at one port, and how many of its packets were hits.
-#[derive(Debug, Drop)]
+#[derive(Drop)]
 pub struct LaneCache {
+    /// Where the packets so far were captured: clauses alone read it, and it has no bytes.
+    port: Option<Snapshot<Port>>,
     kept: VerdictCache<KeptVerdict>,
     hits: u64,
 }
 
 impl Model for LaneCache {
+    ghost use Rattle.std.specs.Option.{option_map};
     ghost use Rattle.cached_verdicts.specs.LaneCache.{LaneCacheValue};
 
     ghost Value = { LaneCacheValue };
 
-    ghost view = { λ c. record { kept = c.kept; hits = c.hits } };
+    ghost view = { λ c. record {
+      port = option_map (λ port. port.value) c.port;
+      kept = c.kept;
+      hits = c.hits;
+    } };
 }
 
 impl LaneCache {
@@ -37,11 +42,11 @@ impl LaneCache {
     pub fn open(alloc: Global, capacity: u32) -> Result<LaneCache, OutOfMemory>
         requires { (1 ≤ capacity) × (capacity ≤ MOST_VERDICTS) }
         ensures empty { IfOk result (λ lane. lane ≡ empty_lane_cache capacity) }
-        ensures kept { IfOk result (λ lane. (edition : Published) (port : port_value.Port)
-            → KeepsVerdicts edition port lane.kept) }
+        ensures kept { IfOk result (λ lane. (edition : Published) → IsTrueUnder edition lane) }
         ensures recent { IfOk result (λ lane. HasRecent capacity [] lane) }
     {
         Ok(LaneCache {
+            port: None,
             kept: VerdictCache::open(alloc, capacity)?,
             hits: 0,
         })
@@ -60,24 +65,23 @@ impl LaneCache {
         tally: &mut Tally,
     ) -> Result<Stage, OutOfMemory>
         requires fitted { edition.now.config.greatest_counter < length tally.old }
-        requires kept { KeepsVerdicts edition.now port.now self.old.kept }
+        requires port { IsPortOf self.old port.now }
+        requires kept { IsTrueUnder edition.now self.old }
         ensures stands { IfOk result (λ stage. StandsAt (record {
           edition = edition.now;
           packet = packet.now;
           port = port.now;
           second = second;
         }) [] [] tally.old stage tally.new) }
-        ensures kept { KeepsVerdicts edition.now port.now self.new.kept }
-        ensures recent { OnOk result ((capacity : ℕ) (visits : List Visit)
-            → IsNoneBefore (last_number visits) edition.now.number
-            → HasRecent capacity visits self.old
-            → HasRecent capacity (visits ++ visit_of (record {
-              edition = edition.now;
-              packet = packet.now;
-              port = port.now;
-              second = second;
-            }) ∷ []) self.new) }
+        ensures looked { IsLookedInto edition.now port.now self.old self.new }
+        ensures seen { OnOk result (SeesPacket (record {
+          edition = edition.now;
+          packet = packet.now;
+          port = port.now;
+          second = second;
+        }) self.old self.new) }
     {
+        self.port = Some(Snapshot::of(port));
         let begun = begin_by_cache(&mut self.kept, edition, packet, port, second, tally)?;
         if begun.is_hit {
             self.hits = self.hits.saturating_add(1);

@@ -9,6 +9,7 @@ use Rattle.eval_engine.proofs.Dockets.{judgements-append, judgements-judged}
 use Rattle.eval_engine.specs.Dockets.{judged_entry, judgements}
 use Rattle.eval_engine.specs.declared.docket_entry.DocketEntry.{DocketEntry}
 use Rattle.eval_engine.specs.declared.judgement.Judgement.{Judgement}
+use Rattle.cached_verdicts.specs.LaneCache.{LaneCacheValue}
 use Rattle.fw_world.specs.Lane.{LaneValue, InsideValue, one_looser, inside_after_entry, lane_after_refusal, lane_after_leave, lane_after_regain, lane_after_admission, with_docket_entry}
 use Rattle.fw_world.specs.LaneKept.{IsLane, IsInside, pending_of}
 use Rattle.fw_world.specs.Sections.{judged_editions, tracker_after}
@@ -103,9 +104,9 @@ IsLane-left inside is = record {
     no_pending false is = cc
 
 -- where nothing pends after a judgement, its section is told
-pub IsLane-judged : (lane : LaneValue) (judgement : Judgement) (tally : List Count) → IsLane 1 lane → All (λ number. number ≤ judgement.edition) (judged_editions lane.docket.entries)
-    → IsLane 0 (record (with_docket_entry (judged_entry judgement) lane) { tally = tally })
-IsLane-judged lane judgement tally is below =
+pub IsLane-judged : (lane : LaneValue) (judgement : Judgement) (tally : List Count) (cache : Option LaneCacheValue) → IsLane 1 lane → All (λ number. number ≤ judgement.edition) (judged_editions lane.docket.entries)
+    → IsLane 0 (record (with_docket_entry (judged_entry judgement) lane) { tally = tally; cache = cache })
+IsLane-judged lane judgement tally cache is below =
     let grown = judged_editions-judged lane.docket.entries judgement in
     record {
       numbered = is.numbered;
@@ -119,8 +120,8 @@ IsLane-judged lane judgement tally is below =
     }
 
 -- want of memory changes nothing of it
-pub IsLane-failed : (pending : ℕ) (lane : LaneValue) (tally : List Count) → IsLane pending lane → IsLane pending (record lane { tally = tally; failed = true })
-IsLane-failed pending lane tally is = record { numbered = is.numbered; above = is.above; rising = is.rising; few = is.few; tracked = is.tracked }
+pub IsLane-failed : (pending : ℕ) (lane : LaneValue) (tally : List Count) (cache : Option LaneCacheValue) → IsLane pending lane → IsLane pending (record lane { tally = tally; cache = cache; failed = true })
+IsLane-failed pending lane tally cache is = record { numbered = is.numbered; above = is.above; rising = is.rising; few = is.few; tracked = is.tracked }
 
 -- entries that aren't judged
 pub IsLane-skipped : (lane : LaneValue) (entered : DocketEntry) → judged_editions (entered ∷ []) ≡ [] → IsLane 0 lane → IsLane 0 (with_docket_entry entered lane)

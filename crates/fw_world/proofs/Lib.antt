@@ -13,6 +13,7 @@ pub mod MoreEditions
 pub mod Seen
 -- lanes that go on
 pub mod Judging
+pub mod Caching
 pub mod LaneSteps
 pub mod Passing
 -- lanes in the order of their places

@@ -1,13 +1,15 @@
 -- What the numbers of editions tell.
-use Rattle.std.proofs.Common.{◌≡◌, ℕ, suc, ◌+◌, ◌-◌, List, [], ◌∷◌, ◌++◌, length, map, refl, ap, ◌∙◌, subst, arith}
-use Rattle.std.specs.Prelude.{Some, slice_get}
+use Rattle.std.proofs.Common.{◌≡◌, ◌≤◌, ℕ, zero, suc, ◌+◌, ◌-◌, List, [], ◌∷◌, ◌++◌, length, map, refl, ap, ◌∙◌, subst, arith}
+use Rattle.std.proofs.lemmas.Option.{slice_get_within}
+use Rattle.std.specs.List.{AllByRecursion}
+use Rattle.std.specs.Prelude.{Option, Some, None, IfSome, slice_get}
 use Rattle.state_asks.specs.RuleLists.{has_id}
 use Rattle.generation_store.specs.Published.{Published, has_identity, IsEdition}
 use Rattle.state_journal.specs.Entries.{publications, last_number}
 use Rattle.state_journal.specs.Journal.{last_rules}
 use Rattle.state_journal.specs.declared.entry.Entry.{Entry}
 use Rattle.state_journal.specs.declared.entry.Entry.TheVariants.{Publish, Ask}
-use Rattle.fw_world.specs.Editions.{IsLastOf, AreNumbered}
+use Rattle.fw_world.specs.Editions.{IsLastOf, AreNumbered, edition_numbered}
 use Rattle.fw_world.specs.Publications.{PublishesEach, facts_of}
 
 -- the last of several is the last of all but the first
@@ -62,3 +64,30 @@ last_number_of editions entries numbered once =
 pub AreNumbered-append : (number : ℕ) (editions : List Published) (edition : Published) → AreNumbered number editions → edition.number ≡ number + length editions → IsEdition edition → AreNumbered number (editions ++ edition ∷ [])
 AreNumbered-append number [] edition numbered next is = (omega (arith, next), is, tt)
 AreNumbered-append number (first ∷ rest) edition numbered next is = (numbered.0, numbered.1, AreNumbered-append (number + 1) rest edition numbered.2 (omega (arith, next)) is)
+
+-- the edition in a place has the number of its place
+numbered_at : (first place : ℕ) (editions : List Published) (edition : Published) → AreNumbered first editions → slice_get editions place ≡ Some edition → edition.number ≡ first + place
+numbered_at first place [] edition numbered is = cc
+numbered_at first zero (one ∷ editions) edition numbered is =
+    let same : one ≡ edition = cc in
+    omega (arith, numbered.0, ap (λ (e : Published). e.number) same)
+numbered_at first (suc place) (one ∷ editions) edition numbered is = omega (arith, numbered_at (first + 1) place editions edition numbered.2 is)
+
+-- the last edition is found by its number
+pub last_is_found : (editions : List Published) (edition : Published) → AreNumbered 1 editions → IsLastOf editions edition → edition_numbered editions edition.number ≡ Some edition
+last_is_found editions edition numbered last =
+    let same : length editions ≡ edition.number = omega (arith, last_is_numbered 1 editions edition numbered last) in
+    subst (λ (n : ℕ). slice_get editions (n - 1) ≡ Some edition) same last
+
+-- whatever is found by a number isn't above the last
+pub found_below : (editions : List Published) (number : ℕ) → AreNumbered 1 editions → IfSome (edition_numbered editions number) (λ edition. edition.number ≤ length editions)
+found_below editions number numbered = by_found (edition_numbered editions number) refl
+  where
+    by_found : (found : Option Published) → edition_numbered editions number ≡ found → IfSome found (λ edition. edition.number ≤ length editions)
+    by_found None is = tt
+    by_found (Some edition) is = omega (arith, numbered_at 1 (number - 1) editions edition numbered is, slice_get_within editions (number - 1) edition is)
+
+-- so are all that a list names
+pub all_found_below : (editions : List Published) (numbers : List ℕ) → AreNumbered 1 editions → AllByRecursion (λ number. IfSome (edition_numbered editions number) (λ edition. edition.number ≤ length editions)) numbers
+all_found_below editions [] numbered = tt
+all_found_below editions (number ∷ numbers) numbered = (found_below editions number numbered, all_found_below editions numbers numbered)

@@ -12,6 +12,7 @@ use Rattle.fw_world.specs.Skips.{entry_for, skipped_input}
 use Rattle.fw_world.specs.declared.skipped.Skipped.{Skipped}
 use Rattle.fw_world.specs.declared.skipped.Skipped.TheVariants.{Other, Malformed}
 use Rattle.fw_world.specs.World.{WorldValue, published_count, IsLaneOf, LaneStandsFor}
+use Rattle.fw_world.proofs.Caching.{CacheStandsFor-skipped}
 use Rattle.fw_world.proofs.Judging.{StandFor-skipped}
 use Rattle.fw_world.proofs.LaneSteps.{judged_editions-append, IsLane-skipped}
 
@@ -23,10 +24,16 @@ not_judged (Malformed kind) = refl
 pub LaneStandsFor-skipped : (world : WorldValue) (lane : LaneValue) (entry : Skipped) (inputs : List Input) → LaneStandsFor world lane inputs → LaneStandsFor world (with_docket_entry (entry_for entry) lane) (inputs ++ skipped_input entry ∷ [])
 LaneStandsFor-skipped world lane Other inputs stands =
     let after = with_docket_entry (entry_for Other) lane in
-    StandFor-skipped world.editions (lane_asks lane.place world.journal.entries) lane.docket lane.tally inputs stands (skipped_input Other) (entry_for Other) refl tt refl after.docket refl
+    record {
+      stands = StandFor-skipped world.editions (lane_asks lane.place world.journal.entries) lane.docket lane.tally inputs stands.stands (skipped_input Other) (entry_for Other) refl tt refl after.docket refl;
+      cached = CacheStandsFor-skipped world.editions lane.docket inputs stands.stands.entered lane.cache (skipped_input Other) (entry_for Other) after.docket refl refl stands.cached;
+    }
 LaneStandsFor-skipped world lane (Malformed kind) inputs stands =
     let after = with_docket_entry (entry_for (Malformed kind)) lane in
-    StandFor-skipped world.editions (lane_asks lane.place world.journal.entries) lane.docket lane.tally inputs stands (skipped_input (Malformed kind)) (entry_for (Malformed kind)) refl tt refl after.docket refl
+    record {
+      stands = StandFor-skipped world.editions (lane_asks lane.place world.journal.entries) lane.docket lane.tally inputs stands.stands (skipped_input (Malformed kind)) (entry_for (Malformed kind)) refl tt refl after.docket refl;
+      cached = CacheStandsFor-skipped world.editions lane.docket inputs stands.stands.entered lane.cache (skipped_input (Malformed kind)) (entry_for (Malformed kind)) after.docket refl refl stands.cached;
+    }
 
 -- what holds of every lane, and that it is one of the world, hold after it passed over a record or failed
 pub IsLane-passed : (result : Result (Unit {0}) OutOfMemory) (entry : Skipped) (before after : LaneValue)
@@ -46,9 +53,10 @@ IsLaneOf-passed world (Ok done) entry before after entered failed is =
       held = is.held;
       heard = is.heard;
       judged = subst (λ (numbers : List ℕ). All (λ number. number ≤ published_count world) numbers) (sym same) is.judged;
+      cached = is.cached;
     })
 IsLaneOf-passed world (Err fault) entry before after entered failed is =
-    subst (λ (l : LaneValue). IsLaneOf world l) (sym failed) (record { first = is.first; last = is.last; held = is.held; heard = is.heard; judged = is.judged })
+    subst (λ (l : LaneValue). IsLaneOf world l) (sym failed) (record { first = is.first; last = is.last; held = is.held; heard = is.heard; judged = is.judged; cached = is.cached })
 
 -- a lane that passed over a record stands for it behind its inputs, where the call succeeded
 pub LaneStandsFor-passed : (world : WorldValue) (result : Result (Unit {0}) OutOfMemory) (entry : Skipped) (before after : LaneValue) → OnOk result (after ≡ with_docket_entry (entry_for entry) before)

@@ -1,5 +1,5 @@
 -- The record of a world and its lanes is legal.
-use Rattle.std.proofs.Common.{◌≡◌, ℕ, suc, ◌+◌, ◌-◌, ◌≤◌, List, [], ◌∷◌, length, map, Option, Some, None, refl, sym, ap, ◌∙◌, subst, arith}
+use Rattle.std.proofs.Common.{◌≡◌, ℕ, suc, ◌+◌, ◌-◌, ◌≤◌, List, [], ◌∷◌, ◌++◌, length, map, Option, Some, None, refl, sym, ap, ◌∙◌, subst, arith}
 use Rattle.std.specs.Prelude.{IfSome, unwrap_or, ⊤}
 use Rattle.std.specs.List.{AllByRecursion}
 use Rattle.counter_book.specs.declared.tally.Count.{Count}
@@ -18,9 +18,12 @@ use Rattle.fw_world.specs.Editions.{AreEditions}
 use Rattle.fw_world.specs.Inputs.{Input}
 use Rattle.fw_world.specs.Lane.{LaneValue}
 use Rattle.fw_world.specs.LaneKept.{IsLane}
-use Rattle.fw_world.specs.Standing.{StandFor}
+use Rattle.cached_verdicts.specs.LaneCache.{LaneCacheValue}
+use Rattle.fw_world.specs.Caches.{capacity_of, counted_before}
+use Rattle.fw_world.specs.Standing.{StandFor, CacheStandsFor}
 use Rattle.fw_world.specs.Publications.{IsLawful, IsPublished, facts_of}
 use Rattle.fw_world.specs.RecordValue.{RecordValue}
+use Rattle.fw_world.specs.RecordedHits.{lane_hits_of, hits_of_each, TellsHits, EachHasRoom, counted_by}
 use Rattle.fw_world.specs.Sections.{AreSections, judged_editions, tracker_after}
 use Rattle.fw_world.specs.World.{WorldValue, published_count, IsLaneOf}
 use Rattle.state_journal.specs.Journal as journal
@@ -34,7 +37,7 @@ each_lane P Q world place [] [] are stands one all = tt
 each_lane P Q world place [] (met ∷ inputs) are stands one all = absurd stands
 each_lane P Q world place (lane ∷ lanes) [] are stands one all = absurd stands
 each_lane P Q world place (lane ∷ lanes) (met ∷ inputs) are stands one all = (
-  subst (λ (n : ℕ). P n met lane.docket lane.tally lane.tracker) are.0 (one lane met are.1 all.0 stands.0),
+  subst (λ (n : ℕ). P n met lane.docket lane.tally lane.tracker) are.0 (one lane met are.1 all.0 stands.0.stands),
   each_lane P Q world (place + 1) lanes inputs are.2 stands.1 one all.1,
 )
 
@@ -66,13 +69,51 @@ AreSections-lane world lane of_world is none = record {
     few (Some number) heard most = omega (arith, heard, most)
 
 -- the record of these parts
-abbrev pub record_of : List Published → Journal → List DocketValue → List (List Count) → List ℕ → RecordValue
-record_of editions journal dockets tallies trackers = record { editions = editions; journal = journal; dockets = dockets; tallies = tallies; trackers = trackers }
+abbrev pub record_of : List Published → Journal → List DocketValue → List (List Count) → List ℕ → List ℕ → RecordValue
+record_of editions journal dockets tallies trackers hits = record { editions = editions; journal = journal; dockets = dockets; tallies = tallies; trackers = trackers; hits = hits }
 
 -- records of the same parts are the same
-pub same_record : (editions other : List Published) (journal same : Journal) (dockets entered : List DocketValue) (tallies counted : List (List Count)) (trackers words : List ℕ)
-    → editions ≡ other → journal ≡ same → dockets ≡ entered → tallies ≡ counted → trackers ≡ words → record_of editions journal dockets tallies trackers ≡ record_of other same entered counted words
-same_record editions other journal same dockets entered tallies counted trackers words e j d t k = rw (e, j, d, t, k) refl
+pub same_record : (editions other : List Published) (journal same : Journal) (dockets entered : List DocketValue) (tallies counted : List (List Count)) (trackers words hits found : List ℕ)
+    → editions ≡ other → journal ≡ same → dockets ≡ entered → tallies ≡ counted → trackers ≡ words → hits ≡ found → record_of editions journal dockets tallies trackers hits ≡ record_of other same entered counted words found
+same_record editions other journal same dockets entered tallies counted trackers words hits found e j d t k h = rw (e, j, d, t, k, h) refl
+
+-- a lane that has a cache counts its hits before those of others
+counts_before : (capacity : ℕ) (editions : List Published) (docket : DocketValue) (cache : Option LaneCacheValue) (inputs : List Input) (counts : List ℕ) → capacity_of cache ≡ Some capacity → CacheStandsFor editions docket cache inputs
+    → counted_before cache counts ≡ lane_hits_of capacity editions inputs docket ∷ counts
+counts_before capacity editions docket None inputs counts room stands = cc
+counts_before capacity editions docket (Some own) inputs counts room stands =
+    let same : own.kept.capacity ≡ capacity = cc in
+    ap (λ (n : ℕ). n ∷ counts) (stands.hits ∙ ap (λ (n : ℕ). lane_hits_of n editions inputs docket) same)
+
+counts_nothing : (cache : Option LaneCacheValue) (counts : List ℕ) → capacity_of cache ≡ None → counted_before cache counts ≡ counts
+counts_nothing None counts room = refl
+counts_nothing (Some own) counts room = cc
+
+-- the hits of one lane more
+pub counted_by-append : (lanes : List LaneValue) (lane : LaneValue) → counted_by (lanes ++ lane ∷ []) ≡ counted_by lanes ++ counted_before lane.cache []
+counted_by-append [] lane = refl
+counted_by-append (first ∷ lanes) lane = ap (counted_before first.cache) (counted_by-append lanes lane) ∙ before first.cache
+  where
+    before : (cache : Option LaneCacheValue) → counted_before cache (counted_by lanes ++ counted_before lane.cache []) ≡ counted_before cache (counted_by lanes) ++ counted_before lane.cache []
+    before None = refl
+    before (Some own) = refl
+
+-- The hits that the lanes' caches have counted are those of the lanes' packets.
+pub TellsHits-world : (world : WorldValue) (lanes : List LaneValue) (cache : Option ℕ) (inputs : List (List Input)) → EachHasRoom cache lanes → EachStandsFor world lanes inputs → TellsHits cache inputs (record_of_world world lanes)
+TellsHits-world world lanes None inputs rooms stands = none lanes rooms
+  where
+    none : (lanes : List LaneValue) → EachHasRoom None lanes → counted_by lanes ≡ []
+    none [] rooms = refl
+    none (lane ∷ lanes) rooms = counts_nothing lane.cache (counted_by lanes) rooms.0 ∙ none lanes rooms.1
+TellsHits-world world lanes (Some capacity) inputs rooms stands = each lanes inputs rooms stands
+  where
+    each : (lanes : List LaneValue) (inputs : List (List Input)) → EachHasRoom (Some capacity) lanes → EachStandsFor world lanes inputs → counted_by lanes ≡ hits_of_each capacity world.editions inputs (map (λ (lane : LaneValue). lane.docket) lanes)
+    each [] [] rooms stands = refl
+    each [] (met ∷ inputs) rooms stands = absurd stands
+    each (lane ∷ lanes) [] rooms stands = absurd stands
+    each (lane ∷ lanes) (met ∷ inputs) rooms stands =
+        counts_before capacity world.editions lane.docket lane.cache met (counted_by lanes) rooms.0 stands.0.cached
+        ∙ ap (λ (counts : List ℕ). lane_hits_of capacity world.editions met lane.docket ∷ counts) (each lanes inputs rooms.1 stands.1)
 
 module _ (world : WorldValue) (lanes : List LaneValue) (inputs : List (List Input)) (are : AreLanesFrom world 1 lanes) (stands : EachStandsFor world lanes inputs) where
   -- each lane of a world stands for its inputs in the world's record

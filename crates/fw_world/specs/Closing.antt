@@ -3,6 +3,7 @@ use Rattle.std.specs.Prelude.{◌≡◌, ℕ, ◌+◌, ⊤, nat_le, if◌then◌
 use Rattle.fw_world.specs.Inputs.{Input}
 use Rattle.fw_world.specs.Lane.{LaneValue}
 use Rattle.fw_world.specs.RecordValue.{RecordValue}
+use Rattle.fw_world.specs.RecordedHits.{counted_by}
 use Rattle.fw_world.specs.World.{WorldValue, IsLaneOf, LaneStandsFor}
 
 -- a lane among these: before the first whose place isn't below its own
@@ -35,4 +36,5 @@ record_of_world world lanes = record {
   dockets = map (λ lane. lane.docket) lanes;
   tallies = map (λ lane. lane.tally) lanes;
   trackers = map (λ lane. lane.tracker) lanes;
+  hits = counted_by lanes;
 }

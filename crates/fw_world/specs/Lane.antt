@@ -1,12 +1,15 @@
 -- What contracts see of a lane: who judges the records of one capture.
 use Rattle.std.specs.Prelude.{ℕ, zero, suc, ◌==◌, if◌then◌else◌, ◌+◌, ◌-◌, ◌*◌, ◌%◌, ◌^◌, min, Bool, true, false, not, is_some, Option, Some, None, List, [], ◌∷◌, ◌++◌}
 use Rattle.counter_book.specs.declared.tally.Count.{Count}
+use Rattle.cached_verdicts.specs.LaneCache.{LaneCacheValue}
+use Rattle.fw_world.specs.Caches.{first_cache}
 use Rattle.eval_engine.specs.Dockets.{DocketValue}
 use Rattle.eval_engine.specs.declared.docket_entry.DocketEntry.{DocketEntry}
 
 -- Its place, from 1; the edition that it last held or regained; a refusal that it hasn't regained from; its
--- tracker word; its docket and tally; whether want of memory failed it; and how many sections it left without
--- a judgement or tried to begin while a refusal stood, which stands still at the end of 64 bits.
+-- tracker word; its docket and tally; its cache, where it has one, with the port of the packets that it judged;
+-- whether want of memory failed it; and how many sections it left without a judgement or tried to begin while a
+-- refusal stood, which stands still at the end of 64 bits.
 pub record LaneValue : Type 0 where
   pub place : ℕ
   pub number : ℕ
@@ -14,6 +17,7 @@ pub record LaneValue : Type 0 where
   pub tracker : ℕ
   pub docket : DocketValue
   pub tally : List Count
+  pub cache : Option LaneCacheValue
   pub failed : Bool
   pub loose : ℕ
 
@@ -22,23 +26,24 @@ pub record InsideValue : Type 0 where
   pub lane : LaneValue
   pub judged : Bool
 
--- a new lane
-abbrev pub first_lane : ℕ → LaneValue
-first_lane place = record {
+-- a new lane, with a cache for so many verdicts or with none
+abbrev pub first_lane : Option ℕ → ℕ → LaneValue
+first_lane cache place = record {
   place = place;
   number = 1;
   refusal = None;
   tracker = 0;
   docket = record { entries = []; refused = 0 };
   tally = [];
+  cache = first_cache cache;
   failed = false;
   loose = 0;
 }
 
 -- so many new lanes, from this place on
-abbrev pub first_lanes : ℕ → ℕ → List LaneValue
-first_lanes place zero = []
-first_lanes place (suc count) = first_lane place ∷ first_lanes (place + 1) count
+abbrev pub first_lanes : Option ℕ → ℕ → ℕ → List LaneValue
+first_lanes cache place zero = []
+first_lanes cache place (suc count) = first_lane cache place ∷ first_lanes cache (place + 1) count
 
 -- one more, and no further than 64 bits go
 abbrev pub one_looser : Bool → ℕ → ℕ

@@ -9,8 +9,11 @@ pub mod Entries
 pub mod Tallies
 pub mod Asks
 pub mod Sections
+pub mod Visits
+pub mod Caches
 pub mod Standing
 pub mod Lanes
+pub mod RecordedHits
 -- what contracts see of a world, its lanes and its desk
 pub mod Lane
 pub mod LaneKept

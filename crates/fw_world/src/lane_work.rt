@@ -1,11 +1,13 @@
 ghost use Rattle.std.specs.Prelude.{◌≡◌, ◌+◌, ◌<◌, [], ◌∷◌, ◌++◌, length, true, false, IfOk, OnOk, OnErr};
 ghost use Rattle.eval_engine.specs.Dockets.{judged_entry};
 ghost use Rattle.fw_world.specs.AskRuns.{Evaluates, AsksFront};
+ghost use Rattle.fw_world.specs.Caches.{IsPortFor, IsTrueFor, IsCacheBehind, IsCacheAfter};
 ghost use Rattle.fw_world.specs.Entries.{question_under};
 ghost use Rattle.fw_world.specs.Lane.{one_looser};
 
 use crate::asks_book::AsksBook;
 use crate::evaluating::evaluate_packet;
+use cached_verdicts::LaneCache;
 use counter_book::Tally;
 use eval_engine::{Docket, DocketEntry, Judgement};
 use fw_base::{OutOfMemory, Port};
@@ -13,12 +15,14 @@ use ip6_headers::AnyIp;
 use std::alloc::Global;
 
 /// What a lane does with its records, in whatever world.
-#[derive(Debug, Drop)]
+#[derive(Drop)]
 pub struct LaneWork {
     /// What was entered for each of its records.
     pub docket: Docket,
     /// What was counted under each counter.
     pub tally: Tally,
+    /// The verdicts of its recent packets, where it keeps any.
+    pub cache: Option<LaneCache>,
     /// Memory was wanted: nothing more is entered.
     pub failed: bool,
     /// How many sections were left without a judgement or tried while a refusal stood.
@@ -26,11 +30,12 @@ pub struct LaneWork {
 }
 
 impl LaneWork {
-    /// That of a lane that has judged nothing.
-    pub fn new(alloc: Global) -> LaneWork
+    /// That of a lane that has judged nothing, with this cache or with none.
+    pub fn new(alloc: Global, cache: Option<LaneCache>) -> LaneWork
         ensures { result ≡ record {
           docket = record { entries = []; refused = 0 };
           tally = [];
+          cache = cache;
           failed = false;
           loose = 0;
         } }
@@ -38,6 +43,7 @@ impl LaneWork {
         LaneWork {
             docket: Docket::new(alloc),
             tally: Tally::new(alloc),
+            cache,
             failed: false,
             loose: 0,
         }
@@ -72,8 +78,9 @@ impl LaneWork {
         entered
     }
 
-    /// Judges the next record, a packet that was captured there at that second, under the edition
-    /// that the asker lends. Where memory is wanted the lane has failed, no entry is made, and the asks that were made stay.
+    /// Judges the next record, a packet that was captured there at that second, under the edition that the
+    /// asker lends. Where memory is wanted the lane has failed, no entry is made, and the asks that were made
+    /// stay.
     pub fn judge<B: AsksBook>(
         &mut self,
         book: &mut B,
@@ -83,6 +90,8 @@ impl LaneWork {
         second: u32,
     ) -> Result<Judgement, OutOfMemory>
         requires lane { B.serves book.old lane }
+        requires port { IsPortFor self.old.cache port.now }
+        requires kept { IsTrueFor (B.edition book.old) self.old.cache }
         ensures judged { IfOk result
             (Evaluates (λ old op reply new.
             B.enters old lane (length self.old.docket.entries + 1) op reply new) book.old book.new
@@ -90,14 +99,20 @@ impl LaneWork {
         ensures entered { IfOk result (λ judgement. self.new ≡ record self.old {
           docket = record self.old.docket { entries = self.old.docket.entries ++ judged_entry judgement ∷ [] };
           tally = self.new.tally;
+          cache = self.new.cache;
         }) }
         ensures working { OnOk result (self.old.failed ≡ false) }
         ensures asked { AsksFront (λ old op reply new.
             B.enters old lane (length self.old.docket.entries + 1) op reply new)
             (λ old new. B.misses old new) book.old book.new
             (question_under (B.edition book.old) packet.now port.now second) }
+        ensures cache { IsCacheBehind (B.edition book.old) port.now self.old.cache self.new.cache }
+        ensures seen { OnOk result (IsCacheAfter
+            (question_under (B.edition book.old) packet.now port.now second) self.old.cache
+            self.new.cache) }
         ensures failed { OnErr result (self.new ≡ record self.old {
           tally = self.new.tally;
+          cache = self.new.cache;
           failed = true;
         }) }
         ensures idle { self.old.failed ≡ true → book.new ≡ book.old }
@@ -119,6 +134,8 @@ impl LaneWork {
         second: u32,
     ) -> Result<Judgement, OutOfMemory>
         requires lane { B.serves book.old lane }
+        requires port { IsPortFor self.old.cache port.now }
+        requires kept { IsTrueFor (B.edition book.old) self.old.cache }
         ensures judged { IfOk result
             (Evaluates (λ old op reply new.
             B.enters old lane (length self.old.docket.entries + 1) op reply new) book.old book.new
@@ -126,12 +143,20 @@ impl LaneWork {
         ensures entered { IfOk result (λ judgement. self.new ≡ record self.old {
           docket = record self.old.docket { entries = self.old.docket.entries ++ judged_entry judgement ∷ [] };
           tally = self.new.tally;
+          cache = self.new.cache;
         }) }
         ensures asked { AsksFront (λ old op reply new.
             B.enters old lane (length self.old.docket.entries + 1) op reply new)
             (λ old new. B.misses old new) book.old book.new
             (question_under (B.edition book.old) packet.now port.now second) }
-        ensures unentered { OnErr result (self.new ≡ record self.old { tally = self.new.tally }) }
+        ensures cache { IsCacheBehind (B.edition book.old) port.now self.old.cache self.new.cache }
+        ensures seen { OnOk result (IsCacheAfter
+            (question_under (B.edition book.old) packet.now port.now second) self.old.cache
+            self.new.cache) }
+        ensures unentered { OnErr result (self.new ≡ record self.old {
+          tally = self.new.tally;
+          cache = self.new.cache;
+        }) }
     {
         let at = self.docket.entries().len() as u64 + 1;
         let config = book.edition().config();
@@ -139,7 +164,8 @@ impl LaneWork {
         let _rules = config.rules();
         self.tally.fit(config.counters())?;
         let tally = &mut self.tally;
-        let judgement = evaluate_packet(book, lane, at, packet, port, second, tally)?;
+        let cache = &mut self.cache;
+        let judgement = evaluate_packet(book, lane, at, packet, port, second, tally, cache)?;
         self.docket.push(DocketEntry::judged(judgement))?;
         Ok(judgement)
     }

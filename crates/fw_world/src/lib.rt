@@ -7,6 +7,7 @@ pub use commit_fault::CommitFault;
 pub use editions::{last_edition, next_edition, share_edition, store_of};
 pub use evaluating::evaluate_packet;
 pub use lane_work::LaneWork;
+pub use opening::open_cache;
 pub use record::Record;
 pub use skipped::{Skipped, skipped_entry};
 
@@ -16,5 +17,6 @@ mod commit_fault;
 mod editions;
 mod evaluating;
 mod lane_work;
+mod opening;
 mod record;
 mod skipped;

@@ -24,6 +24,7 @@ pub struct Record {
     dockets: Vec<Docket>,
     tallies: Vec<Tally>,
     trackers: Vec<u64>,
+    hits: Vec<u64>,
 }
 
 impl Model for Record {
@@ -39,6 +40,7 @@ impl Model for Record {
       dockets = r.dockets.items;
       tallies = r.tallies.items;
       trackers = r.trackers.items;
+      hits = r.hits.items;
     } };
 }
 
@@ -54,6 +56,7 @@ impl Record {
           dockets = columns.dockets;
           tallies = columns.tallies;
           trackers = columns.trackers;
+          hits = columns.hits;
         } }
         ensures legal { (first : Configuration) (commands : List Command) (inputs : List (List Input))
             → AreEditions first commands result.editions → length inputs ≡ result.journal.lanes
@@ -68,13 +71,14 @@ impl Record {
     {
         // This call's clause `lawful` says that the journal is lawful and leaves the states that there are.
         let _entries = book.entries();
-        let (dockets, tallies, trackers) = columns.into_parts();
+        let (dockets, tallies, trackers, hits) = columns.into_parts();
         Record {
             editions,
             book,
             dockets,
             tallies,
             trackers,
+            hits,
         }
     }
 
@@ -112,5 +116,13 @@ impl Record {
         ensures { result.now ≡ self.now.trackers }
     {
         &self.trackers
+    }
+
+    /// How many of each lane's packets were hits in its cache, in the order of the lanes; none where the lanes
+    /// have no cache.
+    pub fn hits(&self) -> &[u64]
+        ensures { result.now ≡ self.now.hits }
+    {
+        &self.hits
     }
 }

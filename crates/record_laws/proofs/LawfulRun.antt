@@ -218,8 +218,8 @@ leads_event origins old new last (Ran line) replays leads behind = leads_line ol
 leads_event origins old new last (Taken turn) replays leads behind = leads_turn (slice_get origins turn.capture) old new last turn replays leads behind
 
 -- a run with a lawful journal is so from its first state on
-pub leads_first : (config : Configuration) (lanes : ℕ) (first : RunState) (last : WorldValue) → IsFirstState config lanes first → IsLawful last.editions last.journal.entries → GrowsTo first.world last → LeadsTo first.world last
-leads_first config lanes first last begins lawful grows =
+pub leads_first : (config : Configuration) (cache : Option ℕ) (lanes : ℕ) (first : RunState) (last : WorldValue) → IsFirstState config cache lanes first → IsLawful last.editions last.journal.entries → GrowsTo first.world last → LeadsTo first.world last
+leads_first config cache lanes first last begins lawful grows =
     let editions : last.editions ≡ begins.edition ∷ grows.more = grows.grown ∙ ap (λ (l : List Published). l ++ grows.more) begins.editions in
     let entries : last.journal.entries ≡ Publish begins.edition.facts.number ∷ grows.entries = grows.entered ∙ ap (λ (j : Journal). j.entries ++ grows.entries) begins.journal in
     let all : IsLawfulFrom no_states (facts_of (begins.edition ∷ grows.more)) (Publish begins.edition.facts.number ∷ grows.entries) =

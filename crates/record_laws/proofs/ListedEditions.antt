@@ -143,7 +143,7 @@ published_number first commands r legal number least most =
 module _ {S : Type 0} (left : S → Option (List ℕ)) (faults : S → ℕ) where
   -- each listing of a replay names an edition that its journal publishes
   pub listings_name_published : ListingsNamePublishedEditions left faults
-  listings_name_published config steps captures r is =
+  listings_name_published config steps cache captures r is =
       let standing = lines_outcome config steps in
       let stands = outcome_stands config steps in
       let published = all_weaker (λ (a : LineAnswer). NamesUpTo standing.number a.answer) (λ (a : LineAnswer). NamesPublished r.record a.answer) (λ a names. named a.answer names) standing.answers stands.named in

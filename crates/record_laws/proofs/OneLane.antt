@@ -1,7 +1,10 @@
 -- A world of one lane goes on.
 use Rattle.std.proofs.Common.{◌≡◌, ℕ, List, sym, ap, ◌∙◌, subst}
-use Rattle.std.specs.Prelude.{Result, Ok, Err, OnOk, OnErr}
+use Rattle.std.specs.Prelude.{Option, Some, None, Result, Ok, Err, OnOk, OnErr}
 use Rattle.fw_rule.specs.declared.command.Command.{Command}
+use Rattle.cached_verdicts.specs.LaneCache.{LaneCacheValue}
+use Rattle.fw_base.specs.declared.port.Port.{Port}
+use Rattle.fw_world.specs.Caches.{capacity_of, IsPortFor}
 use Rattle.fw_world.specs.Lane.{LaneValue}
 use Rattle.serial_world.specs.Steps.{Publishes}
 use Rattle.fw_world.specs.World.{WorldValue, IsLaneOf}
@@ -18,10 +21,17 @@ committed old new desk shown lane command (Ok number) one publishes unchanged sh
   of_world = is_lane_behind old new command lane publishes one.of_world;
   first = one.first;
   alone = ap (λ j. j.lanes) publishes.journal ∙ one.alone;
+  cacheless = one.cacheless;
 }
 committed old new desk shown lane command (Err fault) one publishes unchanged shows = record {
   shows = shows;
   of_world = subst (λ (w : WorldValue). IsLaneOf w lane) (sym unchanged) one.of_world;
   first = one.first;
   alone = ap (λ (w : WorldValue). w.journal.lanes) unchanged ∙ one.alone;
+  cacheless = one.cacheless;
 }
+
+-- a lane with no cache judges packets of any port
+pub any_port : (cache : Option LaneCacheValue) (port : Port) → capacity_of cache ≡ None → IsPortFor cache port
+any_port None port none = tt
+any_port (Some own) port none = cc

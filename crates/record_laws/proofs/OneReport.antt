@@ -83,15 +83,16 @@ module _ (r : RecordValue) (tallies : List (List Count)) (same : (counter : ℕ)
   same_text ends answers = ap (λ (text : List ℕ). start_text r.editions r.dockets ends answers ++ text) (same_last (last_edition r.editions))
 
 -- records that are the same but for their tallies, which count alike, say the same and are printed alike
-pub same_record : (r s : RecordValue) → r.editions ≡ s.editions → r.journal ≡ s.journal → r.dockets ≡ s.dockets → r.trackers ≡ s.trackers → ((counter : ℕ) → lane_counts counter r ≡ lane_counts counter s) → IsSameRecord r s
-same_record r s editions journal dockets trackers counted =
+pub same_record : (r s : RecordValue) → r.editions ≡ s.editions → r.journal ≡ s.journal → r.dockets ≡ s.dockets → r.trackers ≡ s.trackers → r.hits ≡ s.hits → ((counter : ℕ) → lane_counts counter r ≡ lane_counts counter s) → IsSameRecord r s
+same_record r s editions journal dockets trackers found counted =
     let totals : (counter : ℕ) → total_under r.tallies counter ≡ total_under s.tallies counter = λ counter. same_totals counter r.tallies s.tallies (counted counter) in
-    let but_tallies : r ≡ with_tallies r.tallies s = λ i. record { editions = editions i; journal = journal i; dockets = dockets i; tallies = r.tallies; trackers = trackers i } in
+    let but_tallies : r ≡ with_tallies r.tallies s = λ i. record { editions = editions i; journal = journal i; dockets = dockets i; tallies = r.tallies; trackers = trackers i; hits = found i } in
     record {
       editions = editions;
       journal = journal;
       dockets = dockets;
       trackers = trackers;
+      hits = found;
       counted = counted;
       totals = totals;
       report = λ hits ends answers printed.

@@ -4,6 +4,7 @@ use Rattle.std.specs.Prelude.{⊤, Option, Some, None, Ok, Err, slice_get, slice
 use Rattle.fw_base.specs.declared.port.Port.{Port}
 use Rattle.counter_book.specs.Counts.{counted_under}
 use Rattle.counter_book.specs.declared.tally.Count.{Count}
+use Rattle.cached_verdicts.specs.LaneCache.{LaneCacheValue}
 use Rattle.state_asks.specs.declared.reply.Reply.{Reply}
 use Rattle.eval_engine.specs.Evaluated.{Whole}
 use Rattle.eval_engine.specs.Evaluation.{evaluate}
@@ -47,9 +48,9 @@ one_world a b editions journal = λ i. record { editions = editions i; journal =
 
 -- ---- lanes
 
--- a lane but for its tally
+-- a lane but for its tally and its cache
 abbrev without_tally : LaneValue → LaneValue
-without_tally lane = record lane { tally = [] }
+without_tally lane = record lane { tally = []; cache = None }
 
 -- both tallies have the same count under each number
 abbrev CountAlike : List Count → List Count → Type 0
@@ -93,8 +94,9 @@ same_changed place old new others changed a after b behind same first second ali
 same_entered : (entered : DocketEntry) (a b : LaneValue) → IsSameLane a b → IsSameLane (with_docket_entry entered a) (with_docket_entry entered b)
 same_entered entered a b is = record { same = ap (with_docket_entry entered) is.same; counts = is.counts }
 
-same_judged : (number : ℕ) (judgement : Judgement) (tally other : List Count) (a b : LaneValue) → CountAlike tally other → IsSameLane a b → IsSameLane (judged_lane number judgement tally a) (judged_lane number judgement other b)
-same_judged number judgement tally other a b alike is = record { same = ap (judged_lane number judgement []) is.same; counts = alike }
+same_judged : (number : ℕ) (judgement : Judgement) (tally other : List Count) (cache kept : Option LaneCacheValue) (a b : LaneValue) → CountAlike tally other → IsSameLane a b
+    → IsSameLane (judged_lane number judgement tally cache a) (judged_lane number judgement other kept b)
+same_judged number judgement tally other cache kept a b alike is = record { same = ap (judged_lane number judgement [] None) is.same; counts = alike }
 
 -- ---- one packet
 
@@ -170,14 +172,14 @@ module _ (a b x y : RunState) (last end : WorldValue) (same : IsSameState a b) (
       let alike =
       judged_alike a.world x.world y.world last end one.lane.place (length one.lane.docket.entries + 1) packet port second one.lane.tally two.lane.tally one.tally two.tally one.judgement two.judgement
       one.judges other leads (subst (λ (w : WorldValue). LeadsTo w end) (sym same.world) goes) grows rises lane.counts in
-      let after : LaneValue = judged_lane (published_count a.world) one.judgement one.tally one.lane in
-      let changes : ChangesLane place b.lanes y.lanes two.lane (judged_lane (published_count a.world) one.judgement two.tally two.lane) =
-      subst (λ (w : WorldValue). ChangesLane place b.lanes y.lanes two.lane (judged_lane (published_count w) one.judgement two.tally two.lane)) (sym same.world)
-      (subst (λ (j : Judgement). ChangesLane place b.lanes y.lanes two.lane (judged_lane (published_count b.world) j two.tally two.lane)) (sym alike.judgement_is) two.changes) in
+      let after : LaneValue = judged_lane (published_count a.world) one.judgement one.tally one.cache one.lane in
+      let changes : ChangesLane place b.lanes y.lanes two.lane (judged_lane (published_count a.world) one.judgement two.tally two.cache two.lane) =
+      subst (λ (w : WorldValue). ChangesLane place b.lanes y.lanes two.lane (judged_lane (published_count w) one.judgement two.tally two.cache two.lane)) (sym same.world)
+      (subst (λ (j : Judgement). ChangesLane place b.lanes y.lanes two.lane (judged_lane (published_count b.world) j two.tally two.cache two.lane)) (sym alike.judgement_is) two.changes) in
       record {
         world = alike.world;
-        lanes = same_changed place a.lanes x.lanes b.lanes y.lanes one.lane after two.lane (judged_lane (published_count a.world) one.judgement two.tally two.lane) same.lanes one.changes changes
-            (same_judged (published_count a.world) one.judgement one.tally two.tally one.lane two.lane alike.counts);
+        lanes = same_changed place a.lanes x.lanes b.lanes y.lanes one.lane after two.lane (judged_lane (published_count a.world) one.judgement two.tally two.cache two.lane) same.lanes one.changes changes
+            (same_judged (published_count a.world) one.judgement one.tally two.tally one.cache two.cache one.lane two.lane alike.counts);
       }
 
   alike_published : (command : Command) → Publishes a.world x.world command → Publishes b.world y.world command → x.world ≡ y.world
@@ -240,8 +242,8 @@ lanes_same [] = tt
 lanes_same (lane ∷ lanes) = (record { same = refl; counts = λ id. refl }, lanes_same lanes)
 
 -- there is one first state of a configuration and so many lanes
-pub first_alike : (config : Configuration) (lanes : ℕ) (a b : RunState) → IsFirstState config lanes a → IsFirstState config lanes b → IsSameState a b
-first_alike config lanes a b first second =
+pub first_alike : (config : Configuration) (cache : Option ℕ) (lanes : ℕ) (a b : RunState) → IsFirstState config cache lanes a → IsFirstState config cache lanes b → IsSameState a b
+first_alike config cache lanes a b first second =
     let edition : first.edition ≡ second.edition = one_edition 1 config config first.edition second.edition refl first.built second.built in
     record {
       world = one_world a.world b.world
@@ -253,7 +255,7 @@ first_alike config lanes a b first second =
 -- ---- what is read of lanes that are the same
 
 module _ {X : Type 0} (part : LaneValue → X) where
-  -- a part but for the tally
+  -- a part but for tally and cache
   pub same_parts : (lanes others : List LaneValue) → AreSameLanes lanes others → map (λ (lane : LaneValue). part (without_tally lane)) lanes ≡ map (λ (lane : LaneValue). part (without_tally lane)) others
   same_parts [] [] same = refl
   same_parts [] (b ∷ others) same = absurd same

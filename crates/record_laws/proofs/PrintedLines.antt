@@ -273,7 +273,7 @@ verdict_lines_are_records first commands inputs r hits ends answers journal lega
 module _ {S : Type 0} (left : S → Option (List ℕ)) (faults : S → ℕ) where
   -- the report of a replay has a verdict line for each record that was read
   pub replays_print_each_record : ReplaysPrintEachRecord left faults
-  replays_print_each_record config steps captures r hits answers journal replay =
+  replays_print_each_record config steps cache captures r hits answers journal replay =
       verdict_lines_are_records config (lines_outcome config steps).accepted (map track_inputs replay.tracks) r.record hits r.ends.captures answers journal replay.legal
       (sym (end_count left faults (limit_for (length captures)) captures r.sources.items replay.tracks r.ends.captures replay.read)
       ∙ track_count left faults (limit_for (length captures)) captures r.sources.items replay.tracks r.ends.captures replay.read ∙ sym (length-map replay.tracks track_inputs))

@@ -1,5 +1,6 @@
 -- A world of two lanes goes on.
-use Rattle.std.proofs.Common.{◌≡◌, List, sym, ◌∙◌}
+use Rattle.std.proofs.Common.{◌≡◌, None, List, sym, ◌∙◌}
+use Rattle.fw_world.specs.Caches.{capacity_of}
 use Rattle.fw_world.specs.Lane.{LaneValue}
 use Rattle.serial_world.specs.Steps.{ChangesAsksOf}
 use Rattle.fw_world.specs.World.{WorldValue, IsLaneOf}
@@ -9,8 +10,8 @@ use Rattle.record_laws.specs.TwoLanes.{AreTwoLanes}
 
 -- its first lane judged
 pub first_judged : (old new : WorldValue) (desk : List Published) (first second after : LaneValue) → AreTwoLanes old desk first second
-    → IsLaneOf new after → after.place ≡ first.place → ChangesAsksOf first.place old new → AreTwoLanes new desk after second
-first_judged old new desk first second after two of_world place changes = record {
+    → IsLaneOf new after → after.place ≡ first.place → capacity_of after.cache ≡ None → ChangesAsksOf first.place old new → AreTwoLanes new desk after second
+first_judged old new desk first second after two of_world place none changes = record {
   shows = two.shows ∙ sym changes.editions;
   lanes = (
     place ∙ two.lanes.0,
@@ -18,12 +19,13 @@ first_judged old new desk first second after two of_world place changes = record
     (two.lanes.2.0, is_lane_beside first.place old new second changes two.lanes.2.1, tt),
   );
   both = changes.lanes ∙ two.both;
+  cacheless = (none, two.cacheless.1);
 }
 
 -- its second lane judged
 pub second_judged : (old new : WorldValue) (desk : List Published) (first second after : LaneValue) → AreTwoLanes old desk first second
-    → IsLaneOf new after → after.place ≡ second.place → ChangesAsksOf second.place old new → AreTwoLanes new desk first after
-second_judged old new desk first second after two of_world place changes = record {
+    → IsLaneOf new after → after.place ≡ second.place → capacity_of after.cache ≡ None → ChangesAsksOf second.place old new → AreTwoLanes new desk first after
+second_judged old new desk first second after two of_world place none changes = record {
   shows = two.shows ∙ sym changes.editions;
   lanes = (
     two.lanes.0,
@@ -31,4 +33,5 @@ second_judged old new desk first second after two of_world place changes = recor
     (place ∙ two.lanes.2.0, of_world, tt),
   );
   both = changes.lanes ∙ two.both;
+  cacheless = (two.cacheless.0, none);
 }

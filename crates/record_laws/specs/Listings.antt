@@ -30,5 +30,5 @@ NamesPublished r (Listed number table) = IsPublished r number
 module _ {S : Type 0} (left : S → Option (List ℕ)) (faults : S → ℕ) where
   -- each listing behind `live` names an edition that the replay's journal publishes
   abbrev pub ListingsNamePublishedEditions : Type 0
-  ListingsNamePublishedEditions = (config : Configuration) (steps : List Step) (captures : List (OpenedCapture S)) (r : Replayed S) → IsReplay left faults config steps captures r
+  ListingsNamePublishedEditions = (config : Configuration) (steps : List Step) (cache : Option ℕ) (captures : List (OpenedCapture S)) (r : Replayed S) → IsReplay left faults config steps cache captures r
       → AllByRecursion (λ answer. NamesPublished r.record answer.answer) r.ends.answers

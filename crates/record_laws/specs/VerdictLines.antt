@@ -56,6 +56,6 @@ VerdictLinesAreRecords = (first : Configuration) (commands : List Command) (inpu
 module _ {S : Type 0} (left : S → Option (List ℕ)) (faults : S → ℕ) where
   -- the report of a replay has a verdict line for each record that was read of its captures, whatever the answers
   abbrev pub ReplaysPrintEachRecord : Type 0
-  ReplaysPrintEachRecord = (config : Configuration) (steps : List Step) (captures : List (OpenedCapture S)) (r : Replayed S) (hits : List ℕ) (answers : List LineAnswer) (journal : Bool)
-      → (replay : IsReplay left faults config steps captures r)
+  ReplaysPrintEachRecord = (config : Configuration) (steps : List Step) (cache : Option ℕ) (captures : List (OpenedCapture S)) (r : Replayed S) (hits : List ℕ) (answers : List LineAnswer) (journal : Bool)
+      → (replay : IsReplay left faults config steps cache captures r)
       → PrintsEachRecord (map track_inputs replay.tracks) (captures_text 1 r.record.dockets r.ends.captures) (report_text (recorded_with hits r.record) r.ends.captures answers journal)

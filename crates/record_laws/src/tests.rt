@@ -1,7 +1,8 @@
-ghost use Rattle.std.specs.Prelude.{◌≡◌, false, IfOk};
+ghost use Rattle.std.specs.Prelude.{◌≡◌, false, None, IfOk};
 ghost use Rattle.std.specs.List.{AllByRecursion};
 ghost use Rattle.fw_command.specs.WellFormed.{IsLine, IsStepInRange};
 ghost use Rattle.serial_world.specs.Steps.{ChangesAsksOf};
+ghost use Rattle.fw_world.specs.Caches.{capacity_of};
 ghost use Rattle.fw_world.specs.World.{IsLaneOf};
 ghost use Rattle.record_laws.specs.OneLane.{IsOneLane};
 
@@ -60,7 +61,7 @@ fn opened(alloc: Global, lines: &[Line]) -> Result<Live, Fail>
         world,
         mut lanes,
         desk,
-    } = SerialWorld::open(alloc, config, 1)?;
+    } = SerialWorld::open(alloc, config, 1, None)?;
     let lane = lanes.remove(0);
     Ok(Live {
         world,
@@ -80,8 +81,10 @@ fn judge_inside(
 ) -> Result<SerialLane, Fail>
     requires of_world { IsLaneOf world.old inside.lane }
     requires fresh { inside.judged ≡ false }
+    requires cacheless { capacity_of inside.lane.cache ≡ None }
     ensures of_world { IfOk result (λ lane. IsLaneOf world.new lane) }
     ensures place { IfOk result (λ lane. lane.place ≡ inside.lane.place) }
+    ensures cacheless { IfOk result (λ lane. capacity_of lane.cache ≡ None) }
     ensures world { ChangesAsksOf inside.lane.place world.old world.new }
 {
     let (inside, judgement) = world.judge_in(inside, packet, port, second);
@@ -97,9 +100,11 @@ fn judge(
     port: &Port,
     second: u32,
 ) -> Result<SerialLane, Fail>
-    requires { IsLaneOf world.old lane }
+    requires of_world { IsLaneOf world.old lane }
+    requires cacheless { capacity_of lane.cache ≡ None }
     ensures of_world { IfOk result (λ after. IsLaneOf world.new after) }
     ensures place { IfOk result (λ after. after.place ≡ lane.place) }
+    ensures cacheless { IfOk result (λ after. capacity_of after.cache ≡ None) }
     ensures world { ChangesAsksOf lane.place world.old world.new }
 {
     let regained = match world.enter(lane) {
@@ -251,7 +256,7 @@ fn printed(
         record.dockets(),
         record.tallies(),
         record.trackers(),
-        &[],
+        record.hits(),
         ends,
         true,
         &mut out,
@@ -314,7 +319,7 @@ fn entered_by_two(alloc: Global, turned: bool) -> Result<(usize, usize), Fail> {
         mut world,
         mut lanes,
         desk,
-    } = SerialWorld::open(alloc, Config::new(alloc)?, 2)?;
+    } = SerialWorld::open(alloc, Config::new(alloc)?, 2, None)?;
     world.pass_over(&mut lanes[1], Skipped::Other)?;
     if turned {
         lanes.reverse();

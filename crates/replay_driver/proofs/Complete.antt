@@ -204,9 +204,9 @@ module _ {S : Type 0} (left : S → Option (List ℕ)) (failures : S → ℕ) wh
       (or_from (is_unread end) (list_any is_unread ends) one.0 others.0, or_from (is_stopped end) (list_any is_stopped ends) one.1 others.1)
 
   -- a replay of whole captures beside an accepted script has status 0
-  replayed_well : (mode : Mode) (script : List ℕ) (opened : List (OpenedCapture S)) (kept : RecordValue) (ends : Ends) (sources : List S) → IsAccepted (pace_of mode) script → AllByRecursion (IsWhole (limit_for (length opened))) opened
-      → IsReplayOf left failures mode script opened kept ends sources → AllByRecursion (λ s. failures s ≡ 0) sources → report_status ends.captures ends.answers ≡ 0
-  replayed_well mode script opened kept ends sources accepted whole of quiet =
+  replayed_well : (mode : Mode) (cache : Option ℕ) (script : List ℕ) (opened : List (OpenedCapture S)) (kept : RecordValue) (ends : Ends) (sources : List S) → IsAccepted (pace_of mode) script → AllByRecursion (IsWhole (limit_for (length opened))) opened
+      → IsReplayOf left failures mode cache script opened kept ends sources → AllByRecursion (λ s. failures s ≡ 0) sources → report_status ends.captures ends.answers ≡ 0
+  replayed_well mode cache script opened kept ends sources accepted whole of quiet =
       let still : AllByRecursion (λ s. failures s ≡ 0) of.replayed.sources.items = subst (AllByRecursion (λ s. failures s ≡ 0)) of.given_back quiet in
       let read = all_read_well (limit_for (length opened)) opened of.replayed.sources.items of.replay.tracks of.replayed.ends.captures whole of.replay.read still in
       let is : ◌≡◌ {A = Result FirstEdition ScriptError} (Ok of.edition) (Ok accepted.edition) = sym of.first ∙ accepted.first in
@@ -266,7 +266,7 @@ module _ {K S L : Type 0} (output : Output K) (files : Files L S)
       let quiet = subst (AllByRecursion (λ s. files.failures s ≡ 0)) found.given_back complete.sources_quiet in
       let many = opens_length files found.reads.between libraryAfter names.captures found.opened found.reads.captures_opened in
       let whole = all_whole files (limit_for (length names.captures)) found.reads.between libraryAfter names.captures found.opened complete.behind found.reads.captures_opened read.1 complete.captures_whole in
-      replayed_well files.left files.failures names.mode found.bytes found.opened kept ends found.captures (subst (IsAccepted (pace_of names.mode)) (sym read.0) complete.accepted)
+      replayed_well files.left files.failures names.mode names.cache found.bytes found.opened kept ends found.captures (subst (IsAccepted (pace_of names.mode)) (sym read.0) complete.accepted)
       (subst (λ (n : ℕ). AllByRecursion (IsWhole files.left files.failures (limit_for n)) found.opened) (sym many) whole) found.replay quiet.1
   replay_status names complete (Summed kept ends) finds = absurd finds
 
@@ -277,7 +277,7 @@ module _ {K S L : Type 0} (output : Output K) (files : Files L S)
   load_status n few (Reported kept ends journal) finds = absurd finds
   load_status n few (Summed kept ends) found =
       let (records, many, front) = captures_whole n (limit_for 1) (omega (arith, few)) in
-      replayed_well known_left no_failures Serial (load.load_script n) (made_capture (load.load_capture n) ∷ []) kept ends found.sources (load_accepted n few)
+      replayed_well known_left no_failures Serial None (load.load_script n) (made_capture (load.load_capture n) ∷ []) kept ends found.sources (load_accepted n few)
       ((load.load_capture n, refl, refl, (records, front)), tt) found.replay (none_failed found.sources)
 
   -- a run of what is complete ends with status 0, or 6

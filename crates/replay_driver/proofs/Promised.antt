@@ -88,9 +88,9 @@ as_read left failures limit (o ∷ os) (s ∷ ss) [] ends read = absurd read
 as_read left failures limit (o ∷ os) (s ∷ ss) (t ∷ ts) [] read = absurd read
 as_read left failures limit (o ∷ os) (s ∷ ss) (t ∷ ts) (e ∷ es) read = let (port, here, behind) = read in ap suc (as_read left failures limit os ss ts es behind)
 
-as_many : {T : Type 0} (left : T → Option (List ℕ)) (failures : T → ℕ) (mode : Mode) (script : List ℕ) (opened : List (OpenedCapture T)) (kept : RecordValue) (ends : Ends) (sources : List T)
-    → IsReplayOf left failures mode script opened kept ends sources → length sources ≡ length opened
-as_many left failures mode script opened kept ends sources of = ap length of.given_back ∙ as_read left failures _ opened of.replayed.sources.items of.replay.tracks of.replayed.ends.captures of.replay.read
+as_many : {T : Type 0} (left : T → Option (List ℕ)) (failures : T → ℕ) (mode : Mode) (cache : Option ℕ) (script : List ℕ) (opened : List (OpenedCapture T)) (kept : RecordValue) (ends : Ends) (sources : List T)
+    → IsReplayOf left failures mode cache script opened kept ends sources → length sources ≡ length opened
+as_many left failures mode cache script opened kept ends sources of = ap length of.given_back ∙ as_read left failures _ opened of.replayed.sources.items of.replay.tracks of.replayed.ends.captures of.replay.read
 
 module _ {K S L : Type 0} (output : Output K) (files : Files L S) where
   module _ (library libraryAfter : L) (sink sinkAfter : K) where
@@ -165,7 +165,7 @@ module _ {K S L : Type 0} (output : Output K) (files : Files L S) where
           opened = found.opened;
           reads = found.reads;
           captures = found.captures;
-          replay = subst (λ (f : Ends). IsReplayOf files.left files.failures names.mode found.bytes found.opened k f found.captures) ended found.replay;
+          replay = subst (λ (f : Ends). IsReplayOf files.left files.failures names.mode names.cache found.bytes found.opened k f found.captures) ended found.replay;
           given_back = found.given_back;
           writes = subst (λ (b : Bool). Writes output sink sinkAfter (report_status outcome.ends.captures outcome.ends.answers) outcome.status (report_text (report_record k) outcome.ends.captures outcome.ends.answers b)) told
               (subst (λ (f : Ends). Writes output sink sinkAfter (report_status f.captures f.answers) outcome.status (report_text (report_record k) f.captures f.answers journal)) ended w.writes);
@@ -236,9 +236,9 @@ module _ {K S L : Type 0} (output : Output K) (files : Files L S) where
             record { begun = IsSome-from outcome.kept k w.kept; read = ap (list_any is_unread) w.ends ∙ read; stopped = ap (list_any is_stopped) w.ends ∙ stopped }
 
     -- the end of a capture that was unread, where its source was opened in this run
-    failed_by : {T : Type 0} (left : T → Option (List ℕ)) (failures : T → ℕ) (mode : Mode) (script : List ℕ) (opened : List (OpenedCapture T)) (kept : RecordValue) (ends : Ends) (sources : List T)
-        → IsReplayOf left failures mode script opened kept ends sources → AreFresh left failures opened → list_any is_unread ends.captures ≡ true → HasFailedRead ends.captures
-    failed_by left failures mode script opened kept ends sources of fresh e =
+    failed_by : {T : Type 0} (left : T → Option (List ℕ)) (failures : T → ℕ) (mode : Mode) (cache : Option ℕ) (script : List ℕ) (opened : List (OpenedCapture T)) (kept : RecordValue) (ends : Ends) (sources : List T)
+        → IsReplayOf left failures mode cache script opened kept ends sources → AreFresh left failures opened → list_any is_unread ends.captures ≡ true → HasFailedRead ends.captures
+    failed_by left failures mode cache script opened kept ends sources of fresh e =
         subst HasFailedRead (sym of.captures_ended)
         (failed_read left failures _ opened of.replayed.sources.items of.replay.tracks of.replayed.ends.captures of.replay.read fresh (ap (list_any is_unread) (sym of.captures_ended) ∙ e))
 
@@ -251,12 +251,12 @@ module _ {K S L : Type 0} (output : Output K) (files : Files L S) where
         go job (Unread name) finds w e = let no = w.kept in absurd (cc)
         go job (Unready error) finds w e = let no = w.kept in absurd (cc)
         go (Replays names) (Reported k ends journal) (told, found) w e =
-            subst HasFailedRead (sym w.ends) (failed_by files.left files.failures names.mode found.bytes found.opened k ends found.captures found.replay
+            subst HasFailedRead (sym w.ends) (failed_by files.left files.failures names.mode names.cache found.bytes found.opened k ends found.captures found.replay
             (all_fresh files found.reads.between libraryAfter names.captures found.opened found.reads.captures_opened) (unread_ends ends.captures ends.answers e))
         go (Replays names) (Summed k ends) finds w e = absurd finds
         go (Loads n) (Reported k ends journal) (same, none, found) w e = absurd found
         go (Loads n) (Summed k ends) (same, none, found) w e =
-            subst HasFailedRead (sym w.ends) (failed_by known_left no_failures Serial _ _ k ends found.sources found.replay (refl, tt) (unread_ends ends.captures ends.answers e))
+            subst HasFailedRead (sym w.ends) (failed_by known_left no_failures Serial None _ _ k ends found.sources found.replay (refl, tt) (unread_ends ends.captures ends.answers e))
 
     -- ---- before a replay
 
@@ -342,7 +342,7 @@ module _ {K S L : Type 0} (output : Output K) (files : Files L S) where
         go (Replays names) (Unready error) sources found =
             rw (found.given_back) (all_named files names.script names.captures library libraryAfter found.script found.bytes found.opened (sources_of found.opened) told found.reads is (length-map found.opened (λ o. o.source)))
         go (Replays names) (Reported k ends journal) sources (asked, found) =
-            rw (found.given_back) (all_named files names.script names.captures library libraryAfter found.script found.bytes found.opened found.captures told found.reads is (as_many files.left files.failures names.mode found.bytes found.opened k ends found.captures found.replay))
+            rw (found.given_back) (all_named files names.script names.captures library libraryAfter found.script found.bytes found.opened found.captures told found.reads is (as_many files.left files.failures names.mode names.cache found.bytes found.opened k ends found.captures found.replay))
         go (Replays names) (Summed k ends) sources finds = absurd finds
 
     -- no opening failed where the run went on

@@ -27,9 +27,9 @@ use Rattle.replay_driver.specs.declared.script_error.ScriptError.{ScriptError}
 use Rattle.replay_driver.specs.Outside.{Files}
 
 -- in serial mode the record comes of going through records and commands in the order of the schedule
-abbrev pub IsOrderedIn : Mode → Configuration → List Step → List Track → RecordValue → Type 0
-IsOrderedIn modes.Serial config steps tracks kept = ComesOf config steps tracks kept
-IsOrderedIn modes.Live config steps tracks kept = ⊤
+abbrev pub IsOrderedIn : Mode → Configuration → List Step → Option ℕ → List Track → RecordValue → Type 0
+IsOrderedIn modes.Serial config steps cache tracks kept = ComesOf config steps cache tracks kept
+IsOrderedIn modes.Live config steps cache tracks kept = ⊤
 
 module _ {S : Type 0} (left : S → Option (List ℕ)) (failures : S → ℕ) where
   -- A source failed with at most 1,048,576 of its bytes taken.
@@ -40,13 +40,14 @@ module _ {S : Type 0} (left : S → Option (List ℕ)) (failures : S → ℕ) wh
     pub few : length taken < 1048577
 
   -- Captures were replayed beside a script in this mode: its edition 1 stands first, then comes what it has behind
-  -- `live`. The answers are those of the listings before `live` and then those of the lines behind it.
-  pub record IsReplayOf (m : Mode) (script : List ℕ) (opened : List (OpenedCapture S)) (kept : RecordValue) (ends : Ends) (sources : List S) : Type 0 where
+  -- `live`. Each capture's lane had a cache for so many verdicts, or none had. The answers are those of the listings
+  -- before `live` and then those of the lines behind it.
+  pub record IsReplayOf (m : Mode) (cache : Option ℕ) (script : List ℕ) (opened : List (OpenedCapture S)) (kept : RecordValue) (ends : Ends) (sources : List S) : Type 0 where
     pub edition : FirstEdition
     pub first : first_edition (pace_of m) script ≡ Ok edition
     pub replayed : Replayed S
-    pub replay : IsReplay left failures edition.config edition.live opened replayed
-    pub ordered : IsOrderedIn m edition.config edition.live replay.tracks replayed.record
+    pub replay : IsReplay left failures edition.config edition.live cache opened replayed
+    pub ordered : IsOrderedIn m edition.config edition.live cache replay.tracks replayed.record
     pub recorded : kept ≡ replayed.record
     pub captures_ended : ends.captures ≡ replayed.ends.captures
     pub lines_answered : ends.answers ≡ edition.answers ++ replayed.ends.answers
@@ -111,7 +112,7 @@ module _ {L S : Type 0} (files : Files L S) where
     pub opened : List (OpenedCapture S)
     pub reads : ReadsNames names.script names.captures old new script bytes opened
     pub captures : List S
-    pub replay : IsReplayOf files.left files.failures names.mode bytes opened kept ends captures
+    pub replay : IsReplayOf files.left files.failures names.mode names.cache bytes opened kept ends captures
     pub given_back : sources ≡ script ∷ captures
 
   -- This is found of the words of a replay, and these sources are handed back.
@@ -141,7 +142,7 @@ no_failures bytes = 0
 -- the made capture of so many records was replayed beside the made script
 pub record ReplaysLoad (n : ℕ) (kept : RecordValue) (ends : Ends) : Type 0 where
   pub sources : List (List ℕ)
-  pub replay : IsReplayOf known_left no_failures modes.Serial (load_script n) (made_capture (load_capture n) ∷ []) kept ends sources
+  pub replay : IsReplayOf known_left no_failures modes.Serial None (load_script n) (made_capture (load_capture n) ∷ []) kept ends sources
 
 -- this is found of a load of so many records
 abbrev pub FindsLoad : ℕ → RunResult → Type 0

@@ -90,7 +90,7 @@ module _ {K S L : Type 0} (output : Output K) (files : Files L S) where
     pub opened : List (OpenedCapture S)
     pub reads : ReadsNames files names.script names.captures library libraryAfter script bytes opened
     pub captures : List S
-    pub replay : IsReplayOf files.left files.failures names.mode bytes opened kept outcome.ends captures
+    pub replay : IsReplayOf files.left files.failures names.mode names.cache bytes opened kept outcome.ends captures
     pub given_back : outcome.sources.items ≡ script ∷ captures
     pub writes : Writes output sink sinkAfter (report_status outcome.ends.captures outcome.ends.answers) outcome.status
         (report_text (report_record kept) outcome.ends.captures outcome.ends.answers names.journal)

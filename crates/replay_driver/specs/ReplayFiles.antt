@@ -14,17 +14,17 @@ use Rattle.replay_driver.specs.Outside.{Files}
 
 module _ {S : Type 0} (left : S → Option (List ℕ)) (failures : S → ℕ) where
   -- the captures that were opened, beside the script that was read, in this mode
-  abbrev pub ReplaysOpened : Mode → Bool → List ℕ → List (OpenedCapture S) → RunResult → List S → Type 0
-  ReplaysOpened mode journal script opened Usage sources = ⊥
-  ReplaysOpened mode journal script opened (Unread name) sources = ⊥
-  ReplaysOpened mode journal script opened (Unready error) sources = (first_edition (pace_of mode) script ≡ Err error) × (sources ≡ sources_of opened)
-  ReplaysOpened mode journal script opened (Reported kept ends told) sources = (told ≡ journal) × IsReplayOf left failures mode script opened kept ends sources
-  ReplaysOpened mode journal script opened (Summed kept ends) sources = ⊥
+  abbrev pub ReplaysOpened : Mode → Bool → Option ℕ → List ℕ → List (OpenedCapture S) → RunResult → List S → Type 0
+  ReplaysOpened mode journal cache script opened Usage sources = ⊥
+  ReplaysOpened mode journal cache script opened (Unread name) sources = ⊥
+  ReplaysOpened mode journal cache script opened (Unready error) sources = (first_edition (pace_of mode) script ≡ Err error) × (sources ≡ sources_of opened)
+  ReplaysOpened mode journal cache script opened (Reported kept ends told) sources = (told ≡ journal) × IsReplayOf left failures mode cache script opened kept ends sources
+  ReplaysOpened mode journal cache script opened (Summed kept ends) sources = ⊥
 
 module _ {L S : Type 0} (files : Files L S) where
   -- all captures were opened and replayed beside the script that was read, or one of their names was refused
-  abbrev pub FindsCaptures : Mode → Bool → List CaptureNames → L → L → List ℕ → RunResult → List S → Type 0
-  FindsCaptures mode journal captures old new script result sources =
-      ((opened : List (OpenedCapture S)) × OpensAll files old new captures opened × ReplaysOpened files.left files.failures mode journal script opened result sources)
+  abbrev pub FindsCaptures : Mode → Bool → Option ℕ → List CaptureNames → L → L → List ℕ → RunResult → List S → Type 0
+  FindsCaptures mode journal cache captures old new script result sources =
+      ((opened : List (OpenedCapture S)) × OpensAll files old new captures opened × ReplaysOpened files.left files.failures mode journal cache script opened result sources)
       ⊎ ((name : List ℕ) × (opened : List (OpenedCapture S)) × OpensUpTo files old new captures name opened
       × (result ≡ Unread name) × (sources ≡ sources_of opened))

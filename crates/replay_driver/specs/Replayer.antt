@@ -9,7 +9,8 @@ use Rattle.capture_tracks.specs.declared.replayed.Replayed.{Replayed}
 use Rattle.replay_driver.specs.Found.{IsOrderedIn}
 
 module _ {S : Type 0} (left : S → Option (List ℕ)) (failures : S → ℕ) where
-  -- A replay in this mode; in serial mode its record comes of records and commands in the order of the schedule.
-  pub record IsReplayIn (m : Mode) (config : Configuration) (steps : List Step) (opened : List (OpenedCapture S)) (r : Replayed S) : Type 0 where
-    pub replay : IsReplay left failures config steps opened r
-    pub ordered : IsOrderedIn m config steps replay.tracks r.record
+  -- A replay in this mode, in which each capture's lane has a cache for so many verdicts, or none has; in serial
+  -- mode its record comes of records and commands in the order of the schedule.
+  pub record IsReplayIn (m : Mode) (config : Configuration) (steps : List Step) (cache : Option ℕ) (opened : List (OpenedCapture S)) (r : Replayed S) : Type 0 where
+    pub replay : IsReplay left failures config steps cache opened r
+    pub ordered : IsOrderedIn m config steps cache replay.tracks r.record

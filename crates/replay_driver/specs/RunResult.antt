@@ -23,9 +23,9 @@ usage_text = codes "usage: ipfw_replay serial|live [--journal] SCRIPT in|out:IF:
 unfoldable pub unread_text : List ℕ → List ℕ
 unread_text name = codes "cannot read " ++ (name ++ codes "\n")
 
--- what a report is written of: no cache is kept, so there are no hits of it
+-- what a report is written of
 abbrev pub report_record : RecordValue → Recorded
-report_record r = record { editions = r.editions; journal = r.journal; dockets = r.dockets; tallies = r.tallies; trackers = r.trackers; hits = [] }
+report_record r = record { editions = r.editions; journal = r.journal; dockets = r.dockets; tallies = r.tallies; trackers = r.trackers; hits = r.hits }
 
 -- the summary of a record: its dockets, and how many editions, entries of the journal and live states there are
 abbrev pub summary_of : RecordValue → List ℕ

@@ -11,9 +11,9 @@ use Rattle.capture_tracks.specs.declared.opened.OpenedCapture.{OpenedCapture}
 
 module _ {S : Type 0} (left : S → Option (List ℕ)) (failures : S → ℕ) where
   -- the script gives no edition, and no capture was read; or the captures were replayed beside it
-  abbrev pub ReplaysScript : Mode → List ℕ → List (OpenedCapture S) → ScriptReplay S → Type 0
-  ReplaysScript mode script opened (Unready error sources) = (first_edition (pace_of mode) script ≡ Err error) × (sources.items ≡ sources_of opened)
-  ReplaysScript mode script opened (Replayed kept ends sources) = IsReplayOf left failures mode script opened kept ends sources.items
+  abbrev pub ReplaysScript : Mode → Option ℕ → List ℕ → List (OpenedCapture S) → ScriptReplay S → Type 0
+  ReplaysScript mode cache script opened (Unready error sources) = (first_edition (pace_of mode) script ≡ Err error) × (sources.items ≡ sources_of opened)
+  ReplaysScript mode cache script opened (Replayed kept ends sources) = IsReplayOf left failures mode cache script opened kept ends sources.items
 
 -- what was replayed has an edition
 abbrev pub CanReport : {S : Type 0} → ScriptReplay S → Type 0

@@ -1,4 +1,5 @@
-ghost use Rattle.std.specs.Prelude.{◌≡◌, ◌≤◌, ◌∷◌, IfOk, None, map, length};
+ghost use Rattle.std.specs.Prelude.{◌≡◌, ◌≤◌, ◌∷◌, IfOk, map, length};
+ghost use Rattle.fw_world.specs.Caches.{IsCacheSize};
 ghost use Rattle.command_words.specs.Invocation.{capture_names};
 ghost use Rattle.replay_driver.specs.Found.{FindsReplay};
 ghost use Rattle.replay_driver.specs.RunResult.{IsWritable};
@@ -36,10 +37,11 @@ fn replay_opened<S: Source + Send, P: Replayer>(
     script: &[u8],
     opened: Vec<OpenedCapture<S>>,
 ) -> Result<Found<S>, OutOfMemory>
-    requires { (1 ≤ length opened.items) × (length opened.items ≤ MOST_CAPTURES) }
+    requires captures { (1 ≤ length opened.items) × (length opened.items ≤ MOST_CAPTURES) }
+    requires cache { IsCacheSize (P.cache replayer.now) }
     ensures writable { IfOk result (λ found. IsWritable found.result) }
-    ensures replays { IfOk result (λ found. ReplaysOpened S.left S.faults P.mode journal script.now
-        opened.items found.result found.sources.items) }
+    ensures replays { IfOk result (λ found. ReplaysOpened S.left S.faults P.mode journal
+        (P.cache replayer.now) script.now opened.items found.result found.sources.items) }
 {
     match replay_script(alloc, replayer, script, opened)? {
         ScriptReplay::Unready(error, sources) => Ok(Found {
@@ -72,12 +74,13 @@ fn find_captures<L: Library, P: Replayer>(
 ) -> Result<Found<L::Reader>, OutOfMemory>
 where
     L::Reader: Send,
-    requires { (1 ≤ length captures.now) × (length captures.now ≤ MOST_CAPTURES) }
+    requires captures { (1 ≤ length captures.now) × (length captures.now ≤ MOST_CAPTURES) }
+    requires cache { IsCacheSize (P.cache replayer.now) }
     ensures writable { IfOk result (λ found. IsWritable found.result) }
     ensures finds { IfOk result (λ found.
         FindsCaptures ⟦<L as LibraryView>⟧.files
-        P.mode journal (map capture_names captures.now) library.old library.new script.now
-        found.result found.sources.items) }
+        P.mode journal (P.cache replayer.now) (map capture_names captures.now) library.old library.new
+        script.now found.result found.sources.items) }
 {
     match open_captures(alloc, captures, library)? {
         CaptureOpenings::Refused(name, opened) => Ok(Found {
@@ -99,14 +102,15 @@ pub(crate) fn replay_files<L: Library, P: Replayer>(
 ) -> Result<Found<L::Reader>, OutOfMemory>
 where
     L::Reader: Send,
-    requires { (1 ≤ length captures.now) × (length captures.now ≤ MOST_CAPTURES) }
+    requires captures { (1 ≤ length captures.now) × (length captures.now ≤ MOST_CAPTURES) }
+    requires cache { IsCacheSize (P.cache replayer.now) }
     ensures writable { IfOk result (λ found. IsWritable found.result) }
     ensures finds { IfOk result (λ found.
         FindsReplay ⟦<L as LibraryView>⟧.files
         (record {
           mode = P.mode;
           journal = journal;
-          cache = None;
+          cache = P.cache replayer.now;
           script = script.now;
           captures = map capture_names captures.now;
         })

@@ -33,7 +33,7 @@ pub(crate) fn replay_load(alloc: Global, records: u32) -> Result<RunResult, OutO
     let Load { script, capture } = make(alloc, records)?;
     let mut opened = Vec::new(alloc);
     opened.push(open_made(alloc, capture)?)?;
-    match replay_script(alloc, &InTurn, &script, opened)? {
+    match replay_script(alloc, &InTurn { cache: None }, &script, opened)? {
         ScriptReplay::Unready(error, _) => Ok(RunResult::Unready(error)),
         ScriptReplay::Replayed { kept, ends, .. } => Ok(RunResult::Summed { kept, ends }),
     }

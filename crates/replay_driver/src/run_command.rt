@@ -99,7 +99,14 @@ where
                 script,
                 captures,
             },
-        ) => replay_files(alloc, &InTurn, journal, script, &captures, library),
+        ) => replay_files(
+            alloc,
+            &InTurn { cache: None },
+            journal,
+            script,
+            &captures,
+            library,
+        ),
         Some(
             Invocation::Replay {
                 mode: Mode::Live,
@@ -107,7 +114,18 @@ where
                 script,
                 captures,
             },
-        ) => replay_files(alloc, &AtOnce { rt, gate }, journal, script, &captures, library),
+        ) => replay_files(
+            alloc,
+            &AtOnce {
+                rt,
+                gate,
+                cache: None,
+            },
+            journal,
+            script,
+            &captures,
+            library,
+        ),
         Some(Invocation::Load(records)) => Ok(without_sources(alloc, replay_load(alloc, records)?)),
         None => Ok(without_sources(alloc, RunResult::Usage)),
     }

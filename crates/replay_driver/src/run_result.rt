@@ -178,7 +178,7 @@ fn report<K: Sink>(out: &mut K, kept: &Record, ends: &Ends, journal: bool) -> Re
         kept.dockets(),
         kept.tallies(),
         kept.trackers(),
-        &[],
+        kept.hits(),
         ends,
         journal,
         out,

@@ -1,4 +1,5 @@
 ghost use Rattle.std.specs.Prelude.{◌≡◌, ◌≤◌, ◌∷◌, ◌++◌, IfOk, vec_len};
+ghost use Rattle.fw_world.specs.Caches.{IsCacheSize};
 ghost use Rattle.replay_driver.specs.Openings.{sources_of};
 ghost use Rattle.replay_driver.specs.ScriptReplay.{CanReport, ReplaysScript};
 
@@ -60,8 +61,10 @@ pub(crate) fn replay_script<S: Source + Send, P: Replayer>(
     script: &[u8],
     opened: Vec<OpenedCapture<S>>,
 ) -> Result<ScriptReplay<S>, OutOfMemory>
-    requires { (1 ≤ vec_len opened) × (vec_len opened ≤ MOST_CAPTURES) }
-    ensures replays { IfOk result (ReplaysScript S.left S.faults P.mode script.now opened.items) }
+    requires captures { (1 ≤ vec_len opened) × (vec_len opened ≤ MOST_CAPTURES) }
+    requires cache { IsCacheSize (P.cache replayer.now) }
+    ensures replays { IfOk result (ReplaysScript S.left S.faults P.mode (P.cache replayer.now)
+        script.now opened.items) }
     ensures reportable { IfOk result CanReport }
 {
     let FirstEdition {

@@ -9,13 +9,12 @@ use Rattle.fw_report.specs.Report.{report_text}
 use Rattle.fw_world.specs.RecordValue.{RecordValue}
 use Rattle.load_maker.specs.Load.{load_script, load_capture}
 use Rattle.record_laws.specs.OneReplay.{IsSameRecord}
-use Rattle.record_laws.specs.VerdictLines.{recorded_with}
 use Rattle.replay_driver.specs.FirstEdition.{first_edition}
 use Rattle.command_words.specs.declared.invocation.Mode.{Mode}
 use Rattle.replay_driver.specs.Found.{IsReplayOf, made_capture, known_left, no_failures}
 use Rattle.replay_driver.specs.Promises.{IsKept, IsUnreadyJob}
 use Rattle.replay_driver.specs.Run.{Writes}
-use Rattle.replay_driver.specs.RunResult.{summary_of}
+use Rattle.replay_driver.specs.RunResult.{summary_of, report_record}
 use Rattle.replay_driver.specs.ScriptTexts.{error_text}
 use Rattle.replay_driver.specs.Served.{Job, Replays, Loads, IsSerialJob, pace_of}
 use Rattle.replay_driver.specs.declared.outcome.Outcome.{Outcome}
@@ -113,9 +112,9 @@ module _ {L S K M T N : Type 0} (out : Outside L S K) (other : Outside M T N) wh
         let (status, took) = written_whole out.output sink sinkAfter _ outcome.status _ mine.writes few in
         let (otherStatus, otherTook) = written_whole other.output otherSink otherSinkAfter _ otherOutcome.status _ yours.writes otherFew in
         let read = same_read out other names library libraryAfter otherLibrary otherLibraryAfter mine.script yours.script mine.bytes yours.bytes mine.opened yours.opened mine.reads yours.reads files in
-        let alike = same_replay out.files.left out.files.failures other.files.left other.files.failures mine.bytes yours.bytes mine.opened yours.opened r s outcome.ends otherOutcome.ends mine.captures yours.captures
-        (subst (λ (m : Mode). IsReplayOf out.files.left out.files.failures m mine.bytes mine.opened r outcome.ends mine.captures) serial mine.replay)
-        (subst (λ (m : Mode). IsReplayOf other.files.left other.files.failures m yours.bytes yours.opened s otherOutcome.ends yours.captures) serial yours.replay) read.script read.captures
+        let alike = same_replay out.files.left out.files.failures other.files.left other.files.failures names.cache mine.bytes yours.bytes mine.opened yours.opened r s outcome.ends otherOutcome.ends mine.captures yours.captures
+        (subst (λ (m : Mode). IsReplayOf out.files.left out.files.failures m names.cache mine.bytes mine.opened r outcome.ends mine.captures) serial mine.replay)
+        (subst (λ (m : Mode). IsReplayOf other.files.left other.files.failures m names.cache yours.bytes yours.opened s otherOutcome.ends yours.captures) serial yours.replay) read.script read.captures
         (no_failed_read outcome.ends.captures outcome.ends.answers (subst (λ (n : ℕ). n ≤ 3) status few))
         (no_failed_read otherOutcome.ends.captures otherOutcome.ends.answers (subst (λ (n : ℕ). n ≤ 3) otherStatus otherFew)) in
         record {
@@ -123,7 +122,7 @@ module _ {L S K M T N : Type 0} (out : Outside L S K) (other : Outside M T N) wh
           kept = kept_alike outcome.kept otherOutcome.kept r s p q alike.recorded;
           ends = if_kept outcome.kept _ alike.printed;
           answers = if_kept outcome.kept _ alike.answers;
-          text = report_text (recorded_with [] r) outcome.ends.captures outcome.ends.answers names.journal;
+          text = report_text (report_record r) outcome.ends.captures outcome.ends.answers names.journal;
           took = took;
           other_took = subst (λ (text : List ℕ). Appends (other.output.written otherSink) (other.output.written otherSinkAfter) text) (sym (alike.text names.journal)) otherTook;
         }
@@ -131,7 +130,7 @@ module _ {L S K M T N : Type 0} (out : Outside L S K) (other : Outside M T N) wh
         let (status, took) = written_whole out.output sink sinkAfter _ outcome.status _ mine.writes few in
         let (otherStatus, otherTook) = written_whole other.output otherSink otherSinkAfter _ otherOutcome.status _ yours.writes otherFew in
         let made = made_capture (load_capture n) ∷ [] in
-        let alike = same_replay known_left no_failures known_left no_failures (load_script n) (load_script n) made made r s outcome.ends otherOutcome.ends mine.replay.sources yours.replay.sources
+        let alike = same_replay known_left no_failures known_left no_failures None (load_script n) (load_script n) made made r s outcome.ends otherOutcome.ends mine.replay.sources yours.replay.sources
         mine.replay.replay yours.replay.replay refl (record { contents = load_capture n ∷ []; ports = refl; told = refl; other_told = refl })
         (no_failed_read outcome.ends.captures outcome.ends.answers (subst (λ (n : ℕ). n ≤ 3) status few))
         (no_failed_read otherOutcome.ends.captures otherOutcome.ends.answers (subst (λ (n : ℕ). n ≤ 3) otherStatus otherFew)) in

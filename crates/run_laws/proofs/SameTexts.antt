@@ -16,7 +16,7 @@ use Rattle.record_laws.proofs.OneReplay.{contents_determine_reports}
 use Rattle.replay_driver.proofs.Statuses.{status_by, by_tests}
 use Rattle.replay_driver.specs.FirstEdition.{first_edition}
 use Rattle.replay_driver.specs.Found.{IsReplayOf}
-use Rattle.replay_driver.specs.RunResult.{summary_of, report_status, is_stopped, is_refused}
+use Rattle.replay_driver.specs.RunResult.{summary_of, report_status, is_stopped, is_refused, report_record}
 use Rattle.command_words.specs.declared.invocation.Mode.TheVariants.{Serial}
 use Rattle.serial_replay.specs.Replay.{IsSerialReplay}
 use Rattle.replay_driver.specs.Served.{pace_of}
@@ -81,15 +81,15 @@ pub record IsAlike (kept other : RecordValue) (ends otherEnds : Ends) : Type 0 w
   pub recorded : IsSameRecord kept other
   pub printed : map printed_end ends.captures ≡ map printed_end otherEnds.captures
   pub answers : ends.answers ≡ otherEnds.answers
-  pub text : (journal : Bool) → report_text (recorded_with [] kept) ends.captures ends.answers journal ≡ report_text (recorded_with [] other) otherEnds.captures otherEnds.answers journal
+  pub text : (journal : Bool) → report_text (report_record kept) ends.captures ends.answers journal ≡ report_text (report_record other) otherEnds.captures otherEnds.answers journal
 
 -- the status of the same ends and answers
 status_parts : {c d : List CaptureEnd} {a b : List LineAnswer} → c ≡ d → a ≡ b → report_status c a ≡ report_status d b
 status_parts ends answers = λ i. report_status (ends i) (answers i)
 
 -- the report of the same record, ends and answers
-text_parts : {r s : RecordValue} {c d : List CaptureEnd} {a b : List LineAnswer} (journal : Bool) → r ≡ s → c ≡ d → a ≡ b → report_text (recorded_with [] r) c a journal ≡ report_text (recorded_with [] s) d b journal
-text_parts journal kept ends answers = λ i. report_text (recorded_with [] (kept i)) (ends i) (answers i) journal
+text_parts : {r s : RecordValue} {c d : List CaptureEnd} {a b : List LineAnswer} (journal : Bool) → r ≡ s → c ≡ d → a ≡ b → report_text (report_record r) c a journal ≡ report_text (report_record s) d b journal
+text_parts journal kept ends answers = λ i. report_text (report_record (kept i)) (ends i) (answers i) journal
 
 -- the statuses are the same
 pub same_status : (kept other : RecordValue) (ends otherEnds : Ends) → IsAlike kept other ends otherEnds → report_status ends.captures ends.answers ≡ report_status otherEnds.captures otherEnds.answers
@@ -106,15 +106,15 @@ same_summary r s same =
 
 module _ {S T : Type 0} (left : S → Option (List ℕ)) (failures : S → ℕ) (otherLeft : T → Option (List ℕ)) (otherFailures : T → ℕ) where
   -- serial replays of the same script and of captures whose sources tell the same come to the same
-  pub same_replay : (bytes otherBytes : List ℕ) (opened : List (OpenedCapture S)) (others : List (OpenedCapture T)) (kept other : RecordValue) (ends otherEnds : Ends) (sources : List S) (otherSources : List T)
-      → IsReplayOf left failures Serial bytes opened kept ends sources → IsReplayOf otherLeft otherFailures Serial otherBytes others other otherEnds otherSources
+  pub same_replay : (cache : Option ℕ) (bytes otherBytes : List ℕ) (opened : List (OpenedCapture S)) (others : List (OpenedCapture T)) (kept other : RecordValue) (ends otherEnds : Ends) (sources : List S) (otherSources : List T)
+      → IsReplayOf left failures Serial cache bytes opened kept ends sources → IsReplayOf otherLeft otherFailures Serial cache otherBytes others other otherEnds otherSources
       → bytes ≡ otherBytes → HaveSameContents left otherLeft opened others → HaveNoFailedRead ends.captures → HaveNoFailedRead otherEnds.captures → IsAlike kept other ends otherEnds
-  same_replay bytes otherBytes opened others kept other ends otherEnds sources otherSources mine yours script captures read otherRead =
+  same_replay cache bytes otherBytes opened others kept other ends otherEnds sources otherSources mine yours script captures read otherRead =
       let r = mine.replayed in
       let s = yours.replayed in
       let edition = ok_one (first_edition (pace_of Serial) otherBytes) yours.edition mine.edition yours.first (ap (first_edition (pace_of Serial)) (sym script) ∙ mine.first) in
-      let replay = moved edition (λ e. IsSerialReplay otherLeft otherFailures e.config e.live others s) (record { replay = yours.replay; ordered = yours.ordered }) in
-      let (replayed, report) = contents_determine_reports left failures otherLeft otherFailures mine.edition.config mine.edition.live opened others r s (record { replay = mine.replay; ordered = mine.ordered }) replay captures
+      let replay = moved edition (λ e. IsSerialReplay otherLeft otherFailures e.config e.live cache others s) (record { replay = yours.replay; ordered = yours.ordered }) in
+      let (replayed, report) = contents_determine_reports left failures otherLeft otherFailures mine.edition.config mine.edition.live cache opened others r s (record { replay = mine.replay; ordered = mine.ordered }) replay captures
       (subst (λ (l : List CaptureEnd). HaveNoFailedRead l) mine.captures_ended read) (subst (λ (l : List CaptureEnd). HaveNoFailedRead l) yours.captures_ended otherRead) in
       let before : mine.edition.answers ≡ yours.edition.answers = let back = sym edition in λ i. (back i).answers in
       let answers : ends.answers ≡ otherEnds.answers =
@@ -124,5 +124,6 @@ module _ {S T : Type 0} (left : S → Option (List ℕ)) (failures : S → ℕ) 
         printed = ap (map printed_end) mine.captures_ended ∙ report.ends ∙ ap (map printed_end) (sym yours.captures_ended);
         answers = answers;
         text = λ journal.
-            text_parts journal mine.recorded mine.captures_ended refl ∙ report.text [] ends.answers journal ∙ text_parts journal (sym yours.recorded) (sym yours.captures_ended) answers;
+            text_parts journal mine.recorded mine.captures_ended refl ∙ report.text r.record.hits ends.answers journal
+            ∙ ap (λ hits. report_text (recorded_with hits s.record) s.ends.captures ends.answers journal) replayed.recorded.hits ∙ text_parts journal (sym yours.recorded) (sym yours.captures_ended) answers;
       }

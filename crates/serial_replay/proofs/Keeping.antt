@@ -7,11 +7,12 @@ use Rattle.fw_command.specs.WellFormed.{IsStepInRange, IsLine}
 use Rattle.fw_command.specs.declared.script.Line.{Line}
 use Rattle.fw_command.specs.declared.script.Step.{Step}
 use Rattle.fw_command.specs.declared.script.Step.TheVariants.{Run}
+use Rattle.fw_world.specs.RecordedHits.{EachHasRoom}
 use Rattle.pcap_read.specs.Reading.{Captured}
 use Rattle.capture_tracks.specs.Commands.{after_line, after_lines}
 use Rattle.serial_replay.specs.Events.{ReplaysAll}
-use Rattle.serial_replay.specs.ReplayWorld.{run_state, IsSound, ReplayStandsFor, RunsALine}
-use Rattle.serial_replay.specs.Running.{IsReady, Keeps, HaveTracks, inputs_of, first_capture_of}
+use Rattle.serial_replay.specs.ReplayWorld.{run_state, AreLanesAt, IsSound, ReplayStandsFor, RunsALine}
+use Rattle.serial_replay.specs.Running.{IsReady, Keeps, HaveTracks, ports_of, inputs_of, first_capture_of}
 use Rattle.capture_tracks.specs.Tracks.{held_record_of}
 use Rattle.serial_replay.specs.Tracks.{AreTracks, rooms_of}
 use Rattle.serial_replay.specs.declared.running.Running.{Running}
@@ -32,11 +33,21 @@ formed-last old new (passed, is) all = all-behind IsStepInRange passed new (subs
 
 module _ {S : Type 0} (left : S → Option (List ℕ)) (faults : S → ℕ) where
   pub keeps-none : (run : Running S) → IsReady left faults run → Keeps left faults run run
-  keeps-none run ready = record { ready = ready; goes = λ config steps limit captures origins first goes. goes }
+  keeps-none run ready = record { ready = ready; goes = λ config steps cache limit captures origins first goes. goes }
 
   -- what each of two calls keeps, both of them keep, one after the other
   pub keeps-both : (a b c : Running S) → Keeps left faults a b → Keeps left faults b c → Keeps left faults a c
-  keeps-both a b c h k = record { ready = k.ready; goes = λ config steps limit captures origins first goes. k.goes config steps limit captures origins first (h.goes config steps limit captures origins first goes) }
+  keeps-both a b c h k = record { ready = k.ready; goes = λ config steps cache limit captures origins first goes. k.goes config steps cache limit captures origins first (h.goes config steps cache limit captures origins first goes) }
+
+  -- the same tracks are those of the same captures
+  abbrev have-same : (old new : Running S) → new.tracks ≡ old.tracks → HaveTracks left faults old.tracks → HaveTracks left faults new.tracks
+  have-same old new tracks have = record {
+    limit = have.limit;
+    captures = have.captures;
+    dones = have.dones;
+    origins = have.origins;
+    are = subst (λ ts. AreTracks left faults have.limit have.captures ts have.dones have.origins) (sym tracks) have.are;
+  }
 
   -- a line ran
   keeps-line : (old new : Running S) (line : Line) → IsReady left faults old → RunsALine old.replay new.replay line → all_lines (steps_of old.agenda) ≡ line ∷ all_lines (steps_of new.agenda) → AreLast (Run line ∷ steps_of new.agenda) (steps_of old.agenda)
@@ -47,15 +58,17 @@ module _ {S : Type 0} (left : S → Option (List ℕ)) (faults : S → ℕ) wher
     ready = record {
       sound = runs.sound ready.sound;
       formed = (formed-last (steps_of old.agenda) (Run line ∷ steps_of new.agenda) last ready.formed).1;
-      matched = runs.lanes ∙ ready.matched ∙ sym (ap length tracks);
-      tracked = subst (HaveTracks left faults) (sym tracks) ready.tracked;
+      matched = ap length runs.lanes ∙ ready.matched ∙ sym (ap length tracks);
+      tracked = have-same old new tracks ready.tracked;
+      ports = subst (λ lanes. AreLanesAt (ports_of ready.tracked.origins) lanes) (sym runs.lanes) ready.ports;
       few = let rooms : rooms_of new.tracks ≡ rooms_of old.tracks = ap rooms_of tracks in omega (arith, ready.few, rooms, taken);
     };
-    goes = λ config steps limit captures origins first h. record {
+    goes = λ config steps cache limit captures origins first h. record {
       dones = h.dones;
       standing = after_line h.standing line;
       tracks = subst (λ ts. AreTracks left faults limit captures ts h.dones origins) (sym tracks) h.tracks;
       stands = runs.stands config (inputs_of origins h.dones) h.standing h.stands;
+      rooms = subst (λ lanes. EachHasRoom cache lanes) (sym runs.lanes) h.rooms;
       lines = sym (ap (after_lines h.standing) lines) ∙ h.lines;
       comes = λ rests end fits all.
           let fitting : map next_record_of rests ≡ map held_record_of old.tracks = fits ∙ ap (map held_record_of) tracks in
@@ -77,14 +90,16 @@ module _ {S : Type 0} (left : S → Option (List ℕ)) (faults : S → ℕ) wher
       sound = subst IsSound (sym replay) ready.sound;
       formed = formed;
       matched = ap (λ (l : ReplayWorld). length l.lanes.items) replay ∙ ready.matched ∙ sym (ap length tracks);
-      tracked = subst (HaveTracks left faults) (sym tracks) ready.tracked;
+      tracked = have-same old new tracks ready.tracked;
+      ports = subst (λ (l : ReplayWorld). AreLanesAt (ports_of ready.tracked.origins) l.lanes.items) (sym replay) ready.ports;
       few = let rooms : rooms_of new.tracks ≡ rooms_of old.tracks = ap rooms_of tracks in omega (arith, ready.few, rooms, taken);
     };
-    goes = λ config steps limit captures origins first h. record {
+    goes = λ config steps cache limit captures origins first h. record {
       dones = h.dones;
       standing = h.standing;
       tracks = subst (λ ts. AreTracks left faults limit captures ts h.dones origins) (sym tracks) h.tracks;
       stands = subst (ReplayStandsFor config (inputs_of origins h.dones) h.standing) (sym replay) h.stands;
+      rooms = subst (λ (l : ReplayWorld). EachHasRoom cache l.lanes.items) (sym replay) h.rooms;
       lines = sym (ap (after_lines h.standing) lines) ∙ h.lines;
       comes = λ rests end fits all.
           let fitting : map next_record_of rests ≡ map held_record_of old.tracks = fits ∙ ap (map held_record_of) tracks in

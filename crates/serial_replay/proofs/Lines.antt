@@ -53,7 +53,7 @@ pub runs-listed : (old new : ReplayWorld) (line : Line) (listing : Listing) (ans
 runs-listed old new line listing answer is listed h = record {
   runs = subst (λ l. RunsLine (run_state old) (run_state new) line.command l) (sym is) (state-same old new (line_answer line.line answer) h);
   sound = sound-answers old new (line_answer line.line answer) h;
-  lanes = ap length h.lanes;
+  lanes = h.lanes;
   stands = λ first inputs standing replay. replay-answers first inputs standing _ old new (line_answer line.line answer) h
       (stands-listed (operator_of old) (operator_of new) line listing answer is listed h.answered first standing replay.operator) replay;
 }
@@ -63,7 +63,7 @@ pub runs-refused : (old new : ReplayWorld) (line : Line) → listing_of line.com
 runs-refused old new line is h = record {
   runs = subst (λ l. RunsLine (run_state old) (run_state new) line.command l) (sym is) (inr ((h.fault, h.refusal), state-same old new (line_answer line.line (Refused h.fault)) h.answers));
   sound = sound-answers old new (line_answer line.line (Refused h.fault)) h.answers;
-  lanes = ap length h.answers.lanes;
+  lanes = h.answers.lanes;
   stands = λ first inputs standing replay.
       let adds : AddsRefusal (operator_of old) (operator_of new) line = record {
         fault = h.fault;
@@ -107,7 +107,7 @@ pub runs-accepted : (old new : ReplayWorld) (line : Line) → listing_of line.co
 runs-accepted old new line is h = record {
   runs = subst (λ l. RunsLine (run_state old) (run_state new) line.command l) (sym is) (inl (h.lanes, h.publishes));
   sound = sound-accepted old new line.command h;
-  lanes = ap length h.lanes;
+  lanes = h.lanes;
   stands = λ first inputs standing replay. record {
     sound = sound-accepted old new line.command h replay.sound;
     operator = stands-accepted (operator_of old) (operator_of new) line is (adds-edition old new line.command h replay.sound.desk) first standing replay.operator;

@@ -1,5 +1,5 @@
 -- A record of a lane that was replayed: what becomes of the world and the lanes.
-use Rattle.std.proofs.Common.{◌≡◌, ◌≢◌, ℕ, zero, suc, ◌+◌, ◌<◌, Some, List, [], ◌∷◌, ◌++◌, length, refl, sym, ap, subst, ◌∙◌, arith, get_or}
+use Rattle.std.proofs.Common.{◌≡◌, ◌≢◌, ℕ, zero, suc, ◌+◌, ◌<◌, Option, Some, List, [], ◌∷◌, ◌++◌, length, refl, sym, ap, subst, ◌∙◌, arith, get_or}
 use Rattle.std.specs.Prelude.{slice_get, slice_set}
 use Rattle.std.specs.List.{AllByRecursion}
 use Rattle.std.proofs.lemmas.Option.{slice_get_read}
@@ -8,6 +8,8 @@ use Rattle.eval_engine.specs.declared.judgement.Judgement.{Judgement}
 use Rattle.fw_base.specs.declared.port.Port.{Port}
 use Rattle.ip6_headers.specs.declared.any_ip.AnyIp.{AnyIp}
 use Rattle.state_journal.specs.Items.{asks_of}
+use Rattle.fw_world.specs.Caches.{capacity_of, IsPortFor}
+use Rattle.fw_world.specs.RecordedHits.{EachHasRoom}
 use Rattle.fw_world.specs.Closing.{AreLanesFrom, EachStandsFor}
 use Rattle.fw_world.specs.Inputs.{Input, Packet}
 use Rattle.fw_world.specs.Lane.{LaneValue, with_docket_entry}
@@ -18,7 +20,7 @@ use Rattle.rule_chain.specs.Configuration.{Configuration}
 use Rattle.capture_tracks.specs.Commands.{Standing}
 use Rattle.capture_tracks.specs.Operator.{OperatorStandsFor}
 use Rattle.serial_replay.specs.Events.{EntersAt, ReplaysInput, judged_lane}
-use Rattle.serial_replay.specs.ReplayWorld.{run_state, operator_of, IsClean, IsSound, ReplayStandsFor, with_input, ReplaysARecord}
+use Rattle.serial_replay.specs.ReplayWorld.{run_state, operator_of, AreLanesAt, IsClean, IsSound, ReplayStandsFor, with_input, ReplaysARecord}
 use Rattle.serial_replay.specs.declared.replay_world.ReplayWorld.{ReplayWorld}
 
 -- the lane at a place
@@ -75,8 +77,27 @@ length-set_lanes [] k after = refl
 length-set_lanes (lane ∷ lanes) zero after = refl
 length-set_lanes (lane ∷ lanes) (suc k) after = let rest = length-set_lanes lanes k after in omega arith
 
+-- where one lane judged a packet of its port
+ports-set : (port : Port) (ports : List Port) (lanes : List LaneValue) (k : ℕ) (after : LaneValue) → slice_get ports k ≡ Some port → IsPortFor after.cache port → AreLanesAt ports lanes → AreLanesAt ports (slice_set lanes k after)
+ports-set port [] [] k after at of are = tt
+ports-set port [] (lane ∷ lanes) k after at of are = absurd are
+ports-set port (own ∷ ports) [] k after at of are = absurd are
+ports-set port (own ∷ ports) (lane ∷ lanes) zero after at of are = let same : own ≡ port = cc in (subst (λ p. IsPortFor after.cache p) (sym same) of, are.1)
+ports-set port (own ∷ ports) (lane ∷ lanes) (suc k) after at of are = (are.0, ports-set port ports lanes k after at of are.1)
+
+-- the lane at a place is at its port
+pub port-of : (port : Port) (ports : List Port) (lanes : List LaneValue) (k : ℕ) (lane : LaneValue) → slice_get ports k ≡ Some port → slice_get lanes k ≡ Some lane → AreLanesAt ports lanes → IsPortFor lane.cache port
+port-of port [] [] k lane at there are = cc
+port-of port [] (first ∷ lanes) k lane at there are = absurd are
+port-of port (own ∷ ports) [] k lane at there are = absurd are
+port-of port (own ∷ ports) (first ∷ lanes) zero lane at there are =
+    let same : own ≡ port = cc in
+    let one : first ≡ lane = cc in
+    subst (λ p. IsPortFor lane.cache p) same (subst (λ (l : LaneValue). IsPortFor l.cache own) one are.0)
+port-of port (own ∷ ports) (first ∷ lanes) (suc k) lane at there are = port-of port ports lanes k lane at there are.1
+
 -- an input more of the lane at this place
-pub record MeetsInput (k : ℕ) (input : Input) (old new : ReplayWorld) (lane after : LaneValue) : Type 0 where
+pub record MeetsInput (k : ℕ) (port : Port) (input : Input) (old new : ReplayWorld) (lane after : LaneValue) : Type 0 where
   pub at : slice_get old.lanes.items k ≡ Some lane
   pub set : new.lanes.items ≡ slice_set old.lanes.items k after
   pub asks : ChangesAsksOf lane.place old.world new.world
@@ -84,11 +105,24 @@ pub record MeetsInput (k : ℕ) (input : Input) (old new : ReplayWorld) (lane af
   pub place : after.place ≡ lane.place
   pub clean : IsClean lane → IsClean after
   pub stands : (own : List Input) → LaneStandsFor old.world lane own → LaneStandsFor new.world after (own ++ input ∷ [])
+  pub room : capacity_of after.cache ≡ capacity_of lane.cache
+  pub port_is : IsPortFor lane.cache port → IsPortFor after.cache port
   pub desk : new.desk ≡ old.desk
   pub answers : new.answers.items ≡ old.answers.items
 
-sound-input : (k : ℕ) (input : Input) (old new : ReplayWorld) (lane after : LaneValue) → MeetsInput k input old new lane after → IsSound old → IsSound new
-sound-input k input old new lane after h sound =
+ports-input : (k : ℕ) (port : Port) (input : Input) (old new : ReplayWorld) (lane after : LaneValue) → MeetsInput k port input old new lane after
+    → (ports : List Port) → slice_get ports k ≡ Some port → AreLanesAt ports old.lanes.items → AreLanesAt ports new.lanes.items
+ports-input k port input old new lane after h ports at are =
+    subst (λ lanes. AreLanesAt ports lanes) (sym h.set) (ports-set port ports old.lanes.items k after at (h.port_is (port-of port ports old.lanes.items k lane at h.at are)) are)
+
+rooms-input : (k : ℕ) (port : Port) (input : Input) (old new : ReplayWorld) (lane after : LaneValue) → MeetsInput k port input old new lane after
+    → (cache : Option ℕ) → EachHasRoom cache old.lanes.items → EachHasRoom cache new.lanes.items
+rooms-input k port input old new lane after h cache rooms =
+    let HasRoom : LaneValue → Type 0 = λ one. capacity_of one.cache ≡ cache in
+    subst (λ lanes. AllByRecursion HasRoom lanes) (sym h.set) (all-set HasRoom old.lanes.items k after rooms (h.room ∙ all-at HasRoom old.lanes.items k lane rooms h.at))
+
+sound-input : (k : ℕ) (port : Port) (input : Input) (old new : ReplayWorld) (lane after : LaneValue) → MeetsInput k port input old new lane after → IsSound old → IsSound new
+sound-input k port input old new lane after h sound =
     let found = lane-at old.world 1 old.lanes.items k lane sound.lanes h.at in
     record {
       desk = h.desk ∙ sound.desk ∙ sym h.asks.editions;
@@ -97,13 +131,13 @@ sound-input k input old new lane after h sound =
       clean = subst (λ lanes. AllByRecursion IsClean lanes) (sym h.set) (all-set IsClean old.lanes.items k after sound.clean (h.clean (all-at IsClean old.lanes.items k lane sound.clean h.at)));
     }
 
-pub replay-input : (k : ℕ) (input : Input) (old new : ReplayWorld) (lane after : LaneValue) → MeetsInput k input old new lane after
+pub replay-input : (k : ℕ) (port : Port) (input : Input) (old new : ReplayWorld) (lane after : LaneValue) → MeetsInput k port input old new lane after
     → (first : Configuration) (inputs : List (List Input)) (standing : Standing) → ReplayStandsFor first inputs standing old → ReplayStandsFor first (with_input k input inputs) standing new
-replay-input k input old new lane after h first inputs standing replay =
+replay-input k port input old new lane after h first inputs standing replay =
     let found = lane-at old.world 1 old.lanes.items k lane replay.sound.lanes h.at in
     let same : operator_of new ≡ operator_of old = λ i. record { editions = h.desk i; answers = h.answers i } in
     record {
-      sound = sound-input k input old new lane after h replay.sound;
+      sound = sound-input k port input old new lane after h replay.sound;
       operator = subst (OperatorStandsFor first standing) (sym same) replay.operator;
       stands = subst (λ lanes. EachStandsFor new.world lanes (with_input k input inputs)) (sym h.set)
           (stand-set old.world new.world 1 old.lanes.items k lane after input inputs (subst (λ n. ChangesAsksOf n old.world new.world) found.0 h.asks) h.at h.stands replay.sound.lanes replay.stands);
@@ -121,12 +155,12 @@ clean-lent replay k lane sound within is = all-at IsClean replay.lanes.items k l
 pub replays-judged : (k : ℕ) (input : Input) (packet : AnyIp) (port : Port) (second : ℕ) (old new : ReplayWorld) (lane after : LaneValue) (judgement : Judgement) → Packet packet port second ≡ input → k < length old.lanes.items → lane ≡ get_or old.lanes.items k lane
     → new.lanes.items ≡ slice_set old.lanes.items k after → new.desk ≡ old.desk → new.answers.items ≡ old.answers.items
     → Judges old.world new.world lane.place (length lane.docket.entries + 1) packet port second lane.tally after.tally judgement
-    → after ≡ judged_lane (published_count old.world) judgement after.tally lane
+    → after ≡ judged_lane (published_count old.world) judgement after.tally after.cache lane → capacity_of after.cache ≡ capacity_of lane.cache → IsPortFor after.cache port
     → ((own : List Input) → LaneStandsFor old.world lane own → LaneStandsFor new.world after (own ++ Packet packet port second ∷ []))
-    → IsLaneOf new.world after → ChangesAsksOf lane.place old.world new.world → ReplaysARecord k input old new
-replays-judged k input packet port second old new lane after judgement input-is within is set desk answers judges lane-is stands of asks =
+    → IsLaneOf new.world after → ChangesAsksOf lane.place old.world new.world → ReplaysARecord k port input old new
+replays-judged k input packet port second old new lane after judgement input-is within is set desk answers judges lane-is room at_port stands of asks =
     let at = slice_get_read old.lanes.items (length old.lanes.items) k lane refl within is in
-    let meets : MeetsInput k (Packet packet port second) old new lane after = record {
+    let meets : MeetsInput k port (Packet packet port second) old new lane after = record {
       at = at;
       set = set;
       asks = asks;
@@ -134,24 +168,28 @@ replays-judged k input packet port second old new lane after judgement input-is 
       place = ap (λ (l : LaneValue). l.place) lane-is;
       clean = λ clean. (ap (λ (l : LaneValue). l.refusal) lane-is, ap (λ (l : LaneValue). l.loose) lane-is ∙ clean.1);
       stands = stands;
+      room = room;
+      port_is = λ before. at_port;
       desk = desk;
       answers = answers;
     } in
-    subst (λ i. ReplaysARecord k i old new) input-is (record {
-      replays = record { lane = lane; tally = after.tally; judgement = judgement; judges = judges; changes = (at, set ∙ ap (slice_set old.lanes.items k) lane-is) };
-      sound = sound-input k (Packet packet port second) old new lane after meets;
+    subst (λ i. ReplaysARecord k port i old new) input-is (record {
+      replays = record { lane = lane; tally = after.tally; cache = after.cache; judgement = judgement; judges = judges; changes = (at, set ∙ ap (slice_set old.lanes.items k) lane-is) };
+      sound = sound-input k port (Packet packet port second) old new lane after meets;
+      ports = ports-input k port (Packet packet port second) old new lane after meets;
+      rooms = rooms-input k port (Packet packet port second) old new lane after meets;
       lanes = ap length set ∙ length-set_lanes old.lanes.items k after;
-      stands = replay-input k (Packet packet port second) old new lane after meets;
+      stands = replay-input k port (Packet packet port second) old new lane after meets;
     })
 
 -- an entry was made for a record that isn't judged
-pub replays-entered : (k : ℕ) (input : Input) (entered : DocketEntry) (old new : ReplayWorld) (lane after : LaneValue) (met : Input) → met ≡ input → (EntersAt k (run_state old) (run_state new) entered → ReplaysInput k (run_state old) (run_state new) met)
+pub replays-entered : (k : ℕ) (port : Port) (input : Input) (entered : DocketEntry) (old new : ReplayWorld) (lane after : LaneValue) (met : Input) → met ≡ input → (EntersAt k (run_state old) (run_state new) entered → ReplaysInput k (run_state old) (run_state new) met)
     → k < length old.lanes.items → lane ≡ get_or old.lanes.items k lane → new.lanes.items ≡ slice_set old.lanes.items k after → new.desk ≡ old.desk → new.answers.items ≡ old.answers.items
     → new.world ≡ old.world → after ≡ with_docket_entry entered lane
-    → ((own : List Input) → LaneStandsFor old.world lane own → LaneStandsFor old.world after (own ++ met ∷ [])) → IsLaneOf old.world after → ReplaysARecord k input old new
-replays-entered k input entered old new lane after met input-is replays within is set desk answers world lane-is stands of =
+    → ((own : List Input) → LaneStandsFor old.world lane own → LaneStandsFor old.world after (own ++ met ∷ [])) → IsLaneOf old.world after → ReplaysARecord k port input old new
+replays-entered k port input entered old new lane after met input-is replays within is set desk answers world lane-is stands of =
     let at = slice_get_read old.lanes.items (length old.lanes.items) k lane refl within is in
-    let meets : MeetsInput k met old new lane after = record {
+    let meets : MeetsInput k port met old new lane after = record {
       at = at;
       set = set;
       asks = record {
@@ -163,12 +201,16 @@ replays-entered k input entered old new lane after met input-is replays within i
       place = ap (λ (l : LaneValue). l.place) lane-is;
       clean = λ clean. (ap (λ (l : LaneValue). l.refusal) lane-is ∙ clean.0, ap (λ (l : LaneValue). l.loose) lane-is ∙ clean.1);
       stands = λ own before. subst (λ w. LaneStandsFor w after (own ++ met ∷ [])) (sym world) (stands own before);
+      room = ap (λ (l : LaneValue). capacity_of l.cache) lane-is;
+      port_is = λ before. subst (λ (l : LaneValue). IsPortFor l.cache port) (sym lane-is) before;
       desk = desk;
       answers = answers;
     } in
-    subst (λ i. ReplaysARecord k i old new) input-is (record {
+    subst (λ i. ReplaysARecord k port i old new) input-is (record {
       replays = replays (record { lane = lane; world = world; changes = (at, set ∙ ap (slice_set old.lanes.items k) lane-is) });
-      sound = sound-input k met old new lane after meets;
+      sound = sound-input k port met old new lane after meets;
+      ports = ports-input k port met old new lane after meets;
+      rooms = rooms-input k port met old new lane after meets;
       lanes = ap length set ∙ length-set_lanes old.lanes.items k after;
-      stands = replay-input k met old new lane after meets;
+      stands = replay-input k port met old new lane after meets;
     })

@@ -12,7 +12,7 @@ use Rattle.capture_tracks.specs.Commands.{after_lines}
 use Rattle.serial_replay.specs.Events.{ReplaysAll, ReplaysInput, ReplaysTurn}
 use Rattle.serial_replay.specs.ReplayWorld.{run_state, with_input, ReplayStandsFor, ReplaysARecord}
 use Rattle.capture_tracks.specs.Reading.{Origin, input_of}
-use Rattle.serial_replay.specs.Running.{inputs_of, joined_records, with_last, first_capture_of, IsReady, TakesRecord}
+use Rattle.serial_replay.specs.Running.{inputs_of, ports_of, joined_records, with_last, first_capture_of, IsReady, TakesRecord}
 use Rattle.capture_tracks.specs.Tracks.{IsTrack, GoesFurther, held_in, held_record_of, room_of}
 use Rattle.capture_tracks.proofs.Origins.{origin-open}
 use Rattle.serial_replay.specs.Tracks.{AreTracks, GoesFurtherAt, open_of, rooms_of}
@@ -134,9 +134,17 @@ module _ {S : Type 0} where
       cc
 
   module _ (left : S → Option (List ℕ)) (faults : S → ℕ) where
+    -- the port of the capture at a place is the one of its track
+    pub port-at : (closed : Track S) (limit : ℕ) (captures : List (OpenedCapture S)) (tracks : List (Track S)) (dones : List (List Captured)) (origins : List Origin) (k : ℕ) (track : OpenTrack S) (r : Captured) → slice_get tracks k ≡ Some closed → closed ≡ Open track → held_in track ≡ Some r
+        → AreTracks left faults limit captures tracks dones origins → slice_get (ports_of origins) k ≡ Some track.port
+    port-at closed limit captures tracks dones origins k track r at opens held are =
+        let (origin, origin_at, (opened, done, is)) = track-at left faults limit captures tracks dones origins k closed at are in
+        let origin_is = origin-open left faults limit opened track done origin r held (subst (λ t. IsTrack left faults limit opened t done origin) opens is) in
+        slice_get-map (λ (o : Origin). o.port) origins k ∙ ap (option_map (λ (o : Origin). o.port)) origin_at ∙ ap (λ (o : Origin). Some o.port) origin_is
+
     -- the record of the capture that comes first was replayed
     pub takes-record : (old new : Running S) (k : ℕ) (track : OpenTrack S) (r : Captured) → IsReady left faults old → NoneIsDue old.taken (steps_of old.agenda) (steps_of old.agenda) → first_capture_of old.tracks ≡ Some k → slice_get old.tracks k ≡ Some (Open track) → held_in track ≡ Some r
-        → ReplaysARecord k (input_of (link_of track.capture) track.port r) old.replay new.replay → GoesFurtherAt left faults k old.tracks new.tracks → steps_of new.agenda ≡ steps_of old.agenda → new.taken ≡ old.taken + 1 → TakesRecord left faults old new
+        → ReplaysARecord k track.port (input_of (link_of track.capture) track.port r) old.replay new.replay → GoesFurtherAt left faults k old.tracks new.tracks → steps_of new.agenda ≡ steps_of old.agenda → new.taken ≡ old.taken + 1 → TakesRecord left faults old new
     takes-record old new k track r ready none first at held replays further agenda taken =
         let before_is : further.before ≡ Open track = let e : Some further.before ≡ Some (Open track) = sym further.at ∙ at in cc in
         let before_held : held_record_of further.before ≡ Some r = ap held_record_of before_is ∙ held in
@@ -156,9 +164,10 @@ module _ {S : Type 0} where
                 origins = t.origins;
                 are = subst (λ ts. AreTracks left faults t.limit t.captures ts (with_last k r t.dones) t.origins) (sym further.set) on.0;
               };
+              ports = replays.ports (ports_of t.origins) (port-at (Open track) t.limit t.captures old.tracks t.dones t.origins k track r at refl held t.are) ready.ports;
               few = omega (arith, ready.few, fewer, taken);
             };
-            goes = λ config steps limit captures origins start h.
+            goes = λ config steps cache limit captures origins start h.
                 let (origin, origin_at, (opened, done, is)) = track-at left faults limit captures old.tracks h.dones origins k (Open track) at h.tracks in
                 let origin_is = origin-open left faults limit opened track done origin r held is in
                 let input : input_of origin.link origin.port r ≡ input_of (link_of track.capture) track.port r = ap (λ (o : Origin). input_of o.link o.port r) origin_is in
@@ -169,6 +178,7 @@ module _ {S : Type 0} where
                       (are-further left faults limit captures old.tracks h.dones origins k further.before further.after r further.at before_held further.goes h.tracks).0;
                   stands = subst (λ inputs. ReplayStandsFor config inputs h.standing new.replay) (sym (inputs-with_last k r origins h.dones origin origin_at ∙ ap (λ i. with_input k i (inputs_of origins h.dones)) input))
                       (replays.stands config (inputs_of origins h.dones) h.standing h.stands);
+                  rooms = replays.rooms cache h.rooms;
                   lines = ap (λ steps. after_lines h.standing (all_lines steps)) agenda ∙ h.lines;
                   comes = λ rests end fits all.
                       let full = with_next k r rests in

@@ -2,6 +2,7 @@
 use Rattle.std.specs.Prelude.{◌≡◌, ℕ, ◌+◌, Option, Some, None, ◌⊎◌, List, [], ◌∷◌, length, slice_get, slice_set}
 use Rattle.fw_base.specs.declared.port.Port.{Port}
 use Rattle.counter_book.specs.declared.tally.Count.{Count}
+use Rattle.cached_verdicts.specs.LaneCache.{LaneCacheValue}
 use Rattle.eval_engine.specs.Dockets.{judged_entry}
 use Rattle.eval_engine.specs.declared.docket_entry.DocketEntry.{DocketEntry}
 use Rattle.eval_engine.specs.declared.docket_entry.DocketEntry.TheVariants as entry
@@ -24,10 +25,10 @@ pub record RunState : Type 0 where
   pub world : WorldValue
   pub lanes : List LaneValue
 
--- The lane after a packet that was judged under the edition of this number, which leaves this tally. It is
--- refused once, and regains, exactly where it held another edition.
-abbrev pub judged_lane : ℕ → Judgement → List Count → LaneValue → LaneValue
-judged_lane number judgement tally lane = record (with_docket_entry (judged_entry judgement) (lane_after_admission number lane)) { tally = tally }
+-- The lane after a packet that was judged under the edition of this number, which leaves this tally and this
+-- cache. It is refused once, and regains, exactly where it held another edition.
+abbrev pub judged_lane : ℕ → Judgement → List Count → Option LaneCacheValue → LaneValue → LaneValue
+judged_lane number judgement tally cache lane = record (with_docket_entry (judged_entry judgement) (lane_after_admission number lane)) { tally = tally; cache = cache }
 
 -- the lane at this place, from 0, became this one, and the others stay
 abbrev pub ChangesLane : ℕ → List LaneValue → List LaneValue → LaneValue → LaneValue → Type 0
@@ -37,9 +38,10 @@ ChangesLane place old new lane laneAfter = (slice_get old place ≡ Some lane) �
 pub record JudgesAt (place : ℕ) (old new : RunState) (packet : AnyIp) (port : Port) (second : ℕ) : Type 0 where
   pub lane : LaneValue
   pub tally : List Count
+  pub cache : Option LaneCacheValue
   pub judgement : Judgement
   pub judges : Judges old.world new.world lane.place (length lane.docket.entries + 1) packet port second lane.tally tally judgement
-  pub changes : ChangesLane place old.lanes new.lanes lane (judged_lane (published_count old.world) judgement tally lane)
+  pub changes : ChangesLane place old.lanes new.lanes lane (judged_lane (published_count old.world) judgement tally cache lane)
 
 -- an entry was made for a record that isn't judged
 pub record EntersAt (place : ℕ) (old new : RunState) (entered : DocketEntry) : Type 0 where

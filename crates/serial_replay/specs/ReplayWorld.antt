@@ -1,10 +1,13 @@
 -- A world with its desk, its lanes and the answers so far, and what its calls do.
-use Rattle.std.specs.Prelude.{◌≡◌, ℕ, zero, suc, None, List, [], ◌∷◌, ◌++◌, length}
+use Rattle.std.specs.Prelude.{◌≡◌, ⊤, ℕ, zero, suc, Option, Some, None, List, [], ◌∷◌, ◌++◌, length, slice_get}
 use Rattle.std.specs.List.{AllByRecursion}
+use Rattle.fw_base.specs.declared.port.Port.{Port}
 use Rattle.fw_command.specs.declared.script.Line.{Line}
 use Rattle.fw_report.specs.declared.ends.Answer.TheVariants.{Refused}
 use Rattle.fw_report.specs.declared.ends.LineAnswer.{LineAnswer}
 use Rattle.fw_rule.specs.declared.command.Command.{Command}
+use Rattle.fw_world.specs.Caches.{IsPortFor}
+use Rattle.fw_world.specs.RecordedHits.{EachHasRoom}
 use Rattle.fw_world.specs.Closing.{AreLanesFrom, EachStandsFor}
 use Rattle.fw_world.specs.CommitFaults.{RefusesCommand}
 use Rattle.fw_world.specs.Inputs.{Input}
@@ -29,6 +32,13 @@ operator_of replay = record { editions = replay.desk; answers = replay.answers.i
 -- no refusal stands against the lane, and no section of it is loose
 abbrev pub IsClean : LaneValue → Type 0
 IsClean lane = (lane.refusal ≡ None) × (lane.loose ≡ 0)
+
+-- each lane judges packets that are captured at its port, if it has a cache
+abbrev pub AreLanesAt : List Port → List LaneValue → Type 0
+AreLanesAt [] [] = ⊤
+AreLanesAt [] (lane ∷ lanes) = ⊥
+AreLanesAt (port ∷ ports) [] = ⊥
+AreLanesAt (port ∷ ports) (lane ∷ lanes) = IsPortFor lane.cache port × AreLanesAt ports lanes
 
 -- the desk shows the world's editions, and the lanes are all lanes of the world
 pub record IsSound (replay : ReplayWorld) : Type 0 where
@@ -69,7 +79,7 @@ pub record RefusesLine (old new : ReplayWorld) (line : Line) : Type 0 where
 pub record RunsALine (old new : ReplayWorld) (line : Line) : Type 0 where
   pub runs : RunsLine (run_state old) (run_state new) line.command (listing_of line.command)
   pub sound : IsSound old → IsSound new
-  pub lanes : length new.lanes.items ≡ length old.lanes.items
+  pub lanes : new.lanes.items ≡ old.lanes.items
   pub stands : (first : Configuration) (inputs : List (List Input)) (standing : Standing) → ReplayStandsFor first inputs standing old → ReplayStandsFor first inputs (after_line standing line) new
 
 -- the inputs of all lanes, with one more of the lane at this place, from 0
@@ -78,9 +88,12 @@ with_input place input [] = []
 with_input zero input (inputs ∷ others) = (inputs ++ input ∷ []) ∷ others
 with_input (suc place) input (inputs ∷ others) = inputs ∷ with_input place input others
 
--- a record of the lane at this place was replayed
-pub record ReplaysARecord (place : ℕ) (input : Input) (old new : ReplayWorld) : Type 0 where
+-- a record of the lane at this place, which was captured at that port, was replayed
+pub record ReplaysARecord (place : ℕ) (port : Port) (input : Input) (old new : ReplayWorld) : Type 0 where
   pub replays : ReplaysInput place (run_state old) (run_state new) input
   pub sound : IsSound old → IsSound new
   pub lanes : length new.lanes.items ≡ length old.lanes.items
+  -- each lane is at its port still, and its cache has as much room
+  pub ports : (ports : List Port) → slice_get ports place ≡ Some port → AreLanesAt ports old.lanes.items → AreLanesAt ports new.lanes.items
+  pub rooms : (cache : Option ℕ) → EachHasRoom cache old.lanes.items → EachHasRoom cache new.lanes.items
   pub stands : (first : Configuration) (inputs : List (List Input)) (standing : Standing) → ReplayStandsFor first inputs standing old → ReplayStandsFor first (with_input place input inputs) standing new

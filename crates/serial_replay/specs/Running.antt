@@ -4,12 +4,14 @@ use Rattle.std.specs.List.{AllByRecursion}
 use Rattle.std.specs.Option.{option_map}
 use Rattle.fw_command.specs.WellFormed.{IsStepInRange}
 use Rattle.fw_command.specs.declared.script.Step.{Step}
+use Rattle.fw_base.specs.declared.port.Port.{Port}
 use Rattle.fw_world.specs.Inputs.{Input}
+use Rattle.fw_world.specs.RecordedHits.{EachHasRoom, TellsHits}
 use Rattle.pcap_read.specs.Reading.{Captured}
 use Rattle.rule_chain.specs.Configuration.{Configuration}
 use Rattle.capture_tracks.specs.Commands.{Standing, after_lines}
 use Rattle.serial_replay.specs.Events.{RunState, ReplaysAll}
-use Rattle.serial_replay.specs.ReplayWorld.{run_state, IsSound, ReplayStandsFor}
+use Rattle.serial_replay.specs.ReplayWorld.{run_state, AreLanesAt, IsSound, ReplayStandsFor}
 use Rattle.capture_tracks.specs.Reading.{Origin, input_of}
 use Rattle.capture_tracks.specs.Commands.{lines_outcome}
 use Rattle.capture_tracks.specs.Tracks.{end_of, held_record_of, source_at}
@@ -27,6 +29,10 @@ use Rattle.fw_command.specs.Steps.{all_lines}
 use Rattle.serial_schedule.specs.Order.{first_capture, in_order, moment_of, next_record_of}
 use Rattle.serial_schedule.specs.Schedule.{events_from, schedule}
 use Rattle.serial_schedule.specs.Steps.{steps_of}
+
+-- where the captures were taken
+abbrev pub ports_of : List Origin → List Port
+ports_of origins = map (λ origin. origin.port) origins
 
 -- the records of each capture as inputs of its lane
 abbrev pub inputs_of : List Origin → List (List Captured) → List (List Input)
@@ -66,15 +72,17 @@ module _ {S : Type 0} where
       pub formed : AllByRecursion IsStepInRange (steps_of run.agenda)
       pub matched : length run.replay.lanes.items ≡ length run.tracks
       pub tracked : HaveTracks run.tracks
+      pub ports : AreLanesAt (ports_of tracked.origins) run.replay.lanes.items
       pub few : run.taken + rooms_of run.tracks ≤ 2 ^ 32
 
     -- Of the captures these records were replayed, and the lines so far. Whatever is still to come: going
     -- through it from here is going through the whole schedule from the first state.
-    pub record IsUnderway (config : Configuration) (steps : List Step) (limit : ℕ) (captures : List (OpenedCapture S)) (origins : List Origin) (first : RunState) (run : Running S) : Type 0 where
+    pub record IsUnderway (config : Configuration) (steps : List Step) (cache : Option ℕ) (limit : ℕ) (captures : List (OpenedCapture S)) (origins : List Origin) (first : RunState) (run : Running S) : Type 0 where
       pub dones : List (List Captured)
       pub standing : Standing
       pub tracks : AreTracks left faults limit captures run.tracks dones origins
       pub stands : ReplayStandsFor config (inputs_of origins dones) standing run.replay
+      pub rooms : EachHasRoom cache run.replay.lanes.items
       pub lines : after_lines standing (all_lines (steps_of run.agenda)) ≡ lines_outcome config steps
       pub comes : (rests : List (List Captured)) (last : RunState) → map next_record_of rests ≡ map held_record_of run.tracks
           → ReplaysAll origins (run_state run.replay) last (events_from run.taken (steps_of run.agenda) (in_order rests)) → ReplaysAll origins first last (schedule steps (joined_records dones rests))
@@ -82,8 +90,8 @@ module _ {S : Type 0} where
     -- what a call keeps
     pub record Keeps (old new : Running S) : Type 0 where
       pub ready : IsReady new
-      pub goes : (config : Configuration) (steps : List Step) (limit : ℕ) (captures : List (OpenedCapture S)) (origins : List Origin) (first : RunState)
-          → IsUnderway config steps limit captures origins first old → IsUnderway config steps limit captures origins first new
+      pub goes : (config : Configuration) (steps : List Step) (cache : Option ℕ) (limit : ℕ) (captures : List (OpenedCapture S)) (origins : List Origin) (first : RunState)
+          → IsUnderway config steps cache limit captures origins first old → IsUnderway config steps cache limit captures origins first new
 
     -- the lines that were due ran
     pub record RunsDue (old new : Running S) : Type 0 where
@@ -106,6 +114,7 @@ module _ {S : Type 0} where
     pub record Closes (run : Running S) (r : Replayed S) : Type 0 where
       pub record_is : r.record ≡ record_of_world run.replay.world run.replay.lanes.items
       pub legal : (first : Configuration) (commands : List Command) (inputs : List (List Input)) → DeskStandsFor run.replay.desk first commands → EachStandsFor run.replay.world run.replay.lanes.items inputs → IsLegal first commands inputs r.record
+      pub hits : (cache : Option ℕ) (inputs : List (List Input)) → EachHasRoom cache run.replay.lanes.items → EachStandsFor run.replay.world run.replay.lanes.items inputs → TellsHits cache inputs r.record
       pub sources : r.sources.items ≡ map source_at run.tracks
       pub ends : r.ends.captures ≡ map end_of run.tracks
       pub answers : r.ends.answers ≡ run.replay.answers.items

@@ -1,5 +1,7 @@
-ghost use Rattle.std.specs.Prelude.{◌≡◌, ◌<◌, ◌≤◌, ◌⊎◌, length, IfOk, OnOk};
+ghost use Rattle.std.specs.Prelude.{◌≡◌, ◌<◌, ◌≤◌, ◌⊎◌, Some, length, slice_get, IfOk, OnOk};
 ghost use Rattle.fw_command.specs.WellFormed.{IsLine};
+ghost use Rattle.fw_world.specs.Caches.{IsPortFor};
+ghost use Rattle.fw_world.specs.Lane.{LaneValue};
 ghost use Rattle.pcap_read.specs.Capture.{captured_of};
 ghost use Rattle.rule_edits.specs.Changing.{IsChanging};
 ghost use Rattle.capture_tracks.specs.Commands.{line_answer};
@@ -85,8 +87,10 @@ impl ReplayWorld {
         requires within { capture < length self.old.lanes.items }
         requires small { length taken.bytes.now ≤ MOST_RECORD_BYTES }
         requires sound { IsSound self.old }
+        requires port { (lane : LaneValue) → slice_get self.old.lanes.items capture ≡ Some lane
+            → IsPortFor lane.cache port.now }
         ensures { OnOk result
-            (ReplaysARecord capture (input_of link port.now (captured_of taken.entry)) self.old
+            (ReplaysARecord capture port.now (input_of link port.now (captured_of taken.entry)) self.old
             self.new) }
     {
         let lane = &mut self.lanes[capture];

@@ -25,16 +25,19 @@ use Rattle.fw_world.specs.Editions.{IsNextEdition, edition_numbered}
 use Rattle.fw_world.specs.Entries.{question_under}
 use Rattle.fw_world.specs.Inputs.{Input, Packet}
 use Rattle.fw_world.specs.Lane.{LaneValue}
-use Rattle.fw_world.specs.Standing.{StandFor}
+use Rattle.fw_world.specs.Caches.{IsCacheAfter}
+use Rattle.fw_world.specs.Sections.{judged_editions}
+use Rattle.fw_world.specs.Standing.{StandWithCache}
 use Rattle.fw_world.specs.World.{WorldValue, LaneStandsFor}
 use Rattle.fw_world.proofs.AskLists.{record_asks, lane_asks-record, asks_of-others, KeepsAround-asks}
+use Rattle.fw_world.proofs.Caching.{AreBelow, CacheStandsFor-judged}
 use Rattle.fw_world.proofs.Judging.{StandFor-judged}
-use Rattle.fw_world.proofs.Numbering.{last_is_numbered, last_number_of, AreNumbered-append}
+use Rattle.fw_world.proofs.Numbering.{last_is_numbered, last_number_of, AreNumbered-append, all_found_below}
 use Rattle.fw_world.proofs.Running.{EntersEach-length}
 use Rattle.serial_world.specs.LastEdition.{last_published}
 use Rattle.serial_world.specs.Steps.{Judges, BeginsJudging, ChangesAsksOf}
 use Rattle.serial_world.specs.WorldKept.{IsWorld}
-use Rattle.serial_world.proofs.LastEdition.{IsLastOf-last_published}
+use Rattle.serial_world.proofs.LastEdition.{last_published-is, IsLastOf-last_published}
 
 -- what asking for a lane's record means for the world
 abbrev pub AsksFor : ℕ → ℕ → WorldValue → Op → Reply → WorldValue → Type 0
@@ -110,8 +113,8 @@ Judges-run old new lane at packet port second counts after judgement is ran =
 -- the lane that judged stands for the packet behind its inputs
 pub LaneStandsFor-judged : (old new : WorldValue) (before after : LaneValue) (packet : AnyIp) (port : Port) (second : ℕ) (judgement : Judgement) (inputs : List Input)
     → IsWorld old → Judges old new before.place (length before.docket.entries + 1) packet port second before.tally after.tally judgement
-    → after.place ≡ before.place → after.docket.entries ≡ before.docket.entries ++ judged_entry judgement ∷ [] → LaneStandsFor old before inputs → LaneStandsFor new after (inputs ++ Packet packet port second ∷ [])
-LaneStandsFor-judged old new before after packet port second judgement inputs is judges place entries stands =
+    → IsCacheAfter (question_under (last_published old.editions) packet port second) before.cache after.cache → after.place ≡ before.place → after.docket.entries ≡ before.docket.entries ++ judged_entry judgement ∷ [] → LaneStandsFor old before inputs → LaneStandsFor new after (inputs ++ Packet packet port second ∷ [])
+LaneStandsFor-judged old new before after packet port second judgement inputs is judges sees place entries stands =
     let at : ℕ = length before.docket.entries + 1 in
     let q : Question = question_under judges.edition packet port second in
     let ops : List Op = (evaluate q judges.replies).asks in
@@ -120,10 +123,15 @@ LaneStandsFor-judged old new before after packet port second judgement inputs is
     let own : lane_asks before.place new.journal.entries ≡ lane_asks before.place old.journal.entries ++ record_asks judgement.edition at ops judges.replies =
     ap (λ (j : Journal). lane_asks before.place j.entries) judges.entered ∙ lane_asks-record old.journal before.place at ops judges.replies
     ∙ ap (λ (n : ℕ). lane_asks before.place old.journal.entries ++ record_asks n at ops judges.replies) number in
-    let judged = StandFor-judged old.editions (lane_asks before.place old.journal.entries) before.docket before.tally inputs stands judges.edition packet port second ops judges.replies judgement after.tally found judges.asked judges.outcome refl judges.counted after.docket entries in
-    let editions = subst (λ (all : List Published). StandFor all (lane_asks before.place old.journal.entries ++ record_asks judgement.edition at ops judges.replies) after.docket after.tally (inputs ++ Packet packet port second ∷ [])) (sym judges.editions) judged in
-    subst (λ (place : ℕ). StandFor new.editions (lane_asks place new.journal.entries) after.docket after.tally (inputs ++ Packet packet port second ∷ [])) (sym place)
-    (subst (λ (asks : List LaneAsk). StandFor new.editions asks after.docket after.tally (inputs ++ Packet packet port second ∷ [])) (sym own) editions)
+    let judged = StandFor-judged old.editions (lane_asks before.place old.journal.entries) before.docket before.tally inputs stands.stands judges.edition packet port second ops judges.replies judgement after.tally found judges.asked judges.outcome refl judges.counted after.docket entries in
+    let seen = subst (λ (e : Published). IsCacheAfter (question_under e packet port second) before.cache after.cache) (sym (last_published-is old.editions judges.edition judges.last)) sees in
+    let top : length old.editions ≡ judges.edition.number = omega (arith, last_is_numbered 1 old.editions judges.edition is.numbered judges.last) in
+    let below = subst (λ (n : ℕ). AreBelow old.editions n (judged_editions before.docket.entries)) top (all_found_below old.editions (judged_editions before.docket.entries) is.numbered) in
+    let cached = CacheStandsFor-judged old.editions before.docket inputs stands.stands.entered before.cache after.cache judges.edition packet port second judgement after.docket found below seen entries stands.cached in
+    let both : StandWithCache old.editions (lane_asks before.place old.journal.entries ++ record_asks judgement.edition at ops judges.replies) after.docket after.tally after.cache (inputs ++ Packet packet port second ∷ []) = record { stands = judged; cached = cached } in
+    let editions = subst (λ (all : List Published). StandWithCache all (lane_asks before.place old.journal.entries ++ record_asks judgement.edition at ops judges.replies) after.docket after.tally after.cache (inputs ++ Packet packet port second ∷ [])) (sym judges.editions) both in
+    subst (λ (place : ℕ). StandWithCache new.editions (lane_asks place new.journal.entries) after.docket after.tally after.cache (inputs ++ Packet packet port second ∷ [])) (sym place)
+    (subst (λ (asks : List LaneAsk). StandWithCache new.editions asks after.docket after.tally after.cache (inputs ++ Packet packet port second ∷ [])) (sym own) editions)
 
 -- a publication of the next edition leaves a world one
 pub IsWorld-publication : (editions : List Published) (journal : Journal) (command : Command) (edition : Published) → IsWorld (record { editions = editions; journal = journal }) → IsNextEdition editions command edition

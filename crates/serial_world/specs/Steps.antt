@@ -17,6 +17,7 @@ use Rattle.state_journal.specs.Items.{asks_of}
 use Rattle.state_journal.specs.Journal.{with_publication}
 use Rattle.fw_world.specs.AskRuns.{RisesBy, IsFrontOf}
 use Rattle.fw_world.specs.Asks.{with_asks}
+use Rattle.fw_world.specs.Caches.{capacity_of, IsPortFor}
 use Rattle.fw_world.specs.Editions.{IsLastOf, IsNextEdition}
 use Rattle.fw_world.specs.Entries.{question_under}
 use Rattle.fw_world.specs.CommitFaults.{IsCauseOf}
@@ -71,14 +72,17 @@ pub record JudgesNext (old new : WorldValue) (before after : LaneValue) (packet 
   -- the packet is judged under the last edition
   pub judged : IfOk result (λ judgement. Judges old new before.place (length before.docket.entries + 1) packet port second before.tally after.tally judgement)
   -- its entry stands last in the docket
-  pub lane : IfOk result (λ judgement. after ≡ record (with_docket_entry (judged_entry judgement) before) { tally = after.tally })
+  pub lane : IfOk result (λ judgement. after ≡ record (with_docket_entry (judged_entry judgement) before) { tally = after.tally; cache = after.cache })
+  -- its cache, where it has one, has as much room, and shows the port of this packet
+  pub room : capacity_of after.cache ≡ capacity_of before.cache
+  pub at_port : IsPortFor after.cache port
   -- the lane stands for one packet more
   pub stands : OnOk result ((inputs : List Input) → LaneStandsFor old before inputs → LaneStandsFor new after (inputs ++ Packet packet port second ∷ []))
   -- a lane that has failed judges nothing
   pub working : OnOk result (before.failed ≡ false)
   pub idle : before.failed ≡ true → new ≡ old
   -- where memory is wanted the lane has failed
-  pub failed : OnErr result (after ≡ record before { tally = after.tally; failed = true })
+  pub failed : OnErr result (after ≡ record before { tally = after.tally; cache = after.cache; failed = true })
   -- the asks that were made stay, a beginning of those that the evaluation makes
   pub begun : BeginsJudging old new before.place (length before.docket.entries + 1) packet port second
   -- other lanes' asks are as they were

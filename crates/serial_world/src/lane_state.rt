@@ -1,10 +1,12 @@
-ghost use Rattle.std.specs.Prelude.{◌≡◌, ◌+◌, None, length, ◌==◌, true, false, IfOk, OnOk, OnErr};
+ghost use Rattle.std.specs.Prelude.{◌≡◌, ◌+◌, ℕ, Option, None, length, ◌==◌, true, false, IfOk, OnOk, OnErr};
 ghost use Rattle.eval_engine.specs.Dockets.{judged_entry};
 ghost use Rattle.fw_world.specs.AskRuns.{Evaluates, AsksFront};
+ghost use Rattle.fw_world.specs.Caches.{first_cache, IsPortFor, IsTrueFor, IsCacheBehind, IsCacheAfter};
 ghost use Rattle.fw_world.specs.Entries.{question_under};
 ghost use Rattle.fw_world.specs.Lane as lanes;
 ghost use Rattle.fw_world.specs.Lane.{first_lane, lane_after_try, lane_after_admission, lane_after_regain, with_docket_entry};
 
+use cached_verdicts::LaneCache;
 use eval_engine::{DocketEntry, Judgement};
 use fw_base::{OutOfMemory, Port};
 use fw_world::{AsksBook, LaneWork};
@@ -13,7 +15,7 @@ use std::alloc::Global;
 use std::marker::Model;
 
 /// A lane of the serial world, within a section or outside.
-#[derive(Debug, Drop)]
+#[derive(Drop)]
 pub(crate) struct LaneState {
     place: u32,
     number: u64,
@@ -34,22 +36,24 @@ impl Model for LaneState {
       tracker = s.tracker;
       docket = s.work.docket;
       tally = s.work.tally;
+      cache = s.work.cache;
       failed = s.work.failed;
       loose = s.work.loose;
     } };
 }
 
 impl LaneState {
-    /// A lane that has judged nothing.
-    pub(crate) fn new(alloc: Global, place: u32) -> LaneState
-        ensures { result ≡ first_lane place }
+    /// A lane that has judged nothing, with this new cache or with none.
+    pub(crate) fn new(alloc: Global, place: u32, cache: Option<LaneCache>) -> LaneState
+        ensures { (capacity : Option ℕ) → cache ≡ first_cache capacity
+            → result ≡ first_lane capacity place }
     {
         LaneState {
             place,
             number: 1,
             refusal: None,
             tracker: 0,
-            work: LaneWork::new(alloc),
+            work: LaneWork::new(alloc, cache),
         }
     }
 
@@ -125,14 +129,23 @@ impl LaneState {
         port: &Port,
         second: u32,
     ) -> Result<Judgement, OutOfMemory>
-        requires { B.serves book.old self.old.place }
+        requires lane { B.serves book.old self.old.place }
+        requires port { IsPortFor self.old.cache port.now }
+        requires kept { IsTrueFor (B.edition book.old) self.old.cache }
         ensures judged { IfOk result
             (Evaluates (λ old op reply new.
             B.enters old self.old.place (length self.old.docket.entries + 1) op reply new) book.old
             book.new (question_under (B.edition book.old) packet.now port.now second)
             self.old.tally self.new.tally) }
         ensures lane { IfOk result (λ judgement. self.new
-            ≡ record (with_docket_entry (judged_entry judgement) self.old) { tally = self.new.tally }) }
+            ≡ record (with_docket_entry (judged_entry judgement) self.old) {
+              tally = self.new.tally;
+              cache = self.new.cache;
+            }) }
+        ensures cache { IsCacheBehind (B.edition book.old) port.now self.old.cache self.new.cache }
+        ensures seen { OnOk result (IsCacheAfter
+            (question_under (B.edition book.old) packet.now port.now second) self.old.cache
+            self.new.cache) }
         ensures working { OnOk result (self.old.failed ≡ false) }
         ensures asked { AsksFront (λ old op reply new.
             B.enters old self.old.place (length self.old.docket.entries + 1) op reply new)
@@ -140,6 +153,7 @@ impl LaneState {
             (question_under (B.edition book.old) packet.now port.now second) }
         ensures failed { OnErr result (self.new ≡ record self.old {
           tally = self.new.tally;
+          cache = self.new.cache;
           failed = true;
         }) }
         ensures idle { self.old.failed ≡ true → book.new ≡ book.old }
@@ -152,6 +166,7 @@ impl LaneState {
     pub(crate) fn into_parts(self) -> (LaneWork, u64)
         ensures docket { result.0.docket ≡ self.docket }
         ensures tally { result.0.tally ≡ self.tally }
+        ensures cache { result.0.cache ≡ self.cache }
         ensures tracker { result.1 ≡ self.tracker }
     {
         (self.work, self.tracker)

@@ -2,7 +2,7 @@ use crate::lane_state::LaneState;
 use std::marker::Model;
 
 /// A lane of the serial world within a section, in which it may judge one packet.
-#[derive(Debug, Drop)]
+#[derive(Drop)]
 pub struct SerialInside {
     pub(crate) state: LaneState,
     pub(crate) judged: bool,

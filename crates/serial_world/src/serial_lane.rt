@@ -5,7 +5,7 @@ use crate::lane_state::LaneState;
 use std::marker::Model;
 
 /// A lane of the serial world outside of a section: who judges the records of one capture.
-#[derive(Debug, Drop)]
+#[derive(Drop)]
 pub struct SerialLane {
     pub(crate) state: LaneState,
 }
@@ -38,7 +38,7 @@ impl SerialLane {
 }
 
 /// What a lane is answered that tries to begin a section.
-#[derive(Debug, Drop)]
+#[derive(Drop)]
 pub enum SerialEntry {
     /// It is in.
     In(SerialInside),

@@ -1,8 +1,10 @@
-ghost use Rattle.std.specs.Prelude.{◌≡◌, ◌<◌, ℕ, ◌≤◌, ◌∷◌, [], length, false, IfOk, OnOk, IsSome, None, List, is_ok, is_err, map};
+ghost use Rattle.std.specs.Prelude.{◌≡◌, ◌<◌, ℕ, ◌≤◌, ◌∷◌, [], length, false, IfOk, OnOk, IsSome, Option, None, List, is_ok, is_err, map};
 ghost use Rattle.std.specs.Arc.{arc_value};
 ghost use Rattle.std.specs.List.{list_any, AllByRecursion};
 ghost use Rattle.fw_rule.specs.declared.command.Command.{Command};
 ghost use Rattle.rule_chain.specs.Configuration.{Configuration};
+ghost use Rattle.fw_world.specs.Caches.{IsCacheSize, IsPortFor};
+ghost use Rattle.fw_world.specs.RecordedHits.{TellsHits, EachHasRoom, counted_by};
 ghost use Rattle.fw_world.specs.Closing.{AreLanesFrom, by_place, EachStandsFor, record_of_world};
 ghost use Rattle.fw_world.specs.Legal.{IsLegalButSections, IsLegal};
 ghost use Rattle.fw_world.specs.Columns.{no_columns, with_lane};
@@ -26,7 +28,7 @@ use eval_engine::Judgement;
 use fw_base::{OutOfMemory, Port};
 use fw_rule::Command;
 use fw_world::{
-    Columns, CommitFault, Record, Skipped, last_edition, next_edition, share_edition,
+    Columns, CommitFault, Record, Skipped, last_edition, next_edition, open_cache, share_edition,
     skipped_entry, store_of,
 };
 use generation_store::{Edition, Store};
@@ -59,14 +61,19 @@ impl Model for SerialWorld {
 }
 
 /// The lanes of a world that is opened.
-fn open_lanes(alloc: Global, lanes: u32) -> Result<Vec<SerialLane>, OutOfMemory>
-    requires { lanes ≤ MOST_LANES }
-    ensures { IfOk result (λ opened. opened.items ≡ first_lanes 1 lanes) }
+fn open_lanes(
+    alloc: Global,
+    lanes: u32,
+    cache: Option<u32>,
+) -> Result<Vec<SerialLane>, OutOfMemory>
+    requires most { lanes ≤ MOST_LANES }
+    requires cache { IsCacheSize cache }
+    ensures { IfOk result (λ opened. opened.items ≡ first_lanes cache 1 lanes) }
 {
     let mut opened = Vec::with_capacity(alloc, lanes as usize)?;
     for place in 1..=lanes {
         opened.push(SerialLane {
-            state: LaneState::new(alloc, place),
+            state: LaneState::new(alloc, place, open_cache(alloc, cache)?),
         })?;
     }
     Ok(opened)
@@ -96,19 +103,26 @@ fn open_world(alloc: Global, edition: Arc<Edition>, lanes: u32) -> Result<Serial
 }
 
 impl SerialWorld {
-    /// A world of so many lanes that shows the configuration as edition 1, with its lanes and its desk.
-    /// The memory that closing it needs is taken here.
-    pub fn open(alloc: Global, config: Config, lanes: u32) -> Result<OpenSerial, OutOfMemory>
+    /// A world of so many lanes that shows the configuration as edition 1, with its lanes and its desk. Each
+    /// lane has a cache for so many verdicts, 1 to 65,536, or none has one. The memory that closing it needs
+    /// is taken here.
+    pub fn open(
+        alloc: Global,
+        config: Config,
+        lanes: u32,
+        cache: Option<u32>,
+    ) -> Result<OpenSerial, OutOfMemory>
         requires least { 1 ≤ lanes }
         requires most { lanes ≤ MOST_LANES }
+        requires cache { IsCacheSize cache }
         ensures world { IfOk result (λ opened. IsNewWorld config lanes opened.world) }
-        ensures lanes { IfOk result (λ opened. opened.lanes.items ≡ first_lanes 1 lanes) }
+        ensures lanes { IfOk result (λ opened. opened.lanes.items ≡ first_lanes cache 1 lanes) }
         ensures desk { IfOk result (λ opened. opened.desk ≡ opened.world.editions) }
     {
         let edition = Edition::build(alloc, 1, config)?;
         let desk = open_desk(alloc, &edition)?;
         let world = open_world(alloc, edition, lanes)?;
-        let lanes = open_lanes(alloc, lanes)?;
+        let lanes = open_lanes(alloc, lanes, cache)?;
         Ok(OpenSerial { world, lanes, desk })
     }
 
@@ -127,12 +141,12 @@ impl SerialWorld {
         port: &Port,
         second: u32,
     ) -> Result<Judgement, OutOfMemory>
-        requires place { (1 ≤ lane.old.place) × (lane.old.place ≤ self.old.journal.lanes) }
+        requires of_world { IsLaneOf self.old lane.old }
+        requires port { IsPortFor lane.old.cache port.now }
         ensures next { JudgesNext self.old self.new lane.old lane.new packet.now port.now second
             result }
-        ensures of_world { IsLaneOf self.old lane.old → IsLaneOf self.new lane.new }
-        ensures kept { IsLaneOf self.old lane.old → IsLane 1 lane.old
-            → IsLane (pending_of (is_ok result)) lane.new }
+        ensures of_world { IsLaneOf self.new lane.new }
+        ensures kept { IsLane 1 lane.old → IsLane (pending_of (is_ok result)) lane.new }
     {
         self.held.is_world();
         lane.judge(&mut self.held, packet, port, second)
@@ -181,8 +195,9 @@ impl SerialWorld {
     }
 
     /// Judges the next record of the lane, a packet that was captured there at that second, under the last
-    /// edition. Where memory is wanted the lane has failed, and answers so from then on; the asks that were
-    /// made stay, a beginning of those that the evaluation makes.
+    /// edition. A lane with a cache judges packets of one port. Where memory is wanted the lane has failed,
+    /// and answers so from then on; the asks that were made stay, a beginning of those that the evaluation
+    /// makes.
     pub fn judge_in(
         &mut self,
         inside: SerialInside,
@@ -192,6 +207,7 @@ impl SerialWorld {
     ) -> (SerialInside, Result<Judgement, OutOfMemory>)
         requires of_world { IsLaneOf self.old inside.lane }
         requires fresh { inside.judged ≡ false }
+        requires port { IsPortFor inside.lane.cache port.now }
         ensures next { JudgesNext self.old self.new inside.lane result.0.lane packet.now port.now
             second result.1 }
         ensures section { result.0.judged ≡ is_ok result.1 }
@@ -207,7 +223,8 @@ impl SerialWorld {
     }
 
     /// Judges the next record of the lane in a section of its own. Where the lane holds an earlier edition
-    /// it is refused, regains and begins another section. Where memory is wanted the lane has failed.
+    /// it is refused, regains and begins another section. A lane with a cache judges packets of one port.
+    /// Where memory is wanted the lane has failed.
     pub fn judge(
         &mut self,
         lane: &mut SerialLane,
@@ -217,6 +234,7 @@ impl SerialWorld {
     ) -> Result<Judgement, OutOfMemory>
         requires of_world { IsLaneOf self.old lane.old }
         requires heeded { lane.old.refusal ≡ None }
+        requires port { IsPortFor lane.old.cache port.now }
         ensures next { JudgesAdmitted self.old self.new lane.old lane.new packet.now port.now second
             result }
         ensures of_world { IsLaneOf self.new lane.new }
@@ -286,7 +304,8 @@ impl SerialWorld {
     }
 
     /// The record of the world and of its lanes, each once and in any order: dockets, tallies and tracker
-    /// words come in the order of the lanes' places. Want of memory comes exactly where a lane has failed.
+    /// words come in the order of the lanes' places, and so do hits where the lanes have a cache. Want of
+    /// memory comes exactly where a lane has failed.
     pub fn close(self, lanes: Vec<SerialLane>, desk: SerialDesk) -> Result<Record, OutOfMemory>
         requires lanes { AreLanesFrom self 1 (by_place lanes.items) }
         requires all { length lanes.items ≡ self.journal.lanes }
@@ -302,6 +321,9 @@ impl SerialWorld {
             ((first : Configuration) (commands : List Command) (inputs : List (List Input))
             → DeskStandsFor desk first commands → EachStandsFor self (by_place lanes.items) inputs
             → IsLegalButSections first commands inputs (record_of_world self (by_place lanes.items))) }
+        ensures hits { OnOk result ((cache : Option ℕ) (inputs : List (List Input))
+            → EachHasRoom cache lanes.items → EachStandsFor self (by_place lanes.items) inputs
+            → TellsHits cache inputs (record_of_world self (by_place lanes.items))) }
     {
         if any_failed(&lanes) {
             return Err(OutOfMemory);
@@ -333,7 +355,7 @@ fn any_failed(lanes: &[SerialLane]) -> bool
 /// Adds the lane to the columns as the last one.
 fn add_lane(columns: &mut Columns, lane: SerialLane)
     requires room { 0 < columns.old.room }
-    ensures added { columns.new ≡ with_lane lane.docket lane.tally lane.tracker columns.old }
+    ensures added { columns.new ≡ with_lane lane.docket lane.tally lane.cache lane.tracker columns.old }
     ensures lane { IsLane 0 lane }
 {
     let (work, tracker) = lane.state.into_parts();
@@ -346,6 +368,7 @@ fn filled(mut columns: Columns, lanes: Vec<SerialLane>) -> Columns
     ensures dockets { result.dockets ≡ map (λ lane. lane.docket) lanes.items }
     ensures tallies { result.tallies ≡ map (λ lane. lane.tally) lanes.items }
     ensures trackers { result.trackers ≡ map (λ lane. lane.tracker) lanes.items }
+    ensures hits { result.hits ≡ counted_by lanes.items }
     ensures lanes { AllByRecursion (IsLane 0) lanes.items }
 {
     for lane in lanes {

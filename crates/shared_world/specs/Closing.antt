@@ -1,8 +1,9 @@
 -- A shared world as it opens and as it closes.
-use Rattle.std.specs.Prelude.{◌≡◌, ℕ, ◌+◌, ⊤, nat_le, if◌then◌else◌, List, [], ◌∷◌, map}
+use Rattle.std.specs.Prelude.{◌≡◌, ℕ, ◌+◌, ⊤, nat_le, if◌then◌else◌, Option, List, [], ◌∷◌, map}
 use Rattle.std.specs.List.{AllByRecursion}
 use Rattle.atomic_table.specs.Seated.{TableId}
 use Rattle.fw_world.specs.Asks.{lane_asks}
+use Rattle.fw_world.specs.Caches.{capacity_of}
 use Rattle.fw_world.specs.Inputs.{Input}
 use Rattle.fw_world.specs.RecordValue.{RecordValue}
 use Rattle.fw_world.specs.Sections.{tracker_after}
@@ -10,10 +11,11 @@ use Rattle.shared_world.specs.SharedDesk.{SharedDesk}
 use Rattle.shared_world.specs.SharedLane.{SharedLane, new_lane}
 use Rattle.shared_world.specs.Standing.{LaneStandsFor}
 
--- new lanes of this world, from this place on, each of which stands for no input
-abbrev pub AreNewLanes : TableId → ℕ → List SharedLane → Type 0
-AreNewLanes world place [] = ⊤
-AreNewLanes world place (lane ∷ lanes) = (lane ≡ new_lane world place) × LaneStandsFor lane [] × AreNewLanes world (place + 1) lanes
+-- new lanes of this world, from this place on, each of which stands for no input, and has a cache for so many
+-- verdicts or none
+abbrev pub AreNewLanes : Option ℕ → TableId → ℕ → List SharedLane → Type 0
+AreNewLanes cache world place [] = ⊤
+AreNewLanes cache world place (lane ∷ lanes) = (lane ≡ new_lane cache world place) × LaneStandsFor lane [] × AreNewLanes cache world (place + 1) lanes
 
 -- a lane among these: before the first whose place isn't below its own
 abbrev pub lanes_with : SharedLane → List SharedLane → List SharedLane
@@ -36,6 +38,10 @@ EachStandsFor [] [] = ⊤
 EachStandsFor [] (inputs ∷ others) = ⊥
 EachStandsFor (lane ∷ lanes) [] = ⊥
 EachStandsFor (lane ∷ lanes) (inputs ∷ others) = LaneStandsFor lane inputs × EachStandsFor lanes others
+
+-- each lane has a cache for so many verdicts, or each has none
+abbrev pub EachHasRoom : Option ℕ → List SharedLane → Type 0
+EachHasRoom cache lanes = AllByRecursion (λ lane. capacity_of lane.cache ≡ cache) lanes
 
 -- The record of a world: its editions are the desk's, its dockets and tallies those of the lanes, each tracker
 -- word is twice the sections of its lane, modulo 2^64, and the asks of each lane in its journal are the lane's.

@@ -10,6 +10,7 @@ use Rattle.fw_base.specs.declared.failure.OutOfMemory.{OutOfMemory}
 use Rattle.fw_base.specs.declared.port.Port.{Port}
 use Rattle.fw_world.proofs.AskLists.{record_asks}
 use Rattle.fw_world.specs.AskRuns.{RisesBy, IsFrontOf}
+use Rattle.fw_world.specs.Caches.{capacity_of, IsPortFor}
 use Rattle.fw_world.specs.Entries.{question_under}
 use Rattle.fw_world.specs.Inputs.{Input, Packet}
 use Rattle.generation_store.specs.Published.{Published}
@@ -50,7 +51,10 @@ pub record JudgesNext (before after : SharedInside) (packet : AnyIp) (port : Por
   -- its entry stands last in the docket; and whatever comes out, nothing else of the lane has changed: it didn't
   -- take the lock behind
   pub entered : IfOk result (λ judgement. after.lane.docket ≡ (with_entry (judged_entry judgement) before.lane).docket)
-  pub same : after.lane ≡ record before.lane { docket = after.lane.docket; tally = after.lane.tally; asks = after.lane.asks; book_taken = after.lane.book_taken; failed = after.lane.failed }
+  pub same : after.lane ≡ record before.lane { docket = after.lane.docket; tally = after.lane.tally; cache = after.lane.cache; asks = after.lane.asks; book_taken = after.lane.book_taken; failed = after.lane.failed }
+  -- its cache, where it has one, has as much room, and shows the port of this packet
+  pub room : capacity_of after.lane.cache ≡ capacity_of before.lane.cache
+  pub at_port : IsPortFor after.lane.cache port
   -- the lane stands for one packet more
   pub stands : OnOk result ((inputs : List Input) → LaneStandsFor before.lane inputs → LaneStandsFor after.lane (inputs ++ Packet packet port second ∷ []))
   -- a lane that has failed judges nothing, and asks nothing

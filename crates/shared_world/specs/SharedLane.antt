@@ -5,7 +5,9 @@ use Rattle.atomic_table.specs.Seated.{TableId}
 use Rattle.counter_book.specs.declared.tally.Count.{Count}
 use Rattle.eval_engine.specs.Dockets.{DocketValue}
 use Rattle.eval_engine.specs.declared.docket_entry.DocketEntry.{DocketEntry}
+use Rattle.cached_verdicts.specs.LaneCache.{LaneCacheValue}
 use Rattle.fw_world.specs.Asks.{LaneAsk, asks_in}
+use Rattle.fw_world.specs.Caches.{first_cache}
 use Rattle.fw_world.specs.Lane.{LaneValue, one_looser}
 use Rattle.fw_world.specs.Sections.{tracker_after}
 use Rattle.fw_world.specs.declared.lane_work.LaneWork.{LaneWork}
@@ -16,7 +18,7 @@ use Rattle.shared_world.specs.Known.{Known}
 
 -- Its world; its place, from 1; the edition that it last held or regained; a refusal that it hasn't regained
 -- from; the sections that it began; number and configuration of each edition that it read; its own asks; how
--- often it took the lock behind and the book; its docket and tally; whether want of memory failed it; and how
+-- often it took the lock behind and the book; its docket and tally; its cache, where it has one; whether want of memory failed it; and how
 -- many sections it left without a judgement or tried to begin while a refusal stood, which stands still at the
 -- end of 64 bits.
 pub record SharedLane : Type 0 where
@@ -31,6 +33,7 @@ pub record SharedLane : Type 0 where
   pub book_taken : ℕ
   pub docket : DocketValue
   pub tally : List Count
+  pub cache : Option LaneCacheValue
   pub failed : Bool
   pub loose : ℕ
 
@@ -54,6 +57,7 @@ lane_of world v work = record {
   book_taken = v.part.book_taken;
   docket = work.docket;
   tally = work.tally;
+  cache = work.cache;
   failed = work.failed;
   loose = work.loose;
 }
@@ -62,9 +66,9 @@ lane_of world v work = record {
 abbrev pub edition_read : Known → Option Published
 edition_read v = option_map arc_value v.part.reading
 
--- a new lane of this world
-abbrev pub new_lane : TableId → ℕ → SharedLane
-new_lane world place = record {
+-- a new lane of this world, with a cache for so many verdicts or with none
+abbrev pub new_lane : Option ℕ → TableId → ℕ → SharedLane
+new_lane cache world place = record {
   world = world;
   place = place;
   number = 1;
@@ -76,6 +80,7 @@ new_lane world place = record {
   book_taken = 0;
   docket = record { entries = []; refused = 0 };
   tally = [];
+  cache = first_cache cache;
   failed = false;
   loose = 0;
 }
@@ -89,6 +94,7 @@ plain_lane lane = record {
   tracker = tracker_after lane.sections;
   docket = lane.docket;
   tally = lane.tally;
+  cache = lane.cache;
   failed = lane.failed;
   loose = lane.loose;
 }

@@ -12,7 +12,7 @@ use Rattle.shared_world.specs.SharedLane.{SharedLane}
 -- the numbers that it saw, the configurations that it saw there, its docket and its tally are those of the
 -- inputs, with the replies to its own asks.
 unfoldable pub LaneStandsFor : SharedLane → List Input → Type 0
-LaneStandsFor lane inputs = StandForSeen lane.seen lane.asks lane.docket lane.tally inputs
+LaneStandsFor lane inputs = StandForSeen lane.seen lane.asks lane.docket lane.tally lane.cache inputs
 
 -- the lane stands for what it stood for
 abbrev pub KeepsStanding : SharedLane → SharedLane → Type 0

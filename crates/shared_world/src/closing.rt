@@ -1,10 +1,11 @@
-ghost use Rattle.std.specs.Prelude.{◌≡◌, List, length, is_err, IfOk};
+ghost use Rattle.std.specs.Prelude.{◌≡◌, ℕ, Option, List, length, is_err, IfOk};
 ghost use Rattle.std.specs.List.{list_any, AllByRecursion};
 ghost use Rattle.fw_rule.specs.declared.command.Command.{Command};
 ghost use Rattle.fw_world.specs.Inputs.{Input};
 ghost use Rattle.fw_world.specs.Legal.{IsLegalButSections, IsLegal};
+ghost use Rattle.fw_world.specs.RecordedHits.{TellsHits};
 ghost use Rattle.rule_chain.specs.Configuration.{Configuration};
-ghost use Rattle.shared_world.specs.Closing.{AreLanesFrom, by_place, EachStandsFor, IsRecordOf};
+ghost use Rattle.shared_world.specs.Closing.{AreLanesFrom, by_place, EachStandsFor, EachHasRoom, IsRecordOf};
 ghost use Rattle.shared_world.specs.Standing.{DeskStandsFor};
 
 use crate::{Desk, Lane, World};
@@ -29,6 +30,9 @@ impl World {
             (first : Configuration) (commands : List Command) (inputs : List (List Input))
             → DeskStandsFor desk first commands → EachStandsFor (by_place lanes.items) inputs
             → IsLegalButSections first commands inputs r) }
+        ensures hits { IfOk result (λ r. (cache : Option ℕ) (inputs : List (List Input))
+            → EachHasRoom cache lanes.items → EachStandsFor (by_place lanes.items) inputs
+            → TellsHits cache inputs r) }
     {
         self.is_stub();
         unreachable!()

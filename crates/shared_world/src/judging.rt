@@ -1,4 +1,5 @@
 ghost use Rattle.std.specs.Prelude.{◌≡◌, false};
+ghost use Rattle.fw_world.specs.Caches.{IsPortFor};
 ghost use Rattle.shared_world.specs.Judging.{JudgesNext};
 
 use crate::{Inside, World};
@@ -22,6 +23,7 @@ impl World {
     ) -> (Inside, Result<Judgement, OutOfMemory>)
         requires lane { inside.lane.world ≡ self.now }
         requires fresh { inside.judged ≡ false }
+        requires port { IsPortFor inside.lane.cache port.now }
         ensures next { JudgesNext inside result.0 packet.now port.now second result.1 }
         ensures world { result.0.lane.world ≡ inside.lane.world }
     {

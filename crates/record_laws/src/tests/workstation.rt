@@ -165,7 +165,7 @@ fn opened(alloc: Global, lines: &[Line]) -> Result<Pair, Fail>
         world,
         mut lanes,
         desk,
-    } = SerialWorld::open(alloc, config, 2)?;
+    } = SerialWorld::open(alloc, config, 2, None)?;
     let first = lanes.remove(0);
     let second = lanes.remove(0);
     Ok(Pair {

@@ -7,18 +7,21 @@ use Rattle.eval_engine.specs.Standing.{StandsAt, AnswersOpenAsk, InstallsRuleOf,
 use Rattle.eval_engine.specs.declared.stage.Stage.TheVariants.{Asks}
 use Rattle.generation_store.specs.Published.{Published}
 use Rattle.fw_world.specs.Entries.{question_under}
-use Rattle.fw_world.proofs.Running.{IsReached-ended, IsReached-answered, AsksFront-reached, AsksFront-missed}
+use Rattle.fw_world.proofs.Running.{IsReached-ended, IsReached-answered, AsksFront-reached, AsksFront-missed, AsksFront-none}
 use Rattle.fw_world.proofs.evaluating.evaluate_packet.Goals as goal
 
 pub loop-stage-init : goal.loop-stage-init
 loop-stage-init g c =
-    let stands = subst (λ (e : Published). StandsAt (question_under e c.args.packet.now c.args.port.now c.args.second) [] [] c.args.tally.now c.begin-stage.result c.begin-stage.new.tally) c.edition.ensures c.begin-stage.ensures in
+    let stands = subst (λ (e : Published). StandsAt (question_under e c.args.packet.now c.args.port.now c.args.second) [] [] c.args.tally.now c.in_ok-stage.stage c.begin_beside.new.tally) c.edition.ensures c.in_ok-stage.ensures.stands in
     record {
       serves = c.requires.lane;
       same = refl;
       fitted = omega (arith, stands-length _ _ _ _ _ _ stands, c.requires.fitted);
       reached = record { asks = []; replies = []; stands = stands; entered = refl };
     }
+
+pub returns-in_err-stage-clause-asked : goal.returns-in_err-stage-clause-asked
+returns-in_err-stage-clause-asked g c = AsksFront-none _ _ _ _
 
 pub returns-in-Judged-clause-judged : goal.returns-in-Judged-clause-judged
 returns-in-Judged-clause-judged g c =

@@ -1,4 +1,4 @@
-use Rattle.std.proofs.Common.{◌∙◌, ap, subst, List, [], ◌∷◌, ◌++◌, ℕ}
+use Rattle.std.proofs.Common.{None, ◌∙◌, ap, subst, List, [], ◌∷◌, ◌++◌, ℕ}
 use Rattle.command_words.specs.declared.invocation.Mode.TheVariants.{Serial}
 use Rattle.load_maker.specs.Load.{load_capture}
 use Rattle.replay_driver.specs.Found.{IsReplayOf, made_capture, known_left, no_failures}
@@ -14,6 +14,6 @@ returns-clause-finds c =
     ∙ ap (λ (o : OpenedCapture (List ℕ)). o ∷ []) (c.in_ok-open_made.ensures ∙ ap made_capture c.in_ok-script.ensures.capture) in
     record {
       sources = c.in-Replayed.sources.items;
-      replay = subst (λ (l : List ℕ). IsReplayOf known_left no_failures Serial l (made_capture (load_capture n) ∷ []) c.in-Replayed.kept c.in-Replayed.ends c.in-Replayed.sources.items) script
-          (subst (λ (os : List (OpenedCapture (List ℕ))). IsReplayOf known_left no_failures Serial c.deref.result.now os c.in-Replayed.kept c.in-Replayed.ends c.in-Replayed.sources.items) opened replays);
+      replay = subst (λ (l : List ℕ). IsReplayOf known_left no_failures Serial None l (made_capture (load_capture n) ∷ []) c.in-Replayed.kept c.in-Replayed.ends c.in-Replayed.sources.items) script
+          (subst (λ (os : List (OpenedCapture (List ℕ))). IsReplayOf known_left no_failures Serial None c.deref.result.now os c.in-Replayed.kept c.in-Replayed.ends c.in-Replayed.sources.items) opened replays);
     }

@@ -6,7 +6,7 @@ use Rattle.replay_driver.proofs.script_replay.replay_script.Goals as goal
 
 pub returns-clause-replays : goal.returns-clause-replays
 returns-clause-replays g c =
-    let whole = subst (λ (l : List Step). IsReplayIn g.S.Source.left g.S.Source.faults g.P.Replayer.mode c.in-Ok.edition.config l c.args.opened.items c.in_ok-kept.field-0) c.as_slice.ensures c.in_ok-kept.ensures in
+    let whole = subst (λ (l : List Step). IsReplayIn g.S.Source.left g.S.Source.faults g.P.Replayer.mode c.in-Ok.edition.config l (g.P.Replayer.cache c.args.replayer.now) c.args.opened.items c.in_ok-kept.field-0) c.as_slice.ensures c.in_ok-kept.ensures in
     record {
       edition = c.in-Ok.edition;
       first = c.in-Ok.ensures.exact;

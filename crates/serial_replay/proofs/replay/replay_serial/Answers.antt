@@ -7,7 +7,7 @@ use Rattle.serial_replay.proofs.replay.replay_serial.Goals as goal
 pub run_all-requires : goal.run_all-requires
 run_all-requires g c =
     let counted : c.len-count.result ≡ length c.args.captures.items = c.len-count.ensures ∙ c.args.captures.ok.0 in
-    starts-ready g.S.Source.left g.S.Source.faults c.args.config c.args.steps.now c.limit_for-limit.result c.args.captures.items _ (record {
+    starts-ready g.S.Source.left g.S.Source.faults c.args.config c.args.steps.now c.args.cache c.limit_for-limit.result c.args.captures.items _ (record {
       count = c.len-count.result;
       opened = c.in_ok-world.ensures.world;
       lanes = c.in_ok-world.ensures.lanes;
@@ -25,7 +25,7 @@ pub returns : goal.returns
 returns g c =
     let counted : c.len-count.result ≡ length c.args.captures.items = c.len-count.ensures ∙ c.args.captures.ok.0 in
     let within : c.len-count.result ≤ 16 = omega (arith, c.len-count.ensures, c.requires.few) in
-    IfOk-weaker _ _ _ (λ r closed. comes-to g.S.Source.left g.S.Source.faults c.args.config c.args.steps.now c.limit_for-limit.result c.args.captures.items _ c.run_all.new.self r (c.limit_for-limit.ensures.exact ∙ ap limit_for counted) (record {
+    IfOk-weaker _ _ _ (λ r closed. comes-to g.S.Source.left g.S.Source.faults c.args.config c.args.steps.now c.args.cache c.limit_for-limit.result c.args.captures.items _ c.run_all.new.self r (c.limit_for-limit.ensures.exact ∙ ap limit_for counted) (record {
       count = c.len-count.result;
       opened = c.in_ok-world.ensures.world;
       lanes = c.in_ok-world.ensures.lanes;

@@ -1,10 +1,13 @@
-use Rattle.std.proofs.Common.{◌≡◌, ◌++◌, ◌∷◌, [], List, map, map-id, ap, sym, ◌∙◌, subst, arith}
+use Rattle.std.proofs.Common.{◌≡◌, ℕ, ◌++◌, ◌∷◌, [], List, map, map-id, ap, sym, ◌∙◌, subst, arith}
 use Rattle.std.proofs.lemmas.List.{map-append, length-append}
 use Rattle.std.proofs.lemmas.Iterator.Adapters.{YieldsList-from_vec}
 use Rattle.std.proofs.lemmas.Iterator.Consumers.{YieldsList-end, YieldsList-turn}
 use Rattle.std.specs.List.{AllByRecursion}
 use Rattle.fw_base.proofs.Lists.{all_push}
+use Rattle.fw_world.specs.Caches.{counted_before}
 use Rattle.fw_world.specs.Columns.{ColumnsValue}
+use Rattle.fw_world.specs.RecordedHits.{counted_by}
+use Rattle.fw_world.proofs.Recording.{counted_by-append}
 use Rattle.fw_world.specs.Lane.{LaneValue}
 use Rattle.fw_world.specs.LaneKept.{IsLane}
 use Rattle.serial_world.proofs.serial_world.filled.Goals as goal
@@ -34,6 +37,8 @@ loop-lane-preserved c =
       dockets = subst (λ (columns : ColumnsValue). columns.dockets ≡ map (λ (lane : LaneValue). lane.docket) (c.loop-lane.yielded ++ lane ∷ [])) added (pushed (λ lane. lane.docket) c.loop-lane.columns.dockets c.loop-lane.yielded lane before.dockets);
       tallies = subst (λ (columns : ColumnsValue). columns.tallies ≡ map (λ (lane : LaneValue). lane.tally) (c.loop-lane.yielded ++ lane ∷ [])) added (pushed (λ lane. lane.tally) c.loop-lane.columns.tallies c.loop-lane.yielded lane before.tallies);
       trackers = subst (λ (columns : ColumnsValue). columns.trackers ≡ map (λ (lane : LaneValue). lane.tracker) (c.loop-lane.yielded ++ lane ∷ [])) added (pushed (λ lane. lane.tracker) c.loop-lane.columns.trackers c.loop-lane.yielded lane before.trackers);
+      hits = subst (λ (columns : ColumnsValue). columns.hits ≡ counted_by (c.loop-lane.yielded ++ lane ∷ [])) added
+          (ap (λ (counts : List ℕ). counts ++ counted_before lane.cache []) before.hits ∙ sym (counted_by-append c.loop-lane.yielded lane));
       kept = all_push (IsLane 0) c.loop-lane.yielded lane before.kept c.add_lane.ensures.lane;
     }
 
@@ -46,6 +51,9 @@ whole c =
 
 pub returns-clause-dockets : goal.returns-clause-dockets
 returns-clause-dockets c = c.loop-lane.invariant.dockets ∙ ap (map (λ (lane : LaneValue). lane.docket)) (whole c)
+
+pub returns-clause-hits : goal.returns-clause-hits
+returns-clause-hits c = c.loop-lane.invariant.hits ∙ ap counted_by (whole c)
 
 pub returns-clause-tallies : goal.returns-clause-tallies
 returns-clause-tallies c = c.loop-lane.invariant.tallies ∙ ap (map (λ (lane : LaneValue). lane.tally)) (whole c)

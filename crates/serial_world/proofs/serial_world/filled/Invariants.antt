@@ -1,5 +1,6 @@
 use Rattle.std.proofs.Common.{◌≡◌, ◌+◌, length, map}
 use Rattle.std.specs.List.{AllByRecursion}
+use Rattle.fw_world.specs.RecordedHits.{counted_by}
 use Rattle.fw_world.specs.Lane.{LaneValue}
 use Rattle.fw_world.specs.LaneKept.{IsLane}
 use Rattle.serial_world.proofs.serial_world.filled.Given as goal
@@ -10,5 +11,6 @@ invariant-loop-lane l = record {
   dockets : l.columns.dockets ≡ map (λ (lane : LaneValue). lane.docket) l.yielded;
   tallies : l.columns.tallies ≡ map (λ (lane : LaneValue). lane.tally) l.yielded;
   trackers : l.columns.trackers ≡ map (λ (lane : LaneValue). lane.tracker) l.yielded;
+  hits : l.columns.hits ≡ counted_by l.yielded;
   kept : AllByRecursion (IsLane 0) l.yielded;
 }

@@ -1,13 +1,15 @@
 use Rattle.std.proofs.Common.{◌≡◌, ℕ, suc, ◌+◌, ◌-◌, ◌≤◌, List, [], ◌∷◌, ◌++◌, ap, ◌∙◌, arith, append_assoc}
+use Rattle.std.specs.Prelude.{Option}
 use Rattle.fw_world.specs.Lane.{LaneValue, first_lane, first_lanes}
 use Rattle.serial_world.proofs.serial_world.open_lanes.Goals as goal
 
-next : (items all : List LaneValue) (place lanes : ℕ) → place ≤ lanes → items ++ first_lanes place (lanes + 1 - place) ≡ all → (items ++ first_lane place ∷ []) ++ first_lanes (place + 1) (lanes + 1 - (place + 1)) ≡ all
-next items all place lanes within is =
+next : (cache : Option ℕ) (items all : List LaneValue) (place lanes : ℕ) → place ≤ lanes → items ++ first_lanes cache place (lanes + 1 - place) ≡ all
+    → (items ++ first_lane cache place ∷ []) ++ first_lanes cache (place + 1) (lanes + 1 - (place + 1)) ≡ all
+next cache items all place lanes within is =
     let same : suc (lanes + 1 - (place + 1)) ≡ lanes + 1 - place = omega arith in
-    append_assoc items (first_lane place ∷ []) _ ∙ ap (λ (n : ℕ). items ++ first_lanes place n) same ∙ is
+    append_assoc items (first_lane cache place ∷ []) _ ∙ ap (λ (n : ℕ). items ++ first_lanes cache place n) same ∙ is
 
 pub loop-place-preserved : goal.loop-place-preserved
 loop-place-preserved c =
     let within : c.loop-place.place ≤ c.args.lanes = omega arith in
-    rw (c.in_ok-push.ensures.items, c.new.ensures) (next c.loop-place.opened.items _ c.loop-place.place c.args.lanes within c.loop-place.invariant)
+    rw (c.in_ok-push.ensures.items, c.new.ensures c.args.cache c.in_ok-open_cache.ensures) (next c.args.cache c.loop-place.opened.items _ c.loop-place.place c.args.lanes within c.loop-place.invariant)

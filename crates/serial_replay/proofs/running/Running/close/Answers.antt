@@ -1,6 +1,7 @@
 use Rattle.std.proofs.Common.{List, sym, ap, subst, ◌∙◌}
 use Rattle.fw_world.specs.Closing.{AreLanesFrom, EachStandsFor, record_of_world}
 use Rattle.fw_world.specs.Lane.{LaneValue}
+use Rattle.fw_world.specs.RecordedHits.{TellsHits}
 use Rattle.fw_world.specs.Legal.{IsLegal}
 use Rattle.fw_world.proofs.Arranging.{by_place-same}
 use Rattle.serial_replay.proofs.Whole.{no-loose}
@@ -23,6 +24,9 @@ returns g c =
           let ordered = subst (λ (all : List LaneValue). EachStandsFor replay.world all inputs) (sym same) stands in
           let legal = c.in_ok-record.ensures.legal first commands inputs accepted ordered (no-loose lanes c.requires.sound.clean) in
           subst (IsLegal first commands inputs) (sym c.in_ok-record.ensures.exact) legal;
+      hits = λ cache inputs rooms stands.
+          let ordered = subst (λ (all : List LaneValue). EachStandsFor replay.world all inputs) (sym same) stands in
+          subst (TellsHits cache inputs) (sym c.in_ok-record.ensures.exact) (c.in_ok-record.ensures.hits cache inputs rooms ordered);
       sources = c.in_ok-sources.ensures.sources;
       ends = c.from_vec.ensures ∙ c.in_ok-sources.ensures.ends;
       answers = c.from_vec-2.ensures;

@@ -1,6 +1,8 @@
 use Rattle.std.proofs.Common.{◌≡◌, List, length, map, ◌∙◌, ap, sym, subst}
 use Rattle.std.specs.List.{AllByRecursion}
 use Rattle.generation_store.specs.Published.{Published}
+use Rattle.fw_world.specs.Caches.{capacity_of}
+use Rattle.fw_world.specs.RecordedHits.{counted_by}
 use Rattle.fw_world.specs.Closing.{by_place, record_of_world}
 use Rattle.fw_world.specs.Editions.{AreEditions}
 use Rattle.fw_world.specs.Lane.{LaneValue}
@@ -11,7 +13,7 @@ use Rattle.fw_world.specs.Publications.{IsPublished}
 use Rattle.fw_world.specs.RecordValue.{RecordValue}
 use Rattle.fw_world.specs.World.{WorldValue}
 use Rattle.fw_world.proofs.Arranging.{all-by_place, length-by_place}
-use Rattle.fw_world.proofs.Recording.{as_many, same_record, lanes-stand, lanes-count, lanes-rise}
+use Rattle.fw_world.proofs.Recording.{as_many, same_record, lanes-stand, lanes-count, lanes-rise, TellsHits-world}
 use Rattle.serial_world.proofs.serial_world.SerialWorld.close.Goals as goal
 use Rattle.serial_world.proofs.serial_world.SerialWorld.close.Goals.{After-drop-desk-inside-2}
 
@@ -29,8 +31,9 @@ same c =
     let dockets = c.filled-columns.ensures.dockets ∙ ap (λ (all : List LaneValue). map (λ (lane : LaneValue). lane.docket) all) (lanes c) in
     let tallies = c.filled-columns.ensures.tallies ∙ ap (λ (all : List LaneValue). map (λ (lane : LaneValue). lane.tally) all) (lanes c) in
     let trackers = c.filled-columns.ensures.trackers ∙ ap (λ (all : List LaneValue). map (λ (lane : LaneValue). lane.tracker) all) (lanes c) in
+    let hits = c.filled-columns.ensures.hits ∙ ap counted_by (lanes c) in
     c.new.ensures.exact
-    ∙ same_record _ _ _ _ _ _ _ _ _ _ (c.into_all.ensures ∙ ap (λ (w : WorldValue). w.editions) (c.held.view_is ∙ c.self.view_is)) (ap (λ (w : WorldValue). w.journal) (c.held.view_is ∙ c.self.view_is)) dockets tallies trackers
+    ∙ same_record _ _ _ _ _ _ _ _ _ _ _ _ (c.into_all.ensures ∙ ap (λ (w : WorldValue). w.editions) (c.held.view_is ∙ c.self.view_is)) (ap (λ (w : WorldValue). w.journal) (c.held.view_is ∙ c.self.view_is)) dockets tallies trackers hits
 
 pub returns-clause-exact : goal.returns-clause-exact
 returns-clause-exact c = same c
@@ -54,3 +57,7 @@ returns-clause-nearly c = λ first commands inputs desk stands.
     → EachLane LaneRises 1 inputs r.dockets r.tallies r.trackers → IsLegalButSections first commands inputs r) (same c) (c.new.ensures.nearly first commands inputs)
     editions (as_many world closed inputs stands ∙ length-by_place c.args.lanes.items ∙ c.requires.all) (lanes-stand world closed inputs c.requires.lanes stands)
     (lanes-rise world closed inputs c.requires.lanes stands (kept c))
+
+pub returns-clause-hits : goal.returns-clause-hits
+returns-clause-hits c = λ cache inputs rooms stands.
+    TellsHits-world c.args.self (by_place c.args.lanes.items) cache inputs (all-by_place (λ (lane : LaneValue). capacity_of lane.cache ≡ cache) c.args.lanes.items rooms) stands
