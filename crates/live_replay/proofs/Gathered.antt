@@ -1,5 +1,5 @@
 -- Tasks, and what comes of them, in the order of their places.
-use Rattle.std.proofs.Common.{◌≡◌, ℕ, suc, ◌+◌, ◌<◌, ◌≤◌, Option, Ok, Result, List, [], ◌∷◌, ◌++◌, All, map, length, refl, sym, ap, subst, ◌∙◌, arith}
+use Rattle.std.proofs.Common.{◌≡◌, ℕ, suc, ◌+◌, ◌<◌, ◌≤◌, Option, Some, None, Ok, Result, List, [], ◌∷◌, ◌++◌, All, map, length, refl, sym, ap, subst, ◌∙◌, arith}
 use Rattle.std.specs.Prelude.{IfOk, slice_index_or}
 use Rattle.std.specs.List.{AllByRecursion, zip}
 use Rattle.std.proofs.lemmas.List.{map-append}
@@ -7,9 +7,11 @@ use Rattle.std.proofs.lemmas.List.Elements.{All-from_recursion}
 use Rattle.atomic_table.specs.Seated.{TableId}
 use Rattle.capture_tracks.specs.declared.opened.OpenedCapture.{OpenedCapture}
 use Rattle.fw_base.specs.declared.failure.OutOfMemory.{OutOfMemory}
+use Rattle.fw_base.specs.declared.port.Port.{Port}
+use Rattle.fw_world.specs.Caches.{IsPortFor, capacity_of, first_cache}
 use Rattle.fw_world.specs.Inputs.{Input}
 use Rattle.shared_world.proofs.Arranging.{by_place-same}
-use Rattle.shared_world.specs.Closing.{AreNewLanes, AreLanesFrom, EachStandsFor, by_place}
+use Rattle.shared_world.specs.Closing.{AreNewLanes, AreLanesFrom, EachHasRoom, EachStandsFor, by_place}
 use Rattle.shared_world.specs.SharedLane.{SharedLane}
 use Rattle.live_replay.specs.Crew.{ArePostedFrom, EachFinishes, tasks_of, lanes_of}
 use Rattle.live_replay.specs.Work.{IsReady, Finishes}
@@ -25,6 +27,16 @@ map_itself (x ∷ xs) = ap (λ rest. x ∷ rest) (map_itself xs)
 pub values_pushed : {X E : Type 0} (results : List (Result X E)) (values pushed : List X) (result : Result X E) (value : X) → results ≡ map Ok values → result ≡ Ok value → pushed ≡ values ++ value ∷ [] → results ++ result ∷ [] ≡ map Ok pushed
 values_pushed {X} {E} results values pushed result value are is more =
     ap (λ (rs : List (Result X E)). rs ++ result ∷ []) are ∙ ap (λ (r : Result X E). map Ok values ++ r ∷ []) is ∙ sym (map-append Ok values (value ∷ [])) ∙ ap (map Ok) (sym more)
+
+-- a new cache is for packets of any port
+new_port : (cache : Option ℕ) (port : Port) → IsPortFor (first_cache cache) port
+new_port None port = tt
+new_port (Some room) port = tt
+
+-- a new cache has the room that it was asked for
+pub new_room : (cache : Option ℕ) → capacity_of (first_cache cache) ≡ cache
+new_room None = refl
+new_room (Some room) = refl
 
 -- lanes at their posts are those of their world in the order of their places
 pub posted_lanes : (world : TableId) (place : ℕ) (lanes : List SharedLane) → ArePostedFrom world place lanes → AreLanesFrom world place lanes
@@ -47,6 +59,10 @@ pub closing_stands : (world : TableId) (lanes own : List SharedLane) (inputs : L
 closing_stands world lanes own inputs same posted stands =
     subst (λ (ls : List SharedLane). EachStandsFor ls inputs) (sym (ap by_place same ∙ by_place-same world 1 lanes (posted_lanes world 1 lanes posted))) stands
 
+-- they have as much room
+pub closing_room : (cache : Option ℕ) (lanes own : List SharedLane) → own ≡ lanes → EachHasRoom cache lanes → EachHasRoom cache own
+closing_room cache lanes own same room = subst (λ (ls : List SharedLane). EachHasRoom cache ls) (sym same) room
+
 -- none of them is loose
 pub closing_loose : (world : TableId) (lanes own : List SharedLane) → own ≡ lanes → ArePostedFrom world 1 lanes → AllByRecursion (λ (lane : SharedLane). lane.loose ≡ 0) own
 closing_loose world lanes own same posted = subst (λ (ls : List SharedLane). AllByRecursion (λ (lane : SharedLane). lane.loose ≡ 0) ls) (sym same) (none_loose world 1 lanes posted)
@@ -62,23 +78,24 @@ module _ {S : Type 0} where
   tasks_zipped limit (opened ∷ captures) [] = refl
   tasks_zipped limit (opened ∷ captures) (lane ∷ lanes) = ap (λ rest. task_of limit (opened, lane) ∷ rest) (tasks_zipped limit captures lanes)
 
-  new_ready : (world : TableId) (place limit : ℕ) (captures : List (OpenedCapture S)) (lanes : List SharedLane) → 1 ≤ limit → limit ≤ 4194304 → AreNewLanes world place lanes → AllByRecursion (IsReady world) (tasks_of limit captures lanes)
-  new_ready world place limit [] lanes some most new = tt
-  new_ready world place limit (opened ∷ captures) [] some most new = tt
-  new_ready world place limit (opened ∷ captures) (lane ∷ lanes) some most new = (
+  new_ready : (cache : Option ℕ) (world : TableId) (place limit : ℕ) (captures : List (OpenedCapture S)) (lanes : List SharedLane) → 1 ≤ limit → limit ≤ 4194304 → AreNewLanes cache world place lanes → AllByRecursion (IsReady world) (tasks_of limit captures lanes)
+  new_ready cache world place limit [] lanes some most new = tt
+  new_ready cache world place limit (opened ∷ captures) [] some most new = tt
+  new_ready cache world place limit (opened ∷ captures) (lane ∷ lanes) some most new = (
     record {
       posted = record { of_world = ap (λ (l : SharedLane). l.world) new.0; heeded = ap (λ (l : SharedLane). l.refusal) new.0; clean = ap (λ (l : SharedLane). l.loose) new.0 };
+      at_port = subst (λ (l : SharedLane). IsPortFor l.cache opened.port) (sym new.0) (new_port cache opened.port);
       stands = new.1;
       some = some;
       most = most;
     },
-    new_ready world (place + 1) limit captures lanes some most new.2,
+    new_ready cache world (place + 1) limit captures lanes some most new.2,
   )
 
   -- tasks of new lanes are ready
-  pub tasks_ready : (world : TableId) (limit : ℕ) (captures : List (OpenedCapture S)) (lanes : List SharedLane) (tasks : List (Task S)) → 1 ≤ limit → limit ≤ 4194304 → AreNewLanes world 1 lanes → tasks ≡ tasks_of limit captures lanes → All (IsReady world) tasks
-  tasks_ready world limit captures lanes tasks some most new are =
-      subst (λ (ts : List (Task S)). All (IsReady world) ts) (sym are) (All-from_recursion (IsReady world) (tasks_of limit captures lanes) (new_ready world 1 limit captures lanes some most new))
+  pub tasks_ready : (cache : Option ℕ) (world : TableId) (limit : ℕ) (captures : List (OpenedCapture S)) (lanes : List SharedLane) (tasks : List (Task S)) → 1 ≤ limit → limit ≤ 4194304 → AreNewLanes cache world 1 lanes → tasks ≡ tasks_of limit captures lanes → All (IsReady world) tasks
+  tasks_ready cache world limit captures lanes tasks some most new are =
+      subst (λ (ts : List (Task S)). All (IsReady world) ts) (sym are) (All-from_recursion (IsReady world) (tasks_of limit captures lanes) (new_ready cache world 1 limit captures lanes some most new))
 
   -- there are as many lanes as finished
   pub length_lanes : (finished : List (Finished S)) → length (lanes_of finished) ≡ length finished

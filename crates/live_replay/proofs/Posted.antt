@@ -1,10 +1,12 @@
 -- A lane at its post, through the calls of its world.
-use Rattle.std.proofs.Common.{◌≡◌, ℕ, ◌<◌, ◌≤◌, Option, Some, Ok, Result, [], ◌∷◌, ◌++◌, refl, ap, subst, ◌∙◌, arith}
+use Rattle.std.proofs.Common.{◌≡◌, ℕ, ◌<◌, ◌≤◌, Option, Some, Ok, Result, [], ◌∷◌, ◌++◌, refl, sym, ap, subst, ◌∙◌, arith}
 use Rattle.std.specs.Prelude.{IfSome, is_some, not, Bool, true}
 use Rattle.atomic_table.specs.Seated.{TableId}
 use Rattle.eval_engine.specs.declared.judgement.Judgement.{Judgement}
 use Rattle.fw_base.specs.declared.failure.OutOfMemory.{OutOfMemory}
 use Rattle.fw_base.specs.declared.port.Port.{Port}
+use Rattle.cached_verdicts.specs.LaneCache.{LaneCacheValue}
+use Rattle.fw_world.specs.Caches.{capacity_of, IsPortFor}
 use Rattle.fw_world.specs.Inputs.{Packet}
 use Rattle.fw_world.specs.Lane.{one_looser}
 use Rattle.fw_world.specs.Skips.{skipped_input}
@@ -18,13 +20,14 @@ use Rattle.live_replay.specs.Posted.{IsPosted, StaysPosted, AdmitsLane, TakesInp
 
 -- a lane at its post is where it was
 pub stays_posted : (world : TableId) (lane : SharedLane) → IsPosted world lane → StaysPosted world lane lane
-stays_posted world lane posted = record { place = refl; posted = posted; stands = λ inputs stands. stands }
+stays_posted world lane posted = record { place = refl; cache = refl; posted = posted; stands = λ inputs stands. stands }
 
 -- a lane at its post that enters is in
 pub admits_in : (world : TableId) (first lane : SharedLane) (inside : SharedInside) → StaysPosted world first lane → EntersIn lane inside → AdmitsLane world first inside
 admits_in world first lane inside stays h = record {
   stays = record {
     place = ap (λ (l : SharedLane). l.place) h.lane_is ∙ stays.place;
+    cache = ap (λ (l : SharedLane). l.cache) h.lane_is ∙ stays.cache;
     posted = record {
       of_world = ap (λ (l : SharedLane). l.world) h.lane_is ∙ stays.posted.of_world;
       heeded = ap (λ (l : SharedLane). l.refusal) h.lane_is ∙ stays.posted.heeded;
@@ -43,6 +46,7 @@ refused_of world first lane refused number stays h = ap (λ (l : SharedLane). l.
 pub posted_again : (world : TableId) (first lane refused again : SharedLane) (number : ℕ) → StaysPosted world first lane → IsRefused lane refused number → RegainsLane refused again → StaysPosted world first again
 posted_again world first lane refused again number stays h r = record {
   place = ap (λ (l : SharedLane). l.place) r.lane_is ∙ ap (λ (l : SharedLane). l.place) h.lane_is ∙ stays.place;
+  cache = ap (λ (l : SharedLane). l.cache) r.lane_is ∙ ap (λ (l : SharedLane). l.cache) h.lane_is ∙ stays.cache;
   posted = record {
     of_world = ap (λ (l : SharedLane). l.world) r.lane_is ∙ ap (λ (l : SharedLane). l.world) h.lane_is ∙ stays.posted.of_world;
     heeded = ap (λ (l : SharedLane). l.refusal) r.lane_is;
@@ -73,6 +77,8 @@ takes_packet world first lane inside after packet port second result judgement o
         heeded = ap (λ (l : SharedLane). l.refusal) leaves.lane_is ∙ ap (λ (l : SharedLane). l.refusal) j.same ∙ admits.stays.posted.heeded;
         clean = ap (λ (l : SharedLane). l.loose) leaves.lane_is ∙ ap (λ (b : Bool). one_looser (not b) after.lane.loose) judged ∙ ap (λ (l : SharedLane). l.loose) j.same ∙ admits.stays.posted.clean;
       };
+      room = ap (λ (l : SharedLane). capacity_of l.cache) leaves.lane_is ∙ j.room ∙ ap capacity_of admits.stays.cache;
+      at_port = λ at same was. subst (λ (cache : Option LaneCacheValue). IsPortFor cache at) (sym (ap (λ (l : SharedLane). l.cache) leaves.lane_is)) (subst (λ (p : Port). IsPortFor after.lane.cache p) same j.at_port);
       stands = λ inputs stands. leaves.stands (inputs ++ Packet packet port second ∷ []) (j.stands inputs (admits.stays.stands inputs stands));
     }
 
@@ -91,5 +97,11 @@ takes_skipped world first lane entry result u ok posted skips =
         heeded = ap (λ (l : SharedLane). l.refusal) s.lane_is ∙ posted.heeded;
         clean = ap (λ (l : SharedLane). l.loose) s.lane_is ∙ posted.clean;
       };
+      room = ap (λ (l : SharedLane). capacity_of l.cache) s.lane_is;
+      at_port = λ at same was. subst (λ (cache : Option LaneCacheValue). IsPortFor cache at) (sym (ap (λ (l : SharedLane). l.cache) s.lane_is)) was;
       stands = s.stands;
     }
+
+-- a lane that is in judges packets of the port that it did before
+pub admits_port : (world : TableId) (first : SharedLane) (inside : SharedInside) (port : Port) → AdmitsLane world first inside → IsPortFor first.cache port → IsPortFor inside.lane.cache port
+admits_port world first inside port admits was = subst (λ (cache : Option LaneCacheValue). IsPortFor cache port) (sym admits.stays.cache) was

@@ -16,10 +16,12 @@ use Rattle.fw_world.specs.Editions.{IsLastOf}
 use Rattle.fw_world.specs.World as plain
 use Rattle.generation_store.specs.Published.{Published}
 use Rattle.rule_chain.specs.Configuration.{Configuration}
-use Rattle.shared_world.specs.Closing.{AreNewLanes, EachStandsFor}
+use Rattle.fw_world.specs.Caches.{capacity_of}
+use Rattle.shared_world.specs.Closing.{AreNewLanes, EachHasRoom, EachStandsFor}
 use Rattle.shared_world.specs.SharedDesk.{SharedDesk, IsNewDesk}
 use Rattle.shared_world.specs.SharedLane.{SharedLane}
 use Rattle.shared_world.specs.Standing.{DeskStandsFor}
+use Rattle.live_replay.proofs.Gathered.{new_room}
 use Rattle.live_replay.specs.Crew.{ArePostedFrom, CanClose, Closes, EachFinishes, tasks_of, lanes_of, sources_of, ends_of}
 use Rattle.live_replay.specs.Operating.{operator_of, RunsLines}
 use Rattle.live_replay.specs.declared.crew.Relieved.{Relieved}
@@ -59,22 +61,33 @@ module _ {S : Type 0} (left : S → Option (List ℕ)) (faults : S → ℕ) wher
       let rest = all_told world limit captures lanes finished (omega arith) each.1 in
       record { told = each.0.told ∷ rest.told; read = (each.0.port, each.0.read, rest.read); stands = (each.0.stands, rest.stands) }
 
-  all_posted : (world : TableId) (place limit : ℕ) (captures : List (OpenedCapture S)) (lanes : List SharedLane) (finished : List (Finished S)) → length captures ≡ length lanes → AreNewLanes world place lanes → EachFinishes left faults world (tasks_of limit captures lanes) finished
+  all_posted : (cache : Option ℕ) (world : TableId) (place limit : ℕ) (captures : List (OpenedCapture S)) (lanes : List SharedLane) (finished : List (Finished S)) → length captures ≡ length lanes → AreNewLanes cache world place lanes → EachFinishes left faults world (tasks_of limit captures lanes) finished
       → ArePostedFrom world place (lanes_of finished) × (length finished ≡ length lanes)
-  all_posted world place limit [] [] [] same new each = (tt, refl)
-  all_posted world place limit [] (lane ∷ lanes) finished same new each = absurd (omega arith)
-  all_posted world place limit [] [] (f ∷ finished) same new each = absurd each
-  all_posted world place limit (opened ∷ captures) [] finished same new each = absurd (omega arith)
-  all_posted world place limit (opened ∷ captures) (lane ∷ lanes) [] same new each = absurd each
-  all_posted world place limit (opened ∷ captures) (lane ∷ lanes) (f ∷ finished) same new each =
-      let rest = all_posted world (place + 1) limit captures lanes finished (omega arith) new.2 each.1 in
+  all_posted cache world place limit [] [] [] same new each = (tt, refl)
+  all_posted cache world place limit [] (lane ∷ lanes) finished same new each = absurd (omega arith)
+  all_posted cache world place limit [] [] (f ∷ finished) same new each = absurd each
+  all_posted cache world place limit (opened ∷ captures) [] finished same new each = absurd (omega arith)
+  all_posted cache world place limit (opened ∷ captures) (lane ∷ lanes) [] same new each = absurd each
+  all_posted cache world place limit (opened ∷ captures) (lane ∷ lanes) (f ∷ finished) same new each =
+      let rest = all_posted cache world (place + 1) limit captures lanes finished (omega arith) new.2 each.1 in
       ((each.0.place ∙ ap (λ (l : SharedLane). l.place) new.0, each.0.posted, rest.0), omega (arith, rest.1))
 
+  all_room : (cache : Option ℕ) (world : TableId) (place limit : ℕ) (captures : List (OpenedCapture S)) (lanes : List SharedLane) (finished : List (Finished S)) → length captures ≡ length lanes → AreNewLanes cache world place lanes → EachFinishes left faults world (tasks_of limit captures lanes) finished
+      → EachHasRoom cache (lanes_of finished)
+  all_room cache world place limit [] lanes [] same new each = tt
+  all_room cache world place limit [] lanes (f ∷ finished) same new each = absurd each
+  all_room cache world place limit (opened ∷ captures) [] finished same new each = absurd (omega arith)
+  all_room cache world place limit (opened ∷ captures) (lane ∷ lanes) [] same new each = absurd each
+  all_room cache world place limit (opened ∷ captures) (lane ∷ lanes) (f ∷ finished) same new each = (
+    each.0.room ∙ ap (λ (l : SharedLane). capacity_of l.cache) new.0 ∙ new_room cache,
+    all_room cache world (place + 1) limit captures lanes finished (omega arith) new.2 each.1,
+  )
+
   -- A crew that ran over a new world.
-  pub record Ran (config : Configuration) (steps : List Step) (limit : ℕ) (captures : List (OpenedCapture S)) (world : TableId) (relieved : Relieved S) : Type 0 where
+  pub record Ran (config : Configuration) (steps : List Step) (cache : Option ℕ) (limit : ℕ) (captures : List (OpenedCapture S)) (world : TableId) (relieved : Relieved S) : Type 0 where
     pub lanes : List SharedLane
     pub operator : Operator
-    pub new_lanes : AreNewLanes world 1 lanes
+    pub new_lanes : AreNewLanes cache world 1 lanes
     pub counted : length captures ≡ length lanes
     pub new_desk : IsNewDesk config (length lanes) world operator.desk
     pub no_answer : operator.answers.items ≡ []
@@ -82,10 +95,10 @@ module _ {S : Type 0} (left : S → Option (List ℕ)) (faults : S → ℕ) wher
     pub lines : RunsLines operator relieved.operator (all_lines steps)
 
   -- so it did where its parts are these
-  pub ran_over : (config : Configuration) (steps : List Step) (limit count : ℕ) (captures : List (OpenedCapture S)) (world : TableId) (lanes : List SharedLane) (operator : Operator) (tasks : List (Task S)) (relieved : Relieved S) → count ≡ length captures
-      → AreNewLanes world 1 lanes → length lanes ≡ count → IsNewDesk config count world operator.desk → operator.answers.items ≡ [] → tasks ≡ tasks_of limit captures lanes
-      → EachFinishes left faults world tasks relieved.finished.items → RunsLines operator relieved.operator (all_lines steps) → Ran config steps limit captures world relieved
-  ran_over config steps limit count captures world lanes operator tasks relieved counted new_lanes as_many new_desk no_answer are finished lines = record {
+  pub ran_over : (config : Configuration) (steps : List Step) (cache : Option ℕ) (limit count : ℕ) (captures : List (OpenedCapture S)) (world : TableId) (lanes : List SharedLane) (operator : Operator) (tasks : List (Task S)) (relieved : Relieved S) → count ≡ length captures
+      → AreNewLanes cache world 1 lanes → length lanes ≡ count → IsNewDesk config count world operator.desk → operator.answers.items ≡ [] → tasks ≡ tasks_of limit captures lanes
+      → EachFinishes left faults world tasks relieved.finished.items → RunsLines operator relieved.operator (all_lines steps) → Ran config steps cache limit captures world relieved
+  ran_over config steps cache limit count captures world lanes operator tasks relieved counted new_lanes as_many new_desk no_answer are finished lines = record {
     lanes = lanes;
     operator = operator;
     new_lanes = new_lanes;
@@ -97,9 +110,9 @@ module _ {S : Type 0} (left : S → Option (List ℕ)) (faults : S → ℕ) wher
   }
 
   -- the world of a crew that is done can be closed
-  pub can_close : (config : Configuration) (steps : List Step) (limit : ℕ) (captures : List (OpenedCapture S)) (world : TableId) (relieved : Relieved S) → Ran config steps limit captures world relieved → CanClose world relieved
-  can_close config steps limit captures world relieved h =
-      let posted = all_posted world 1 limit captures h.lanes relieved.finished.items h.counted h.new_lanes h.finished in
+  pub can_close : (config : Configuration) (steps : List Step) (cache : Option ℕ) (limit : ℕ) (captures : List (OpenedCapture S)) (world : TableId) (relieved : Relieved S) → Ran config steps cache limit captures world relieved → CanClose world relieved
+  can_close config steps cache limit captures world relieved h =
+      let posted = all_posted cache world 1 limit captures h.lanes relieved.finished.items h.counted h.new_lanes h.finished in
       record {
         posted = posted.0;
         all = posted.1 ∙ sym (h.lines.desk.lanes ∙ ap (λ (d : SharedDesk). d.lanes) h.new_desk.is);
@@ -107,9 +120,9 @@ module _ {S : Type 0} (left : S → Option (List ℕ)) (faults : S → ℕ) wher
       }
 
   -- and comes to a replay
-  pub comes_to : (config : Configuration) (steps : List Step) (limit : ℕ) (captures : List (OpenedCapture S)) (world : TableId) (relieved : Relieved S) (r : Replayed S) → limit ≡ limit_for (length captures) → Ran config steps limit captures world relieved → Closes relieved r
-      → IsReplay left faults config steps captures r
-  comes_to config steps limit captures world relieved r limit-is h closed =
+  pub comes_to : (config : Configuration) (steps : List Step) (cache : Option ℕ) (limit : ℕ) (captures : List (OpenedCapture S)) (world : TableId) (relieved : Relieved S) (r : Replayed S) → limit ≡ limit_for (length captures) → Ran config steps cache limit captures world relieved → Closes relieved r
+      → IsReplay left faults config steps cache captures r
+  comes_to config steps cache limit captures world relieved r limit-is h closed =
       let all = all_told world limit captures h.lanes relieved.finished.items h.counted h.finished in
       let stands = h.lines.stands config (first_standing config) (first_stands config (length h.lanes) world h.operator h.new_desk h.no_answer) in
       record {
@@ -118,5 +131,6 @@ module _ {S : Type 0} (left : S → Option (List ℕ)) (faults : S → ℕ) wher
             (subst (λ (sources : List S). AllRead left faults limit captures sources all.told r.ends.captures) (sym closed.sources)
             (subst (λ (ends : List CaptureEnd). AllRead left faults limit captures (sources_of relieved.finished.items) all.told ends) (sym closed.ends) all.read));
         legal = closed.legal config (lines_outcome config steps).accepted (map track_inputs all.told) (desk_stands relieved.operator.desk config (lines_outcome config steps).accepted stands.accepted) all.stands;
+        hits = closed.hits cache (map track_inputs all.told) (all_room cache world 1 limit captures h.lanes relieved.finished.items h.counted h.new_lanes h.finished) all.stands;
         answered = closed.answers ∙ stands.answers;
       }

@@ -3,7 +3,7 @@ use Rattle.std.proofs.Common.{◌≡◌, ℕ, ◌<◌, Option, Some, None, List,
 use Rattle.std.specs.Option.{option_map}
 use Rattle.std.proofs.lemmas.List.{map-append, append-nil}
 use Rattle.atomic_table.specs.Seated.{TableId}
-use Rattle.capture_tracks.specs.Reading.{Origin, IsRead, input_of, track_inputs}
+use Rattle.capture_tracks.specs.Reading.{Origin, IsRead, input_of, track_inputs, input_for}
 use Rattle.capture_tracks.specs.Tracks.{Begins, GoesFurther, IsTrack, end_of, held_in, held_record_of, room_of, source_at}
 use Rattle.capture_tracks.specs.declared.opened.OpenedCapture.{OpenedCapture}
 use Rattle.capture_tracks.specs.declared.track.Track.{Track}
@@ -11,12 +11,17 @@ use Rattle.capture_tracks.specs.declared.track.Track.TheVariants.{Open, Refused}
 use Rattle.capture_tracks.proofs.Ended.{told-track}
 use Rattle.capture_tracks.proofs.Origins.{origin-open}
 use Rattle.fw_report.specs.declared.capture_end.CaptureEnd.{CaptureEnd}
+use Rattle.fw_base.specs.declared.port.Port.{Port}
+use Rattle.fw_world.specs.Caches.{capacity_of, IsPortFor}
 use Rattle.fw_world.specs.Inputs.{Input}
+use Rattle.ip6_headers.specs.Reading.{read_any}
+use Rattle.ip6_headers.specs.declared.any_packet.AnyPacket.{AnyPacket}
+use Rattle.ip6_headers.specs.declared.any_packet.AnyPacket.TheVariants as any
 use Rattle.pcap_read.specs.Reading.{Captured}
 use Rattle.shared_world.specs.SharedLane.{SharedLane}
 use Rattle.shared_world.specs.Standing.{LaneStandsFor}
-use Rattle.live_replay.specs.Posted.{IsPosted, TakesInput}
-use Rattle.live_replay.specs.Taken.{held_input}
+use Rattle.live_replay.specs.Posted.{IsPosted, TakesInput, IsCapturedAt}
+use Rattle.live_replay.specs.Taken.{IsTakenAt, held_input}
 use Rattle.live_replay.specs.Work.{IsReady, Assigned, IsAtWork, HasWork, MeetsMore, TakesMore, TakesAll, Finishes}
 use Rattle.live_replay.specs.declared.task.Finished.{Finished}
 use Rattle.live_replay.specs.declared.task.Post.{Post}
@@ -26,12 +31,19 @@ use Rattle.live_replay.specs.declared.task.Task.{Task}
 post : {S : Type 0} → Track S → SharedLane → Post S
 post track lane = record { track = track; lane = lane }
 
+-- an input was captured where its record was
+captured_at : (port : Port) (second : ℕ) (packet : AnyPacket) → IsCapturedAt port (input_for port second packet)
+captured_at port second any.Other = tt
+captured_at port second (any.Malformed kind) = tt
+captured_at port second (any.Ip ip) = refl
+
 module _ {S : Type 0} (left : S → Option (List ℕ)) (faults : S → ℕ) where
   -- a record that a track holds is an input of its capture
   record Holds (limit : ℕ) (opened : OpenedCapture S) (track : Track S) (done : List Captured) (origin : Origin) (input : Input) : Type 0 where
     taken : Captured
     held : held_record_of track ≡ Some taken
     input_is : input ≡ input_of origin.link origin.port taken
+    captured : IsCapturedAt opened.port input
 
   holds : (limit : ℕ) (opened : OpenedCapture S) (track : Track S) (done : List Captured) (origin : Origin) (input : Input) → held_input track ≡ Some input → IsTrack left faults limit opened track done origin → Holds limit opened track done origin input
   holds limit opened (Refused source end) done origin input is tracked = cc
@@ -48,6 +60,7 @@ module _ {S : Type 0} (left : S → Option (List ℕ)) (faults : S → ℕ) wher
             taken = r;
             held = some;
             input_is = same ∙ sym (ap (λ (o : Origin). input_of o.link o.port r) (origin-open left faults limit opened track done origin r some tracked));
+            captured = subst (λ (i : Input). IsCapturedAt opened.port i) (sym same) (subst (λ (p : Port). IsCapturedAt p (input_of track.capture.format.link track.port r)) tracked.0 (captured_at track.port r.second (read_any track.capture.format.link r.bytes)));
           }
 
   -- nothing more was met
@@ -71,6 +84,8 @@ module _ {S : Type 0} (left : S → Option (List ℕ)) (faults : S → ℕ) wher
           at_work = record {
             posted = takes.posted;
             place = takes.place ∙ work.place;
+            room = takes.room ∙ work.room;
+            at_port = takes.at_port at.opened.port h.captured work.at_port;
             tracked = on.0;
             settled = on.1;
             stands = subst (λ own. LaneStandsFor after own) (ap (λ (i : Input). inputs ++ i ∷ []) h.input_is ∙ sym (map-append (input_of link at.origin.port) done (h.taken ∷ []))) (takes.stands inputs work.stands);
@@ -116,11 +131,11 @@ module _ {S : Type 0} (left : S → Option (List ℕ)) (faults : S → ℕ) wher
 
   -- a task that begins
   assigned : (task : Task S) (track : Track S) → Begins left faults task.limit task.opened track → Assigned S
-  assigned task track begins = record { limit = task.limit; opened = task.opened; origin = begins.origin; place = task.lane.place }
+  assigned task track begins = record { limit = task.limit; opened = task.opened; origin = begins.origin; place = task.lane.place; cache = capacity_of task.lane.cache }
 
   begins_at_work : (world : TableId) (task : Task S) (track : Track S) → IsReady world task → (begins : Begins left faults task.limit task.opened track) → IsAtWork left faults world (assigned task track begins) [] (record { track = track; lane = task.lane })
   unfolding assigned
-  begins_at_work world task track ready begins = record { posted = ready.posted; place = refl; tracked = begins.begun; settled = begins.settled; stands = ready.stands }
+  begins_at_work world task track ready begins = record { posted = ready.posted; place = refl; room = refl; at_port = ready.at_port; tracked = begins.begun; settled = begins.settled; stands = ready.stands }
 
   pub begins_work : (world : TableId) (task : Task S) (track : Track S) → IsReady world task → Begins left faults task.limit task.opened track → HasWork left faults world (record { track = track; lane = task.lane })
   begins_work world task track ready begins = record { at = assigned task track begins; done = []; at_work = begins_at_work world task track ready begins }
@@ -144,5 +159,15 @@ module _ {S : Type 0} (left : S → Option (List ℕ)) (faults : S → ℕ) wher
         read = subst (λ s. IsRead left faults task.limit task.opened.source s all.told finished.end) (sym source-is) (subst (λ (e : CaptureEnd). IsRead left faults task.limit task.opened.source (source_at last) all.told e) (sym end-is) all.read);
         posted = subst (λ (l : SharedLane). IsPosted world l) (sym lane-is) here.posted;
         place = ap (λ (l : SharedLane). l.place) lane-is ∙ here.place;
+        room = ap (λ (l : SharedLane). capacity_of l.cache) lane-is ∙ here.room;
         stands = subst (λ (l : SharedLane). LaneStandsFor l (track_inputs all.told)) (sym lane-is) (subst (λ (own : List Input). LaneStandsFor lane own) inputs here.stands);
       }
+
+  taken_port : (limit : ℕ) (opened : OpenedCapture S) (track : Track S) (done : List Captured) (origin : Origin) (port : Port) → IsTrack left faults limit opened track done origin → IsTakenAt track port → port ≡ opened.port
+  taken_port limit opened (Open track) done origin port tracked at = sym at ∙ tracked.0
+  taken_port limit opened (Refused source end) done origin port tracked at = absurd at
+
+  -- the lane may judge packets of its capture
+  pub work_port : (world : TableId) (track : Track S) (lane : SharedLane) (port : Port) → HasWork left faults world (record { track = track; lane = lane }) → IsTakenAt track port → IsPortFor lane.cache port
+  work_port world track lane port work at =
+      subst (λ (p : Port). IsPortFor lane.cache p) (sym (taken_port work.at.limit work.at.opened track work.done work.at.origin port work.at_work.tracked at)) work.at_work.at_port

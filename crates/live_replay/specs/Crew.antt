@@ -8,7 +8,8 @@ use Rattle.fw_rule.specs.declared.command.Command.{Command}
 use Rattle.fw_world.specs.Inputs.{Input}
 use Rattle.fw_world.specs.Legal.{IsLegal}
 use Rattle.rule_chain.specs.Configuration.{Configuration}
-use Rattle.shared_world.specs.Closing.{EachStandsFor}
+use Rattle.fw_world.specs.RecordedHits.{TellsHits}
+use Rattle.shared_world.specs.Closing.{EachHasRoom, EachStandsFor}
 use Rattle.shared_world.specs.SharedLane.{SharedLane}
 use Rattle.shared_world.specs.Standing.{DeskStandsFor}
 use Rattle.live_replay.specs.Posted.{IsPosted}
@@ -45,12 +46,14 @@ module _ {S : Type 0} where
     pub all : length r.finished.items ≡ r.operator.desk.lanes
     pub desk : r.operator.desk.world ≡ world
 
-  -- The record is legal for what desk and lanes stand for; sources, ends and answers are those that were left.
+  -- The record is legal for what desk and lanes stand for, and its hits are those of the lanes' inputs; sources,
+  -- ends and answers are those that were left.
   pub record Closes (r : Relieved S) (replayed : Replayed S) : Type 0 where
     pub sources : replayed.sources.items ≡ sources_of r.finished.items
     pub ends : replayed.ends.captures ≡ ends_of r.finished.items
     pub answers : replayed.ends.answers ≡ r.operator.answers.items
     pub legal : (first : Configuration) (commands : List Command) (inputs : List (List Input)) → DeskStandsFor r.operator.desk first commands → EachStandsFor (lanes_of r.finished.items) inputs → IsLegal first commands inputs replayed.record
+    pub hits : (cache : Option ℕ) (inputs : List (List Input)) → EachHasRoom cache (lanes_of r.finished.items) → EachStandsFor (lanes_of r.finished.items) inputs → TellsHits cache inputs replayed.record
 
   module _ (left : S → Option (List ℕ)) (faults : S → ℕ) where
     -- each task was finished

@@ -1,4 +1,5 @@
 ghost use Rattle.std.specs.Prelude.{◌≤◌, IfOk, length};
+ghost use Rattle.fw_world.specs.Caches.{IsPortFor};
 ghost use Rattle.fw_world.specs.Inputs.{Packet};
 ghost use Rattle.fw_world.specs.Skips.{skipped_input};
 ghost use Rattle.live_replay.specs.Posted.{IsPosted, AdmitsLane, TakesInput};
@@ -45,7 +46,8 @@ fn judge<R: Wait, G: Gate>(
     lane: Lane,
     met: Met<'_>,
 ) -> Result<Lane, OutOfMemory>
-    requires { IsPosted world.now lane }
+    requires posted { IsPosted world.now lane }
+    requires port { IsPortFor lane.cache met.port.now }
     ensures { IfOk result
         (TakesInput world.now
         (Packet met.entry.packet.now met.entry.port.now met.entry.second) lane) }
@@ -78,6 +80,7 @@ pub(crate) fn meet<R: Wait, G: Gate>(
     taken: Taken<'_>,
 ) -> Result<Lane, OutOfMemory>
     requires posted { IsPosted world.now lane }
+    requires port { IsPortFor lane.cache taken.port.now }
     requires small { length taken.record.bytes.now ≤ MOST_RECORD_BYTES }
     ensures { IfOk result (TakesInput world.now (taken_input taken.entry) lane) }
 {

@@ -3,10 +3,12 @@
 #![tactic(auto)]
 
 pub use replay::replay_live;
+pub use runner::Runner;
 
 mod crew;
 mod lane_steps;
 mod operator;
 mod replay;
+mod runner;
 mod taken;
 mod task;

@@ -2,10 +2,12 @@ ghost use Rattle.std.specs.Prelude.{◌≡◌, ◌≤◌, IfOk, map, vec_len};
 ghost use Rattle.std.specs.List.{AllByRecursion, zip};
 ghost use Rattle.capture_tracks.specs.Replay.{IsReplay};
 ghost use Rattle.fw_command.specs.WellFormed.{IsStepInRange};
+ghost use Rattle.fw_world.specs.Caches.{IsCacheSize};
 ghost use Rattle.live_replay.specs.Crew.{CanClose, Closes, tasks_of, lanes_of, sources_of, ends_of};
 
 use crate::crew::{Crew, Relieved};
 use crate::operator::Operator;
+use crate::runner::Runner;
 use crate::task::{Finished, Task};
 use capture_tracks::{OpenedCapture, Replayed, limit_for};
 use fw_base::{Gate, OutOfMemory, Source};
@@ -86,23 +88,26 @@ fn close<S: Source>(
 /// Replays 1 to 16 captures beside the commands behind `live`: each capture is read to its end or its fault by
 /// a thread of its own, whatever the others meet, while another one runs the commands in their order. Which
 /// edition a packet meets is free, but for what each replay keeps. The gate is told of each record before its lane
-/// takes it, and again while the lane is in a section with it, and of each command before it is committed.
+/// takes it, and again while the lane is in a section with it, and of each command before it is committed. Each
+/// lane has a cache for so many verdicts, 1 to 65,536, or none has one.
 pub fn replay_live<S: Source + Send, G: Gate + Sync, R: Threads + Wait + Sync>(
-    rt: &R,
+    runner: Runner<'_, R, G>,
     alloc: Global,
     config: Config,
     steps: &[Step],
+    cache: Option<u32>,
     captures: Vec<OpenedCapture<S>>,
-    gate: &G,
 ) -> Result<Replayed<S>, OutOfMemory>
     requires some { 1 ≤ vec_len captures }
     requires few { vec_len captures ≤ MOST_LANES }
+    requires cache { IsCacheSize cache }
     requires steps { AllByRecursion IsStepInRange steps.now }
-    ensures { IfOk result (IsReplay S.left S.faults config steps.now captures.items) }
+    ensures { IfOk result (IsReplay S.left S.faults config steps.now cache captures.items) }
 {
+    let Runner { rt, gate } = runner;
     let count = captures.len() as u32;
     let limit = limit_for(count);
-    let OpenWorld { world, lanes, desk } = World::open(alloc, config, count)?;
+    let OpenWorld { world, lanes, desk } = World::open(alloc, config, count, cache)?;
     let crew = Crew {
         tasks: open_tasks(alloc, captures, limit, lanes)?,
         operator: Operator {

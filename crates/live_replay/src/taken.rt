@@ -1,6 +1,6 @@
 ghost use Rattle.std.specs.Prelude.{◌≡◌, ◌≤◌, IfSome, length};
 ghost use Rattle.std.specs.Option.{option_map};
-ghost use Rattle.live_replay.specs.Taken.{held_input, taken_input};
+ghost use Rattle.live_replay.specs.Taken.{IsTakenAt, held_input, taken_input};
 
 use capture_tracks::{MOST_RECORD_BYTES, Track};
 use fw_base::{Link, Port, Source};
@@ -19,6 +19,7 @@ pub(crate) struct Taken<'a> {
 /// The record that a track holds: it was read, and no lane has met it yet.
 pub(crate) fn held<S: Source>(track: &Track<S>) -> Option<Taken<'_>>
     ensures input { option_map taken_input result ≡ held_input track.now }
+    ensures port { IfSome result (λ taken. IsTakenAt track.now taken.port.now) }
     ensures small { IfSome result (λ taken.
         length taken.record.bytes.now ≤ MOST_RECORD_BYTES) }
 {

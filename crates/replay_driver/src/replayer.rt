@@ -10,7 +10,7 @@ use capture_tracks::{OpenedCapture, Replayed};
 use command_words::MOST_CAPTURES;
 use fw_base::{Gate, OutOfMemory, Source};
 use fw_command::{Pace, Step};
-use live_replay::{Stage, replay_live};
+use live_replay::{Runner, replay_live};
 use rule_chain::Config;
 use serial_replay::replay_serial;
 use std::alloc::Global;
@@ -97,10 +97,10 @@ impl<R: Threads + Wait + Sync, G: Gate + Sync> Replayer for AtOnce<'_, R, G> {
         steps: &[Step],
         captures: Vec<OpenedCapture<S>>,
     ) -> Result<Replayed<S>, OutOfMemory> {
-        let stage = Stage {
+        let runner = Runner {
             rt: self.rt,
             gate: self.gate,
         };
-        replay_live(stage, alloc, config, steps, self.cache, captures)
+        replay_live(runner, alloc, config, steps, self.cache, captures)
     }
 }

@@ -1,6 +1,6 @@
 use Rattle.std.proofs.Common.{◌∙◌}
 use Rattle.live_replay.specs.Crew.{lanes_of}
-use Rattle.live_replay.proofs.Gathered.{closing_lanes, closing_stands, closing_loose}
+use Rattle.live_replay.proofs.Gathered.{closing_lanes, closing_stands, closing_room, closing_loose}
 use Rattle.live_replay.proofs.replay.close.Goals as goal
 
 pub close-requires-clause-lanes : goal.close-requires-clause-lanes
@@ -17,4 +17,7 @@ returns g c =
           c.in_ok-record.ensures.legal first commands inputs desk
           (closing_stands c.args.world lanes c.in_ok-lanes.lanes.items inputs c.in_ok-lanes.ensures.lanes c.requires.posted stands)
           (closing_loose c.args.world lanes c.in_ok-lanes.lanes.items c.in_ok-lanes.ensures.lanes c.requires.posted);
+      hits = λ cache inputs room stands.
+          c.in_ok-record.ensures.hits cache inputs (closing_room cache lanes c.in_ok-lanes.lanes.items c.in_ok-lanes.ensures.lanes room)
+          (closing_stands c.args.world lanes c.in_ok-lanes.lanes.items inputs c.in_ok-lanes.ensures.lanes c.requires.posted stands);
     }
