@@ -1,15 +1,17 @@
 -- Which lists of words are a command, and what they name. The usage:
 --
---   ipfw_replay serial|live [--journal] [--] SCRIPT in|out:IF:CAPTURE ..
+--   ipfw_replay serial|live [--journal] [--cache N] [--] SCRIPT in|out:IF:CAPTURE ..
 --   ipfw_replay load [--] N
 --
 -- The first word is the mode, exactly so. Behind it the first `--` is dropped, and all words behind that are
 -- positional. Of the words before it, or of all where there is none, those that begin with `-` and are longer
--- than that byte are options, and the others positional: the option `--journal` may stand at any place there,
--- once and with `serial` and `live` alone, and no other option may. A replay wants the name of a script, which
--- isn't empty, and then 1 to 16 captures. A load wants its number of records, one to seven decimal digits, 1 to
--- 1,000,000. All other lists of words are no command; `help` and `--help` are none.
-use Rattle.std.specs.Prelude.{ℕ, Bool, ◌&&◌, ◌||◌, not, true, false, List, [], ◌∷◌, ◌++◌, length, filter, codes, Option, None, Some, ◌==◌, nat_le, if◌then◌else◌}
+-- than that byte are options, and the others positional, but for the value of an option: the options `--journal`
+-- and `--cache N` or `--cache=N` may stand at any place there, each once and with `serial` and `live` alone, and no
+-- other option may. N is one to five decimal digits, 1 to 65,536: how many verdicts each lane's cache may hold. A
+-- replay wants the name of a script, which isn't empty, and then 1 to 16 captures. A load wants its number of
+-- records, one to seven decimal digits, 1 to 1,000,000. All other lists of words are no command; `help` and
+-- `--help` are none.
+use Rattle.std.specs.Prelude.{ℕ, Bool, ◌&&◌, ◌||◌, not, true, false, List, [], ◌∷◌, length, codes, Option, None, Some, is_some, ◌==◌, nat_le, if◌then◌else◌}
 use Rattle.std.specs.List.{list_all}
 use Rattle.std.specs.Option.{option_map}
 use Rattle.std.specs.Char.{is_ascii_digit}
@@ -30,9 +32,10 @@ pub record CaptureNames : Type 0 where
   pub interface : List ℕ
   pub name : List ℕ
 
--- captures that are replayed beside a script, with the journal or without; or a load of so many records
+-- captures that are replayed beside a script, with the journal or without, and with caches for so many verdicts or
+-- without; or a load of so many records
 pub data CommandWords : Type 0 where
-  Replay : (mode : Mode) (journal : Bool) (script : List ℕ) (captures : List CaptureNames) → CommandWords
+  Replay : (mode : Mode) (journal : Bool) (cache : Option ℕ) (script : List ℕ) (captures : List CaptureNames) → CommandWords
   Load : (records : ℕ) → CommandWords
 
 -- ---- a capture's word
@@ -73,21 +76,20 @@ load_number word =
     then (if nat_le 1 (digits_value 10 word) && nat_le (digits_value 10 word) 1000000 then Some (digits_value 10 word) else None)
     else None
 
+-- ---- a cache's word
+
+-- one to five decimal digits, 1 to 65,536
+unfoldable pub cache_number : List ℕ → Option ℕ
+cache_number word =
+    if (nat_le 1 (length word) && nat_le (length word) 5) && list_all is_ascii_digit word
+    then (if nat_le 1 (digits_value 10 word) && nat_le (digits_value 10 word) 65536 then Some (digits_value 10 word) else None)
+    else None
+
 -- ---- options and positional words
 
 -- the word behind which all words are operands
 abbrev pub is_divider : List ℕ → Bool
 is_divider word = is_same word (codes "--")
-
--- the words before the first `--`, all where there is none
-unfoldable pub words_before : List (List ℕ) → List (List ℕ)
-words_before [] = []
-words_before (word ∷ words) = if is_divider word then [] else word ∷ words_before words
-
--- the words behind the first `--`
-unfoldable pub words_behind : List (List ℕ) → List (List ℕ)
-words_behind [] = []
-words_behind (word ∷ words) = if is_divider word then words else words_behind words
 
 -- a word that begins with `-` and is longer than that byte
 unfoldable pub is_option : List ℕ → Bool
@@ -95,37 +97,82 @@ is_option [] = false
 is_option (byte ∷ []) = false
 is_option (byte ∷ other ∷ rest) = byte == 45
 
--- the options, in their order
-abbrev pub options_of : List (List ℕ) → List (List ℕ)
-options_of words = filter is_option (words_before words)
+-- what options and operands give: whether the journal is asked for, the values of the options `--cache`, and the
+-- operands
+pub record Given : Type 0 where
+  pub journal : Bool
+  pub caches : List (List ℕ)
+  pub positional : List (List ℕ)
 
--- the operands: words that are no options, and all words behind the divider
-abbrev pub positional_of : List (List ℕ) → List (List ℕ)
-positional_of words = filter (λ word. not (is_option word)) (words_before words) ++ words_behind words
+-- these operands, and no option
+abbrev pub operands : List (List ℕ) → Given
+operands words = record { journal = false; caches = []; positional = words }
 
--- whether the journal is asked for, where the options are none or `--journal` once
-unfoldable pub journal_of : List (List ℕ) → Option Bool
-journal_of [] = Some false
-journal_of (option ∷ []) = if is_same option (codes "--journal") then Some true else None
-journal_of (option ∷ other ∷ more) = None
+-- the option `--journal` before these, among which it may not stand
+abbrev pub with_journal : Given → Option Given
+with_journal given = if given.journal then None else Some (record given { journal = true })
+
+-- a value of `--cache` before these
+abbrev pub with_value : List ℕ → Given → Given
+with_value value given = record given { caches = value ∷ given.caches }
+
+-- an operand before these
+abbrev pub with_operand : List ℕ → Given → Given
+with_operand word given = record given { positional = word ∷ given.positional }
+
+-- the value that an option `--cache` waits for; where no operand is behind it, it has none, which is as an empty one
+abbrev pub without_value : Bool → Given → Given
+without_value awaits given = if awaits then with_value [] given else given
+
+-- what stands behind this beginning of a word, if the word begins so
+abbrev pub stripped : List ℕ → List ℕ → Option (List ℕ)
+stripped [] word = Some word
+stripped (first ∷ beginning) [] = None
+stripped (first ∷ beginning) (byte ∷ word) = if byte == first then stripped beginning word else None
+
+-- an option before other words, which give this, and that where they have to begin with a value of `--cache`
+abbrev pub by_option : List ℕ → Option Given → Option Given → Option Given
+by_option word given awaiting =
+    if is_same word (codes "--journal") then given >>= with_journal
+    else if is_same word (codes "--cache") then awaiting
+    else stripped (codes "--cache=") word >>= λ value. option_map (with_value value) given
+
+-- What the words give, where an option `--cache` waits for its value, or none does.
+unfoldable pub given_by : Bool → List (List ℕ) → Option Given
+given_by awaits [] = Some (without_value awaits (operands []))
+given_by awaits (word ∷ words) =
+    if is_divider word then Some (without_value awaits (operands words))
+    else if is_option word then option_map (without_value awaits) (by_option word (given_by false words) (given_by true words))
+    else if awaits then option_map (with_value word) (given_by false words)
+    else option_map (with_operand word) (given_by false words)
 
 -- what the words behind the first come to
 pub record Arguments : Type 0 where
   pub journal : Bool
+  pub cache : Option ℕ
   pub positional : List (List ℕ)
 
--- whether the journal is asked for, and the operands
+-- how many verdicts a cache may hold, where the values of `--cache` are none or one number
+unfoldable pub cache_of : List (List ℕ) → Option (Option ℕ)
+cache_of [] = Some None
+cache_of (value ∷ []) = option_map Some (cache_number value)
+cache_of (value ∷ other ∷ more) = None
+
+-- the options and the operands
+abbrev pub arguments_from : Given → Option Arguments
+arguments_from given = option_map (λ cache. record { journal = given.journal; cache = cache; positional = given.positional }) (cache_of given.caches)
+
 abbrev pub arguments_of : List (List ℕ) → Option Arguments
-arguments_of words = option_map (λ journal. record { journal = journal; positional = positional_of words }) (journal_of (options_of words))
+arguments_of words = given_by false words >>= arguments_from
 
 -- ---- commands
 
 -- a script's name and 1 to 16 captures
-unfoldable pub replay_of : Mode → Bool → List (List ℕ) → Option CommandWords
-replay_of mode journal [] = None
-replay_of mode journal (script ∷ captures) =
+unfoldable pub replay_of : Mode → Bool → Option ℕ → List (List ℕ) → Option CommandWords
+replay_of mode journal cache [] = None
+replay_of mode journal cache (script ∷ captures) =
     if not (is_empty script) && (nat_le 1 (length captures) && nat_le (length captures) 16)
-    then option_map (Replay mode journal script) (captures_of captures)
+    then option_map (Replay mode journal cache script) (captures_of captures)
     else None
 
 -- a number of records
@@ -135,14 +182,14 @@ load_of (number ∷ []) = option_map Load (load_number number)
 load_of (number ∷ other ∷ more) = None
 
 -- what the mode makes of the words behind it
-unfoldable pub command_by : List ℕ → Bool → List (List ℕ) → Option CommandWords
-command_by mode journal positional =
-    if is_same mode (codes "serial") then replay_of Serial journal positional
-    else if is_same mode (codes "live") then replay_of Live journal positional
-    else if is_same mode (codes "load") && not journal then load_of positional
+unfoldable pub command_by : List ℕ → Arguments → Option CommandWords
+command_by mode arguments =
+    if is_same mode (codes "serial") then replay_of Serial arguments.journal arguments.cache arguments.positional
+    else if is_same mode (codes "live") then replay_of Live arguments.journal arguments.cache arguments.positional
+    else if is_same mode (codes "load") && not (arguments.journal || is_some arguments.cache) then load_of arguments.positional
     else None
 
 -- what the words name, where they are a command
 unfoldable pub command_of : List (List ℕ) → Option CommandWords
 command_of [] = None
-command_of (mode ∷ words) = arguments_of words >>= λ arguments. command_by mode arguments.journal arguments.positional
+command_of (mode ∷ words) = arguments_of words >>= command_by mode

@@ -8,6 +8,8 @@ pub enum Invocation<'a> {
         mode: Mode,
         /// Whether the report has the journal.
         journal: bool,
+        /// For how many verdicts each lane has a cache, 1 to 65,536, if it has one.
+        cache: Option<u32>,
         /// The script's name, which isn't empty.
         script: &'a [u8],
         /// 1 to 16 captures, in the order of the words.

@@ -9,6 +9,7 @@ pub use words::{MOST_CAPTURES, read_words};
 
 mod arguments;
 mod bytes;
+mod cache_word;
 mod capture_word;
 mod captures;
 mod invocation;

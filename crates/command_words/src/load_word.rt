@@ -1,19 +1,13 @@
 ghost use Rattle.std.specs.Prelude.{◌≡◌, ◌≤◌, IfSome};
-ghost use Rattle.std.specs.Char.{is_ascii_digit};
-ghost use Rattle.std.specs.List.{list_all};
 ghost use Rattle.command_words.specs.Words as spec;
+
+use crate::bytes::are_digits;
 
 /// How many digits a load's number has at most.
 const MOST_DIGITS: usize = 7;
 
 /// How many records a load has at most.
 const MOST_RECORDS: u32 = 1_000_000;
-
-fn are_digits(text: &[u8]) -> bool
-    ensures { result ≡ list_all is_ascii_digit text.now }
-{
-    text.iter().all(|b| b.is_ascii_digit())
-}
 
 /// A load's number of records.
 #[tactic(auto, unfolding(crate::specs::Words::load_number))]

@@ -1,9 +1,9 @@
-ghost use Rattle.std.specs.Prelude.{◌≡◌, IfOk, IfSome, map, string_bytes};
+ghost use Rattle.std.specs.Prelude.{◌≡◌, ◌≤◌, IfOk, IfSome, map, string_bytes};
 ghost use Rattle.std.specs.Option.{option_map};
-ghost use Rattle.command_words.specs.Invocation.{IsWithinLimits, command_named, word_texts};
+ghost use Rattle.command_words.specs.Invocation.{IsWithinLimits, arguments_named, command_named, word_texts};
 ghost use Rattle.command_words.specs.Words as spec;
 
-use crate::arguments::arguments_in;
+use crate::arguments::{Arguments, arguments_in};
 use crate::captures::captures_of;
 use crate::invocation::{Invocation, Mode};
 use crate::load_word::load_number;
@@ -19,10 +19,12 @@ fn replay_of<'a>(
     alloc: Global,
     mode: Mode,
     journal: bool,
+    cache: Option<u32>,
     positional: &[&'a str],
 ) -> Result<Option<Invocation<'a>>, OutOfMemory>
+    requires { IfSome cache (λ n. (1 ≤ n) × (n ≤ 65536)) }
     ensures named { IfOk result (λ found.
-        option_map command_named found ≡ spec.replay_of mode journal (word_texts positional.now)) }
+        option_map command_named found ≡ spec.replay_of mode journal cache (word_texts positional.now)) }
     ensures within { IfOk result (λ found. IfSome found IsWithinLimits) }
 {
     let [script, captures @ ..] = positional else {
@@ -35,6 +37,7 @@ fn replay_of<'a>(
         Some(captures) => Ok(Some(Invocation::Replay {
             mode,
             journal,
+            cache,
             script: script.as_bytes(),
             captures,
         })),
@@ -62,18 +65,21 @@ fn load_of<'a>(positional: &[&'a str]) -> Option<Invocation<'a>>
 fn command_by<'a>(
     alloc: Global,
     mode: &[u8],
-    journal: bool,
-    positional: &[&'a str],
+    arguments: &Arguments<'a>,
 ) -> Result<Option<Invocation<'a>>, OutOfMemory>
+    requires { IfSome arguments.now.cache (λ n. (1 ≤ n) × (n ≤ 65536)) }
     ensures named { IfOk result (λ found.
-        option_map command_named found ≡ spec.command_by mode.now journal (word_texts positional.now)) }
+        option_map command_named found ≡ spec.command_by mode.now (arguments_named arguments.now)) }
     ensures within { IfOk result (λ found. IfSome found IsWithinLimits) }
 {
+    let positional = &arguments.positional;
+    let journal = arguments.journal;
+    let cache = arguments.cache;
     if mode == b"serial".as_slice() {
-        replay_of(alloc, Mode::Serial, journal, positional)
+        replay_of(alloc, Mode::Serial, journal, cache, positional)
     } else if mode == b"live".as_slice() {
-        replay_of(alloc, Mode::Live, journal, positional)
-    } else if mode == b"load".as_slice() && !journal {
+        replay_of(alloc, Mode::Live, journal, cache, positional)
+    } else if mode == b"load".as_slice() && !(journal || cache.is_some()) {
         Ok(load_of(positional))
     } else {
         Ok(None)
@@ -83,8 +89,9 @@ fn command_by<'a>(
 /// What the words name, where they are a command; `None` exactly where they are none. It fails only for
 /// want of memory.
 ///
-/// The commands are `serial|live [--journal] [--] SCRIPT in|out:IF:NAME ..` with 1 to 16 captures, and
-/// `load [--] N` with N from 1 to 1,000,000. IF is the name of an interface, NAME that of a capture's file.
+/// The commands are `serial|live [--journal] [--cache N] [--] SCRIPT in|out:IF:NAME ..` with 1 to 16 captures and N
+/// from 1 to 65,536, and `load [--] N` with N from 1 to 1,000,000. IF is the name of an interface, NAME that of a
+/// capture's file.
 #[tactic(auto, unfolding(crate::specs::Words::command_of))]
 pub fn read_words(alloc: Global, words: &[String]) -> Result<Option<Invocation<'_>>, OutOfMemory>
     ensures named { IfOk result (λ found.
@@ -95,12 +102,7 @@ pub fn read_words(alloc: Global, words: &[String]) -> Result<Option<Invocation<'
         return Ok(None);
     };
     match arguments_in(alloc, words)? {
-        Some(arguments) => command_by(
-            alloc,
-            mode.as_bytes(),
-            arguments.journal,
-            &arguments.positional,
-        ),
+        Some(arguments) => command_by(alloc, mode.as_bytes(), &arguments),
         None => Ok(None),
     }
 }

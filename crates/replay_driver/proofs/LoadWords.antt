@@ -1,5 +1,5 @@
 -- A load has at most as many records as one is made of.
-use Rattle.std.proofs.Common.{◌≡◌, ℕ, ◌≤◌, Bool, true, false, List, [], ◌∷◌, Option, None, Some, ◌&&◌, not, length, refl}
+use Rattle.std.proofs.Common.{◌≡◌, ℕ, ◌≤◌, Bool, true, false, List, [], ◌∷◌, Option, None, Some, ◌&&◌, ◌||◌, is_some, not, length, refl}
 use Rattle.std.specs.Prelude.{IfSome, if◌then◌else◌, nat_le, codes, option_and_then, ⊤}
 use Rattle.std.specs.Char.{is_ascii_digit}
 use Rattle.std.specs.List.{list_all}
@@ -21,7 +21,7 @@ CanBeMade (Loads n) = n ≤ MOST_RECORDS
 
 -- the same of words
 abbrev IsWithin : CommandWords → Type 0
-IsWithin (Replay mode journal script captures) = ⊤
+IsWithin (Replay mode journal cache script captures) = ⊤
 IsWithin (Load n) = n ≤ MOST_RECORDS
 
 either_within : (test : Bool) (found other : Option CommandWords) → IfSome found IsWithin → IfSome other IsWithin → IfSome (if test then found else other) IsWithin
@@ -50,31 +50,31 @@ load_within (number ∷ []) = by_number (load_number number) (number_within numb
     by_number (Some n) few = few
 load_within (number ∷ other ∷ more) = tt
 
-replay_within : (mode : Mode) (journal : Bool) (positional : List (List ℕ)) → IfSome (replay_of mode journal positional) IsWithin
+replay_within : (mode : Mode) (journal : Bool) (cache : Option ℕ) (positional : List (List ℕ)) → IfSome (replay_of mode journal cache positional) IsWithin
 unfolding replay_of
-replay_within mode journal [] = tt
-replay_within mode journal (script ∷ captures) =
-    either_within (not (is_empty script) && (nat_le 1 (length captures) && nat_le (length captures) 16)) (option_map (Replay mode journal script) (captures_of captures)) None (by_captures (captures_of captures)) tt
+replay_within mode journal cache [] = tt
+replay_within mode journal cache (script ∷ captures) =
+    either_within (not (is_empty script) && (nat_le 1 (length captures) && nat_le (length captures) 16)) (option_map (Replay mode journal cache script) (captures_of captures)) None (by_captures (captures_of captures)) tt
   where
-    by_captures : (found : Option (List CaptureNames)) → IfSome (option_map (Replay mode journal script) found) IsWithin
+    by_captures : (found : Option (List CaptureNames)) → IfSome (option_map (Replay mode journal cache script) found) IsWithin
     by_captures None = tt
     by_captures (Some names) = tt
 
-by_within : (mode : List ℕ) (journal : Bool) (positional : List (List ℕ)) → IfSome (command_by mode journal positional) IsWithin
+by_within : (mode : List ℕ) (arguments : Arguments) → IfSome (command_by mode arguments) IsWithin
 unfolding command_by
-by_within mode journal positional =
-    either_within (is_same mode (codes "serial")) _ _ (replay_within Serial journal positional)
-    (either_within (is_same mode (codes "live")) _ _ (replay_within Live journal positional)
-    (either_within (is_same mode (codes "load") && not journal) _ _ (load_within positional) tt))
+by_within mode arguments =
+    either_within (is_same mode (codes "serial")) _ _ (replay_within Serial arguments.journal arguments.cache arguments.positional)
+    (either_within (is_same mode (codes "live")) _ _ (replay_within Live arguments.journal arguments.cache arguments.positional)
+    (either_within (is_same mode (codes "load") && not (arguments.journal || is_some arguments.cache)) _ _ (load_within arguments.positional) tt))
 
 words_within : (words : List (List ℕ)) → IfSome (command_of words) IsWithin
 unfolding command_of
 words_within [] = tt
 words_within (mode ∷ words) = by_arguments (arguments_of words)
   where
-    by_arguments : (found : Option Arguments) → IfSome (found >>= λ arguments. command_by mode arguments.journal arguments.positional) IsWithin
+    by_arguments : (found : Option Arguments) → IfSome (found >>= command_by mode) IsWithin
     by_arguments None = tt
-    by_arguments (Some arguments) = by_within mode arguments.journal arguments.positional
+    by_arguments (Some arguments) = by_within mode arguments
 
 -- the load that words ask for can be made
 pub job_within : (words : List (List ℕ)) → IfSome (job_of words) CanBeMade
@@ -82,5 +82,5 @@ job_within words = by_command (command_of words) (words_within words)
   where
     by_command : (found : Option CommandWords) → IfSome found IsWithin → IfSome (option_and_then job_of_command found) CanBeMade
     by_command None few = tt
-    by_command (Some (Replay mode journal script captures)) few = tt
+    by_command (Some (Replay mode journal cache script captures)) few = tt
     by_command (Some (Load n)) few = few

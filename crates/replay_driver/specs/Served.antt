@@ -1,4 +1,4 @@
--- Which commands a run carries out: all. A cache isn't asked for yet.
+-- Which commands a run carries out: all.
 use Rattle.std.specs.Prelude.{◌≡◌, ℕ, ⊤, Bool, List, Option, None, Some, option_and_then}
 use Rattle.command_words.specs.Words.{CommandWords, CaptureNames, Replay, Load, command_of}
 use Rattle.command_words.specs.declared.invocation.Mode.{Mode}
@@ -22,8 +22,8 @@ pub data Job : Type 0 where
 
 -- what the words ask for
 abbrev pub job_of_command : CommandWords → Option Job
-job_of_command (Replay mode journal script captures) =
-    Some (Replays (record { mode = mode; journal = journal; cache = None; script = script; captures = captures }))
+job_of_command (Replay mode journal cache script captures) =
+    Some (Replays (record { mode = mode; journal = journal; cache = cache; script = script; captures = captures }))
 job_of_command (Load records) = Some (Loads records)
 
 -- what these words ask for

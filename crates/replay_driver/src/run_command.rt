@@ -96,12 +96,13 @@ where
             Invocation::Replay {
                 mode: Mode::Serial,
                 journal,
+                cache,
                 script,
                 captures,
             },
         ) => replay_files(
             alloc,
-            &InTurn { cache: None },
+            &InTurn { cache },
             journal,
             script,
             &captures,
@@ -111,6 +112,7 @@ where
             Invocation::Replay {
                 mode: Mode::Live,
                 journal,
+                cache,
                 script,
                 captures,
             },
@@ -119,7 +121,7 @@ where
             &AtOnce {
                 rt,
                 gate,
-                cache: None,
+                cache,
             },
             journal,
             script,
@@ -157,8 +159,9 @@ where
 /// Replays the captures that the words name beside the script that they name, or a load, and writes the
 /// report, or the summary, in pieces of 64 KiB. Nothing stays in a buffer.
 ///
-/// The words are `serial|live [--journal] [--] SCRIPT in|out:IF:CAPTURE ..`, with 1 to 16 captures, or `load [--] N`.
-/// In live mode each capture is replayed by a thread of its own, beside one that runs the commands behind `live`.
+/// The words are `serial|live [--journal] [--cache N] [--] SCRIPT in|out:IF:CAPTURE ..`, with 1 to 16 captures and N
+/// from 1 to 65,536, or `load [--] N`. In live mode each capture is replayed by a thread of its own, beside one that
+/// runs the commands behind `live`.
 /// The status is 0; 1 where the words are no command; 2 where a script line isn't read or its command is
 /// refused; 3 where a capture has a fault; 4 where a name could not be opened or read, or a capture's source
 /// failed; 5 where the sink failed; 6 where memory ran out.

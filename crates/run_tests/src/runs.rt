@@ -8,6 +8,7 @@ use std::test::Fail;
 use std::thread::Threads;
 
 mod bodies;
+mod caches;
 mod captures;
 mod cuts;
 mod edits;

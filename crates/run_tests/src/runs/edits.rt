@@ -9,6 +9,26 @@ const FROM_TWO: &[Timed] = &[
     (101, Packet::Tcp(([10, 2, 2, 3], 1025), (B, 80), 2)),
 ];
 
+/// Two sets change their numbers behind three packets.
+pub(super) const SET_SWAP: Row = Row {
+    name: "set_swap_is_one_edition",
+    words: SERIAL,
+    script: "set disable 2\nadd 100 set 1 allow tcp from any to any\nadd 100 set 2 deny tcp from any to any\nlive\nafter 3\nset swap 1 2\nset disable 31\n",
+    captures: &[FIVE],
+    status: 2,
+    text: "1.1 allow 00100 at 1\n1.2 allow 00100 at 1\n1.3 allow 00100 at 1\n1.4 deny 00100 at 2\n1.5 deny 00100 at 2\nend 1 records 5\nrefused line 7 ReservedSet\neditions 2\ndisabled 2\nrules 3\n00100 3 120 set 2 allow tcp from any to any\n00100 2 80 set 1 deny tcp from any to any\n65535 0 0 set 31 deny ip from any to any\nclock 0\nstates 0\n",
+};
+
+/// A rule that skips to its own number.
+pub(super) const SKIPTO_OWN: Row = Row {
+    name: "skipto_own_number_skips_nothing",
+    words: SERIAL,
+    script: "add 100 count tcp from any to any\nadd 100 skipto 100 tcp from any to any\nadd 100 allow tcp from any to any\n",
+    captures: &[&[(100, T)]],
+    status: 0,
+    text: "1.1 allow 00100 at 1\nend 1 records 1\neditions 1\nrules 4\n00100 1 40 count tcp from any to any\n00100 1 40 skipto 100 tcp from any to any\n00100 1 40 allow tcp from any to any\n65535 0 0 set 31 deny ip from any to any\nclock 0\nstates 0\n",
+};
+
 const ROWS: [Row; 8] = [
     Row {
         name: "publication_drops_states",
@@ -26,14 +46,7 @@ const ROWS: [Row; 8] = [
         status: 0,
         text: "1.1 allow 00200 at 1\n1.2 deny 65535 at 2\nend 1 records 2\neditions 2\nrules 2\n00100 0 0 check-state\n65535 1 28 set 31 deny ip from any to any\nclock 101\nstates 1\n65535 udp 10.0.0.1 5 192.0.2.1 6 expires 111\n",
     },
-    Row {
-        name: "set_swap_is_one_edition",
-        words: SERIAL,
-        script: "set disable 2\nadd 100 set 1 allow tcp from any to any\nadd 100 set 2 deny tcp from any to any\nlive\nafter 3\nset swap 1 2\nset disable 31\n",
-        captures: &[FIVE],
-        status: 2,
-        text: "1.1 allow 00100 at 1\n1.2 allow 00100 at 1\n1.3 allow 00100 at 1\n1.4 deny 00100 at 2\n1.5 deny 00100 at 2\nend 1 records 5\nrefused line 7 ReservedSet\neditions 2\ndisabled 2\nrules 3\n00100 3 120 set 2 allow tcp from any to any\n00100 2 80 set 1 deny tcp from any to any\n65535 0 0 set 31 deny ip from any to any\nclock 0\nstates 0\n",
-    },
+    SET_SWAP,
     Row {
         name: "table_values_and_existing_entry",
         words: SERIAL,
@@ -42,14 +55,7 @@ const ROWS: [Row; 8] = [
         status: 2,
         text: "1.1 allow 00100 at 1\n1.2 deny 00200 at 1\nend 1 records 2\nrefused line 6 EntryExists\neditions 1\nrules 3\n00100 1 40 allow ip from table(nets,2) to any\n00200 1 40 deny ip from table(nets,1) to any\n65535 0 0 set 31 deny ip from any to any\nclock 0\nstates 0\n",
     },
-    Row {
-        name: "skipto_own_number_skips_nothing",
-        words: SERIAL,
-        script: "add 100 count tcp from any to any\nadd 100 skipto 100 tcp from any to any\nadd 100 allow tcp from any to any\n",
-        captures: &[&[(100, T)]],
-        status: 0,
-        text: "1.1 allow 00100 at 1\nend 1 records 1\neditions 1\nrules 4\n00100 1 40 count tcp from any to any\n00100 1 40 skipto 100 tcp from any to any\n00100 1 40 allow tcp from any to any\n65535 0 0 set 31 deny ip from any to any\nclock 0\nstates 0\n",
-    },
+    SKIPTO_OWN,
     Row {
         name: "return_goes_past_the_call",
         words: SERIAL,

@@ -139,7 +139,7 @@ const RECEIVED: &[Timed] = &[
     (1019, Packet::Tcp((X, 4003), SSH, SYN)),
 ];
 
-const WORKSTATION: Row = Row {
+pub(super) const WORKSTATION: Row = Row {
     name: "workstation",
     words: &["serial", "s", "out:em0:c", "in:em0:d"],
     script: "# workstation\nlocal 10.0.0.2\nadd 100 allow ip from any to any via lo0\nadd 200 deny ip from any to 127.0.0.0/8\nadd 300 deny ip from 127.0.0.0/8 to any\nadd 400 check-state\nadd 500 deny tcp from any to any established\nadd 600 allow tcp from me to any setup keep-state\nadd 700 allow udp from me to any 53 keep-state\nadd 800 allow icmp from any to any icmptypes 0,3,8,11\nadd 900 allow tcp from any to me 22 setup limit src-addr 2\nadd 1000 count ip from any to any frag\nadd 1100 unreach port udp from any to me\nadd 65000 deny log ip from any to any\n",

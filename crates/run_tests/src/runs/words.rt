@@ -11,7 +11,7 @@ const USAGE: &[u8] =
     b"usage: ipfw_replay serial|live [--journal] SCRIPT in|out:IF:CAPTURE .. | load N\n";
 
 /// Words that are no command.
-const NO_COMMANDS: [&[&str]; 16] = [
+const NO_COMMANDS: [&[&str]; 24] = [
     &[],
     &["serial"],
     &["serial", "s"],
@@ -27,6 +27,14 @@ const NO_COMMANDS: [&[&str]; 16] = [
     &["load", "0"],
     &["load", "1000001"],
     &["load", "--journal", "1"],
+    &["load", "--cache", "4", "1"],
+    &["serial", "--cache", "0", "s", "in:em0:c"],
+    &["serial", "--cache=65537", "s", "in:em0:c"],
+    &["serial", "--cache=000005", "s", "in:em0:c"],
+    &["serial", "--cache", "--", "s", "in:em0:c"],
+    &["serial", "s", "in:em0:c", "--cache"],
+    &["serial", "--cache", "--journal", "s", "in:em0:c"],
+    &["serial", "--cache", "4", "--cache=4", "s", "in:em0:c"],
     &[
         "serial", "s", "in:e:c", "in:e:c", "in:e:c", "in:e:c", "in:e:c", "in:e:c", "in:e:c",
         "in:e:c", "in:e:c", "in:e:c", "in:e:c", "in:e:c", "in:e:c", "in:e:c", "in:e:c", "in:e:c",
