@@ -3,6 +3,7 @@ use Rattle.std.specs.Prelude.{◌≡◌, ℕ, ◌+◌, ⊤, nat_le, if◌then◌
 use Rattle.std.specs.List.{AllByRecursion}
 use Rattle.atomic_table.specs.Seated.{TableId}
 use Rattle.fw_world.specs.Asks.{lane_asks}
+use Rattle.fw_world.specs.Caches.{capacity_of}
 use Rattle.fw_world.specs.Inputs.{Input}
 use Rattle.fw_world.specs.RecordValue.{RecordValue}
 use Rattle.fw_world.specs.RecordedHits.{counted_by}
@@ -38,6 +39,10 @@ EachStandsFor [] [] = ⊤
 EachStandsFor [] (inputs ∷ others) = ⊥
 EachStandsFor (lane ∷ lanes) [] = ⊥
 EachStandsFor (lane ∷ lanes) (inputs ∷ others) = LaneStandsFor lane inputs × EachStandsFor lanes others
+
+-- each lane has a cache for so many verdicts, or each has none
+abbrev pub EachHasRoom : Option ℕ → List SharedLane → Type 0
+EachHasRoom cache lanes = AllByRecursion (λ lane. capacity_of lane.cache ≡ cache) lanes
 
 -- The record of a world: its editions are the desk's, its dockets and tallies those of the lanes, each tracker
 -- word is twice the sections of its lane, modulo 2^64, its hits are those that the lanes' caches have counted, and

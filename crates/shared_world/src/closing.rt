@@ -2,14 +2,13 @@ ghost use Rattle.std.specs.Prelude.{◌≡◌, ℕ, ◌≤◌, Option, List, [],
 ghost use Rattle.std.specs.List.{list_any, AllByRecursion};
 ghost use Rattle.atomic_table.specs.Seated.{TableId};
 ghost use Rattle.fw_rule.specs.declared.command.Command.{Command};
-ghost use Rattle.fw_world.specs.Caches.{capacity_of};
 ghost use Rattle.fw_world.specs.Columns.{no_columns};
 ghost use Rattle.fw_world.specs.Inputs.{Input};
 ghost use Rattle.fw_world.specs.Legal.{IsLegalButSections, IsLegal};
 ghost use Rattle.fw_world.specs.RecordedHits.{TellsHits};
 ghost use Rattle.rule_chain.specs.Configuration.{Configuration};
 ghost use Rattle.shared_world.specs.Apart.{AreApart, counted_in};
-ghost use Rattle.shared_world.specs.Closing.{AreLanesFrom, by_place, EachStandsFor, IsRecordOf};
+ghost use Rattle.shared_world.specs.Closing.{AreLanesFrom, by_place, EachHasRoom, EachStandsFor, IsRecordOf};
 ghost use Rattle.shared_world.specs.Standing.{DeskStandsFor};
 
 use crate::closing_room::ClosingRoom;
@@ -40,7 +39,7 @@ impl World {
             → DeskStandsFor desk first commands → EachStandsFor (by_place lanes.items) inputs
             → IsLegalButSections first commands inputs r) }
         ensures hits { IfOk result (λ r. (cache : Option ℕ) (inputs : List (List Input))
-            → AllByRecursion (λ lane. capacity_of lane.cache ≡ cache) lanes.items
+            → EachHasRoom cache lanes.items
             → EachStandsFor (by_place lanes.items) inputs → TellsHits cache inputs r) }
     {
         if any_failed(&lanes) {

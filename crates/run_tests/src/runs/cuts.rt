@@ -1,5 +1,5 @@
 use super::captures::syns;
-use super::{ROOM, SERIAL, assert_seen, library_of, replay, run_over};
+use super::{MODES, ROOM, assert_seen, library_of, run_over};
 use std::alloc::Global;
 use std::process::Abort;
 use std::sync::Wait;
@@ -72,8 +72,11 @@ fn check_truncated<R: Threads + Wait + Sync + Abort>(
     let (end, status) = truncated_end(bytes);
     let text = report_of(alloc, bytes, end)?;
     let front = &capture[..bytes.min(capture.len())];
-    let seen = replay(rt, alloc, b"", front, &[])?;
-    assert_seen(rt, &seen, "a truncated capture", status, &text);
+    for words in MODES {
+        let mut library = library_of(alloc, b"", front, &[], None)?;
+        let seen = run_over(rt, alloc, words, &mut library, ROOM)?;
+        assert_seen(rt, &seen, "a truncated capture", status, &text);
+    }
     Ok(())
 }
 
@@ -94,9 +97,11 @@ fn check_failing_source<R: Threads + Wait + Sync + Abort>(
     bytes: usize,
 ) -> Result<(), Fail> {
     let text = report_of(alloc, bytes, failed_end(bytes))?;
-    let mut library = library_of(alloc, b"", capture, &[], Some(bytes as u64))?;
-    let seen = run_over(rt, alloc, SERIAL, &mut library, ROOM)?;
-    assert_seen(rt, &seen, "a source that fails", 4, &text);
+    for words in MODES {
+        let mut library = library_of(alloc, b"", capture, &[], Some(bytes as u64))?;
+        let seen = run_over(rt, alloc, words, &mut library, ROOM)?;
+        assert_seen(rt, &seen, "a source that fails", 4, &text);
+    }
     Ok(())
 }
 
@@ -119,9 +124,11 @@ fn check_room<R: Threads + Wait + Sync + Abort>(
 ) -> Result<(), Fail> {
     let status = if room < text.len() { 5 } else { 0 };
     let front = &text[..room.min(text.len())];
-    let mut library = library_of(alloc, b"", capture, &[], None)?;
-    let seen = run_over(rt, alloc, SERIAL, &mut library, room as u64)?;
-    assert_seen(rt, &seen, "a sink of little room", status, front);
+    for words in MODES {
+        let mut library = library_of(alloc, b"", capture, &[], None)?;
+        let seen = run_over(rt, alloc, words, &mut library, room as u64)?;
+        assert_seen(rt, &seen, "a sink of little room", status, front);
+    }
     Ok(())
 }
 

@@ -1,0 +1,38 @@
+ghost use Rattle.std.specs.Prelude.{◌≡◌, ◌≤◌, IfSome, length};
+ghost use Rattle.std.specs.Option.{option_map};
+ghost use Rattle.live_replay.specs.Taken.{IsTakenAt, held_input, taken_input};
+
+use capture_tracks::{MOST_RECORD_BYTES, Track};
+use fw_base::{Link, Port, Source};
+use pcap_read::Record;
+
+/// A record of a capture, as its lane meets it.
+#[derive(Drop)]
+pub(crate) struct Taken<'a> {
+    /// Which record of the capture it is, from 1.
+    pub(crate) at: u64,
+    pub(crate) link: Link,
+    pub(crate) port: &'a Port,
+    pub(crate) record: Record<'a>,
+}
+
+/// The record that a track holds: it was read, and no lane has met it yet.
+pub(crate) fn held<S: Source>(track: &Track<S>) -> Option<Taken<'_>>
+    ensures input { option_map taken_input result ≡ held_input track.now }
+    ensures port { IfSome result (λ taken. IsTakenAt track.now taken.port.now) }
+    ensures small { IfSome result (λ taken.
+        length taken.record.bytes.now ≤ MOST_RECORD_BYTES) }
+{
+    match track {
+        Track::Refused { source: _, end: _ } => None,
+        Track::Open(track) => match track.capture.current() {
+            None => None,
+            Some(record) => Some(Taken {
+                at: track.records,
+                link: track.capture.link(),
+                port: &track.port,
+                record,
+            }),
+        },
+    }
+}
