@@ -15,9 +15,9 @@ use Rattle.fw_base.specs.declared.port.Port.{Port}
 use Rattle.std.specs.List.{AllByRecursion}
 use Rattle.std.proofs.lemmas.List.Elements.{recursion_from_All}
 use Rattle.fw_base.proofs.Lists.{all_push}
-use Rattle.fw_world.proofs.Caching.{CacheStandsFor-judged, capacity-behind, IsPortFor-behind}
+use Rattle.fw_world.proofs.Caching.{CacheStandsFor-judged, IsCacheSeen-behind, IsPortFor-behind, IsTrueFor-seen, capacity-behind}
 use Rattle.fw_world.specs.Caches.{IsPortFor, IsTrueFor, IsCacheBehind, IsCacheAfter, IsCacheSeen}
-use Rattle.shared_world.proofs.SeenCaches.{IsCacheSeen-behind, IsTrueFor-seen, seen-below}
+use Rattle.shared_world.proofs.SeenCaches.{seen-below}
 use Rattle.fw_world.proofs.AskLists.{record_asks, asks_in-append}
 use Rattle.fw_world.proofs.Judging.{StandFor-judged}
 use Rattle.fw_world.proofs.LaneSteps.{IsLane-judged, IsLane-failed, judged_editions-judged}
@@ -290,9 +290,10 @@ module _ (table : TableId) (v : Known) (work : LaneWork) (reads : ReadsSeen v) (
     -- its cache keeps what is true
     cached_still : IsSharedLane 1 v work → IsCacheSeen u.part.pairs w.cache
     cached_still is =
+        let names = subst (λ (p : Published). (j : ℕ) (other : Configuration) → slice_get v.part.pairs j ≡ Some (p.number, other) → other ≡ p.config) (sym edition_is) reads.named in
         let pair : slice_get v.part.pairs reads.index ≡ Some (edition.number, edition.config) = subst (λ (p : Published). slice_get v.part.pairs reads.index ≡ Some (p.number, p.config)) (sym edition_is) reads.seen in
         subst (λ (pairs : List (ℕ × Configuration)). IsCacheSeen pairs w.cache) (sym (ap (λ (x : Known). x.part.pairs) (still asked)))
-        (IsCacheSeen-behind v.part.pairs reads.index edition port work.cache w.cache lawful pair at_port behind is.cached)
+        (IsCacheSeen-behind v.part.pairs edition lawful names port work.cache w.cache reads.index pair at_port behind is.cached)
 
     -- what holds of it
     pub kept : IsSharedLane 1 v work → IsSharedLane (pending_of (is_ok result)) u w
@@ -368,4 +369,4 @@ module _ (table : TableId) (v : Known) (work : LaneWork) (reads : ReadsSeen v) (
 -- under the edition that is read all that the cache keeps is true
 pub is_true : (v : Known) (work : LaneWork) → ReadsSeen v → IsCacheSeen v.part.pairs work.cache → IsTrueFor (edition_of v) work.cache
 is_true v work reads is =
-    subst (λ (p : Published). IsTrueFor p work.cache) (sym (edition_of-reads v reads.edition reads.reading)) (IsTrueFor-seen v.part.pairs (arc_value reads.edition) work.cache reads.lawful reads.named is)
+    subst (λ (p : Published). IsTrueFor p work.cache) (sym (edition_of-reads v reads.edition reads.reading)) (IsTrueFor-seen v.part.pairs (arc_value reads.edition) reads.lawful reads.named work.cache is)

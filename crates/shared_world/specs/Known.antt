@@ -4,7 +4,7 @@ use Rattle.std.specs.Arc.{arc_value}
 use Rattle.std.specs.declared.sync.Arc.{Arc}
 use Rattle.std.proofs.Common.{Global}
 use Rattle.generation_store.specs.Published.{Published}
-use Rattle.rm_table.specs.Meanings.{Meanings, meanings}
+use Rattle.rm_table.specs.Meanings.{Meanings}
 use Rattle.rm_table.specs.declared.view.View.{View}
 use Rattle.rule_chain.specs.Configuration.{Configuration}
 use Rattle.state_asks.specs.declared.facts.Facts.{Facts}
@@ -23,5 +23,13 @@ Known = View SharedEdition Journal Facts Configuration Item
 
 -- what editions and book mean to the lock
 abbrev pub means : Meanings SharedEdition Journal Facts Configuration Item
-means = meanings (λ (e : SharedEdition). (arc_value e).number) (λ (e : SharedEdition). (arc_value e).facts) (λ (e : SharedEdition). (arc_value e).config)
-    (λ (j : Journal). length j.facts) (λ (j : Journal). last_facts j.facts) (λ (j : Journal). j.ready) items_of (λ facts. item.Published facts)
+means = record {
+  number = λ e. (arc_value e).number;
+  tag = λ e. (arc_value e).facts;
+  name = λ e. (arc_value e).config;
+  book_number = λ j. length j.facts;
+  book_tag = λ j. last_facts j.facts;
+  book_ready = λ j. j.ready;
+  of = items_of;
+  item = λ facts. item.Published facts;
+}
