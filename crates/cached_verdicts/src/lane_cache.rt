@@ -5,6 +5,7 @@ ghost use Rattle.cached_verdicts.specs.LaneCache.{empty_lane_cache, IsPortOf, Is
 
 use crate::KeptVerdict;
 use crate::beginning::begin_by_cache;
+use crate::seen_port::SeenPort;
 use counter_book::Tally;
 use eval_engine::Stage;
 use fw_base::{OutOfMemory, Port};
@@ -18,8 +19,7 @@ use verdict_cache::{MOST_VERDICTS, VerdictCache};
 /// The cache of one lane, whose packets are captured at one port, and how many of its packets were hits.
 #[derive(Drop)]
 pub struct LaneCache {
-    /// Where the packets so far were captured: clauses alone read it, and it has no bytes.
-    port: Option<Snapshot<Port>>,
+    port: SeenPort,
     kept: VerdictCache<KeptVerdict>,
     hits: u64,
 }
@@ -31,7 +31,7 @@ impl Model for LaneCache {
     ghost Value = { LaneCacheValue };
 
     ghost view = { λ c. record {
-      port = option_map (λ port. port.value) c.port;
+      port = option_map (λ port. port.value) c.port.port;
       kept = c.kept;
       hits = c.hits;
     } };
@@ -46,7 +46,7 @@ impl LaneCache {
         ensures recent { IfOk result (λ lane. HasRecent capacity [] lane) }
     {
         Ok(LaneCache {
-            port: None,
+            port: SeenPort { port: None },
             kept: VerdictCache::open(alloc, capacity)?,
             hits: 0,
         })
@@ -81,7 +81,9 @@ impl LaneCache {
           second = second;
         }) self.old self.new) }
     {
-        self.port = Some(Snapshot::of(port));
+        self.port = SeenPort {
+            port: Some(Snapshot::of(port)),
+        };
         let begun = begin_by_cache(&mut self.kept, edition, packet, port, second, tally)?;
         if begun.is_hit {
             self.hits = self.hits.saturating_add(1);

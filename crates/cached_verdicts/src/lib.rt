@@ -9,3 +9,4 @@ mod beginning;
 mod kept_verdict;
 mod lane_cache;
 pub mod laws;
+mod seen_port;

@@ -1,7 +1,9 @@
 use super::captures::syns;
 use super::edits::{SET_SWAP, SKIPTO_OWN};
 use super::states::WORKSTATION;
-use super::{DENIED, ROOM, Row, T, Timed, U, assert_seen, check, library_of, library_of_row, run_over};
+use super::{
+    DENIED, ROOM, Row, T, Timed, U, assert_seen, check, library_of, library_of_row, run_over,
+};
 use std::alloc::Global;
 use std::process::Abort;
 use std::sync::Wait;
@@ -68,7 +70,13 @@ fn the_same_with_a_cache(rt: HostRuntime) -> Result<(), Fail> {
     check_cached(&rt, alloc, &SET_SWAP, &one, "cache 1 hits 3\n")?;
     check_cached(&rt, alloc, &SKIPTO_OWN, &one, "cache 1 hits 0\n")?;
     let two = ["serial", "--cache", "4", "s", "out:em0:c", "in:em0:d"];
-    check_cached(&rt, alloc, &WORKSTATION, &two, "cache 1 hits 0\ncache 2 hits 0\n")
+    check_cached(
+        &rt,
+        alloc,
+        &WORKSTATION,
+        &two,
+        "cache 1 hits 0\ncache 2 hits 0\n",
+    )
 }
 
 /// Words that ask for a cache.
