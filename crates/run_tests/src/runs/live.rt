@@ -1,7 +1,9 @@
 use super::captures::{Packet, syns};
 use super::gates::{Between, Call, Log, Meeting};
 use super::rows::arp_and_tagged;
-use super::{A, B, ROOM, Row, T, Timed, U, add, add_capture, assert_seen, check, library_of_row, run_beside};
+use super::{
+    A, B, ROOM, Row, T, Timed, U, add, add_capture, assert_seen, check, library_of_row, run_beside,
+};
 use eval_engine::{DocketEntry, Verdict};
 use fw_base::{FreeGate, MemoryLibrary, MemorySink};
 use replay_driver::run;
@@ -115,7 +117,9 @@ fn operator_waits_for_two_readers(rt: HostRuntime) -> Result<(), Fail> {
         ],
         row.name,
     );
-    assert!(&rt; seen.text.ends_with(b"publish 2\nlane 1 refused 0 tracker 2\nlane 2 refused 0 tracker 2\n"));
+    assert!(&rt;
+        seen.text.ends_with(b"publish 2\nlane 1 refused 0 tracker 2\nlane 2 refused 0 tracker 2\n")
+    );
     Ok(())
 }
 
@@ -160,8 +164,17 @@ fn library_of_eight(alloc: Global) -> Result<MemoryLibrary, Fail> {
 fn eight_workers_inside_at_once(rt: HostRuntime) -> Result<(), Fail> {
     let alloc = rt.alloc();
     let words = [
-        "live", "--journal", "s", "in:e:c", "in:e:c", "in:e:c", "in:e:c", "in:e:c", "in:e:c",
-        "in:e:c", "in:e:c",
+        "live",
+        "--journal",
+        "s",
+        "in:e:c",
+        "in:e:c",
+        "in:e:c",
+        "in:e:c",
+        "in:e:c",
+        "in:e:c",
+        "in:e:c",
+        "in:e:c",
     ];
     let gate = Meeting::new(8, 1);
     let mut library = library_of_eight(alloc)?;
@@ -170,7 +183,10 @@ fn eight_workers_inside_at_once(rt: HostRuntime) -> Result<(), Fail> {
     assert_eq!(&rt; seen.status, 0);
     let front =
         b"1.1 allow 00100 at 1\nend 1 records 1\n2.1 allow 00100 at 1\nend 2 records 1\n3.1 allow 00100 at 1\nend 3 records 1\n4.1 allow 00100 at 1\nend 4 records 1\n5.1 allow 00100 at 1\nend 5 records 1\n6.1 allow 00100 at 1\nend 6 records 1\n7.1 allow 00100 at 1\nend 7 records 1\n8.1 allow 00100 at 1\nend 8 records 1\neditions 2\nrules 1\n65535 0 0 set 31 deny ip from any to any\nclock 100\nstates 0\njournal 2 18\npublish 1\n";
-    assert!(&rt; seen.text.starts_with(front), "eight_workers_inside_at_once");
+    assert!(&rt;
+        seen.text.starts_with(front),
+        "eight_workers_inside_at_once"
+    );
     Ok(())
 }
 
@@ -190,7 +206,9 @@ fn storm_of(alloc: Global, swaps: usize) -> Result<Vec<u8>, Fail> {
 fn swapped(entry: &DocketEntry, latest: u64) -> Option<u64> {
     match entry {
         DocketEntry::Judged {
-            edition, verdict, ..
+            edition,
+            verdict,
+            ..
         } => {
             let allowed = *verdict == Verdict::Allow;
             if (edition % 2 == 1) == allowed && *edition >= latest {
@@ -250,7 +268,14 @@ fn gate_is_told(rt: HostRuntime) -> Result<(), Fail> {
     let script = b"add 100 allow ip from any to any\nlive\nlist\ndelete 7\ndelete 100\n";
     let mut library = MemoryLibrary::new(alloc);
     add(alloc, &mut library, b"s", script, &[], None)?;
-    add(alloc, &mut library, b"c", &arp_and_tagged(alloc)?, &[], None)?;
+    add(
+        alloc,
+        &mut library,
+        b"c",
+        &arp_and_tagged(alloc)?,
+        &[],
+        None,
+    )?;
     add_capture(alloc, &mut library, 1, &[(100, T), (101, T)])?;
     let gate = Log::new(alloc)?;
     let words = ["live", "s", "in:em0:c", "in:em0:d"];
@@ -266,7 +291,10 @@ fn gate_is_told(rt: HostRuntime) -> Result<(), Fail> {
         Call::Inside(2, 2),
     ];
     assert!(&rt; gate.has_calls(Some(2), &second), "the calls of lane 2");
-    assert!(&rt; gate.has_calls(None, &[Call::Operator(4), Call::Operator(5)]), "the operator's calls");
+    assert!(&rt;
+        gate.has_calls(None, &[Call::Operator(4), Call::Operator(5)]),
+        "the operator's calls"
+    );
     Ok(())
 }
 
@@ -299,9 +327,15 @@ fn library_of_faults(alloc: Global) -> Result<MemoryLibrary, Fail> {
     let mut library = MemoryLibrary::new(alloc);
     add(alloc, &mut library, b"s", b"", &[], None)?;
     add(alloc, &mut library, b"c", &syns(alloc, 2)?, &[], Some(94))?;
-    add(alloc, &mut library, b"c", b"no capture, however long it may be", &[], None)?;
-    add(alloc, &mut library, b"c", &syns(alloc, 2)?, &[], None)
-        .map(|()| library)
+    add(
+        alloc,
+        &mut library,
+        b"c",
+        b"no capture, however long it may be",
+        &[],
+        None,
+    )?;
+    add(alloc, &mut library, b"c", &syns(alloc, 2)?, &[], None).map(|()| library)
 }
 
 /// Each capture is read to its end or its fault, whatever the others meet.
