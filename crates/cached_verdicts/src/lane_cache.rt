@@ -1,11 +1,10 @@
-ghost use Rattle.std.specs.Prelude.{◌≡◌, ◌<◌, ◌≤◌, [], length, OnOk, IfOk};
+ghost use Rattle.std.specs.Prelude.{◌≡◌, ◌<◌, ◌≤◌, ◌⊎◌, [], length, Some, IfSome, OnOk, OnErr, IfOk};
 ghost use Rattle.generation_store.specs.Published.{Published};
 ghost use Rattle.eval_engine.specs.Standing.{StandsAt};
 ghost use Rattle.cached_verdicts.specs.LaneCache.{empty_lane_cache, IsPortOf, IsTrueUnder, IsLookedInto, SeesPacket, HasRecent};
 
 use crate::KeptVerdict;
 use crate::beginning::begin_by_cache;
-use crate::seen_port::SeenPort;
 use counter_book::Tally;
 use eval_engine::Stage;
 use fw_base::{OutOfMemory, Port};
@@ -13,28 +12,45 @@ use generation_store::Edition;
 use ip6_headers::AnyIp;
 use std::alloc::Global;
 use std::marker::Model;
-use std::snapshot::Snapshot;
 use verdict_cache::{MOST_VERDICTS, VerdictCache};
 
 /// The cache of one lane, whose packets are captured at one port, and how many of its packets were hits.
 #[derive(Drop)]
 pub struct LaneCache {
-    port: SeenPort,
+    /// Where the packets so far were captured, none before the first.
+    port: Option<Port>,
     kept: VerdictCache<KeptVerdict>,
     hits: u64,
 }
 
 impl Model for LaneCache {
-    ghost use Rattle.std.specs.Option.{option_map};
     ghost use Rattle.cached_verdicts.specs.LaneCache.{LaneCacheValue};
 
     ghost Value = { LaneCacheValue };
 
-    ghost view = { λ c. record {
-      port = option_map (λ port. port.value) c.port.port;
-      kept = c.kept;
-      hits = c.hits;
-    } };
+    ghost view = { λ c. record { port = c.port; kept = c.kept; hits = c.hits } };
+}
+
+/// The same port, by a name of its own.
+fn same_port(port: &Port) -> Result<Port, OutOfMemory>
+    ensures { IfOk result (λ same. same ≡ port.now) }
+{
+    Ok(Port {
+        direction: port.direction,
+        interface: port.interface.clone()?,
+    })
+}
+
+/// Notes where a packet was captured, where it is the first.
+fn note_port(own: &mut Option<Port>, port: &Port) -> Result<(), OutOfMemory>
+    requires { IfSome own.old (λ seen. seen ≡ port.now) }
+    ensures noted { OnOk result (own.new ≡ Some port.now) }
+    ensures unchanged { OnErr result (own.new ≡ own.old) }
+{
+    if own.is_none() {
+        *own = Some(same_port(port)?);
+    }
+    Ok(())
 }
 
 impl LaneCache {
@@ -46,7 +62,7 @@ impl LaneCache {
         ensures recent { IfOk result (λ lane. HasRecent capacity [] lane) }
     {
         Ok(LaneCache {
-            port: SeenPort { port: None },
+            port: None,
             kept: VerdictCache::open(alloc, capacity)?,
             hits: 0,
         })
@@ -54,8 +70,8 @@ impl LaneCache {
 
     /// Begins the evaluation of a packet as `begin` of `eval_engine` does, to its first ask or to its end. A
     /// packet of IPv4 whose key is kept for this edition is a hit: its rule is counted, and it is judged with
-    /// no rule looked at. The judgement of another one is kept where it may be; want of memory for it is an
-    /// error, after which the packet is counted and the cache has room for no more.
+    /// no rule looked at. The judgement of another one is kept where it may be. Want of memory for it, or for
+    /// the name of the port of the first packet, is an error.
     pub fn begin(
         &mut self,
         edition: &Edition,
@@ -73,7 +89,9 @@ impl LaneCache {
           port = port.now;
           second = second;
         }) [] [] tally.old stage tally.new) }
-        ensures looked { IsLookedInto edition.now port.now self.old self.new }
+        ensures behind { (self.new ≡ self.old)
+            ⊎ IsLookedInto edition.now port.now self.old self.new }
+        ensures looked { OnOk result (IsLookedInto edition.now port.now self.old self.new) }
         ensures seen { OnOk result (SeesPacket (record {
           edition = edition.now;
           packet = packet.now;
@@ -81,9 +99,7 @@ impl LaneCache {
           second = second;
         }) self.old self.new) }
     {
-        self.port = SeenPort {
-            port: Some(Snapshot::of(port)),
-        };
+        note_port(&mut self.port, port)?;
         let begun = begin_by_cache(&mut self.kept, edition, packet, port, second, tally)?;
         if begun.is_hit {
             self.hits = self.hits.saturating_add(1);

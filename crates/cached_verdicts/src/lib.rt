@@ -9,4 +9,3 @@ mod beginning;
 mod kept_verdict;
 mod lane_cache;
 pub mod laws;
-mod seen_port;

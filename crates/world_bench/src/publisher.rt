@@ -1,0 +1,45 @@
+ghost use Rattle.std.specs.Prelude.{◌≡◌, IfOk};
+
+use crate::configuration::edit;
+use anyhow::{Result, bail};
+use shared_world::{Desk, World};
+use std::alloc::Global;
+use std::sync::Wait;
+use std::sync::atomic::{AtomicBool, Ordering};
+use std::thread;
+use std::time::{Clock, Duration};
+
+/// Between two publications, in milliseconds.
+const PAUSE: u64 = 10;
+
+/// Publishes about 100 times a second until the lanes are done. Answers how often.
+pub fn publish_until<R: Clock + Wait>(
+    rt: &R,
+    alloc: Global,
+    world: &World,
+    desk: Desk,
+    done: &AtomicBool,
+) -> Result<u32>
+    requires { desk.world ≡ world.now }
+{
+    let mut desk = desk;
+    for published in 0..u32::MAX {
+        if done.load(Ordering::SeqCst) {
+            return Ok(published);
+        }
+        desk = publish_next(rt, alloc, world, desk)?;
+        thread::sleep(rt, Duration::from_millis(PAUSE));
+    }
+    Ok(u32::MAX)
+}
+
+fn publish_next<R: Wait>(rt: &R, alloc: Global, world: &World, desk: Desk) -> Result<Desk>
+    requires { desk.world ≡ world.now }
+    ensures { IfOk result (λ after. after.world ≡ world.now) }
+{
+    let (desk, published) = world.commit(rt, alloc, desk, &edit());
+    match published {
+        Ok(_) => Ok(desk),
+        Err(_) => bail!("a publication that wanted memory"),
+    }
+}
