@@ -13,3 +13,10 @@ mod RecordsAgain
 mod RecordsTold
 -- the lines of lanes and of publications
 mod LaneLaws
+-- names and flows
+mod NameLaws
+mod FlowsAgain
+mod FlowsTold
+-- the lines of asks
+mod AsksAgain
+mod AsksTold
