@@ -20,3 +20,5 @@ mod FlowsTold
 -- the lines of asks
 mod AsksAgain
 mod AsksTold
+-- each line, whatever its kind
+mod ReadingsTold

@@ -11,3 +11,6 @@ pub mod LaneLines
 pub mod FlowTexts
 pub mod AskParts
 pub mod AskLines
+-- each line, whatever its kind
+pub mod LightLines
+pub mod Readings

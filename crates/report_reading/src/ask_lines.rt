@@ -93,7 +93,7 @@ fn asked_in(lane: u64, at: u64, second: u32, text: &[u8]) -> Option<AskLine<'_>>
 
 /// What the line of an ask tells; `None` where the line is none.
 #[tactic(auto, unfolding(crate::specs::AskLines::ask_in))]
-fn ask_in(line: &[u8]) -> Option<AskLine<'_>>
+pub(crate) fn ask_in(line: &[u8]) -> Option<AskLine<'_>>
     ensures { option_map spec.value_of_ask result ≡ spec.ask_in line.now }
 {
     let (lane, rest) = positive(behind(b"ask ", line)?, 16)?;

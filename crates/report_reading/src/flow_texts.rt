@@ -60,7 +60,7 @@ fn octet(text: &[u8]) -> Option<(u8, &[u8])>
 
 /// Four bytes, as numbers with dots between them.
 #[tactic(auto, unfolding(crate::specs::FlowTexts::octets_at))]
-fn octets(text: &[u8]) -> Option<([u8; 4], &[u8])>
+pub(crate) fn octets(text: &[u8]) -> Option<([u8; 4], &[u8])>
     ensures { option_map (λ found. (found.0, found.1.now)) result ≡ spec.octets_at text.now }
 {
     let (first, rest) = octet(text)?;

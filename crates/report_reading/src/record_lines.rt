@@ -171,7 +171,7 @@ fn entry(text: &[u8]) -> Option<DocketEntry>
 
 /// What the line of a record tells; `None` where the line is none.
 #[tactic(auto, unfolding(crate::specs::RecordLines::record_in))]
-fn record_in(line: &[u8]) -> Option<RecordLine>
+pub(crate) fn record_in(line: &[u8]) -> Option<RecordLine>
     ensures { result ≡ spec.record_in line.now }
 {
     let (capture, rest) = positive(line, 16)?;
