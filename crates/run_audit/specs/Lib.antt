@@ -1,0 +1,3 @@
+-- two texts beside one another
+pub mod Comparison
+pub mod Meeting
