@@ -3,9 +3,13 @@
 
 pub use comparer::Comparer;
 pub use laws::differences_are_by_lines;
+pub use told_asks::{are_told_alike, op_under};
+pub use told_evaluations::evaluate_told;
 
 mod comparer;
 mod laws;
 mod lengths;
 mod meeting;
+mod told_asks;
+mod told_evaluations;
 mod written;
