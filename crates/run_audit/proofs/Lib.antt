@@ -7,3 +7,4 @@ mod Meetings
 mod ToldSteps
 -- asks of the journal under an edition
 mod Marks
+mod KnownRules

@@ -5,3 +5,4 @@ pub mod Meeting
 pub mod ToldEvaluations
 -- asks of the journal under an edition
 pub mod ToldAsks
+pub mod Replaying

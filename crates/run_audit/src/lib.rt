@@ -3,6 +3,7 @@
 
 pub use comparer::Comparer;
 pub use laws::differences_are_by_lines;
+pub use replaying::{replay_ask, replay_publication};
 pub use told_asks::{are_told_alike, op_under};
 pub use told_evaluations::evaluate_told;
 
@@ -10,6 +11,7 @@ mod comparer;
 mod laws;
 mod lengths;
 mod meeting;
+mod replaying;
 mod told_asks;
 mod told_evaluations;
 mod written;

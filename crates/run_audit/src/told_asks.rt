@@ -1,6 +1,9 @@
-ghost use Rattle.std.specs.Prelude.{◌≡◌, ◌<◌, ◌≤◌, true, length, position, IfSome, nat_eq};
+ghost use Rattle.std.specs.Prelude.{IsTrue, ◌≡◌, ◌<◌, ◌≤◌, true, length, position, IfSome, nat_eq};
 ghost use Rattle.std.specs.Cmp.Lexicographic.{pointwise};
 ghost use Rattle.run_audit.specs.ToldAsks as spec;
+ghost use Rattle.state_asks.specs.Flags.{asked_flags};
+ghost use Rattle.state_asks.specs.RuleLists.{has_id};
+ghost use Rattle.state_journal.specs.Journal.{NamesRuleOf};
 ghost use Rattle.report_reading.specs.AskLines.{printed_reply};
 
 use fw_base::Name;
@@ -25,7 +28,8 @@ fn number_among(edition: &Edition, name: &[u8]) -> Option<u8>
 
 /// The rule of this identity with its number; `None` exactly where the edition has none.
 fn rule_among(edition: &Edition, id: u32) -> Option<RuleRef>
-    ensures { result ≡ spec.rule_among edition.now.config.rules id }
+    ensures value { result ≡ spec.rule_among edition.now.config.rules id }
+    ensures ruled { IfSome result (λ rule. IsTrue (has_id edition.now.facts.rules rule.id)) }
 {
     let place = edition.place_of(id)?;
     let rule = edition.config().rules().get(place)?;
@@ -49,7 +53,9 @@ fn flow_name_under(edition: &Edition, asked: FlowName, name: &[u8]) -> Option<Fl
 /// rule of that identity, or no such name.
 #[tactic(auto, unfolding(crate::specs::ToldAsks::op_under))]
 pub fn op_under(edition: &Edition, told: &Op, name: &[u8]) -> Option<Op>
-    ensures { result ≡ spec.op_under edition.now told.now name.now }
+    ensures value { result ≡ spec.op_under edition.now told.now name.now }
+    ensures ruled { IfSome result (NamesRuleOf edition.now.facts.rules) }
+    ensures flagged { IfSome result (λ op. asked_flags op ≡ asked_flags told.now) }
 {
     match *told {
         Op::Lookup {
