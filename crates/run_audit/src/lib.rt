@@ -3,7 +3,7 @@
 
 pub use comparer::Comparer;
 pub use laws::differences_are_by_lines;
-pub use replaying::{replay_ask, replay_publication};
+pub use replaying::{replay_ask, replay_asked, replay_line, replay_publication, replay_published};
 pub use told_asks::{are_told_alike, op_under};
 pub use told_evaluations::evaluate_told;
 
