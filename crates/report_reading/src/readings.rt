@@ -57,7 +57,8 @@ pub fn read_line(line: &[u8]) -> Option<Reading<'_>>
         → option_map spec.line_value result ≡ Some (spec.OfPublication number) }
     ensures asks { (names : List (List ℕ)) (lane at : ℕ) (op : Op) (reply : Reply)
         → IsAsk names lane at op reply → line.now ≡ ask_line names lane at op reply
-        → option_map spec.line_value result ≡ Some (spec.OfAsk (printed_ask names lane at op reply)) }
+        → option_map spec.line_value result
+        ≡ Some (spec.OfAsk (printed_ask names lane at op reply)) }
     ensures lanes { (lane refused tracker : ℕ) → IsLane lane refused tracker
         → line.now ≡ lane_line lane refused tracker → option_map spec.line_value result
         ≡ Some (spec.OfLane (record { lane = lane; refused = refused; tracker = tracker })) }

@@ -23,8 +23,10 @@ pub fn replay_ask(
 ) -> Result<bool, OutOfMemory>
     requires lanes { 16 ≤ book.old.lanes }
     requires published { last_rules book.old.facts ≡ edition.now.facts.rules }
-    requires told { IsAsk (told.now.name.now ∷ []) told.now.lane told.now.at told.now.op told.now.reply }
-    ensures entered { result ≡ Ok true → IsEntered edition.now (value_of_ask told.now) book.old book.new }
+    requires told { IsAsk (told.now.name.now ∷ []) told.now.lane told.now.at told.now.op
+        told.now.reply }
+    ensures entered { result ≡ Ok true
+        → IsEntered edition.now (value_of_ask told.now) book.old book.new }
     ensures wrong { result ≡ Ok false → (op : Op)
         → IsAskTold edition.now book.old.object (value_of_ask told.now) op → ⊥ }
 {
@@ -50,7 +52,8 @@ pub fn replay_publication(book: &mut Book, edition: &Edition) -> Result<(), OutO
 
 /// The edition in this place.
 fn edition_at(editions: &[Arc<Edition>], place: usize) -> Option<&Edition>
-    ensures { option_map (λ edition. edition.now) result ≡ slice_get (map arc_value editions.now) place }
+    ensures { option_map (λ edition. edition.now) result
+        ≡ slice_get (map arc_value editions.now) place }
 {
     match editions.get(place) {
         Some(edition) => Some(edition),
@@ -90,7 +93,8 @@ pub fn replay_asked(
 ) -> Result<bool, OutOfMemory>
     requires lanes { 16 ≤ book.old.lanes }
     requires published { IsPublishedLast (map arc_value editions.now) book.old }
-    requires told { IsAsk (told.now.name.now ∷ []) told.now.lane told.now.at told.now.op told.now.reply }
+    requires told { IsAsk (told.now.name.now ∷ []) told.now.lane told.now.at told.now.op
+        told.now.reply }
     ensures asked { result ≡ Ok true
         → IsAskedLast (map arc_value editions.now) (value_of_ask told.now) book.old book.new }
     ensures wrong { result ≡ Ok false → (new : Journal)

@@ -34,8 +34,8 @@ pub fn evaluate_told(
     ensures judged { IfSome result
         (spec.ComesTo (question_under edition.now packet.now port.now second) told.now) }
     ensures counted { OnSome result (tally.new ≡ counts_after (total_of packet.now)
-        (evaluate (question_under edition.now packet.now port.now second) (spec.replies_told told.now)).hits
-        tally.old) }
+        (evaluate (question_under edition.now packet.now port.now second)
+        (spec.replies_told told.now)).hits tally.old) }
     ensures only { (judgement : Judgement)
         → spec.ComesTo (question_under edition.now packet.now port.now second) told.now judgement
         → result ≡ Some judgement }
