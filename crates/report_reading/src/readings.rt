@@ -49,6 +49,7 @@ fn reading_of(line: &[u8]) -> Option<Reading<'_>>
 
 /// What a line of a report tells; `None` where it has the form of no line.
 pub fn read_line(line: &[u8]) -> Option<Reading<'_>>
+    ensures value { option_map spec.line_value result ≡ spec.reading_of line.now }
     ensures found { IfSome result (λ told. spec.IsLineOf line.now (spec.line_value told)) }
     ensures records { (capture at : ℕ) (entry : DocketEntry) → IsRecord capture at entry
         → line.now ≡ record_line capture at entry → option_map spec.line_value result

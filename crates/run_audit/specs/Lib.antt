@@ -6,3 +6,5 @@ pub mod ToldEvaluations
 -- asks of the journal under an edition
 pub mod ToldAsks
 pub mod Replaying
+-- the form of a report
+pub mod Forms
