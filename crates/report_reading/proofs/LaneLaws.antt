@@ -1,5 +1,5 @@
 -- The lines of lanes and of publications: what is read is what they are the text of, and each such text is read.
-use Rattle.std.proofs.Common.{◌≡◌, ℕ, ◌+◌, ◌-◌, ◌^◌, ◌<◌, ◌≤◌, Option, Some, None, List, ◌++◌, codes, refl, sym, ap, subst, ◌∙◌, arith}
+use Rattle.std.proofs.Common.{◌≡◌, ℕ, Option, Some, List, ◌++◌, codes, refl, ap, subst, ◌∙◌, arith}
 use Rattle.std.specs.Fmt.{decimal}
 use Rattle.fw_report.specs.JournalText.{lane_line, publish_line}
 use Rattle.report_reading.specs.Steps.{◌>>=◌}

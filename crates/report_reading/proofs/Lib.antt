@@ -13,3 +13,12 @@ mod RecordsAgain
 mod RecordsTold
 -- the lines of lanes and of publications
 mod LaneLaws
+-- names and flows
+mod NameLaws
+mod FlowsAgain
+mod FlowsTold
+-- the lines of asks
+mod AsksAgain
+mod AsksTold
+-- each line, whatever its kind
+mod ReadingsTold

@@ -1,6 +1,5 @@
 -- The line of a record is read again.
-use Rattle.std.proofs.Common.{◌≡◌, ℕ, zero, suc, ◌+◌, ◌-◌, ◌^◌, ◌<◌, ◌≤◌, ◌==◌, Bool, true, false, not, Option, Some, None, List, [], ◌∷◌, ◌++◌, codes, length, refl, sym, ap, ◌∙◌, inl, inr, arith, if◌then◌else◌, nat_le}
-use Rattle.std.specs.Prelude.{slice_get, unwrap_or}
+use Rattle.std.proofs.Common.{◌≡◌, ℕ, zero, suc, ◌+◌, ◌^◌, ◌<◌, ◌≤◌, ◌==◌, Bool, true, false, not, Some, None, List, [], ◌∷◌, ◌++◌, codes, length, refl, ◌∙◌, inl, inr, arith}
 use Rattle.std.specs.List.{list_all}
 use Rattle.std.specs.Fmt.{decimal}
 use Rattle.std.specs.Char.{is_ascii_digit}
@@ -14,14 +13,11 @@ use Rattle.eval_engine.specs.declared.docket_entry.DocketEntry.{DocketEntry}
 use Rattle.eval_engine.specs.declared.docket_entry.DocketEntry.TheVariants as entry
 use Rattle.eval_engine.specs.declared.judgement.Cause.{Cause}
 use Rattle.eval_engine.specs.declared.judgement.Cause.TheVariants.{Rule, Limit, Full}
-use Rattle.eval_engine.specs.declared.judgement.Judgement.{Judgement}
 use Rattle.eval_engine.specs.declared.judgement.Verdict.{Verdict}
 use Rattle.eval_engine.specs.declared.judgement.Verdict.TheVariants.{Allow, Deny, Reset, Unreach}
 use Rattle.fw_report.specs.DocketText.{verdict_word, verdict_code, cause_word, cause_count, judged_text, entry_text, record_line}
-use Rattle.report_reading.specs.Steps.{◌>>=◌, or_else}
-use Rattle.report_reading.specs.Parts.{behind, told_by, told_where, ended, positive_at, number_at, rule_number_at}
-use Rattle.report_reading.specs.RecordLines.{printed_rule, printed, IsVerdict, IsJudged, IsEntry, IsRecord, named, named_code_at, plain_code, any_code_at, code_at, verdict_at, count_in, cause_in, judged_in, malformed_in, entry_in, record_in}
-use Rattle.report_reading.specs.declared.record_lines.RecordLine.{RecordLine}
+use Rattle.report_reading.specs.Parts.{behind}
+use Rattle.report_reading.specs.RecordLines.{printed_rule, printed, IsVerdict, IsJudged, IsEntry, IsRecord, named_code_at, plain_code, any_code_at, code_at, verdict_at, count_in, cause_in, judged_in, malformed_in, entry_in, record_in}
 use Rattle.report_reading.proofs.Digits.{own, IsStop}
 use Rattle.report_reading.proofs.Numbers.{positive_again, number_again}
 use Rattle.report_reading.proofs.RuleNumbers.{rule_number_again}
@@ -33,7 +29,8 @@ abbrev begins_apart : List ℕ → Bool
 begins_apart [] = false
 begins_apart (letter ∷ word) = not (is_ascii_digit letter)
 
-letter_apart : (letter digit : ℕ) → not (is_ascii_digit letter) ≡ true → is_ascii_digit digit ≡ true → (letter == digit) ≡ false
+-- a letter is no digit
+pub letter_apart : (letter digit : ℕ) → not (is_ascii_digit letter) ≡ true → is_ascii_digit digit ≡ true → (letter == digit) ≡ false
 letter_apart letter digit apart told = elim (cases_Bool (letter == digit)) [
   | inl same ↦
       let is : letter ≡ digit = eqb-true letter digit same in

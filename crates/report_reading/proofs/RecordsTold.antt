@@ -1,5 +1,5 @@
 -- What is read of a record's line is what it is the text of.
-use Rattle.std.proofs.Common.{◌≡◌, ℕ, zero, suc, ◌+◌, ◌-◌, ◌^◌, ◌<◌, ◌≤◌, ◌==◌, Bool, true, false, not, Option, Some, None, List, [], ◌∷◌, ◌++◌, codes, length, refl, sym, ap, subst, ◌∙◌, inl, inr, ◌⊎◌, arith, if◌then◌else◌, nat_le}
+use Rattle.std.proofs.Common.{◌≡◌, ℕ, suc, ◌+◌, ◌^◌, ◌<◌, ◌≤◌, Option, Some, None, List, [], ◌∷◌, ◌++◌, codes, length, refl, sym, ap, subst, ◌∙◌, inl, inr, arith, nat_le}
 use Rattle.std.specs.Prelude.{slice_get}
 use Rattle.std.specs.Fmt.{decimal}
 use Rattle.std.proofs.lemmas.Bool.{cases_Bool, leb-true}
@@ -18,7 +18,7 @@ use Rattle.eval_engine.specs.declared.judgement.Verdict.TheVariants.{Allow, Deny
 use Rattle.fw_report.specs.DocketText.{verdict_word, verdict_code, cause_word, cause_count, judged_text, entry_text, record_line}
 use Rattle.report_reading.specs.Steps.{◌>>=◌, or_else}
 use Rattle.report_reading.specs.Parts.{Part, behind, told_by, told_where, ended, positive_at, number_at, rule_number_at}
-use Rattle.report_reading.specs.RecordLines.{printed, IsVerdict, IsJudged, IsEntry, IsRecord, named, named_code_at, plain_code, any_code_at, code_at, verdict_at, count_in, cause_in, judged_in, malformed_in, entry_in, record_in}
+use Rattle.report_reading.specs.RecordLines.{IsVerdict, IsJudged, IsEntry, IsRecord, named, named_code_at, plain_code, any_code_at, code_at, verdict_at, count_in, cause_in, judged_in, malformed_in, entry_in, record_in}
 use Rattle.report_reading.specs.declared.record_lines.RecordLine.{RecordLine}
 use Rattle.report_reading.proofs.Words.{behind_told, then_found, one_found, by_word, where_word}
 use Rattle.report_reading.proofs.Numbers.{positive_told, number_told}
@@ -28,19 +28,20 @@ use Rattle.report_reading.proofs.RecordsAgain.{IsCause}
 -- ---- a code of `unreach`
 
 -- a text begins with one of these names and a space; the first name is that of this code
-record IsNamed (names : List (List ℕ)) (first : ℕ) (bytes : List ℕ) (code : ℕ) (rest : List ℕ) : Type 0 where
-  name : List ℕ
-  place : ℕ
-  is : code ≡ first + place
-  stands : slice_get names place ≡ Some name
-  split : bytes ≡ name ++ (codes " " ++ rest)
+pub record IsNamed (names : List (List ℕ)) (first : ℕ) (bytes : List ℕ) (code : ℕ) (rest : List ℕ) : Type 0 where
+  pub name : List ℕ
+  pub place : ℕ
+  pub is : code ≡ first + place
+  pub stands : slice_get names place ≡ Some name
+  pub split : bytes ≡ name ++ (codes " " ++ rest)
 
 named_told : (name bytes rest : List ℕ) → named name bytes ≡ Some rest → bytes ≡ name ++ (codes " " ++ rest)
 named_told name bytes rest is =
     let (front, found, more) = then_found (behind name bytes) (behind (codes " ")) rest is in
     behind_told name bytes front found ∙ ap (λ t. name ++ t) (behind_told (codes " ") front rest more)
 
-names_told : (names : List (List ℕ)) (first : ℕ) (bytes : List ℕ) (code : ℕ) (rest : List ℕ) → named_code_at names first bytes ≡ Some (code, rest)
+-- what is read of these names stands there
+pub names_told : (names : List (List ℕ)) (first : ℕ) (bytes : List ℕ) (code : ℕ) (rest : List ℕ) → named_code_at names first bytes ≡ Some (code, rest)
     → IsNamed names first bytes code rest
 unfolding named_code_at
 names_told [] first bytes code rest is = absurd (none-some (code, rest) is)
@@ -144,7 +145,8 @@ verdict_told bytes verdict rest is =
       ]
     ]
 
-count_told : (word bytes : List ℕ) (states : ℕ) → count_in word bytes ≡ Some states → (bytes ≡ word ++ (decimal states ++ codes "\n")) × (states < 2 ^ 32)
+-- what is read of a count of states stands there
+pub count_told : (word bytes : List ℕ) (states : ℕ) → count_in word bytes ≡ Some states → (bytes ≡ word ++ (decimal states ++ codes "\n")) × (states < 2 ^ 32)
 unfolding count_in
 count_told word bytes states is =
     let ends : ℕ × List ℕ → Option ℕ = λ count. ended count.0 count.1 in

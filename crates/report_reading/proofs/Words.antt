@@ -1,5 +1,5 @@
 -- Words at the front of a text, and one step after another.
-use Rattle.std.proofs.Common.{◌≡◌, ℕ, ◌==◌, Bool, true, false, Option, Some, None, List, [], ◌∷◌, ◌++◌, codes, refl, sym, ap, subst, ◌∙◌, inl, inr, if◌then◌else◌, ◌⊎◌, ◌≢◌, arith, Bor}
+use Rattle.std.proofs.Common.{◌≡◌, ℕ, ◌==◌, true, Option, Some, None, List, [], ◌∷◌, ◌++◌, refl, sym, ap, ◌∙◌, inl, inr, ◌⊎◌, ◌≢◌, arith, Bor}
 use Rattle.std.specs.Prelude.{nat_eq, MatchOption}
 use Rattle.std.specs.Option.{option_map}
 use Rattle.std.specs.Cmp.Lexicographic.{pointwise}
@@ -7,7 +7,7 @@ use Rattle.std.proofs.lemmas.Bool.{cases_Bool, eqb-true}
 use Rattle.std.proofs.lemmas.Option.{none-some, same_Some, some_pair_parts}
 use Rattle.std.proofs.lemmas.Slice.Eq.{bytes_eq-Decides}
 use Rattle.report_reading.specs.Steps.{◌>>=◌, or_else}
-use Rattle.report_reading.specs.Parts.{behind, told_by, told_where, ended}
+use Rattle.report_reading.specs.Parts.{behind, told_by, told_where}
 
 same_byte : (byte : ℕ) → (byte == byte) ≡ true
 same_byte byte = grind (arith)

@@ -1,5 +1,5 @@
 -- The lines of lanes and of publications, read back.
-use Rattle.std.specs.Prelude.{ℕ, ◌^◌, ◌≤◌, ◌<◌, Option, Some, None, List, codes}
+use Rattle.std.specs.Prelude.{ℕ, ◌^◌, ◌≤◌, ◌<◌, Option, List, codes}
 use Rattle.report_reading.specs.Steps.{◌>>=◌}
 use Rattle.report_reading.specs.Parts.{behind, ended, positive_at, number_at}
 use Rattle.report_reading.specs.declared.lane_lines.LaneLine.{LaneLine}

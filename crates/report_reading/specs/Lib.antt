@@ -7,3 +7,10 @@ pub mod Parts
 pub mod RecordLines
 -- the lines of lanes and of publications
 pub mod LaneLines
+-- the lines of asks, and what they are made of
+pub mod FlowTexts
+pub mod AskParts
+pub mod AskLines
+-- each line, whatever its kind
+pub mod LightLines
+pub mod Readings

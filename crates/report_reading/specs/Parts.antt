@@ -1,5 +1,5 @@
 -- The parts of a line: each is read from the front of a text, and tells its value and the text behind it.
-use Rattle.std.specs.Prelude.{ℕ, ◌+◌, ◌-◌, ◌*◌, ◌==◌, Bool, false, nat_le, if◌then◌else◌, Option, Some, None, List, [], ◌∷◌, take, drop, length, codes, nat_eq}
+use Rattle.std.specs.Prelude.{ℕ, ◌+◌, ◌-◌, ◌*◌, ◌==◌, nat_le, if◌then◌else◌, Option, Some, None, List, [], ◌∷◌, take, drop, length, codes, nat_eq}
 use Rattle.std.specs.Cmp.Lexicographic.{pointwise}
 use Rattle.std.specs.Char.{is_ascii_digit}
 use Rattle.report_reading.specs.Steps.{◌>>=◌}

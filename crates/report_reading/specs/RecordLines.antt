@@ -1,5 +1,5 @@
 -- The lines of records, read back.
-use Rattle.std.specs.Prelude.{ℕ, ◌+◌, ◌^◌, ◌≤◌, ◌<◌, ◌-◌, nat_le, if◌then◌else◌, Option, Some, None, List, [], ◌∷◌, ◌++◌, codes}
+use Rattle.std.specs.Prelude.{ℕ, ◌+◌, ◌^◌, ◌≤◌, ◌<◌, nat_le, if◌then◌else◌, Option, Some, None, List, [], ◌∷◌, codes}
 use Rattle.fw_rule.specs.Names.{unreach_names}
 use Rattle.state_asks.specs.declared.rule_ref.RuleRef.{RuleRef}
 use Rattle.eval_engine.specs.Dockets.{entry_by_cause}

@@ -16,7 +16,7 @@ pub struct LaneLine {
 }
 
 #[tactic(auto, unfolding(crate::specs::LaneLines::lane_in))]
-fn lane_in(line: &[u8]) -> Option<LaneLine>
+pub(crate) fn lane_in(line: &[u8]) -> Option<LaneLine>
     ensures { result ≡ spec.lane_in line.now }
 {
     let (lane, rest) = positive(behind(b"lane ", line)?, 16)?;
@@ -52,7 +52,7 @@ pub fn read_lane(line: &[u8]) -> Option<LaneLine>
 }
 
 #[tactic(auto, unfolding(crate::specs::LaneLines::publication_in))]
-fn publication_in(line: &[u8]) -> Option<u64>
+pub(crate) fn publication_in(line: &[u8]) -> Option<u64>
     ensures { result ≡ spec.publication_in line.now }
 {
     let (number, rest) = positive(behind(b"publish ", line)?, u64::MAX)?;

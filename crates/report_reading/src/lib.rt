@@ -1,11 +1,18 @@
 //! Lines of a report, read back as what they tell.
 #![tactic(auto)]
 
+pub use ask_lines::{AskLine, read_ask};
 pub use lane_lines::{LaneLine, read_lane, read_publication};
 pub use lines::next_line;
+pub use readings::{Reading, read_line};
 pub use record_lines::{RecordLine, read_record};
 
+mod ask_lines;
+mod ask_parts;
+mod flow_texts;
 mod lane_lines;
+mod light_lines;
 mod lines;
 mod parts;
+mod readings;
 mod record_lines;

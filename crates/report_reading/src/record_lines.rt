@@ -21,7 +21,7 @@ pub struct RecordLine {
 }
 
 /// The code whose name and a space the text begins with.
-fn named_code<'a>(names: &[&[u8]], text: &'a [u8]) -> Option<(u8, &'a [u8])>
+pub(crate) fn named_code<'a>(names: &[&[u8]], text: &'a [u8]) -> Option<(u8, &'a [u8])>
     requires { length names.now ≤ 16 }
     ensures { option_map (λ found. (found.0, found.1.now)) result
         ≡ spec.named_code_at (map (λ name. name.now) names.now) 0 text.now }
@@ -92,7 +92,7 @@ fn verdict(text: &[u8]) -> Option<(Verdict, &[u8])>
 
 /// A count of states behind its word, to the line's end.
 #[tactic(auto, unfolding(crate::specs::RecordLines::count_in))]
-fn count(word: &[u8], text: &[u8]) -> Option<u32>
+pub(crate) fn count(word: &[u8], text: &[u8]) -> Option<u32>
     ensures { result ≡ spec.count_in word.now text.now }
 {
     let (count, rest) = number(behind(word, text)?, u64::from(u32::MAX))?;
@@ -171,7 +171,7 @@ fn entry(text: &[u8]) -> Option<DocketEntry>
 
 /// What the line of a record tells; `None` where the line is none.
 #[tactic(auto, unfolding(crate::specs::RecordLines::record_in))]
-fn record_in(line: &[u8]) -> Option<RecordLine>
+pub(crate) fn record_in(line: &[u8]) -> Option<RecordLine>
     ensures { result ≡ spec.record_in line.now }
 {
     let (capture, rest) = positive(line, 16)?;

@@ -1,0 +1,11 @@
+use Rattle.std.proofs.Common.{◌≡◌, Option, Some, None, refl, ap, ◌∙◌}
+use Rattle.std.specs.Prelude.{is_some}
+use Rattle.std.specs.Option.{option_map}
+use Rattle.run_audit.proofs.forms.is_formed.Goals as goal
+
+some_mapped : {A B : Type 0} (f : A → B) (found : Option A) → is_some found ≡ is_some (option_map f found)
+some_mapped f None = refl
+some_mapped f (Some told) = refl
+
+pub returns : goal.returns
+returns c = c.is_some.ensures ∙ some_mapped _ c.read_line.result ∙ ap is_some c.read_line.ensures.value
