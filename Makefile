@@ -10,6 +10,7 @@ STATES_BENCH = bin/states_bench
 REPORT_BENCH = bin/report_bench
 EDIT_BENCH = bin/edit_bench
 WORLD_BENCH = bin/world_bench
+REPLAY_BENCH = bin/replay_bench
 
 # Fails with one line where the toolchain's command is missing.
 need_rt = @command -v $(RT) >/dev/null || { \
@@ -25,7 +26,7 @@ $(PROGRAM): bin/sources
 	@mv bin/ipfw_cli $@
 	@echo "built $@"
 
-$(LOCK_BENCH) $(STATES_BENCH) $(REPORT_BENCH) $(EDIT_BENCH) $(WORLD_BENCH): bin/%: bin/sources
+$(LOCK_BENCH) $(STATES_BENCH) $(REPORT_BENCH) $(EDIT_BENCH) $(WORLD_BENCH) $(REPLAY_BENCH): bin/%: bin/sources
 	$(need_rt)
 	RT=$(RT) build/run $*
 	@echo "built $@"
@@ -53,12 +54,13 @@ wrong-bodies:
 	$(need_rt)
 	RT=$(RT) wrong-bodies/run
 
-bench: $(PROGRAM) $(LOCK_BENCH) $(STATES_BENCH) $(REPORT_BENCH) $(EDIT_BENCH) $(WORLD_BENCH)
+bench: $(PROGRAM) $(LOCK_BENCH) $(STATES_BENCH) $(REPORT_BENCH) $(EDIT_BENCH) $(WORLD_BENCH) $(REPLAY_BENCH)
 	bench/run $(PROGRAM) $(EDIT_BENCH)
 	$(STATES_BENCH) 1000000
 	$(REPORT_BENCH) 1000000
 	$(LOCK_BENCH) 10000000
 	$(WORLD_BENCH) 1000000
+	$(REPLAY_BENCH) 1000000
 
 install: $(PROGRAM)
 	install -d $(DESTDIR)$(PREFIX)/bin
@@ -76,7 +78,7 @@ help:
 	@echo "make example    builds, and replays examples/first: a real capture beside a script of rules"
 	@echo "make test       proves and tests every crate (rt ci), then runs the program's own checks (tests/run)"
 	@echo "make wrong-bodies  tries the wrong bodies that the gate leaves out: the prover must refuse each"
-	@echo "make bench      builds, and times the program on large captures, beside tcpdump where it is installed (needs python3), the states' asks, the report's lines, edits of a configuration, the lock's sections, and the shared world's"
+	@echo "make bench      builds, and times the program on large captures, beside tcpdump where it is installed (needs python3), the states' asks, the report's lines, edits of a configuration, the lock's sections, the shared world's, and both replays without their reports"
 	@echo "make install    builds, and copies the program, its manual page, docs/RULES.md and docs/RECIPES.md below DESTDIR/PREFIX ($(PREFIX))"
 	@echo "make clean      removes all that was built here; what was proved stays with rt"
 	@echo

@@ -82,5 +82,6 @@ job_within words = by_command (command_of words) (words_within words)
   where
     by_command : (found : Option CommandWords) → IfSome found IsWithin → IfSome (option_and_then job_of_command found) CanBeMade
     by_command None few = tt
-    by_command (Some (Replay mode journal cache script captures)) few = tt
+    by_command (Some (Replay Serial journal cache script captures)) few = tt
+    by_command (Some (Replay Live journal cache script captures)) few = tt
     by_command (Some (Load n)) few = few

@@ -12,7 +12,6 @@ pub mod ScriptTexts
 -- what is found, and its status and text
 pub mod Found
 pub mod ReplayFiles
-pub mod Replayer
 pub mod ScriptReplay
 pub mod RunResult
 -- what a run leaves, and what it promises

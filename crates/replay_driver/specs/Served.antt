@@ -1,4 +1,5 @@
--- Which commands a run carries out: all.
+-- Which commands a run carries out. The mode `live` isn't carried out yet: its words are answered as words
+-- that are no command.
 use Rattle.std.specs.Prelude.{◌≡◌, ℕ, ⊤, Bool, List, Option, None, Some, option_and_then}
 use Rattle.command_words.specs.Words.{CommandWords, CaptureNames, Replay, Load, command_of}
 use Rattle.command_words.specs.declared.invocation.Mode.{Mode}
@@ -20,10 +21,11 @@ pub data Job : Type 0 where
   Replays : ReplayNames → Job
   Loads : (records : ℕ) → Job
 
--- what the words ask for
+-- what the words ask for, where it is carried out
 abbrev pub job_of_command : CommandWords → Option Job
-job_of_command (Replay mode journal cache script captures) =
-    Some (Replays (record { mode = mode; journal = journal; cache = cache; script = script; captures = captures }))
+job_of_command (Replay Serial journal cache script captures) =
+    Some (Replays (record { mode = Serial; journal = journal; cache = cache; script = script; captures = captures }))
+job_of_command (Replay Live journal cache script captures) = None
 job_of_command (Load records) = Some (Loads records)
 
 -- what these words ask for

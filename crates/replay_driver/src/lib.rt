@@ -13,7 +13,6 @@ mod outside;
 mod pieced_text;
 mod replay_files;
 mod replay_load;
-mod replayer;
 mod run_command;
 mod run_result;
 mod script_error;

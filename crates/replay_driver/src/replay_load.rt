@@ -2,7 +2,6 @@ ghost use Rattle.std.specs.Prelude.{◌≡◌, ◌≤◌, ◌∷◌, [], IfOk, v
 ghost use Rattle.replay_driver.specs.RunResult.{IsWritable};
 ghost use Rattle.replay_driver.specs.Found.{FindsLoad, made_capture};
 
-use crate::replayer::InTurn;
 use crate::run_result::RunResult;
 use crate::script_replay::{ScriptReplay, replay_script};
 use capture_tracks::OpenedCapture;
@@ -33,7 +32,7 @@ pub(crate) fn replay_load(alloc: Global, records: u32) -> Result<RunResult, OutO
     let Load { script, capture } = make(alloc, records)?;
     let mut opened = Vec::new(alloc);
     opened.push(open_made(alloc, capture)?)?;
-    match replay_script(alloc, &InTurn { cache: None }, &script, opened)? {
+    match replay_script(alloc, None, &script, opened)? {
         ScriptReplay::Unready(error, _) => Ok(RunResult::Unready(error)),
         ScriptReplay::Replayed { kept, ends, .. } => Ok(RunResult::Summed { kept, ends }),
     }

@@ -1,17 +1,19 @@
 ghost use Rattle.std.specs.Prelude.{◌≡◌, ◌≤◌, ◌∷◌, ◌++◌, IfOk, vec_len};
 ghost use Rattle.fw_world.specs.Caches.{IsCacheSize};
+ghost use Rattle.command_words.specs.declared.invocation.Mode.TheVariants as modes;
 ghost use Rattle.replay_driver.specs.Openings.{sources_of};
 ghost use Rattle.replay_driver.specs.ScriptReplay.{CanReport, ReplaysScript};
 
 use crate::ScriptError;
 use crate::first_edition::{FirstEdition, read_first_edition};
-use crate::replayer::Replayer;
 use capture_tracks::{OpenedCapture, Replayed};
 use command_words::MOST_CAPTURES;
 use fw_base::{OutOfMemory, Source};
+use fw_command::Pace;
 use fw_report::{Ends, LineAnswer};
 use fw_rule::Items;
 use fw_world::Record;
+use serial_replay::replay_serial;
 use std::alloc::Global;
 
 /// What captures and a script come to, with the captures' sources.
@@ -54,24 +56,25 @@ fn join_answers(
     Ok(Items::from_vec(answers))
 }
 
-/// Replays opened captures, 1 to 16, beside a script.
-pub(crate) fn replay_script<S: Source + Send, P: Replayer>(
+/// Replays opened captures, 1 to 16, beside a script in serial mode. Each capture's lane has a cache for so many
+/// verdicts, 1 to 65,536, or none has one.
+pub(crate) fn replay_script<S: Source>(
     alloc: Global,
-    replayer: &P,
+    cache: Option<u32>,
     script: &[u8],
     opened: Vec<OpenedCapture<S>>,
 ) -> Result<ScriptReplay<S>, OutOfMemory>
     requires captures { (1 ≤ vec_len opened) × (vec_len opened ≤ MOST_CAPTURES) }
-    requires cache { IsCacheSize (P.cache replayer.now) }
-    ensures replays { IfOk result (ReplaysScript S.left S.faults P.mode (P.cache replayer.now)
-        script.now opened.items) }
+    requires cache { IsCacheSize cache }
+    ensures replays { IfOk result (ReplaysScript S.left S.faults modes.Serial cache script.now
+        opened.items) }
     ensures reportable { IfOk result CanReport }
 {
     let FirstEdition {
         config,
         answers,
         live,
-    } = match read_first_edition(alloc, replayer.pace(), script) {
+    } = match read_first_edition(alloc, Pace::Serial, script) {
         Ok(edition) => edition,
         Err(ScriptError::OutOfMemory) => return Err(OutOfMemory),
         Err(error) => {
@@ -82,7 +85,7 @@ pub(crate) fn replay_script<S: Source + Send, P: Replayer>(
         record: kept,
         ends,
         sources,
-    } = replayer.replay(alloc, config, live.as_slice(), opened)?;
+    } = replay_serial(alloc, config, live.as_slice(), cache, opened)?;
     let Ends {
         captures,
         answers: behind,

@@ -1,12 +1,12 @@
 use Rattle.std.proofs.Common.{subst, refl, List}
 use Rattle.fw_command.specs.declared.script.Step.{Step}
 use Rattle.replay_driver.proofs.SomeEditions.{some_editions}
-use Rattle.replay_driver.specs.Replayer.{IsReplayIn}
+use Rattle.serial_replay.specs.Replay.{IsSerialReplay}
 use Rattle.replay_driver.proofs.script_replay.replay_script.Goals as goal
 
 pub returns-clause-replays : goal.returns-clause-replays
 returns-clause-replays g c =
-    let whole = subst (λ (l : List Step). IsReplayIn g.S.Source.left g.S.Source.faults g.P.Replayer.mode c.in-Ok.edition.config l (g.P.Replayer.cache c.args.replayer.now) c.args.opened.items c.in_ok-kept.field-0) c.as_slice.ensures c.in_ok-kept.ensures in
+    let whole = subst (λ (l : List Step). IsSerialReplay g.S.Source.left g.S.Source.faults c.in-Ok.edition.config l c.args.cache c.args.opened.items c.in_ok-kept.field-0) c.as_slice.ensures c.in_ok-kept.ensures in
     record {
       edition = c.in-Ok.edition;
       first = c.in-Ok.ensures.exact;
