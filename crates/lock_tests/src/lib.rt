@@ -8,13 +8,11 @@ mod closed;
 mod core_rows;
 #[cfg(test)]
 mod edition;
-#[cfg(test)]
 mod entry_counts;
 #[cfg(test)]
 mod ledger;
 #[cfg(test)]
 mod lock_rows;
-#[cfg(test)]
 mod marked_edition;
 #[cfg(test)]
 mod table_rows;
