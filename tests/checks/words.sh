@@ -35,8 +35,14 @@ check mode_that_is_no_text 1 $'serial\x80' empty in:em0:syn.pcap <<<"$usage"
 check help_is_no_command 1 serial --help <<<"$usage"
 check divider_twice 1 serial -- empty -- in:em0:syn.pcap <<<"$usage"
 
-# A mode that a later version carries out.
-check mode_live 1 live empty in:em0:syn.pcap <<<"$usage"
+check mode_live 0 live empty in:em0:syn.pcap <<'END'
+1.1 deny 65535 at 1
+end 1 records 1
+END
+printf 'live\nafter 1\nlist\n' >waits
+check waits_in_live_mode 2 live waits in:em0:syn.pcap <<'END'
+script line 2 column 1 PaceInLive
+END
 
 check journal_twice 1 serial --journal --journal empty in:em0:syn.pcap <<<"$usage"
 check journal_with_a_value 1 serial --journal=1 empty in:em0:syn.pcap <<<"$usage"

@@ -2,6 +2,7 @@
 --
 --   ipfw_replay serial|live [--journal] [--cache N] [--] SCRIPT in|out:IF:CAPTURE ..
 --   ipfw_replay load [--] N
+--   ipfw_replay audit [--] REPORT SCRIPT in|out:IF:CAPTURE ..
 --
 -- The first word is the mode, exactly so. Behind it the first `--` is dropped, and all words behind that are
 -- positional. Of the words before it, or of all where there is none, those that begin with `-` and are longer
@@ -9,7 +10,8 @@
 -- and `--cache N` or `--cache=N` may stand at any place there, each once and with `serial` and `live` alone, and no
 -- other option may. N is one to five decimal digits, 1 to 65,536: how many verdicts each lane's cache may hold. A
 -- replay wants the name of a script, which isn't empty, and then 1 to 16 captures. A load wants its number of
--- records, one to seven decimal digits, 1 to 1,000,000. All other lists of words are no command; `help` and
+-- records, one to seven decimal digits, 1 to 1,000,000. An audit wants the name of a report, which isn't empty, and
+-- then what a replay wants. All other lists of words are no command; `help` and
 -- `--help` are none.
 use Rattle.std.specs.Prelude.{ℕ, Bool, ◌&&◌, ◌||◌, not, true, false, List, [], ◌∷◌, length, codes, Option, None, Some, is_some, ◌==◌, nat_le, if◌then◌else◌}
 use Rattle.std.specs.List.{list_all}
@@ -33,10 +35,11 @@ pub record CaptureNames : Type 0 where
   pub name : List ℕ
 
 -- captures that are replayed beside a script, with the journal or without, and with caches for so many verdicts or
--- without; or a load of so many records
+-- without; a load of so many records; or a report that is audited beside a script and captures
 pub data CommandWords : Type 0 where
   Replay : (mode : Mode) (journal : Bool) (cache : Option ℕ) (script : List ℕ) (captures : List CaptureNames) → CommandWords
   Load : (records : ℕ) → CommandWords
+  Audit : (report script : List ℕ) (captures : List CaptureNames) → CommandWords
 
 -- ---- a capture's word
 
@@ -181,12 +184,22 @@ load_of [] = None
 load_of (number ∷ []) = option_map Load (load_number number)
 load_of (number ∷ other ∷ more) = None
 
+-- a report's name, a script's and 1 to 16 captures
+unfoldable pub audit_of : List (List ℕ) → Option CommandWords
+audit_of [] = None
+audit_of (report ∷ []) = None
+audit_of (report ∷ script ∷ captures) =
+    if (not (is_empty report) && not (is_empty script)) && (nat_le 1 (length captures) && nat_le (length captures) 16)
+    then option_map (Audit report script) (captures_of captures)
+    else None
+
 -- what the mode makes of the words behind it
 unfoldable pub command_by : List ℕ → Arguments → Option CommandWords
 command_by mode arguments =
     if is_same mode (codes "serial") then replay_of Serial arguments.journal arguments.cache arguments.positional
     else if is_same mode (codes "live") then replay_of Live arguments.journal arguments.cache arguments.positional
     else if is_same mode (codes "load") && not (arguments.journal || is_some arguments.cache) then load_of arguments.positional
+    else if is_same mode (codes "audit") && not (arguments.journal || is_some arguments.cache) then audit_of arguments.positional
     else None
 
 -- what the words name, where they are a command

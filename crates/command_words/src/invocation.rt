@@ -17,6 +17,15 @@ pub enum Invocation<'a> {
     },
     /// `load`: the load of so many records, 1 to 1,000,000.
     Load(u32),
+    /// `audit`: whether a report is one of these captures beside this script.
+    Audit {
+        /// The report's name, which isn't empty.
+        report: &'a [u8],
+        /// The script's name, which isn't empty.
+        script: &'a [u8],
+        /// 1 to 16 captures, in the order of the words.
+        captures: Vec<CaptureWord<'a>>,
+    },
 }
 
 /// How captures are replayed beside a script.

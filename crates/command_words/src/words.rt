@@ -60,6 +60,35 @@ fn load_of<'a>(positional: &[&'a str]) -> Option<Invocation<'a>>
     }
 }
 
+/// What the positional words of an audit name.
+#[tactic(auto, unfolding(crate::specs::Words::audit_of))]
+fn audit_of<'a>(
+    alloc: Global,
+    positional: &[&'a str],
+) -> Result<Option<Invocation<'a>>, OutOfMemory>
+    ensures named { IfOk result (λ found.
+        option_map command_named found ≡ spec.audit_of (word_texts positional.now)) }
+    ensures within { IfOk result (λ found. IfSome found IsWithinLimits) }
+{
+    let [report, script, captures @ ..] = positional else {
+        return Ok(None);
+    };
+    if report.is_empty() || script.is_empty() {
+        return Ok(None);
+    }
+    if captures.is_empty() || captures.len() > MOST_CAPTURES {
+        return Ok(None);
+    }
+    match captures_of(alloc, captures)? {
+        Some(captures) => Ok(Some(Invocation::Audit {
+            report: report.as_bytes(),
+            script: script.as_bytes(),
+            captures,
+        })),
+        None => Ok(None),
+    }
+}
+
 /// What the words behind the first name.
 #[tactic(auto, unfolding(crate::specs::Words::command_by))]
 fn command_by<'a>(
@@ -81,6 +110,8 @@ fn command_by<'a>(
         replay_of(alloc, Mode::Live, journal, cache, positional)
     } else if mode == b"load".as_slice() && !(journal || cache.is_some()) {
         Ok(load_of(positional))
+    } else if mode == b"audit".as_slice() && !(journal || cache.is_some()) {
+        audit_of(alloc, positional)
     } else {
         Ok(None)
     }
@@ -90,7 +121,8 @@ fn command_by<'a>(
 /// want of memory.
 ///
 /// The commands are `serial|live [--journal] [--cache N] [--] SCRIPT in|out:IF:NAME ..` with 1 to 16 captures and N
-/// from 1 to 65,536, and `load [--] N` with N from 1 to 1,000,000. IF is the name of an interface, NAME that of a
+/// from 1 to 65,536, `load [--] N` with N from 1 to 1,000,000, and
+/// `audit [--] REPORT SCRIPT in|out:IF:NAME ..` with 1 to 16 captures. IF is the name of an interface, NAME that of a
 /// capture's file.
 #[tactic(auto, unfolding(crate::specs::Words::command_of))]
 pub fn read_words(alloc: Global, words: &[String]) -> Result<Option<Invocation<'_>>, OutOfMemory>

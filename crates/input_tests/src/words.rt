@@ -188,6 +188,14 @@ const COMMANDS: [(&str, &str); 39] = [
     ("load|42|--", "load 42"),
     ("load|--|42", "load 42"),
     ("load|--|0100000", "load 100000"),
+    ("audit|r|s|in:em0:c", "audit r s, In em0 c"),
+    ("audit|--|--r|-|out:em0:-|in:e:a:b", "audit --r -, Out em0 -, In e a:b"),
+    ("audit|--journal|r|s|in:em0:c", "no command"),
+    ("audit|r|s|in:em0:c|--cache|4", "no command"),
+    ("audit||s|in:em0:c", "no command"),
+    ("audit|r||in:em0:c", "no command"),
+    ("audit|r|s", "no command"),
+    ("audit|s|in:em0:c", "no command"),
 ];
 
 /// What the words of a text come to.
@@ -200,6 +208,17 @@ fn told(alloc: Global, line: &str) -> Result<String, Fail> {
     match read_words(alloc, &words)? {
         None => text.push_str("no command")?,
         Some(Invocation::Load(records)) => write!(text, "load {records}")?,
+        Some(
+            Invocation::Audit {
+                report,
+                script,
+                captures,
+            },
+        ) => {
+            let (report, script) = (str::from_utf8(report)?, str::from_utf8(script)?);
+            write!(text, "audit {report} {script}")?;
+            tell_captures(&mut text, &captures)?;
+        }
         Some(
             Invocation::Replay {
                 mode,

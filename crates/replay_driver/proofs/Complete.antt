@@ -207,15 +207,15 @@ module _ {S : Type 0} (left : S → Option (List ℕ)) (failures : S → ℕ) wh
   replayed_well : (mode : Mode) (cache : Option ℕ) (script : List ℕ) (opened : List (OpenedCapture S)) (kept : RecordValue) (ends : Ends) (sources : List S) → IsAccepted (pace_of mode) script → AllByRecursion (IsWhole (limit_for (length opened))) opened
       → IsReplayOf left failures mode cache script opened kept ends sources → AllByRecursion (λ s. failures s ≡ 0) sources → report_status ends.captures ends.answers ≡ 0
   replayed_well mode cache script opened kept ends sources accepted whole of quiet =
-      let still : AllByRecursion (λ s. failures s ≡ 0) of.replayed.sources.items = subst (AllByRecursion (λ s. failures s ≡ 0)) of.given_back quiet in
-      let read = all_read_well (limit_for (length opened)) opened of.replayed.sources.items of.replay.tracks of.replayed.ends.captures whole of.replay.read still in
+      let still : AllByRecursion (λ s. failures s ≡ 0) of.beside.replayed.sources.items = subst (AllByRecursion (λ s. failures s ≡ 0)) of.beside.given_back quiet in
+      let read = all_read_well (limit_for (length opened)) opened of.beside.replayed.sources.items of.beside.replay.tracks of.beside.replayed.ends.captures whole of.beside.replay.read still in
       let is : ◌≡◌ {A = Result FirstEdition ScriptError} (Ok of.edition) (Ok accepted.edition) = sym of.first ∙ accepted.first in
       let same : of.edition ≡ accepted.edition = cc in
-      let live : list_any is_refused of.replayed.ends.answers ≡ false =
-      ap (list_any is_refused) (of.replay.answered ∙ ap (λ (e : FirstEdition). (lines_outcome e.config e.live).answers) same) ∙ accepted.accepted in
+      let live : list_any is_refused of.beside.replayed.ends.answers ≡ false =
+      ap (list_any is_refused) (of.beside.replay.answered ∙ ap (λ (e : FirstEdition). (lines_outcome e.config e.live).answers) same) ∙ accepted.accepted in
       let answers : list_any is_refused ends.answers ≡ false =
-      ap (list_any is_refused) of.lines_answered ∙ none_of_both is_refused of.edition.answers of.replayed.ends.answers (edition_well (pace_of mode) script of.edition of.first) live in
-      all_well ends.captures ends.answers (ap (list_any is_unread) of.captures_ended ∙ read.0) (ap (list_any is_stopped) of.captures_ended ∙ read.1) answers
+      ap (list_any is_refused) of.beside.lines_answered ∙ none_of_both is_refused of.edition.answers of.beside.replayed.ends.answers (edition_well (pace_of mode) script of.edition of.first) live in
+      all_well ends.captures ends.answers (ap (list_any is_unread) of.beside.captures_ended ∙ read.0) (ap (list_any is_stopped) of.beside.captures_ended ∙ read.1) answers
 
 -- no read of a made capture failed
 none_failed : (sources : List (List ℕ)) → AllByRecursion (λ source. no_failures source ≡ 0) sources

@@ -1,7 +1,7 @@
 -- openings, and what they leave of the told list
 pub mod Openings
 pub mod Told
-pub mod Found
+pub mod MadeReady
 -- a script from its bytes to edition 1
 pub mod ScriptReading
 pub mod ScriptLines
@@ -10,6 +10,7 @@ pub mod LoadWords
 pub mod AcceptedLoad
 -- what a replay answers
 pub mod SomeEditions
+pub mod EditionReplay
 pub mod Statuses
 -- what a run promises
 pub mod Promised

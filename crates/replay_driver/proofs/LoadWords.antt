@@ -8,7 +8,7 @@ use Rattle.std.specs.Str.Parse.{digits_value}
 use Rattle.std.proofs.lemmas.Bool.{and_parts, leb-true}
 use Rattle.command_words.specs.Bytes.{is_same, is_empty}
 use Rattle.command_words.specs.Chain.{◌>>=◌}
-use Rattle.command_words.specs.Words.{CommandWords, CaptureNames, Replay, Load, Arguments, arguments_of, captures_of, load_number, load_of, replay_of, command_by, command_of}
+use Rattle.command_words.specs.Words.{CommandWords, CaptureNames, Replay, Load, Audit, Arguments, arguments_of, captures_of, load_number, load_of, audit_of, replay_of, command_by, command_of}
 use Rattle.command_words.specs.declared.invocation.Mode.{Mode}
 use Rattle.command_words.specs.declared.invocation.Mode.TheVariants.{Serial, Live}
 use Rattle.load_maker.specs.declared.load.TheConstants.{MOST_RECORDS}
@@ -23,6 +23,7 @@ CanBeMade (Loads n) = n ≤ MOST_RECORDS
 abbrev IsWithin : CommandWords → Type 0
 IsWithin (Replay mode journal cache script captures) = ⊤
 IsWithin (Load n) = n ≤ MOST_RECORDS
+IsWithin (Audit report script captures) = ⊤
 
 either_within : (test : Bool) (found other : Option CommandWords) → IfSome found IsWithin → IfSome other IsWithin → IfSome (if test then found else other) IsWithin
 either_within true found other p q = p
@@ -60,12 +61,25 @@ replay_within mode journal cache (script ∷ captures) =
     by_captures None = tt
     by_captures (Some names) = tt
 
+audit_within : (positional : List (List ℕ)) → IfSome (audit_of positional) IsWithin
+unfolding audit_of
+audit_within [] = tt
+audit_within (report ∷ []) = tt
+audit_within (report ∷ script ∷ captures) =
+    either_within ((not (is_empty report) && not (is_empty script)) && (nat_le 1 (length captures) && nat_le (length captures) 16)) (option_map (Audit report script) (captures_of captures)) None
+    (by_captures (captures_of captures)) tt
+  where
+    by_captures : (found : Option (List CaptureNames)) → IfSome (option_map (Audit report script) found) IsWithin
+    by_captures None = tt
+    by_captures (Some names) = tt
+
 by_within : (mode : List ℕ) (arguments : Arguments) → IfSome (command_by mode arguments) IsWithin
 unfolding command_by
 by_within mode arguments =
     either_within (is_same mode (codes "serial")) _ _ (replay_within Serial arguments.journal arguments.cache arguments.positional)
     (either_within (is_same mode (codes "live")) _ _ (replay_within Live arguments.journal arguments.cache arguments.positional)
-    (either_within (is_same mode (codes "load") && not (arguments.journal || is_some arguments.cache)) _ _ (load_within arguments.positional) tt))
+    (either_within (is_same mode (codes "load") && not (arguments.journal || is_some arguments.cache)) _ _ (load_within arguments.positional)
+    (either_within (is_same mode (codes "audit") && not (arguments.journal || is_some arguments.cache)) _ _ (audit_within arguments.positional) tt)))
 
 words_within : (words : List (List ℕ)) → IfSome (command_of words) IsWithin
 unfolding command_of
@@ -82,6 +96,6 @@ job_within words = by_command (command_of words) (words_within words)
   where
     by_command : (found : Option CommandWords) → IfSome found IsWithin → IfSome (option_and_then job_of_command found) CanBeMade
     by_command None few = tt
-    by_command (Some (Replay Serial journal cache script captures)) few = tt
-    by_command (Some (Replay Live journal cache script captures)) few = tt
+    by_command (Some (Replay mode journal cache script captures)) few = tt
     by_command (Some (Load n)) few = few
+    by_command (Some (Audit report script captures)) few = tt

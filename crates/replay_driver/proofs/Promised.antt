@@ -90,7 +90,7 @@ as_read left failures limit (o ∷ os) (s ∷ ss) (t ∷ ts) (e ∷ es) read = l
 
 as_many : {T : Type 0} (left : T → Option (List ℕ)) (failures : T → ℕ) (mode : Mode) (cache : Option ℕ) (script : List ℕ) (opened : List (OpenedCapture T)) (kept : RecordValue) (ends : Ends) (sources : List T)
     → IsReplayOf left failures mode cache script opened kept ends sources → length sources ≡ length opened
-as_many left failures mode cache script opened kept ends sources of = ap length of.given_back ∙ as_read left failures _ opened of.replayed.sources.items of.replay.tracks of.replayed.ends.captures of.replay.read
+as_many left failures mode cache script opened kept ends sources of = ap length of.beside.given_back ∙ as_read left failures _ opened of.beside.replayed.sources.items of.beside.replay.tracks of.beside.replayed.ends.captures of.beside.replay.read
 
 module _ {K S L : Type 0} (output : Output K) (files : Files L S) where
   module _ (library libraryAfter : L) (sink sinkAfter : K) where
@@ -239,8 +239,8 @@ module _ {K S L : Type 0} (output : Output K) (files : Files L S) where
     failed_by : {T : Type 0} (left : T → Option (List ℕ)) (failures : T → ℕ) (mode : Mode) (cache : Option ℕ) (script : List ℕ) (opened : List (OpenedCapture T)) (kept : RecordValue) (ends : Ends) (sources : List T)
         → IsReplayOf left failures mode cache script opened kept ends sources → AreFresh left failures opened → list_any is_unread ends.captures ≡ true → HasFailedRead ends.captures
     failed_by left failures mode cache script opened kept ends sources of fresh e =
-        subst HasFailedRead (sym of.captures_ended)
-        (failed_read left failures _ opened of.replayed.sources.items of.replay.tracks of.replayed.ends.captures of.replay.read fresh (ap (list_any is_unread) (sym of.captures_ended) ∙ e))
+        subst HasFailedRead (sym of.beside.captures_ended)
+        (failed_read left failures _ opened of.beside.replayed.sources.items of.beside.replay.tracks of.beside.replayed.ends.captures of.beside.replay.read fresh (ap (list_any is_unread) (sym of.beside.captures_ended) ∙ e))
 
     pub is_failed_run : (job : Job) → Run job → outcome.status ≡ 4 → (kept : RecordValue) → outcome.kept ≡ Some kept → HasFailedRead outcome.ends.captures
     is_failed_run job run four kept had = let a = answered job run 4 four (omega arith) in go job a.result a.finds a.writes a.is
@@ -444,3 +444,10 @@ module _ {K S L : Type 0} (output : Output K) (files : Files L S) where
       pub all_steady : IfSome outcome.kept (λ kept. files.faults libraryAfter ≡ files.faults library)
       all_steady = IfSome-by outcome.kept _ (λ kept had.
           of_each (files.faults libraryAfter ≡ files.faults library) (λ none. let no = usage_keeps_nothing none in absurd (cc)) (λ job run. steady job run kept had))
+
+      -- where the words are no command nothing is opened, but for status 6
+      pub all_unopened : command ≡ None → outcome.status ≢ 6 → libraryAfter ≡ library
+      all_unopened none other = elim (usage none) [
+        | inl out ↦ absurd (other out.status)
+        | inr is ↦ is.library_kept
+      ]

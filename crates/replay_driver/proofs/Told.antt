@@ -75,20 +75,20 @@ module _ {L S : Type 0} (files : Files L S) where
       ∙ ap (λ l. pairs_without (name ∷ l) told) (sym (ap (λ n. take n (file_names captures)) count ∙ take-length (file_names captures)))
 
   -- where the script's name was refused, nothing is taken out of the told list
-  pub script_refused : (names : ReplayNames) (old new : L) (name : List ℕ) (sources : List S) (told : List Pair) → RefusesScript files names old new name sources → files.pairs old ≡ Some told
+  pub script_refused : (names : ReplayNames) (old new : L) (name : List ℕ) (sources : List S) (told : List Pair) → RefusesScript files names.script old new name sources → files.pairs old ≡ Some told
       → files.pairs new ≡ pairs_without (take (length sources) (names.script ∷ file_names names.captures)) told
   script_refused names old new name sources told found is =
       rw (found.nothing_opened) (found.refuses.list_kept ∙ is)
 
   -- where the script could not be read, its name alone is taken out of the told list
-  pub script_failed : (names : ReplayNames) (old new : L) (name : List ℕ) (sources : List S) (told : List Pair) → FailsScript files names old new name sources → files.pairs old ≡ Some told
+  pub script_failed : (names : ReplayNames) (old new : L) (name : List ℕ) (sources : List S) (told : List Pair) → FailsScript files names.script old new name sources → files.pairs old ≡ Some told
       → files.pairs new ≡ pairs_without (take (length sources) (names.script ∷ file_names names.captures)) told
   script_failed names old new name sources told found is =
       let opens = subst (λ (n : List ℕ). Opens files old new n found.opened) found.named found.opens in
       rw (found.given_back) (one_out (files.pairs old) (files.pairs new) names.script [] (files.left found.opened) told (files.pairs new) opens.took is (λ rest gone. gone))
 
   -- where a capture's name was refused, the names before it are taken out of the told list
-  pub capture_refused : (names : ReplayNames) (old new : L) (name : List ℕ) (sources : List S) (told : List Pair) → RefusesCapture files names old new name sources → files.pairs old ≡ Some told
+  pub capture_refused : (names : ReplayNames) (old new : L) (name : List ℕ) (sources : List S) (told : List Pair) → RefusesCapture files names.script names.captures old new name sources → files.pairs old ≡ Some told
       → files.pairs new ≡ pairs_without (take (length sources) (names.script ∷ file_names names.captures)) told
   capture_refused names old new name sources told found is =
       let before = file_names found.before in

@@ -32,19 +32,17 @@ IsOrderedIn modes.Serial config steps cache tracks kept = ComesOf config steps c
 IsOrderedIn modes.Live config steps cache tracks kept = ⊤
 
 module _ {S : Type 0} (left : S → Option (List ℕ)) (failures : S → ℕ) where
-  -- A source failed with at most 1,048,576 of its bytes taken.
-  pub record FailsEarly (opened now : S) : Type 0 where
+  -- A source failed with fewer than so many of its bytes taken.
+  pub record FailsEarly (limit : ℕ) (opened now : S) : Type 0 where
     pub rose : Rose (failures opened) (failures now)
     pub taken : List ℕ
     pub took : Consumes (left opened) (left now) taken
-    pub few : length taken < 1048577
+    pub few : length taken < limit
 
-  -- Captures were replayed beside a script in this mode: its edition 1 stands first, then comes what it has behind
-  -- `live`. Each capture's lane had a cache for so many verdicts, or none had. The answers are those of the listings
-  -- before `live` and then those of the lines behind it.
-  pub record IsReplayOf (m : Mode) (cache : Option ℕ) (script : List ℕ) (opened : List (OpenedCapture S)) (kept : RecordValue) (ends : Ends) (sources : List S) : Type 0 where
-    pub edition : FirstEdition
-    pub first : first_edition (pace_of m) script ≡ Ok edition
+  -- Captures were replayed in this mode beside an edition 1 and what a script has behind `live`. Each capture's lane had
+  -- a cache for so many verdicts, or none had. The answers are those of the listings before `live` and then those of
+  -- the lines behind it.
+  pub record IsReplayBeside (m : Mode) (edition : FirstEdition) (cache : Option ℕ) (opened : List (OpenedCapture S)) (kept : RecordValue) (ends : Ends) (sources : List S) : Type 0 where
     pub replayed : Replayed S
     pub replay : IsReplay left failures edition.config edition.live cache opened replayed
     pub ordered : IsOrderedIn m edition.config edition.live cache replay.tracks replayed.record
@@ -53,12 +51,22 @@ module _ {S : Type 0} (left : S → Option (List ℕ)) (failures : S → ℕ) wh
     pub lines_answered : ends.answers ≡ edition.answers ++ replayed.ends.answers
     pub given_back : sources ≡ replayed.sources.items
 
+  -- Captures were replayed in this mode beside a script, which gives an edition 1.
+  pub record IsReplayOf (m : Mode) (cache : Option ℕ) (script : List ℕ) (opened : List (OpenedCapture S)) (kept : RecordValue) (ends : Ends) (sources : List S) : Type 0 where
+    pub edition : FirstEdition
+    pub first : first_edition (pace_of m) script ≡ Ok edition
+    pub beside : IsReplayBeside m edition cache opened kept ends sources
+
 module _ {L S : Type 0} (files : Files L S) where
-  -- the script was opened and read to its end, or to its 1,048,577th byte, and none of its reads failed
-  pub record ReadsScript (old new : L) (name : List ℕ) (script : S) (bytes : List ℕ) : Type 0 where
+  -- the file of this name was opened and read to its end, or to its byte of this number, and none of its reads failed
+  pub record ReadsNamed (limit : ℕ) (old new : L) (name : List ℕ) (source : S) (bytes : List ℕ) : Type 0 where
     pub opened : S
     pub opens : Opens files old new name opened
-    pub reads : ReadsAll (files.left opened) (files.left script) (files.failures opened) (files.failures script) 1048577 bytes
+    pub reads : ReadsAll (files.left opened) (files.left source) (files.failures opened) (files.failures source) limit bytes
+
+  -- the script was opened and read to its end, or to its 1,048,577th byte, and none of its reads failed
+  abbrev pub ReadsScript : L → L → List ℕ → S → List ℕ → Type 0
+  ReadsScript = ReadsNamed 1048577
 
   -- the script was opened and read, and then these captures were opened, in the order of the words
   pub record ReadsNames (name : List ℕ) (captures : List CaptureNames) (old new : L) (script : S) (bytes : List ℕ) (opened : List (OpenedCapture S)) : Type 0 where
@@ -67,42 +75,47 @@ module _ {L S : Type 0} (files : Files L S) where
     pub captures_opened : OpensAll files between new captures opened
 
   -- the script's name was refused
-  pub record RefusesScript (names : ReplayNames) (old new : L) (name : List ℕ) (sources : List S) : Type 0 where
-    pub named : name ≡ names.script
+  pub record RefusesScript (wanted : List ℕ) (old new : L) (name : List ℕ) (sources : List S) : Type 0 where
+    pub named : name ≡ wanted
     pub refuses : RefusesToOpen files old new name
     pub nothing_opened : sources ≡ []
 
-  -- the script was opened, and its source failed
-  pub record FailsScript (names : ReplayNames) (old new : L) (name : List ℕ) (sources : List S) : Type 0 where
-    pub named : name ≡ names.script
+  -- the script was opened, and its source failed with at most 1,048,576 of its bytes taken
+  pub record FailsScript (wanted : List ℕ) (old new : L) (name : List ℕ) (sources : List S) : Type 0 where
+    pub named : name ≡ wanted
     pub opened : S
     pub opens : Opens files old new name opened
     pub script : S
-    pub fails : FailsEarly files.left files.failures opened script
+    pub fails : FailsEarly files.left files.failures 1048577 opened script
     pub given_back : sources ≡ script ∷ []
 
   -- the script was read, the captures before this one were opened, and its name was refused
-  pub record RefusesCapture (names : ReplayNames) (old new : L) (name : List ℕ) (sources : List S) : Type 0 where
+  pub record RefusesCapture (wanted : List ℕ) (captures : List CaptureNames) (old new : L) (name : List ℕ) (sources : List S) : Type 0 where
     pub before : List CaptureNames
     pub capture : CaptureNames
     pub behind : List CaptureNames
-    pub stands : names.captures ≡ before ++ capture ∷ behind
+    pub stands : captures ≡ before ++ capture ∷ behind
     pub named : name ≡ capture.name
     pub between : L
     pub script : S
     pub bytes : List ℕ
     pub opened : List (OpenedCapture S)
-    pub reads : ReadsNames names.script before old between script bytes opened
+    pub reads : ReadsNames wanted before old between script bytes opened
     pub refuses : RefusesToOpen files between new name
     pub given_back : sources ≡ script ∷ sources_of opened
 
-  -- all names were opened, and the script gives no edition
-  pub record HasNoEdition (names : ReplayNames) (old new : L) (error : ScriptError) (sources : List S) : Type 0 where
+  -- the script's name or a capture's could not be opened, or the script not read
+  abbrev pub IsUnreadable : List ℕ → List CaptureNames → L → L → List ℕ → List S → Type 0
+  IsUnreadable wanted captures old new name sources =
+      RefusesScript wanted old new name sources ⊎ (FailsScript wanted old new name sources ⊎ RefusesCapture wanted captures old new name sources)
+
+  -- all names were opened, and the script gives no edition in this mode
+  pub record HasNoEdition (m : Mode) (name : List ℕ) (captures : List CaptureNames) (old new : L) (error : ScriptError) (sources : List S) : Type 0 where
     pub script : S
     pub bytes : List ℕ
     pub opened : List (OpenedCapture S)
-    pub reads : ReadsNames names.script names.captures old new script bytes opened
-    pub first : first_edition (pace_of names.mode) bytes ≡ Err error
+    pub reads : ReadsNames name captures old new script bytes opened
+    pub first : first_edition (pace_of m) bytes ≡ Err error
     pub given_back : sources ≡ script ∷ sources_of opened
 
   -- all names were opened, and the captures were replayed beside the script
@@ -118,9 +131,8 @@ module _ {L S : Type 0} (files : Files L S) where
   -- This is found of the words of a replay, and these sources are handed back.
   abbrev pub FindsReplay : ReplayNames → L → L → RunResult → List S → Type 0
   FindsReplay names old new Usage sources = ⊥
-  FindsReplay names old new (Unread name) sources =
-      RefusesScript names old new name sources ⊎ (FailsScript names old new name sources ⊎ RefusesCapture names old new name sources)
-  FindsReplay names old new (Unready error) sources = HasNoEdition names old new error sources
+  FindsReplay names old new (Unread name) sources = IsUnreadable names.script names.captures old new name sources
+  FindsReplay names old new (Unready error) sources = HasNoEdition names.mode names.script names.captures old new error sources
   FindsReplay names old new (Reported kept ends journal) sources = (journal ≡ names.journal) × ReplaysNames names old new kept ends sources
   FindsReplay names old new (Summed kept ends) sources = ⊥
 

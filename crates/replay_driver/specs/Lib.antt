@@ -5,14 +5,15 @@ pub mod Served
 -- what is opened and read
 pub mod Openings
 pub mod CaptureOpenings
-pub mod ScriptSource
+pub mod NamedSource
 -- what a script gives
 pub mod FirstEdition
 pub mod ScriptTexts
 -- what is found, and its status and text
 pub mod Found
-pub mod ReplayFiles
-pub mod ScriptReplay
+pub mod Ready
+pub mod EditionReplay
+pub mod FilesReplay
 pub mod RunResult
 -- what a run leaves, and what it promises
 pub mod Run

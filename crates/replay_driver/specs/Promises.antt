@@ -124,7 +124,7 @@ module _ {K S L : Type 0} (output : Output K) (files : Files L S) where
   -- command that is refused.
   pub record IsUnready (names : ReplayNames) (library libraryAfter : L) (sink sinkAfter : K) (outcome : Outcome S) : Type 0 where
     pub error : ScriptError
-    pub cause : HasNoEdition files names library libraryAfter error outcome.sources.items
+    pub cause : HasNoEdition files names.mode names.script names.captures library libraryAfter error outcome.sources.items
     pub text : Appends (output.written sink) (output.written sinkAfter) (error_text error)
 
   -- a load's script always gives an edition

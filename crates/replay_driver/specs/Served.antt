@@ -1,7 +1,6 @@
--- Which commands a run carries out. The mode `live` isn't carried out yet: its words are answered as words
--- that are no command.
+-- Which commands a replay's run carries out: all but an audit.
 use Rattle.std.specs.Prelude.{◌≡◌, ℕ, ⊤, Bool, List, Option, None, Some, option_and_then}
-use Rattle.command_words.specs.Words.{CommandWords, CaptureNames, Replay, Load, command_of}
+use Rattle.command_words.specs.Words.{CommandWords, CaptureNames, Replay, Load, Audit, command_of}
 use Rattle.command_words.specs.declared.invocation.Mode.{Mode}
 use Rattle.command_words.specs.declared.invocation.Mode.TheVariants.{Serial, Live}
 use Rattle.fw_command.specs.declared.script.Pace.{Pace}
@@ -21,12 +20,12 @@ pub data Job : Type 0 where
   Replays : ReplayNames → Job
   Loads : (records : ℕ) → Job
 
--- what the words ask for, where it is carried out
+-- what the words ask for
 abbrev pub job_of_command : CommandWords → Option Job
-job_of_command (Replay Serial journal cache script captures) =
-    Some (Replays (record { mode = Serial; journal = journal; cache = cache; script = script; captures = captures }))
-job_of_command (Replay Live journal cache script captures) = None
+job_of_command (Replay mode journal cache script captures) =
+    Some (Replays (record { mode = mode; journal = journal; cache = cache; script = script; captures = captures }))
 job_of_command (Load records) = Some (Loads records)
+job_of_command (Audit report script captures) = None
 
 -- what these words ask for
 abbrev pub job_of : List (List ℕ) → Option Job

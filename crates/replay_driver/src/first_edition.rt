@@ -19,13 +19,13 @@ use std::alloc::Global;
 
 /// What a script gives before a packet is read.
 #[derive(Drop)]
-pub(crate) struct FirstEdition {
+pub struct FirstEdition {
     /// What the commands before `live` make.
-    pub(crate) config: Config,
+    pub config: Config,
     /// The answers to the listings before `live`, in the order of their lines.
-    pub(crate) answers: Items<LineAnswer>,
+    pub answers: Items<LineAnswer>,
     /// What stands behind `live`.
-    pub(crate) live: Items<Step>,
+    pub live: Items<Step>,
 }
 
 /// The configuration behind a command on this line.

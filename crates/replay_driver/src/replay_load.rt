@@ -2,10 +2,13 @@ ghost use Rattle.std.specs.Prelude.{◌≡◌, ◌≤◌, ◌∷◌, [], IfOk, v
 ghost use Rattle.replay_driver.specs.RunResult.{IsWritable};
 ghost use Rattle.replay_driver.specs.Found.{FindsLoad, made_capture};
 
+use crate::ScriptError;
+use crate::edition_replay::replay_in_turn;
+use crate::first_edition::read_first_edition;
 use crate::run_result::RunResult;
-use crate::script_replay::{ScriptReplay, replay_script};
 use capture_tracks::OpenedCapture;
 use fw_base::{Direction, Name, OutOfMemory, Port};
+use fw_command::Pace;
 use load_maker::{Load, MOST_RECORDS, MadeCapture, make};
 use std::alloc::Global;
 
@@ -32,8 +35,15 @@ pub(crate) fn replay_load(alloc: Global, records: u32) -> Result<RunResult, OutO
     let Load { script, capture } = make(alloc, records)?;
     let mut opened = Vec::new(alloc);
     opened.push(open_made(alloc, capture)?)?;
-    match replay_script(alloc, None, &script, opened)? {
-        ScriptReplay::Unready(error, _) => Ok(RunResult::Unready(error)),
-        ScriptReplay::Replayed { kept, ends, .. } => Ok(RunResult::Summed { kept, ends }),
+    match read_first_edition(alloc, Pace::Serial, &script) {
+        Ok(first) => {
+            let replayed = replay_in_turn(alloc, first, None, opened)?;
+            Ok(RunResult::Summed {
+                kept: replayed.record,
+                ends: replayed.ends,
+            })
+        }
+        Err(ScriptError::OutOfMemory) => Err(OutOfMemory),
+        Err(error) => Ok(RunResult::Unready(error)),
     }
 }

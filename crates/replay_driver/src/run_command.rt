@@ -9,15 +9,17 @@ ghost use Rattle.replay_driver.specs.Run.{IsNoCommand, IsRunOf, IsFoundRun, stat
 ghost use Rattle.replay_driver.specs.RunResult as results;
 ghost use Rattle.replay_driver.specs.Served.{job_of};
 
+use crate::files_replay::replay_files;
+use crate::manner::Manner;
 use crate::pieced_text::write_pieced;
-use crate::replay_files::replay_files;
 use crate::replay_load::replay_load;
 use crate::run_result::{Found, RunResult, no_ends, without_sources};
 use crate::{LibraryView, Outcome, SinkView};
 use buffered_io::PIECE_BYTES;
-use command_words::{Invocation, Mode, read_words};
+use command_words::{Invocation, read_words};
 use core::mem::replace_with;
 use fw_base::{Failed, Gate, Library, OutOfMemory, Sink};
+use live_replay::Runner;
 use std::alloc::{AllocError, Global};
 use std::sync::Wait;
 use std::thread::Threads;
@@ -76,11 +78,15 @@ fn report<S: Drop, K: Sink>(alloc: Global, found: Found<S>, out: &mut K) -> Outc
 }
 
 /// Carries out what the words ask for.
-fn find<L: Library>(
+fn find<R: Threads + Wait + Sync, L: Library, G: Gate + Sync>(
+    rt: &R,
     alloc: Global,
     words: &[String],
     library: &mut L,
+    gate: &G,
 ) -> Result<Found<L::Reader>, OutOfMemory>
+where
+    L::Reader: Send,
     ensures writable { IfOk result (λ found. results.IsWritable found.result) }
     ensures finds { IfOk result (λ found.
         FindsWords ⟦<L as LibraryView>⟧.files
@@ -89,38 +95,47 @@ fn find<L: Library>(
     match read_words(alloc, words)? {
         Some(
             Invocation::Replay {
-                mode: Mode::Serial,
+                mode,
                 journal,
                 cache,
                 script,
                 captures,
             },
-        ) => replay_files(alloc, journal, cache, script, &captures, library),
-        Some(Invocation::Load(records)) => Ok(without_sources(alloc, replay_load(alloc, records)?)),
-        None
-        | Some(
-            Invocation::Replay {
-                mode: Mode::Live,
-                ..
+        ) => replay_files(
+            Runner { rt, gate },
+            alloc,
+            Manner {
+                mode,
+                journal,
+                cache,
             },
-        ) => Ok(without_sources(alloc, RunResult::Usage)),
+            script,
+            &captures,
+            library,
+        ),
+        Some(Invocation::Load(records)) => Ok(without_sources(alloc, replay_load(alloc, records)?)),
+        Some(Invocation::Audit { .. }) | None => { Ok(without_sources(alloc, RunResult::Usage)) }
     }
 }
 
 /// Runs the command that the words are, or writes the usage line.
-fn run_words<L: Library, K: Sink>(
+fn run_words<R: Threads + Wait + Sync, L: Library, K: Sink, G: Gate + Sync>(
+    rt: &R,
     alloc: Global,
     words: &[String],
     library: &mut L,
     out: &mut K,
+    gate: &G,
 ) -> Outcome<L::Reader>
+where
+    L::Reader: Send,
     ensures usage { job_of (map string_bytes words.now) ≡ None
         → IsNoCommand ⟦<K as SinkView>⟧.output library.old library.new out.old out.new result }
     ensures found { IfSome (job_of (map string_bytes words.now)) (λ job.
         IsRunOf ⟦<K as SinkView>⟧.output ⟦<L as LibraryView>⟧.files
         job library.old library.new out.old out.new result) }
 {
-    match find(alloc, words, library) {
+    match find(rt, alloc, words, library, gate) {
         Err(OutOfMemory) => without_memory(alloc),
         Ok(found) => report(alloc, found, out),
     }
@@ -129,18 +144,19 @@ fn run_words<L: Library, K: Sink>(
 /// Replays the captures that the words name beside the script that they name, or a load, and writes the
 /// report, or the summary, in pieces of 64 KiB. Nothing stays in a buffer.
 ///
-/// The words are `serial [--journal] [--cache N] [--] SCRIPT in|out:IF:CAPTURE ..`, with 1 to 16 captures and N from
-/// 1 to 65,536, or `load [--] N`.
+/// The words are `serial|live [--journal] [--cache N] [--] SCRIPT in|out:IF:CAPTURE ..`, with 1 to 16 captures and N
+/// from 1 to 65,536, or `load [--] N`. In live mode each capture is replayed by a thread of its own, beside one that
+/// runs the commands behind `live`.
 /// The status is 0; 1 where the words are no command; 2 where a script line isn't read or its command is
 /// refused; 3 where a capture has a fault; 4 where a name could not be opened or read, or a capture's source
 /// failed; 5 where the sink failed; 6 where memory ran out.
 pub fn run<R: Threads + Wait + Sync, L: Library, K: Sink, G: Gate + Sync>(
-    _rt: &R,
+    rt: &R,
     alloc: Global,
     words: &[String],
     library: &mut L,
     out: &mut K,
-    _gate: &G,
+    gate: &G,
 ) -> Outcome<L::Reader>
 where
     L::Reader: Send + Sync,
@@ -191,5 +207,5 @@ where
         job library.old library.new out.old out.new result
         → (result.status ≡ 0) ⊎ (result.status ≡ 6)) }
 {
-    run_words(alloc, words, library, out)
+    run_words(rt, alloc, words, library, out, gate)
 }

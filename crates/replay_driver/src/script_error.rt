@@ -61,7 +61,7 @@ impl ScriptError {
 
     /// Writes the one line that says why; nothing where memory ran out.
     #[tactic(auto, unfolding(crate::specs::ScriptTexts::error_text))]
-    pub(crate) fn write<K: Sink>(&self, out: &mut K) -> Result<(), Failed>
+    pub fn write<K: Sink>(&self, out: &mut K) -> Result<(), Failed>
         ensures { WritesText (K.written out.old) (K.written out.new) (K.faults out.old)
             (K.faults out.new) (spec.error_text self.now) result }
     {

@@ -110,20 +110,20 @@ module _ {S T : Type 0} (left : S → Option (List ℕ)) (failures : S → ℕ) 
       → IsReplayOf left failures Serial cache bytes opened kept ends sources → IsReplayOf otherLeft otherFailures Serial cache otherBytes others other otherEnds otherSources
       → bytes ≡ otherBytes → HaveSameContents left otherLeft opened others → HaveNoFailedRead ends.captures → HaveNoFailedRead otherEnds.captures → IsAlike kept other ends otherEnds
   same_replay cache bytes otherBytes opened others kept other ends otherEnds sources otherSources mine yours script captures read otherRead =
-      let r = mine.replayed in
-      let s = yours.replayed in
+      let r = mine.beside.replayed in
+      let s = yours.beside.replayed in
       let edition = ok_one (first_edition (pace_of Serial) otherBytes) yours.edition mine.edition yours.first (ap (first_edition (pace_of Serial)) (sym script) ∙ mine.first) in
-      let replay = moved edition (λ e. IsSerialReplay otherLeft otherFailures e.config e.live cache others s) (record { replay = yours.replay; ordered = yours.ordered }) in
-      let (replayed, report) = contents_determine_reports left failures otherLeft otherFailures mine.edition.config mine.edition.live cache opened others r s (record { replay = mine.replay; ordered = mine.ordered }) replay captures
-      (subst (λ (l : List CaptureEnd). HaveNoFailedRead l) mine.captures_ended read) (subst (λ (l : List CaptureEnd). HaveNoFailedRead l) yours.captures_ended otherRead) in
+      let replay = moved edition (λ e. IsSerialReplay otherLeft otherFailures e.config e.live cache others s) (record { replay = yours.beside.replay; ordered = yours.beside.ordered }) in
+      let (replayed, report) = contents_determine_reports left failures otherLeft otherFailures mine.edition.config mine.edition.live cache opened others r s (record { replay = mine.beside.replay; ordered = mine.beside.ordered }) replay captures
+      (subst (λ (l : List CaptureEnd). HaveNoFailedRead l) mine.beside.captures_ended read) (subst (λ (l : List CaptureEnd). HaveNoFailedRead l) yours.beside.captures_ended otherRead) in
       let before : mine.edition.answers ≡ yours.edition.answers = let back = sym edition in λ i. (back i).answers in
       let answers : ends.answers ≡ otherEnds.answers =
-      mine.lines_answered ∙ ap (λ (l : List LineAnswer). mine.edition.answers ++ l) replayed.answers ∙ ap (λ (l : List LineAnswer). l ++ s.ends.answers) before ∙ sym yours.lines_answered in
+      mine.beside.lines_answered ∙ ap (λ (l : List LineAnswer). mine.edition.answers ++ l) replayed.answers ∙ ap (λ (l : List LineAnswer). l ++ s.ends.answers) before ∙ sym yours.beside.lines_answered in
       record {
-        recorded = subst (λ (x : RecordValue). IsSameRecord x other) (sym mine.recorded) (subst (λ (x : RecordValue). IsSameRecord r.record x) (sym yours.recorded) replayed.recorded);
-        printed = ap (map printed_end) mine.captures_ended ∙ report.ends ∙ ap (map printed_end) (sym yours.captures_ended);
+        recorded = subst (λ (x : RecordValue). IsSameRecord x other) (sym mine.beside.recorded) (subst (λ (x : RecordValue). IsSameRecord r.record x) (sym yours.beside.recorded) replayed.recorded);
+        printed = ap (map printed_end) mine.beside.captures_ended ∙ report.ends ∙ ap (map printed_end) (sym yours.beside.captures_ended);
         answers = answers;
         text = λ journal.
-            text_parts journal mine.recorded mine.captures_ended refl ∙ report.text r.record.hits ends.answers journal
-            ∙ ap (λ hits. report_text (recorded_with hits s.record) s.ends.captures ends.answers journal) replayed.recorded.hits ∙ text_parts journal (sym yours.recorded) (sym yours.captures_ended) answers;
+            text_parts journal mine.beside.recorded mine.beside.captures_ended refl ∙ report.text r.record.hits ends.answers journal
+            ∙ ap (λ hits. report_text (recorded_with hits s.record) s.ends.captures ends.answers journal) replayed.recorded.hits ∙ text_parts journal (sym yours.beside.recorded) (sym yours.beside.captures_ended) answers;
       }

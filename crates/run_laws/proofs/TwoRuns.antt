@@ -1,10 +1,7 @@
 -- What the contract of `run` says of two runs, by their job.
-use Rattle.std.proofs.Common.{◌≡◌, ℕ, ◌≤◌, List, Option, None, Some, IfSome, IfNone, refl}
-use Rattle.std.specs.Prelude.{option_and_then}
-use Rattle.command_words.specs.Words.{CommandWords, Replay, Load, command_of}
-use Rattle.command_words.specs.declared.invocation.Mode.TheVariants.{Serial, Live}
+use Rattle.std.proofs.Common.{◌≡◌, ◌≤◌, Option, None, Some, IfSome, IfNone}
 use Rattle.replay_driver.specs.Promises.{IsKept, IsUnreadyJob, IsQuiet, IsFaulty}
-use Rattle.replay_driver.specs.Served.{Job, IsSerialJob, job_of_command, job_of}
+use Rattle.replay_driver.specs.Served.{Job, IsSerialJob}
 use Rattle.replay_driver.specs.declared.outcome.Outcome.{Outcome}
 use Rattle.run_laws.specs.TwoRuns.{Outside, HaveSameFiles, ComeToTheSame, IsPromisedRun}
 use Rattle.run_laws.proofs.Determined.{runs_are_determined}
@@ -25,23 +22,13 @@ run_promised out library libraryAfter sink sinkAfter outcome (Some job) report q
   status_3_cause = faulty;
 }
 
--- two runs of words that are a job come to the same
+-- two runs of words that are a job of serial mode, or a load, come to the same
 pub both_same : {L S K M T N : Type 0} (out : Outside L S K) (other : Outside M T N)
     (library libraryAfter : L) (otherLibrary otherLibraryAfter : M) (sink sinkAfter : K) (otherSink otherSinkAfter : N) (outcome : Outcome S) (otherOutcome : Outcome T) (command : Option Job)
-    → IfSome command IsSerialJob → IfSome command (λ job. IsPromisedRun out job library libraryAfter sink sinkAfter outcome)
+    → IfSome command (λ job. IsPromisedRun out job library libraryAfter sink sinkAfter outcome)
     → IfSome command (λ job. IsPromisedRun other job otherLibrary otherLibraryAfter otherSink otherSinkAfter otherOutcome)
-    → IfSome command (λ job. HaveSameFiles job (out.files.pairs library) (other.files.pairs otherLibrary) → outcome.status ≤ 3 → otherOutcome.status ≤ 3
+    → IfSome command (λ job. IsSerialJob job → HaveSameFiles job (out.files.pairs library) (other.files.pairs otherLibrary) → outcome.status ≤ 3 → otherOutcome.status ≤ 3
     → ComeToTheSame out.output.written other.output.written outcome otherOutcome sink sinkAfter otherSink otherSinkAfter)
-both_same out other library libraryAfter otherLibrary otherLibraryAfter sink sinkAfter otherSink otherSinkAfter outcome otherOutcome None serial run otherRun = tt
-both_same out other library libraryAfter otherLibrary otherLibraryAfter sink sinkAfter otherSink otherSinkAfter outcome otherOutcome (Some job) serial run otherRun =
+both_same out other library libraryAfter otherLibrary otherLibraryAfter sink sinkAfter otherSink otherSinkAfter outcome otherOutcome None run otherRun = tt
+both_same out other library libraryAfter otherLibrary otherLibraryAfter sink sinkAfter otherSink otherSinkAfter outcome otherOutcome (Some job) run otherRun = λ serial.
     runs_are_determined out other job library libraryAfter otherLibrary otherLibraryAfter sink sinkAfter otherSink otherSinkAfter outcome otherOutcome serial run otherRun
-
--- words ask for no job of live mode yet
-pub only_serial : (words : List (List ℕ)) → IfSome (job_of words) IsSerialJob
-only_serial words = by_command (command_of words)
-  where
-    by_command : (found : Option CommandWords) → IfSome (option_and_then job_of_command found) IsSerialJob
-    by_command None = tt
-    by_command (Some (Replay Serial journal cache script captures)) = refl
-    by_command (Some (Replay Live journal cache script captures)) = tt
-    by_command (Some (Load n)) = tt

@@ -1,6 +1,6 @@
 ghost use Rattle.std.specs.Prelude.{◌≡◌, ◌≤◌, None, IfSome, map, string_bytes};
 ghost use Rattle.replay_driver.specs.Run.{IsNoCommand, IsRunOf};
-ghost use Rattle.replay_driver.specs.Served.{job_of};
+ghost use Rattle.replay_driver.specs.Served.{IsSerialJob, job_of};
 ghost use Rattle.run_laws.specs.TwoRuns.{IsPromisedRun, HaveSameFiles, ComeToTheSame};
 
 use fw_base::{Gate, Library, Sink};
@@ -10,8 +10,8 @@ use std::sync::Wait;
 use std::thread::Threads;
 
 /// Runs the same words twice, over one library and sink and over others, and answers both outcomes, the first one
-/// first. Of words that are a command they come to the same, where the libraries tell the same bytes and no status is
-/// above 3.
+/// first. Of words that are a command they come to the same, where they don't ask for live mode, the libraries tell
+/// the same bytes, and no status is above 3.
 pub fn run_both<R: Threads + Wait + Sync, L: Library, M: Library, K: Sink, N: Sink, G: Gate + Sync>(
     rt: &R,
     alloc: Global,
@@ -38,7 +38,7 @@ where
         IsRunOf ⟦<N as SinkView>⟧.output ⟦<M as LibraryView>⟧.files
         job other_library.old other_library.new other_out.old other_out.new result.1) }
 
-    // Each keeps what the law asks for, and so both come to the same.
+    // Each keeps what the law asks for, and so both come to the same; in live mode threads may come to other orders.
     ensures first { IfSome (job_of (map string_bytes words.now)) (λ job. IsPromisedRun
         (record { files = ⟦<L as LibraryView>⟧.files; output = ⟦<K as SinkView>⟧.output })
         job library.old library.new out.old out.new result.0) }
@@ -46,7 +46,7 @@ where
         (record { files = ⟦<M as LibraryView>⟧.files; output = ⟦<N as SinkView>⟧.output })
         job other_library.old other_library.new other_out.old other_out.new result.1) }
     ensures same { IfSome (job_of (map string_bytes words.now)) (λ job.
-        HaveSameFiles job (L.pairs library.old) (M.pairs other_library.old)
+        IsSerialJob job → HaveSameFiles job (L.pairs library.old) (M.pairs other_library.old)
         → result.0.status ≤ 3 → result.1.status ≤ 3
         → ComeToTheSame K.written N.written result.0 result.1 out.old out.new other_out.old other_out.new) }
 {

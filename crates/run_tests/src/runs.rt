@@ -1,5 +1,5 @@
 use captures::{Packet, capture_of};
-use fw_base::{FreeGate, MemoryLibrary, MemorySink, MemorySource, Name};
+use fw_base::{FreeGate, Gate, MemoryLibrary, MemorySink, MemorySource, Name};
 use replay_driver::{Outcome, run};
 use std::alloc::Global;
 use std::process::Abort;
@@ -12,7 +12,9 @@ mod caches;
 mod captures;
 mod cuts;
 mod edits;
+mod gates;
 mod ipv6;
+mod live;
 mod loads;
 mod rows;
 mod scripts;
@@ -25,6 +27,12 @@ const ROOM: u64 = 1_048_576;
 
 /// The words of a run over a script and one capture of incoming packets.
 const SERIAL: &[&str] = &["serial", "s", "in:em0:c"];
+
+/// The same in live mode.
+const LIVE: &[&str] = &["live", "s", "in:em0:c"];
+
+/// The words of both modes.
+const MODES: [&[&str]; 2] = [SERIAL, LIVE];
 
 /// The report of an empty script over one SYN.
 const DENIED: &str =
@@ -121,6 +129,20 @@ fn run_over<R: Threads + Wait + Sync>(
     seen_of(alloc, outcome, out.written())
 }
 
+/// Runs these words over a library beside a gate.
+fn run_beside<R: Threads + Wait + Sync, G: Gate + Sync>(
+    rt: &R,
+    alloc: Global,
+    words: &[&str],
+    library: &mut MemoryLibrary,
+    gate: &G,
+) -> Result<Seen, Fail> {
+    let mut out = MemorySink::new(alloc, ROOM)?;
+    let words = texts(alloc, words)?;
+    let outcome = run(rt, alloc, &words, library, &mut out, gate);
+    seen_of(alloc, outcome, out.written())
+}
+
 /// A library with a script `s` and a capture `c`, which comes in these pieces and fails behind so many bytes.
 fn library_of(
     alloc: Global,
@@ -175,7 +197,28 @@ fn library_of_row(alloc: Global, row: &Row) -> Result<MemoryLibrary, Fail> {
     Ok(library)
 }
 
-/// Runs the row, and compares the status and the text.
+/// Whether a live run of the row prints what a serial one does: it has one capture, and no live command.
+fn prints_alike(row: &Row) -> bool {
+    row.captures.len() == 1 && !row.script.contains("live\n")
+}
+
+/// Runs the row in live mode, and compares the status and the text.
+fn check_live_row<R: Threads + Wait + Sync + Abort>(
+    rt: &R,
+    alloc: Global,
+    row: &Row,
+) -> Result<(), Fail> {
+    let mut words = Vec::from_slice(alloc, row.words)?;
+    if let Some(mode) = words.first_mut() {
+        *mode = "live";
+    }
+    let mut library = library_of_row(alloc, row)?;
+    let seen = run_over(rt, alloc, &words, &mut library, ROOM)?;
+    assert_seen(rt, &seen, row.name, row.status, row.text.as_bytes());
+    Ok(())
+}
+
+/// Runs the row, and compares the status and the text; where a live run prints alike, so in that mode.
 fn check_row<R: Threads + Wait + Sync + Abort>(
     rt: &R,
     alloc: Global,
@@ -184,6 +227,9 @@ fn check_row<R: Threads + Wait + Sync + Abort>(
     let mut library = library_of_row(alloc, row)?;
     let seen = run_over(rt, alloc, row.words, &mut library, ROOM)?;
     assert_seen(rt, &seen, row.name, row.status, row.text.as_bytes());
+    if prints_alike(row) {
+        check_live_row(rt, alloc, row)?;
+    }
     Ok(())
 }
 

@@ -1,5 +1,5 @@
 use super::captures::syns;
-use super::{ROOM, SERIAL, assert_seen, library_of, replay, run_over};
+use super::{LIVE, ROOM, SERIAL, assert_seen, library_of, run_over};
 use std::alloc::Global;
 use std::process::Abort;
 use std::sync::Wait;
@@ -66,53 +66,83 @@ fn report_of(alloc: Global, bytes: usize, end: &[u8]) -> Result<Vec<u8>, Fail> {
 fn check_truncated<R: Threads + Wait + Sync + Abort>(
     rt: &R,
     alloc: Global,
+    words: &[&str],
     capture: &[u8],
     bytes: usize,
 ) -> Result<(), Fail> {
     let (end, status) = truncated_end(bytes);
     let text = report_of(alloc, bytes, end)?;
     let front = &capture[..bytes.min(capture.len())];
-    let seen = replay(rt, alloc, b"", front, &[])?;
+    let mut library = library_of(alloc, b"", front, &[], None)?;
+    let seen = run_over(rt, alloc, words, &mut library, ROOM)?;
     assert_seen(rt, &seen, "a truncated capture", status, &text);
+    Ok(())
+}
+
+fn check_each_truncated<R: Threads + Wait + Sync + Abort>(
+    rt: &R,
+    alloc: Global,
+    words: &[&str],
+) -> Result<(), Fail> {
+    let capture = syns(alloc, 2)?;
+    for bytes in 0..=capture.len() {
+        check_truncated(rt, alloc, words, &capture, bytes)?;
+    }
     Ok(())
 }
 
 #[test]
 fn capture_truncated_at_each_byte(rt: HostRuntime) -> Result<(), Fail> {
-    let capture = syns(rt.alloc(), 2)?;
-    for bytes in 0..=capture.len() {
-        check_truncated(&rt, rt.alloc(), &capture, bytes)?;
-    }
-    Ok(())
+    check_each_truncated(&rt, rt.alloc(), SERIAL)
+}
+
+#[test]
+fn capture_truncated_at_each_byte_in_live_mode(rt: HostRuntime) -> Result<(), Fail> {
+    check_each_truncated(&rt, rt.alloc(), LIVE)
 }
 
 /// Runs an empty script over that capture, whose source fails after so many bytes.
 fn check_failing_source<R: Threads + Wait + Sync + Abort>(
     rt: &R,
     alloc: Global,
+    words: &[&str],
     capture: &[u8],
     bytes: usize,
 ) -> Result<(), Fail> {
     let text = report_of(alloc, bytes, failed_end(bytes))?;
     let mut library = library_of(alloc, b"", capture, &[], Some(bytes as u64))?;
-    let seen = run_over(rt, alloc, SERIAL, &mut library, ROOM)?;
+    let seen = run_over(rt, alloc, words, &mut library, ROOM)?;
     assert_seen(rt, &seen, "a source that fails", 4, &text);
+    Ok(())
+}
+
+fn check_each_failing<R: Threads + Wait + Sync + Abort>(
+    rt: &R,
+    alloc: Global,
+    words: &[&str],
+) -> Result<(), Fail> {
+    let capture = syns(alloc, 2)?;
+    for bytes in 0..=capture.len() {
+        check_failing_source(rt, alloc, words, &capture, bytes)?;
+    }
     Ok(())
 }
 
 #[test]
 fn sources_that_fail_at_each_byte(rt: HostRuntime) -> Result<(), Fail> {
-    let capture = syns(rt.alloc(), 2)?;
-    for bytes in 0..=capture.len() {
-        check_failing_source(&rt, rt.alloc(), &capture, bytes)?;
-    }
-    Ok(())
+    check_each_failing(&rt, rt.alloc(), SERIAL)
+}
+
+#[test]
+fn sources_that_fail_at_each_byte_in_live_mode(rt: HostRuntime) -> Result<(), Fail> {
+    check_each_failing(&rt, rt.alloc(), LIVE)
 }
 
 /// Runs an empty script over that capture, with a sink of this room for the text.
 fn check_room<R: Threads + Wait + Sync + Abort>(
     rt: &R,
     alloc: Global,
+    words: &[&str],
     capture: &[u8],
     text: &[u8],
     room: usize,
@@ -120,18 +150,30 @@ fn check_room<R: Threads + Wait + Sync + Abort>(
     let status = if room < text.len() { 5 } else { 0 };
     let front = &text[..room.min(text.len())];
     let mut library = library_of(alloc, b"", capture, &[], None)?;
-    let seen = run_over(rt, alloc, SERIAL, &mut library, room as u64)?;
+    let seen = run_over(rt, alloc, words, &mut library, room as u64)?;
     assert_seen(rt, &seen, "a sink of little room", status, front);
+    Ok(())
+}
+
+fn check_each_room<R: Threads + Wait + Sync + Abort>(
+    rt: &R,
+    alloc: Global,
+    words: &[&str],
+) -> Result<(), Fail> {
+    let capture = syns(alloc, 2)?;
+    let text = report_of(alloc, capture.len(), b"end 1 records 2\n")?;
+    for room in 0..=text.len() {
+        check_room(rt, alloc, words, &capture, &text, room)?;
+    }
     Ok(())
 }
 
 #[test]
 fn sinks_of_each_room(rt: HostRuntime) -> Result<(), Fail> {
-    let alloc = rt.alloc();
-    let capture = syns(alloc, 2)?;
-    let text = report_of(alloc, capture.len(), b"end 1 records 2\n")?;
-    for room in 0..=text.len() {
-        check_room(&rt, alloc, &capture, &text, room)?;
-    }
-    Ok(())
+    check_each_room(&rt, rt.alloc(), SERIAL)
+}
+
+#[test]
+fn sinks_of_each_room_in_live_mode(rt: HostRuntime) -> Result<(), Fail> {
+    check_each_room(&rt, rt.alloc(), LIVE)
 }

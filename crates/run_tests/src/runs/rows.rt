@@ -1,5 +1,5 @@
 use super::captures::{COOKED, ETHERNET, ETHERNET_HEADER, SYN, push_record, raw, syns};
-use super::{ROOM, SERIAL, assert_seen, library_of, replay, run_over};
+use super::{MODES, ROOM, SERIAL, assert_seen, library_of, run_over};
 use std::alloc::Global;
 use std::process::Abort;
 use std::sync::Wait;
@@ -48,7 +48,7 @@ fn too_long(alloc: Global) -> Result<Vec<u8>, Fail> {
     Ok(capture)
 }
 
-fn arp_and_tagged(alloc: Global) -> Result<Vec<u8>, Fail> {
+pub fn arp_and_tagged(alloc: Global) -> Result<Vec<u8>, Fail> {
     let (ends, kind) = ETHERNET.split_at(12);
     let mut capture = Vec::from_slice(alloc, &ETHERNET_HEADER)?;
     push_record(&mut capture, 100, &[ends, &[8, 6], &SYN])?;
@@ -87,7 +87,7 @@ fn bytes_of(alloc: Global, made: Made) -> Result<Vec<u8>, Fail> {
     }
 }
 
-/// Runs the row over its capture, which comes in these pieces, and compares the status and the text.
+/// Runs the row in both modes over its capture, which comes in these pieces, and compares the status and the text.
 fn check_in_pieces<R: Threads + Wait + Sync + Abort>(
     rt: &R,
     alloc: Global,
@@ -95,9 +95,12 @@ fn check_in_pieces<R: Threads + Wait + Sync + Abort>(
     capture: &[u8],
     pieces: &[usize],
 ) -> Result<(), Fail> {
-    let seen = replay(rt, alloc, row.script.as_bytes(), capture, pieces)?;
-    assert_seen(rt, &seen, row.name, row.status, row.text.as_bytes());
-    assert_eq!(rt; seen.sources, 2);
+    for words in MODES {
+        let mut library = library_of(alloc, row.script.as_bytes(), capture, pieces, None)?;
+        let seen = run_over(rt, alloc, words, &mut library, ROOM)?;
+        assert_seen(rt, &seen, row.name, row.status, row.text.as_bytes());
+        assert_eq!(rt; seen.sources, 2);
+    }
     Ok(())
 }
 

@@ -11,7 +11,7 @@ const USAGE: &[u8] =
     b"usage: ipfw_replay serial|live [--journal] SCRIPT in|out:IF:CAPTURE .. | load N\n";
 
 /// Words that are no command.
-const NO_COMMANDS: [&[&str]; 25] = [
+const NO_COMMANDS: [&[&str]; 24] = [
     &[],
     &["serial"],
     &["serial", "s"],
@@ -23,7 +23,6 @@ const NO_COMMANDS: [&[&str]; 25] = [
     &["help"],
     &["serial", "s", "in:em0:c", "--journal=x"],
     &["serial", "--journal", "s", "in:em0:c", "--journal"],
-    &["live", "s", "in:em0:c"],
     &["load"],
     &["load", "0"],
     &["load", "1000001"],
@@ -64,8 +63,9 @@ fn missing_capture_is_usage(rt: HostRuntime) -> Result<(), Fail> {
 }
 
 /// Words that are a command.
-const COMMANDS: [&[&str]; 7] = [
+const COMMANDS: [&[&str]; 8] = [
     &["serial", "s", "in:em0:c"],
+    &["live", "s", "in:em0:c"],
     &["serial", "s", "out:abc.def-ghi_jkl:c"],
     &["serial", "-", "in:em0:c"],
     &["serial", "s", "in:em0:c:d"],

@@ -3,8 +3,14 @@ use Rattle.std.specs.Prelude.{string_bytes}
 use Rattle.replay_driver.specs.Served.{job_of}
 use Rattle.replay_driver.proofs.Complete.{all_complete}
 use Rattle.replay_driver.proofs.LoadWords.{job_within}
-use Rattle.replay_driver.proofs.Promised.{all_kept, all_quiet, all_1, all_unready, all_refused, all_faulty, all_unread, all_failed, all_risen, all_silent, all_openings, all_steady}
+use Rattle.replay_driver.proofs.Promised.{all_kept, all_quiet, all_1, all_unready, all_refused, all_faulty, all_unread, all_failed, all_risen, all_silent, all_openings, all_steady, all_unopened}
 use Rattle.replay_driver.proofs.run_command.run.Goals as goal
+
+pub returns-clause-usage : goal.returns-clause-usage
+returns-clause-usage g c = c.run_words.ensures.usage
+
+pub returns-clause-found : goal.returns-clause-found
+returns-clause-found g c = c.run_words.ensures.found
 
 pub returns-clause-report : goal.returns-clause-report
 returns-clause-report g c = all_kept _ _
@@ -48,6 +54,10 @@ returns-clause-status_6_silent g c = all_silent _ _
 
 pub returns-clause-openings : goal.returns-clause-openings
 returns-clause-openings g c = all_openings _ _
+    c.args.library.now c.run_words.new.library c.args.out.now c.run_words.new.out c.run_words.result (job_of (map string_bytes c.args.words.now)) c.run_words.ensures.found c.run_words.ensures.usage
+
+pub returns-clause-nothing_opened : goal.returns-clause-nothing_opened
+returns-clause-nothing_opened g c = all_unopened _ _
     c.args.library.now c.run_words.new.library c.args.out.now c.run_words.new.out c.run_words.result (job_of (map string_bytes c.args.words.now)) c.run_words.ensures.found c.run_words.ensures.usage
 
 pub returns-clause-no_second_try : goal.returns-clause-no_second_try

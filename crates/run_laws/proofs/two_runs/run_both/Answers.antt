@@ -1,7 +1,7 @@
 use Rattle.std.proofs.Common.{map}
 use Rattle.std.specs.Prelude.{string_bytes}
 use Rattle.replay_driver.specs.Served.{job_of}
-use Rattle.run_laws.proofs.TwoRuns.{run_promised, both_same, only_serial}
+use Rattle.run_laws.proofs.TwoRuns.{run_promised, both_same}
 use Rattle.run_laws.proofs.two_runs.run_both.Goals as goal
 
 pub returns-clause-first_usage : goal.returns-clause-first_usage
@@ -31,6 +31,6 @@ returns-clause-same g c =
     let r = c.run-first.ensures in
     let s = c.run-second.ensures in
     let job = job_of (map string_bytes c.args.words.now) in
-    both_same _ _ _ _ _ _ _ _ _ _ _ _ job (only_serial (map string_bytes c.args.words.now))
+    both_same _ _ _ _ _ _ _ _ _ _ _ _ job
     (run_promised _ _ _ _ _ _ job r.report r.status_0_cause r.status_1_cause r.status_2_before r.status_3_cause)
     (run_promised _ _ _ _ _ _ job s.report s.status_0_cause s.status_1_cause s.status_2_before s.status_3_cause)

@@ -1,0 +1,32 @@
+-- What a replay of either mode leaves, with the answers of the listings before `live` before those behind it.
+use Rattle.std.proofs.Common.{◌≡◌, ℕ, ◌<◌, List, ◌++◌, Option, length, refl, ap, sym, subst}
+use Rattle.command_words.specs.declared.invocation.Mode.{Mode}
+use Rattle.capture_tracks.specs.Replay.{IsReplay}
+use Rattle.fw_report.specs.declared.ends.LineAnswer.{LineAnswer}
+use Rattle.capture_tracks.specs.declared.opened.OpenedCapture.{OpenedCapture}
+use Rattle.capture_tracks.specs.declared.replayed.Replayed.{Replayed}
+use Rattle.replay_driver.specs.EditionReplay.{ReplaysEdition}
+use Rattle.replay_driver.specs.Found.{IsOrderedIn}
+use Rattle.replay_driver.specs.declared.first_edition.FirstEdition.{FirstEdition}
+
+module _ {S : Type 0} (left : S → Option (List ℕ)) (failures : S → ℕ) where
+  -- the answers before `live` stand before the others
+  pub answered_before : (m : Mode) (first : FirstEdition) (cache : Option ℕ) (opened : List (OpenedCapture S)) (replayed with : Replayed S)
+      → (replay : IsReplay left failures first.config first.live cache opened replayed)
+      → IsOrderedIn m first.config first.live cache replay.tracks replayed.record
+      → with ≡ record replayed { ends = record replayed.ends { answers = first.answers ++ replayed.ends.answers } }
+      → ReplaysEdition left failures m first cache opened with
+  answered_before m first cache opened replayed with replay ordered is = rw is (record {
+    replayed = replayed;
+    replay = replay;
+    ordered = ordered;
+    recorded = refl;
+    captures_ended = refl;
+    lines_answered = refl;
+    given_back = refl;
+  })
+
+-- the editions are those that were replayed
+pub editions_stay : {S : Type 0} (answers : List LineAnswer) (replayed with : Replayed S) → 0 < length replayed.record.editions
+    → with ≡ record replayed { ends = record replayed.ends { answers = answers ++ replayed.ends.answers } } → 0 < length with.record.editions
+editions_stay answers replayed with some is = rw is some
