@@ -25,7 +25,7 @@ if [[ -x $view ]]; then
     {
         "$view" moves "$edit/before.report" "$work/fault" | sed "s#^.*/##"
         echo "status ${PIPESTATUS[0]}"
-        "$view" moves "$edit/before.report" "$work/nowhere" | sed "s# .*/# #"
+        "$view" moves "$edit/before.report" "$work/nowhere" | sed "s# [^ ]*/# #"
         echo "status ${PIPESTATUS[0]}"
         "$view" moves "$edit/before.report" "$top/examples/states/expected"
         echo "status $?"
