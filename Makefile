@@ -1,10 +1,11 @@
-# Builds, checks and installs ipfw_replay. 'make help' lists what can be made.
+# Builds, checks and installs ipfw_replay and report_view. 'make help' lists what can be made.
 
 RT = rt
 PREFIX = /usr/local
 DESTDIR =
 
 PROGRAM = bin/ipfw_replay
+VIEW = bin/report_view
 LOCK_BENCH = bin/lock_bench
 STATES_BENCH = bin/states_bench
 REPORT_BENCH = bin/report_bench
@@ -16,7 +17,7 @@ REPLAY_BENCH = bin/replay_bench
 need_rt = @command -v $(RT) >/dev/null || { \
 	echo "make: the Rattle toolchain's command '$(RT)' is needed to prove and build the crates; it was looked for in PATH ($$PATH)" >&2; exit 1; }
 
-all: $(PROGRAM)
+all: $(PROGRAM) $(VIEW)
 
 # rt ci proves the program and the crates below it, links it and runs it on the capture that lies beside it.
 $(PROGRAM): bin/sources
@@ -26,7 +27,7 @@ $(PROGRAM): bin/sources
 	@mv bin/ipfw_cli $@
 	@echo "built $@"
 
-$(LOCK_BENCH) $(STATES_BENCH) $(REPORT_BENCH) $(EDIT_BENCH) $(WORLD_BENCH) $(REPLAY_BENCH): bin/%: bin/sources
+$(VIEW) $(LOCK_BENCH) $(STATES_BENCH) $(REPORT_BENCH) $(EDIT_BENCH) $(WORLD_BENCH) $(REPLAY_BENCH): bin/%: bin/sources
 	$(need_rt)
 	RT=$(RT) build/run $*
 	@echo "built $@"
@@ -47,6 +48,7 @@ test: bin/sources
 	$(need_rt)
 	$(RT) ci
 	@cp crates/ipfw_cli/out/ipfw_cli $(PROGRAM).new && mv $(PROGRAM).new $(PROGRAM)
+	@cp crates/report_view/out/report_view $(VIEW).new && mv $(VIEW).new $(VIEW)
 	tests/run $(PROGRAM)
 
 # Those in crates/*/must-fail are the gate's.
@@ -62,11 +64,12 @@ bench: $(PROGRAM) $(LOCK_BENCH) $(STATES_BENCH) $(REPORT_BENCH) $(EDIT_BENCH) $(
 	$(WORLD_BENCH) 1000000
 	$(REPLAY_BENCH) 1000000
 
-install: $(PROGRAM)
+install: $(PROGRAM) $(VIEW)
 	install -d $(DESTDIR)$(PREFIX)/bin
 	install -m 755 $(PROGRAM) $(DESTDIR)$(PREFIX)/bin/ipfw_replay
+	install -m 755 $(VIEW) $(DESTDIR)$(PREFIX)/bin/report_view
 	install -d $(DESTDIR)$(PREFIX)/share/man/man1
-	install -m 644 docs/ipfw_replay.1 $(DESTDIR)$(PREFIX)/share/man/man1/ipfw_replay.1
+	install -m 644 docs/ipfw_replay.1 docs/report_view.1 $(DESTDIR)$(PREFIX)/share/man/man1
 	install -d $(DESTDIR)$(PREFIX)/share/doc/ipfw_replay
 	install -m 644 docs/RULES.md docs/RECIPES.md $(DESTDIR)$(PREFIX)/share/doc/ipfw_replay
 
@@ -74,12 +77,12 @@ clean:
 	rm -rf bin crates/*/out
 
 help:
-	@echo "make            proves the crates and builds bin/ipfw_replay, where something changed"
+	@echo "make            proves the crates and builds bin/ipfw_replay and bin/report_view, where something changed"
 	@echo "make example    builds, and replays examples/first: a real capture beside a script of rules"
 	@echo "make test       proves and tests every crate (rt ci), then runs the program's own checks (tests/run)"
 	@echo "make wrong-bodies  tries the wrong bodies that the gate leaves out: the prover must refuse each"
 	@echo "make bench      builds, and times the program on large captures, beside tcpdump where it is installed (needs python3), the states' asks, the report's lines, edits of a configuration, the lock's sections, the shared world's, and both replays without their reports"
-	@echo "make install    builds, and copies the program, its manual page, docs/RULES.md and docs/RECIPES.md below DESTDIR/PREFIX ($(PREFIX))"
+	@echo "make install    builds, and copies the programs, their manual pages, docs/RULES.md and docs/RECIPES.md below DESTDIR/PREFIX ($(PREFIX))"
 	@echo "make clean      removes all that was built here; what was proved stays with rt"
 	@echo
 	@echo "RT=COMMAND names another command than rt for the Rattle toolchain. RT_JOBS=N in the environment has it do N things at a"

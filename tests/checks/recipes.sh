@@ -2,6 +2,7 @@
 # shellcheck shell=bash disable=SC2154
 
 mkdir -p recipes/bin && ln -sf "$top/examples" recipes/examples && ln -sf "$tests" recipes/tests && ln -sf "$program" recipes/bin/ipfw_replay
+ln -sf "$(dirname "$program")/report_view" recipes/bin/report_view
 sed -n 's/^    //p' "$top/docs/RECIPES.md" >"$work/wanted"
 (
     cd recipes || exit 1

@@ -1,0 +1,6 @@
+-- how often something is in a list with one element more
+mod SpanSteps
+-- in a list that is mapped
+mod SpanLaws
+-- the moves of captures
+mod Rows

@@ -1,0 +1,21 @@
+//! A report, read back whole as the values that people ask of it.
+#![tactic(auto)]
+
+pub use capture::{Capture, read_captures};
+pub use lines::{EndLine, Lines};
+pub use outcome_parts::outcome_text;
+pub use outcomes::outcome_numbers;
+pub use records::Records;
+pub use report::{Report, ReportError, read_report};
+pub use rules::{CountedRule, KnownRule};
+pub use sections::{Journal, Sections};
+
+mod capture;
+mod fields;
+mod lines;
+mod outcome_parts;
+mod outcomes;
+mod records;
+mod report;
+mod rules;
+mod sections;

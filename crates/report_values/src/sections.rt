@@ -1,0 +1,278 @@
+use crate::fields::{number_before, rule_number, whole_number};
+use crate::{CountedRule, KnownRule, Lines, ReportError};
+use std::alloc::Global;
+
+/// What a report tells behind its captures.
+#[derive(Drop)]
+pub struct Sections<'a> {
+    /// The refused lines of the script, each as `line L FAULT`.
+    pub refused: Vec<&'a [u8]>,
+    /// The rules of each edition that is listed, and those of the last.
+    pub known: Vec<KnownRule<'a>>,
+    /// How many editions there were.
+    pub editions: u64,
+    /// The numbers of the disabled sets; empty where none is.
+    pub disabled: &'a [u8],
+    /// The rules of the last edition with what they counted.
+    pub rules: Vec<CountedRule<'a>>,
+    /// The greatest second that the states were asked at.
+    pub clock: u64,
+    /// The live states, each as `RULE FLOW expires S`, with its name.
+    pub states: Vec<&'a [u8]>,
+    /// How often each capture's cache had the verdict; empty where no cache was asked for.
+    pub hits: Vec<u64>,
+    /// The journal, where it was asked for.
+    pub journal: Option<Journal<'a>>,
+}
+
+/// The journal of the states.
+#[derive(Drop)]
+pub struct Journal<'a> {
+    /// How many entries it has.
+    pub entries: u64,
+    /// Their lines.
+    pub lines: &'a [u8],
+    /// What is told of each lane, as `C refused N tracker W`.
+    pub lanes: Vec<&'a [u8]>,
+}
+
+/// That the next line is none that a report has here.
+fn unfit(lines: &Lines<'_>) -> ReportError {
+    ReportError::Line(lines.read.max(lines.ahead).saturating_add(1))
+}
+
+/// What stands behind this word in the next line, which a report has here.
+fn wanted<'a>(lines: &mut Lines<'a>, word: &[u8]) -> Result<&'a [u8], ReportError> {
+    match lines.behind(word) {
+        Some(told) => Ok(told),
+        None => Err(unfit(lines)),
+    }
+}
+
+/// The number behind this word in the next line.
+fn wanted_number(lines: &mut Lines<'_>, word: &[u8]) -> Result<u64, ReportError> {
+    let line = *lines;
+    match whole_number(wanted(lines, word)?) {
+        Some(value) => Ok(value),
+        None => Err(unfit(&line)),
+    }
+}
+
+/// So many lines, whatever they are.
+fn read_lines<'a>(
+    alloc: Global,
+    lines: &mut Lines<'a>,
+    count: u64,
+) -> Result<Vec<&'a [u8]>, ReportError> {
+    let mut read = Vec::new(alloc);
+    for _ in 0..count {
+        read.push(wanted(lines, b"")?)?;
+    }
+    Ok(read)
+}
+
+/// Whether the rules of this edition are known already.
+fn is_known(known: &[KnownRule<'_>], edition: u64) -> bool {
+    known.iter().any(|rule| rule.edition == edition)
+}
+
+/// The rules that the edition lists, which become known unless they are.
+fn read_listing<'a>(
+    lines: &mut Lines<'a>,
+    edition: u64,
+    known: &mut Vec<KnownRule<'a>>,
+) -> Result<(), ReportError> {
+    let count = wanted_number(lines, b"rules ")?;
+    let is_new = !is_known(known, edition);
+    for _ in 0..count {
+        let line = *lines;
+        let Some((number, text)) = rule_number(wanted(lines, b"")?) else {
+            return Err(unfit(&line));
+        };
+        if is_new {
+            known.push(KnownRule {
+                edition,
+                number,
+                text,
+            })?;
+        }
+    }
+    Ok(())
+}
+
+/// The edition at the end of ` line L edition E`.
+fn edition_in(text: &[u8]) -> Option<u64> {
+    let (_, rest) = number_before(text, b" edition ")?;
+    whole_number(rest)
+}
+
+/// How many entries the answer to `table NAME list` has, from its first line behind `table `.
+fn entries_in(text: &[u8]) -> Option<u64> {
+    let blank = text.iter().position(|byte| *byte == b' ')?;
+    let (_, rest) = text.split_at(blank);
+    let rest = match rest.strip_prefix(b" addr ") {
+        Some(rest) => rest,
+        None => rest.strip_prefix(b" number ")?,
+    };
+    let (count, rest) = number_before(rest, b" line ")?;
+    let _edition = edition_in(rest)?;
+    Some(count)
+}
+
+/// The answers to lines of the script.
+fn read_answers<'a>(
+    alloc: Global,
+    lines: &mut Lines<'a>,
+    known: &mut Vec<KnownRule<'a>>,
+) -> Result<Vec<&'a [u8]>, ReportError> {
+    let mut refused = Vec::new(alloc);
+    for _ in 0..u64::MAX {
+        let line = *lines;
+        if let Some(told) = lines.behind(b"refused ") {
+            refused.push(told)?;
+        } else if let Some(told) = lines.behind(b"list line ") {
+            let Some(edition) = edition_in(told) else {
+                return Err(unfit(&line));
+            };
+            read_listing(lines, edition, known)?;
+        } else if let Some(told) = lines.behind(b"table ") {
+            let Some(entries) = entries_in(told) else {
+                return Err(unfit(&line));
+            };
+            for _ in 0..entries {
+                let _entry = wanted(lines, b"")?;
+            }
+        } else {
+            break;
+        }
+    }
+    Ok(refused)
+}
+
+/// A rule of the last edition with what it counted.
+fn counted_rule(line: &[u8]) -> Option<CountedRule<'_>> {
+    let (number, rest) = rule_number(line)?;
+    let (packets, rest) = number_before(rest, b" ")?;
+    let (bytes, text) = number_before(rest, b" ")?;
+    Some(CountedRule {
+        number,
+        packets,
+        bytes,
+        text,
+    })
+}
+
+/// The rules of the last edition with what they counted.
+fn read_rules<'a>(
+    alloc: Global,
+    lines: &mut Lines<'a>,
+) -> Result<Vec<CountedRule<'a>>, ReportError> {
+    let count = wanted_number(lines, b"rules ")?;
+    let mut rules = Vec::new(alloc);
+    for _ in 0..count {
+        let line = *lines;
+        match counted_rule(wanted(lines, b"")?) {
+            Some(rule) => rules.push(rule)?,
+            None => return Err(unfit(&line)),
+        }
+    }
+    Ok(rules)
+}
+
+/// The rules of the last edition become known, unless that edition is listed.
+fn know_last<'a>(
+    known: &mut Vec<KnownRule<'a>>,
+    edition: u64,
+    rules: &[CountedRule<'a>],
+) -> Result<(), ReportError> {
+    if is_known(known, edition) {
+        return Ok(());
+    }
+    for rule in rules {
+        known.push(KnownRule {
+            edition,
+            number: rule.number,
+            text: rule.text,
+        })?;
+    }
+    Ok(())
+}
+
+/// The hits of the caches.
+fn read_hits(alloc: Global, lines: &mut Lines<'_>) -> Result<Vec<u64>, ReportError> {
+    let mut hits = Vec::new(alloc);
+    for _ in 0..u64::MAX {
+        let line = *lines;
+        let Some(told) = lines.behind(b"cache ") else {
+            break;
+        };
+        match number_before(told, b" hits ").and_then(|(_, rest)| whole_number(rest)) {
+            Some(count) => hits.push(count)?,
+            None => return Err(unfit(&line)),
+        }
+    }
+    Ok(hits)
+}
+
+/// The journal and its lanes, where they are asked for.
+fn read_journal<'a>(
+    alloc: Global,
+    lines: &mut Lines<'a>,
+) -> Result<Option<Journal<'a>>, ReportError> {
+    let line = *lines;
+    let Some(told) = lines.behind(b"journal 2 ") else {
+        return Ok(None);
+    };
+    let Some(entries) = whole_number(told) else {
+        return Err(unfit(&line));
+    };
+    let begun = lines.rest;
+    for _ in 0..entries {
+        let _entry = wanted(lines, b"")?;
+    }
+    let length = begun.len().saturating_sub(lines.rest.len());
+    let mut lanes = Vec::new(alloc);
+    for _ in 0..u64::MAX {
+        match lines.behind(b"lane ") {
+            Some(lane) => lanes.push(lane)?,
+            None => break,
+        }
+    }
+    Ok(Some(Journal {
+        entries,
+        lines: begun.get(..length).unwrap_or(begun),
+        lanes,
+    }))
+}
+
+/// Reads all that stands behind the captures, to the text's end.
+pub(crate) fn read_sections<'a>(
+    alloc: Global,
+    lines: &mut Lines<'a>,
+) -> Result<Sections<'a>, ReportError> {
+    let mut known = Vec::new(alloc);
+    let refused = read_answers(alloc, lines, &mut known)?;
+    let editions = wanted_number(lines, b"editions ")?;
+    let disabled = lines.behind(b"disabled ").unwrap_or(b"");
+    let rules = read_rules(alloc, lines)?;
+    know_last(&mut known, editions, &rules)?;
+    let clock = wanted_number(lines, b"clock ")?;
+    let count = wanted_number(lines, b"states ")?;
+    let states = read_lines(alloc, lines, count)?;
+    let hits = read_hits(alloc, lines)?;
+    let journal = read_journal(alloc, lines)?;
+    if !lines.is_empty() {
+        return Err(unfit(lines));
+    }
+    Ok(Sections {
+        refused,
+        known,
+        editions,
+        disabled,
+        rules,
+        clock,
+        states,
+        hits,
+        journal,
+    })
+}

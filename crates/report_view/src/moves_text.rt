@@ -1,0 +1,197 @@
+ghost use Rattle.std.specs.Prelude.{OnOk, nat_eq};
+ghost use Rattle.std.specs.Cmp.Lexicographic.{pointwise};
+ghost use Rattle.std.specs.List.{IsDistinct};
+
+use crate::inputs::Trouble;
+use fw_base::{Failed, OutOfMemory, Sink, write_pieces, write_text};
+use fw_rule::Items;
+use itoa::Buffer;
+use report_moves::{Move, Moves, have_same_lengths, moves_between};
+use report_values::{Report, outcome_numbers};
+use std::alloc::Global;
+
+/// The outcomes of two reports, and what moved between them.
+#[derive(Drop)]
+pub(crate) struct Compared {
+    /// The texts of the outcomes, by their numbers.
+    pub(crate) texts: Vec<Items<u8>>,
+    pub(crate) moves: Moves,
+}
+
+/// The numbers of the outcomes of each capture.
+fn numbers_of(
+    alloc: Global,
+    texts: &mut Vec<Items<u8>>,
+    report: &Report<'_>,
+) -> Result<Vec<Items<u32>>, OutOfMemory>
+    requires { IsDistinct (pointwise nat_eq) texts.old.items }
+    ensures { OnOk result (IsDistinct (pointwise nat_eq) texts.new.items) }
+{
+    let known = report.sections.known.as_slice();
+    let mut numbers = Vec::new(alloc);
+    for capture in &report.captures {
+        numbers.push(outcome_numbers(alloc, texts, known, &capture.records)?)?;
+    }
+    Ok(numbers)
+}
+
+/// Where the reports don't have as many captures or records.
+fn unlike<'a>(old: &[Items<u32>], new: &[Items<u32>]) -> Trouble<'a> {
+    for (at, (was, is)) in old.iter().zip(new).enumerate() {
+        let was = was.as_slice().len();
+        let is = is.as_slice().len();
+        if was != is {
+            return Trouble::Records {
+                capture: (at as u64).saturating_add(1),
+                old: was as u64,
+                new: is as u64,
+            };
+        }
+    }
+    Trouble::Captures {
+        old: old.len() as u64,
+        new: new.len() as u64,
+    }
+}
+
+/// What moved from a report to another one of the same captures.
+pub(crate) fn compare<'a>(
+    alloc: Global,
+    old: &Report<'_>,
+    new: &Report<'_>,
+) -> Result<Compared, Trouble<'a>> {
+    let mut texts = Vec::new(alloc);
+    let old = numbers_of(alloc, &mut texts, old)?;
+    let new = numbers_of(alloc, &mut texts, new)?;
+    if !have_same_lengths(&old, &new) {
+        return Err(unlike(&old, &new));
+    }
+    let moves = moves_between(alloc, &old, &new)?;
+    Ok(Compared { texts, moves })
+}
+
+/// How many records some moves have.
+pub(crate) fn records_of(moves: &[Move]) -> u64 {
+    let mut records: u64 = 0;
+    for told in moves {
+        records = records.saturating_add(told.span.records);
+    }
+    records
+}
+
+/// The text of an outcome.
+pub(crate) fn text_of(texts: &[Items<u8>], number: u32) -> &[u8] {
+    match texts.get(number as usize) {
+        Some(text) => text.as_slice(),
+        None => b"",
+    }
+}
+
+/// The words of an outcome that tell its verdict.
+fn verdict_words(text: &[u8]) -> &[u8] {
+    match text.iter().position(|byte| *byte == b',') {
+        Some(at) => text.get(..at).unwrap_or(text),
+        None => text,
+    }
+}
+
+/// How many records came to another verdict; the others that moved came to another rule alone.
+pub(crate) fn other_verdicts(texts: &[Items<u8>], moves: &[Move]) -> u64 {
+    let mut records: u64 = 0;
+    for told in moves {
+        let was = verdict_words(text_of(texts, told.was));
+        if was != verdict_words(text_of(texts, told.is)) {
+            records = records.saturating_add(told.span.records);
+        }
+    }
+    records
+}
+
+/// Writes so many spaces.
+fn write_spaces<K: Sink>(out: &mut K, count: usize) -> Result<(), Failed> {
+    for _ in 0..count {
+        write_text(out, b" ")?;
+    }
+    Ok(())
+}
+
+/// How wide a column of numbers is.
+const NUMBER_WIDTH: usize = 8;
+
+/// Writes a number at the right of its column, and a space before it.
+fn write_number<K: Sink>(out: &mut K, number: u64) -> Result<(), Failed> {
+    let mut digits = Buffer::new();
+    let digits = digits.format(number).as_bytes();
+    write_spaces(out, NUMBER_WIDTH.saturating_sub(digits.len()))?;
+    write_pieces(out, &[b" ", digits])
+}
+
+/// Writes the numbers of a move.
+fn write_numbers<K: Sink>(out: &mut K, told: &Move) -> Result<(), Failed> {
+    write_number(out, told.span.records)?;
+    write_number(out, told.capture)?;
+    write_number(out, told.span.first)?;
+    write_number(out, told.span.last)?;
+    write_text(out, b"  ")
+}
+
+/// How wide the column of the outcomes then is.
+fn width_of(texts: &[Items<u8>], moves: &[Move]) -> usize {
+    let mut width = b"then".len();
+    for told in moves {
+        width = width.max(text_of(texts, told.was).len());
+    }
+    width
+}
+
+/// Writes what moved, a line each.
+fn write_moved<K: Sink>(out: &mut K, compared: &Compared) -> Result<(), Failed> {
+    let texts = compared.texts.as_slice();
+    let width = width_of(texts, &compared.moves.moved);
+    write_text(out, b"\n  records  capture    first     last  then")?;
+    write_spaces(out, width.saturating_sub(b"then".len()))?;
+    write_text(out, b"  now\n")?;
+    for told in &compared.moves.moved {
+        let was = text_of(texts, told.was);
+        write_numbers(out, told)?;
+        write_text(out, was)?;
+        write_spaces(out, width.saturating_sub(was.len()))?;
+        write_pieces(out, &[b"  ", text_of(texts, told.is), b"\n"])?;
+    }
+    Ok(())
+}
+
+/// Writes what stayed, a line each.
+fn write_stayed<K: Sink>(out: &mut K, compared: &Compared) -> Result<(), Failed> {
+    write_text(
+        out,
+        b"\n  records  capture    first     last  then and now\n",
+    )?;
+    for told in &compared.moves.stayed {
+        write_numbers(out, told)?;
+        write_pieces(out, &[text_of(&compared.texts, told.was), b"\n"])?;
+    }
+    Ok(())
+}
+
+/// Writes a count behind its word.
+fn write_count<K: Sink>(out: &mut K, word: &[u8], records: u64) -> Result<(), Failed> {
+    let mut digits = Buffer::new();
+    write_pieces(out, &[word, digits.format(records).as_bytes(), b"\n"])
+}
+
+/// Writes what moved and what stayed.
+pub(crate) fn write_compared<K: Sink>(out: &mut K, compared: &Compared) -> Result<(), Failed> {
+    let moves = &compared.moves;
+    write_count(out, b"moved ", records_of(&moves.moved))?;
+    let other_verdicts = other_verdicts(&compared.texts, &moves.moved);
+    write_count(out, b"moved to another verdict ", other_verdicts)?;
+    write_count(out, b"stayed ", records_of(&moves.stayed))?;
+    if !moves.moved.is_empty() {
+        write_moved(out, compared)?;
+    }
+    if !moves.stayed.is_empty() {
+        write_stayed(out, compared)?;
+    }
+    Ok(())
+}

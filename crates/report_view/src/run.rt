@@ -1,0 +1,185 @@
+use crate::inputs::{Trouble, read_text, unfit};
+use crate::moves_text::{Compared, compare, write_compared};
+use crate::words::{Request, read_request};
+use buffered_io::{PIECE_BYTES, PieceSink};
+use core::mem::replace_with;
+use fw_base::{Failed, Library, Sink, write_pieces, write_text};
+use itoa::Buffer;
+use report_values::read_report;
+use std::alloc::Global;
+
+/// What is shown, which stands whole before a byte is written.
+#[derive(Clone, Copy)]
+enum Shown<'a> {
+    Moves(&'a Compared),
+    Trouble(Trouble<'a>),
+}
+
+/// Shows what moved from the report of one name to that of another.
+fn show_moves<'a, L: Library, K: Sink>(
+    alloc: Global,
+    library: &mut L,
+    out: &mut K,
+    old: &'a str,
+    new: &'a str,
+) -> Result<u8, Trouble<'a>> {
+    let old_text = read_text(alloc, library, old)?;
+    let new_text = read_text(alloc, library, new)?;
+    let compared = compared_texts(alloc, (old, &old_text), (new, &new_text))?;
+    Ok(show(alloc, out, &Shown::Moves(&compared)))
+}
+
+/// What moved from the report in one text to that in another.
+fn compared_texts<'a>(
+    alloc: Global,
+    old: (&'a str, &[u8]),
+    new: (&'a str, &[u8]),
+) -> Result<Compared, Trouble<'a>> {
+    let old_report = match read_report(alloc, old.1) {
+        Ok(report) => report,
+        Err(error) => return Err(unfit(old.0, error)),
+    };
+    let new_report = match read_report(alloc, new.1) {
+        Ok(report) => report,
+        Err(error) => return Err(unfit(new.0, error)),
+    };
+    compare(alloc, &old_report, &new_report)
+}
+
+/// Carries out what the words ask for, and answers the status of what was shown.
+fn show_asked<'a, L: Library, K: Sink>(
+    alloc: Global,
+    words: &'a [String],
+    library: &mut L,
+    out: &mut K,
+) -> Result<u8, Trouble<'a>> {
+    match read_request(alloc, words)? {
+        Some(Request::Moves { old, new }) => show_moves(alloc, library, out, old, new),
+        None => Err(Trouble::Usage),
+    }
+}
+
+/// Writes two counts, each behind its word.
+fn write_counts<K: Sink>(
+    out: &mut K,
+    word: &[u8],
+    old: u64,
+    middle: &[u8],
+    new: u64,
+) -> Result<(), Failed> {
+    let mut old_digits = Buffer::new();
+    let mut new_digits = Buffer::new();
+    let old = old_digits.format(old).as_bytes();
+    let new = new_digits.format(new).as_bytes();
+    write_pieces(out, &[word, old, middle, new, b"\n"])
+}
+
+/// Writes why there is nothing to show.
+fn write_trouble<K: Sink>(out: &mut K, trouble: Trouble<'_>) -> Result<(), Failed> {
+    let mut digits = Buffer::new();
+    match trouble {
+        Trouble::Usage => write_text(out, b"usage: report_view moves OLD NEW\n"),
+        Trouble::Unread(name) => write_pieces(out, &[b"cannot read ", name.as_bytes(), b"\n"]),
+        Trouble::NoReport(name, line) => {
+            let line = digits.format(line).as_bytes();
+            let name = name.as_bytes();
+            write_pieces(
+                out,
+                &[
+                    name,
+                    b": line ",
+                    line,
+                    b" is none that a report has there\n",
+                ],
+            )
+        }
+        Trouble::Captures { old, new } => {
+            write_counts(
+                out,
+                b"captures: ",
+                old,
+                b" in the first report, in the second ",
+                new,
+            )
+        }
+        Trouble::Records { capture, old, new } => {
+            write_pieces(
+                out,
+                &[b"capture ", digits.format(capture).as_bytes(), b": "],
+            )?;
+            write_counts(
+                out,
+                b"records: ",
+                old,
+                b" in the first report, in the second ",
+                new,
+            )
+        }
+        Trouble::OutOfMemory => Ok(()),
+    }
+}
+
+/// The status of a trouble whose line was written.
+fn trouble_status(trouble: &Trouble<'_>) -> u8 {
+    match trouble {
+        Trouble::Usage => 1,
+        Trouble::NoReport(_, _) => 2,
+        Trouble::Captures { .. } | Trouble::Records { .. } => 3,
+        Trouble::Unread(_) => 4,
+        Trouble::OutOfMemory => 6,
+    }
+}
+
+/// Writes what is shown.
+fn write_shown<K: Sink>(out: &mut K, shown: &Shown<'_>) -> Result<(), Failed> {
+    match shown {
+        Shown::Moves(compared) => write_compared(out, compared),
+        Shown::Trouble(trouble) => write_trouble(out, *trouble),
+    }
+}
+
+/// The status of what is shown, where it is written.
+fn status_of(shown: &Shown<'_>) -> u8 {
+    match shown {
+        Shown::Moves(_) => 0,
+        Shown::Trouble(trouble) => trouble_status(trouble),
+    }
+}
+
+/// Writes what is shown in pieces as large as the buffer, and gives the sink back.
+fn write_pieced<K: Sink>(sink: K, text: (Vec<u8>, &Shown<'_>)) -> (K, Result<(), Failed>) {
+    let (mut buffer, shown) = text;
+    buffer.clear();
+    let mut pieces = PieceSink::new(sink, buffer);
+    let written = match write_shown(&mut pieces, shown) {
+        Ok(()) => pieces.flush(),
+        Err(Failed) => Err(Failed),
+    };
+    (pieces.into_inner(), written)
+}
+
+/// Shows it, and answers the status.
+fn show<K: Sink>(alloc: Global, out: &mut K, shown: &Shown<'_>) -> u8 {
+    let Ok(buffer) = Vec::with_capacity(alloc, PIECE_BYTES) else {
+        return trouble_status(&Trouble::OutOfMemory);
+    };
+    match replace_with(out, (buffer, shown), write_pieced) {
+        Ok(()) => status_of(shown),
+        Err(Failed) => 5,
+    }
+}
+
+/// Shows what the words ask for, and answers the status: 0; 1 where the words are no command; 2 where a text is no
+/// report; 3 where two reports don't have the same captures; 4 where a name could not be opened or read; 5 where the
+/// sink failed; 6 where memory ran out.
+pub(crate) fn run<L: Library, K: Sink>(
+    alloc: Global,
+    words: &[String],
+    library: &mut L,
+    out: &mut K,
+) -> u8 {
+    match show_asked(alloc, words, library, out) {
+        Ok(status) => status,
+        Err(trouble) => show(alloc, out, &Shown::Trouble(trouble)),
+    }
+}
