@@ -5,7 +5,7 @@ use std::fmt::Write;
 use std::test::Fail;
 
 /// Lists of words that are no command.
-const NO_COMMANDS: [&str; 90] = [
+const NO_COMMANDS: [&str; 96] = [
     // the first word
     "",
     "help",
@@ -103,10 +103,16 @@ const NO_COMMANDS: [&str; 90] = [
     "load|1|--journal",
     "load|\u{661}",
     "load|s|in:em0:c",
+    "audit|--journal|r|s|in:em0:c",
+    "audit|r|s|in:em0:c|--cache|4",
+    "audit||s|in:em0:c",
+    "audit|r||in:em0:c",
+    "audit|r|s",
+    "audit|s|in:em0:c",
 ];
 
 /// Lists of words that are a command, and what they name.
-const COMMANDS: [(&str, &str); 39] = [
+const COMMANDS: [(&str, &str); 41] = [
     ("serial|s|in:em0:c", "Serial false s, In em0 c"),
     ("live|s|out:em0:c", "Live false s, Out em0 c"),
     ("serial|--journal|s|in:em0:c", "Serial true s, In em0 c"),
@@ -189,13 +195,10 @@ const COMMANDS: [(&str, &str); 39] = [
     ("load|--|42", "load 42"),
     ("load|--|0100000", "load 100000"),
     ("audit|r|s|in:em0:c", "audit r s, In em0 c"),
-    ("audit|--|--r|-|out:em0:-|in:e:a:b", "audit --r -, Out em0 -, In e a:b"),
-    ("audit|--journal|r|s|in:em0:c", "no command"),
-    ("audit|r|s|in:em0:c|--cache|4", "no command"),
-    ("audit||s|in:em0:c", "no command"),
-    ("audit|r||in:em0:c", "no command"),
-    ("audit|r|s", "no command"),
-    ("audit|s|in:em0:c", "no command"),
+    (
+        "audit|--|--r|-|out:em0:-|in:e:a:b",
+        "audit --r -, Out em0 -, In e a:b",
+    ),
 ];
 
 /// What the words of a text come to.
