@@ -1,0 +1,2 @@
+-- what callers of a world of one lane or of two know
+mod Callers
