@@ -134,7 +134,7 @@ pub fn moves_between(
     // What moved came to another outcome, and what stayed to the same.
     ensures others { IfOk result (λ told. All (λ move. move.was ≢ move.is) told.moved.items) }
     ensures same { IfOk result (λ told. All (λ move. move.was ≡ move.is) told.stayed.items) }
-    // Each record is in one of them.
+    // Together they have as many records as the captures.
     ensures all { IfOk result (λ told. spec.records_of told.moved.items
         + spec.records_of told.stayed.items ≡ spec.records_in old.now) }
 {
