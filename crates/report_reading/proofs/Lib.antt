@@ -21,4 +21,4 @@ mod FlowsTold
 mod AsksAgain
 mod AsksTold
 -- each line, whatever its kind
-mod ReadingsTold
+pub mod ReadingsTold

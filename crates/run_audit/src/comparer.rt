@@ -46,7 +46,8 @@ impl Comparer {
         }
     }
 
-    /// The first line in which what was written isn't the text; `None` exactly where they are equal.
+    /// The first line in which what was written isn't the text; `None` exactly where they are
+    /// equal.
     pub fn differs(&self) -> Option<u64>
         ensures { result ≡ line_of_first_other 1 self.now.written self.now.text }
     {

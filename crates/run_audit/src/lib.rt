@@ -1,19 +1,48 @@
 //! Says whether a report is that of a legal record.
 #![tactic(auto)]
 
+pub use audit::{Audit, MOST_CAPTURES};
+pub use audit_fault::AuditFault;
 pub use comparer::Comparer;
 pub use forms::first_unformed;
-pub use laws::differences_are_by_lines;
+pub use laws::{
+    differences_are_by_lines, printed_journals_pass, tests_find_all, tests_find_the_first,
+    told_records_are_legal,
+};
+pub use rebuilt::Rebuilt;
 pub use replaying::{replay_ask, replay_asked, replay_line, replay_publication, replay_published};
 pub use told_asks::{are_told_alike, op_under};
 pub use told_evaluations::evaluate_told;
 
+mod ask_index;
+mod ask_stands;
+mod audit;
+mod audit_fault;
+mod begun_book;
+mod closing;
 mod comparer;
 mod forms;
+mod judging;
+mod lane_index;
 mod laws;
+mod left_over;
 mod lengths;
 mod meeting;
+mod numbered;
+mod opening;
+#[cfg(test)]
+mod opening_rows;
+mod publisher;
+mod reading_told;
+mod rebuilt;
+mod record_index;
+mod record_name;
 mod replaying;
+mod sweep;
+mod telling;
+mod told;
 mod told_asks;
+mod told_entries;
 mod told_evaluations;
+mod told_report;
 mod written;

@@ -4,7 +4,8 @@ ghost use Rattle.run_audit.specs.Meeting.{IsMet};
 
 use crate::lengths::{line_ends, shared_length};
 
-/// How far a text is met, and whether something else follows, when these bytes are written behind others.
+/// How far a text is met, and whether something else follows, when these bytes are written behind
+/// others.
 pub(crate) fn met_behind(text: &[u8], met: usize, other: bool, bytes: &[u8]) -> (usize, bool)
     requires { met ≤ length text.now }
     ensures { (written : List ℕ) → IsMet text.now written met other

@@ -14,8 +14,9 @@ use state_asks::Op;
 use state_journal::Book;
 use std::sync::Arc;
 
-/// Asks the states what a line tells, under the edition that was published last, and enters it with their answer. Whether
-/// that is the ask and the answer that the line tells; where it isn't, nothing is said of the book.
+/// Asks the states what a line tells, under the edition that was published last, and enters it with
+/// their answer. Whether that is the ask and the answer that the line tells; where it isn't,
+/// nothing is said of the book.
 pub fn replay_ask(
     book: &mut Book,
     edition: &Edition,
@@ -51,7 +52,7 @@ pub fn replay_publication(book: &mut Book, edition: &Edition) -> Result<(), OutO
 }
 
 /// The edition in this place.
-fn edition_at(editions: &[Arc<Edition>], place: usize) -> Option<&Edition>
+pub(crate) fn edition_at(editions: &[Arc<Edition>], place: usize) -> Option<&Edition>
     ensures { option_map (λ edition. edition.now) result
         ≡ slice_get (map arc_value editions.now) place }
 {
@@ -103,8 +104,8 @@ pub fn replay_asked(
     replay_ask(book, &editions[book.facts().len() - 1], told)
 }
 
-/// Takes in what a line tells: the states meet its publication or its ask. Whether the line tells the next publication, or
-/// an ask and an answer that are so.
+/// Takes in what a line tells: the states meet its publication or its ask. Whether the line tells
+/// the next publication, or an ask and an answer that are so.
 pub fn replay_line(
     book: &mut Book,
     editions: &[Arc<Edition>],

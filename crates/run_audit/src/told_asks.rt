@@ -18,7 +18,8 @@ fn place_among(names: &[Name], name: &[u8]) -> Option<usize>
     names.iter().position(|other| other.bytes() == name)
 }
 
-/// The number of the name among the flow names of an edition; `None` exactly where it is none of them.
+/// The number of the name among the flow names of an edition; `None` exactly where it is none of
+/// them.
 fn number_among(edition: &Edition, name: &[u8]) -> Option<u8>
     ensures { result ≡ spec.number_among edition.now.config.names name.now }
 {
@@ -49,8 +50,8 @@ fn flow_name_under(edition: &Edition, asked: FlowName, name: &[u8]) -> Option<Fl
     }
 }
 
-/// What is asked by an ask that is told, with the rule and the flow name of the edition; `None` exactly where it has no
-/// rule of that identity, or no such name.
+/// What is asked by an ask that is told, with the rule and the flow name of the edition; `None`
+/// exactly where it has no rule of that identity, or no such name.
 #[tactic(auto, unfolding(crate::specs::ToldAsks::op_under))]
 pub fn op_under(edition: &Edition, told: &Op, name: &[u8]) -> Option<Op>
     ensures value { result ≡ spec.op_under edition.now told.now name.now }
@@ -118,7 +119,8 @@ fn are_marked_alike(reply: &Reply, told: &Reply) -> bool
     kind == told_kind && number == told_number
 }
 
-/// Whether a line that tells the one reply tells the other: they are one but for the number of a rule.
+/// Whether a line that tells the one reply tells the other: they are one but for the number of a
+/// rule.
 pub fn are_told_alike(reply: &Reply, told: &Reply) -> bool
     ensures value { result ≡ spec.are_told_alike reply.now told.now }
     ensures alike { result ≡ true → printed_reply reply.now ≡ printed_reply told.now }

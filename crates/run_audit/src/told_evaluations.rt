@@ -20,8 +20,9 @@ fn is_same(asked: &Op, told: &Op) -> bool
     asked == told
 }
 
-/// The judgement to which the evaluation of a packet comes with the replies that are told, where it makes exactly the
-/// asks that are told; `None` where it doesn't, and then some of its hits may be counted.
+/// The judgement to which the evaluation of a packet comes with the replies that are told, where it
+/// makes exactly the asks that are told; `None` where it doesn't, and then some of its hits may be
+/// counted.
 pub fn evaluate_told(
     edition: &Edition,
     packet: &AnyIp<'_>,

@@ -1,0 +1,45 @@
+ghost use Rattle.std.specs.Prelude.{◌≡◌, ◌<◌, ◌+◌, ◌^◌, IfOk, IfErr, map};
+ghost use Rattle.std.specs.Arc.{arc_value};
+ghost use Rattle.std.specs.List.{AllByRecursion};
+ghost use Rattle.capture_tracks.specs.Commands.{lines_outcome};
+ghost use Rattle.fw_command.specs.WellFormed.{IsStepInRange};
+ghost use Rattle.run_audit.specs.Audit.{FailsAtOpening, IsOpened};
+ghost use Rattle.run_audit.specs.AuditFaults.{IfWrong};
+ghost use Rattle.run_audit.specs.ToldReport.{IsTold};
+
+use crate::publisher::Publisher;
+use crate::reading_told::told_report;
+use crate::told_report::ToldReport;
+use crate::{AuditFault, first_unformed};
+use fw_command::Step;
+use fw_report::LineAnswer;
+use rule_chain::Config;
+use std::alloc::Global;
+
+/// What a report tells beside a script whose edition 1 has this configuration and that has these
+/// steps behind `live`, and the answers to the script's lines: the form of all lines is tested
+/// first, and then the journal. It fails exactly where a line is wrong, with the first such line,
+/// or for want of memory.
+pub(crate) fn opened_report(
+    alloc: Global,
+    report: &[u8],
+    config: Config,
+    steps: &[Step],
+) -> Result<(ToldReport, Vec<LineAnswer>), AuditFault>
+    requires steps { AllByRecursion IsStepInRange steps.now }
+    ensures opened { IfOk result (λ opened. IsOpened config steps.now report.now
+        (map arc_value opened.0.editions.items) opened.0.book) }
+    ensures told { IfOk result (λ opened. IsTold report.now opened.0) }
+    ensures few { IfOk result (λ opened. opened.0.lines + 1 < 2 ^ 64) }
+    ensures answered { IfOk result (λ opened.
+        opened.1.items ≡ (lines_outcome config steps.now).answers) }
+    ensures wrong { IfErr result (λ fault. IfWrong fault (FailsAtOpening config steps.now
+        report.now)) }
+{
+    let (editions, answers) = Publisher::of_steps(alloc, config, steps)?.into_parts();
+    if let Some(line) = first_unformed(report) {
+        return Err(AuditFault::Wrong { line });
+    }
+    let told = told_report(alloc, report, editions)?;
+    Ok((told, answers))
+}
