@@ -1,0 +1,10 @@
+//! Laws of the auditor, in functions with no body: the report that is printed of a legal record
+//! passes each of its passes.
+#![tactic(auto)]
+
+pub use laws::{
+    printed_reports_are_faultless, printed_reports_leave_nothing, printed_reports_open,
+    printed_reports_tell_their_records, rebuilt_records_print_alike,
+};
+
+mod laws;
