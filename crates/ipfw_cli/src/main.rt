@@ -1,8 +1,8 @@
 //! `ipfw_replay`: replays captures beside an operator's script of rules.
 #![tactic(auto)]
 
+use audit_driver::run;
 use fw_base::FreeGate;
-use replay_driver::run;
 use std::process::ExitCode;
 use std::rt::Env;
 use std::{env, io};

@@ -7,6 +7,7 @@ use std::sync::Wait;
 use std::test::Fail;
 use std::thread::Threads;
 
+mod audits;
 mod bodies;
 mod caches;
 mod captures;

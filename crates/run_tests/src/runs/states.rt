@@ -15,7 +15,7 @@ const RST: u8 = 4;
 const JOURNAL: &[&str] = &["serial", "--journal", "s", "in:em0:c"];
 
 /// A connection is set up, closed from both sides, and over.
-const CONNECTION: &[Timed] = &[
+pub(super) const CONNECTION: &[Timed] = &[
     (100, Packet::Tcp((A, 1025), (B, 80), SYN)),
     (101, Packet::Tcp((B, 80), (A, 1025), SYN_ACK)),
     (102, Packet::Tcp((A, 1025), (B, 80), FIN_ACK)),

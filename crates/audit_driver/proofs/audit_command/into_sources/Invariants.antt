@@ -1,0 +1,7 @@
+-- The sources so far.
+use Rattle.std.proofs.Common.{◌≡◌}
+use Rattle.replay_driver.specs.Openings.{sources_of}
+use Rattle.audit_driver.proofs.audit_command.into_sources.Given as goal
+
+abbrev pub invariant-loop-capture : goal.invariant-loop-capture
+invariant-loop-capture g l = l.sources.items ≡ sources_of l.yielded

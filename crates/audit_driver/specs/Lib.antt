@@ -1,0 +1,15 @@
+-- which words ask for an audit
+pub mod AuditNames
+-- the records of captures
+pub mod Taken
+pub mod CaptureAudit
+pub mod Examined
+-- what an audit comes to
+pub mod TextComparer
+pub mod Concluding
+pub mod Found
+-- what is printed
+pub mod AuditTexts
+-- what it leaves, and what it promises
+pub mod Run
+pub mod Promises

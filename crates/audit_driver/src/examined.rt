@@ -1,0 +1,112 @@
+ghost use Rattle.std.specs.Prelude.{◌≡◌, ◌≤◌, ◌||◌, None, IfOk, is_some, length};
+ghost use Rattle.audit_driver.specs.Examined.{HasRoom, ExaminesNext, ExaminesAll};
+ghost use Rattle.fw_report.specs.CaptureEnds as ends_spec;
+
+use crate::capture_audit::{CaptureAudit, audit_capture};
+use capture_tracks::{MOST_RECORDS, OpenedCapture, limit_for};
+use fw_base::{OutOfMemory, Source};
+use fw_report::CaptureEnd;
+use pcap_read::CaptureFault;
+use run_audit::{Audit, MOST_CAPTURES};
+use std::alloc::Global;
+
+/// Captures that were audited in their order, to the first that stopped the audit.
+#[derive(Drop)]
+pub(crate) struct Examined<S> {
+    pub(crate) audit: Audit,
+    /// The captures' sources; those behind one that stopped the audit weren't read.
+    pub(crate) sources: Vec<S>,
+    /// How the captures ended that were read; of one that has a record that isn't as the report
+    /// tells it nothing is said.
+    pub(crate) ends: Vec<CaptureEnd>,
+    /// Whether the audit was stopped: by a record, for want of memory, or by a source that failed.
+    pub(crate) stopped: bool,
+}
+
+/// Whether the capture ended because its source failed.
+fn is_unread(end: &CaptureEnd) -> bool
+    ensures { result ≡ ends_spec.is_unread end.now }
+{
+    match end {
+        CaptureEnd::Stopped {
+            fault: CaptureFault::ReadFault,
+            ..
+        } => true,
+        CaptureEnd::Stopped { .. } | CaptureEnd::Read { .. } => false,
+    }
+}
+
+/// Whether the audit ends behind a capture that ended so.
+fn is_stopped(audit: &Audit, end: &CaptureEnd) -> bool
+    ensures { result ≡ (is_some audit.now.fault || ends_spec.is_unread end.now) }
+{
+    audit.fault().is_some() || is_unread(end)
+}
+
+/// Audits the next capture, of which at most `limit` records are read, or passes it by.
+fn examine_next<S: Source>(
+    alloc: Global,
+    examined: Examined<S>,
+    opened: OpenedCapture<S>,
+    limit: u32,
+) -> Result<Examined<S>, OutOfMemory>
+    requires room { HasRoom 1 examined }
+    requires some { 1 ≤ limit }
+    requires most { limit ≤ MOST_RECORDS }
+    ensures next { IfOk result (ExaminesNext S.left S.faults limit opened examined) }
+{
+    let Examined {
+        audit,
+        mut sources,
+        mut ends,
+        stopped,
+    } = examined;
+    if stopped {
+        sources.push(opened.source)?;
+        return Ok(Examined {
+            audit,
+            sources,
+            ends,
+            stopped,
+        });
+    }
+    let lane = ends.len() as u32 + 1;
+    let CaptureAudit { audit, source, end } = audit_capture(alloc, audit, lane, opened, limit)?;
+    let stopped = is_stopped(&audit, &end);
+    sources.push(source)?;
+    ends.push(end)?;
+    Ok(Examined {
+        audit,
+        sources,
+        ends,
+        stopped,
+    })
+}
+
+/// Audits captures in their order, to the first that stops the audit.
+pub(crate) fn examine<S: Source>(
+    alloc: Global,
+    audit: Audit,
+    opened: Vec<OpenedCapture<S>>,
+) -> Result<Examined<S>, OutOfMemory>
+    requires some { 1 ≤ length opened.items }
+    requires few { length opened.items ≤ MOST_CAPTURES }
+    requires captures { length audit.dockets ≡ length opened.items }
+    requires clear { audit.fault ≡ None }
+    requires lane { audit.lane ≡ 1 }
+    ensures { IfOk result (ExaminesAll S.left S.faults opened.items audit) }
+{
+    let limit = limit_for(opened.len() as u32);
+    let mut rest = opened;
+    rest.reverse();
+    let mut examined = Examined {
+        audit,
+        sources: Vec::new(alloc),
+        ends: Vec::new(alloc),
+        stopped: false,
+    };
+    while let Some(capture) = rest.pop() {
+        examined = examine_next(alloc, examined, capture, limit)?;
+    }
+    Ok(examined)
+}

@@ -1,0 +1,15 @@
+//! The command `audit`, which says whether a report is that of a legal record of a script and
+//! captures; and `run`, which carries out whichever command the words are.
+#![tactic(auto)]
+
+pub use audit_command::{AuditWords, audit};
+pub use run_command::run;
+
+mod audit_command;
+mod audit_result;
+mod capture_audit;
+mod concluding;
+mod examined;
+mod run_command;
+mod taken;
+mod text_comparer;

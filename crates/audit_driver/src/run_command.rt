@@ -1,0 +1,58 @@
+ghost use Rattle.std.specs.Prelude.{◌≡◌, None, IfSome, map, string_bytes};
+ghost use Rattle.command_words.specs.Words.{command_of};
+ghost use Rattle.replay_driver.specs.Run.{IsNoCommand, IsRunOf};
+ghost use Rattle.replay_driver.specs.Served.{job_of};
+ghost use Rattle.audit_driver.specs.AuditNames.{names_of};
+ghost use Rattle.audit_driver.specs.Run.{IsAuditRun};
+
+use crate::audit_command::{AuditWords, audit, without_memory};
+use command_words::{Invocation, read_words};
+use fw_base::{Gate, Library, OutOfMemory, Sink};
+use replay_driver::{LibraryView, Outcome, SinkView};
+use std::alloc::Global;
+use std::sync::Wait;
+use std::thread::Threads;
+
+/// Carries out the command that the words are, an audit among them, or writes the usage line.
+pub fn run<R: Threads + Wait + Sync, L: Library, K: Sink, G: Gate + Sync>(
+    rt: &R,
+    alloc: Global,
+    words: &[String],
+    library: &mut L,
+    out: &mut K,
+    gate: &G,
+) -> Outcome<L::Reader>
+where
+    L::Reader: Send + Sync,
+    ensures usage { command_of (map string_bytes words.now) ≡ None
+        → IsNoCommand ⟦<K as SinkView>⟧.output library.old library.new out.old out.new result }
+    ensures replay { IfSome (job_of (map string_bytes words.now)) (λ job.
+        IsRunOf ⟦<K as SinkView>⟧.output ⟦<L as LibraryView>⟧.files
+        job library.old library.new out.old out.new result) }
+    ensures audit { IfSome (names_of (map string_bytes words.now)) (λ names.
+        IsAuditRun ⟦<K as SinkView>⟧.output ⟦<L as LibraryView>⟧.files
+        names library.old library.new out.old out.new result) }
+{
+    match read_words(alloc, words) {
+        Err(OutOfMemory) => without_memory(alloc),
+        Ok(
+            Some(
+                Invocation::Audit {
+                    report,
+                    script,
+                    captures,
+                },
+            ),
+        ) => {
+            let words = AuditWords {
+                report,
+                script,
+                captures: &captures,
+            };
+            audit(alloc, words, library, out)
+        }
+        Ok(Some(Invocation::Replay { .. } | Invocation::Load(_)) | None) => {
+            replay_driver::run(rt, alloc, words, library, out, gate)
+        }
+    }
+}
