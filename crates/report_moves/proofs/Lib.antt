@@ -4,3 +4,5 @@ mod SpanSteps
 mod SpanLaws
 -- the moves of captures
 mod Rows
+-- that none is told twice
+mod Once

@@ -1,15 +1,14 @@
 -- The moves of captures, from their spans.
-use Rattle.std.proofs.Common.{◌≡◌, ◌≢◌, ℕ, suc, ◌+◌, ◌-◌, ◌<◌, ◌≤◌, Bool, true, false, not, cond, List, [], ◌∷◌, ◌++◌, None, Some, Option, length, refl, sym, ap, ◌∙◌, subst, arith, map, filter, get_or, take, nat_eq, inl, inr}
+use Rattle.std.proofs.Common.{◌≡◌, ◌≢◌, ℕ, ◌+◌, ◌-◌, ◌<◌, Bool, true, false, not, List, [], ◌∷◌, ◌++◌, Some, length, refl, sym, ap, ◌∙◌, subst, arith, map, filter, get_or, take, nat_eq, inl, inr}
 use Rattle.std.specs.Prelude.{All, sum_by}
 use Rattle.std.specs.HashMap.{HashMap, get, values}
 use Rattle.std.specs.List.{zip}
 use Rattle.std.specs.List.Sorted.{IsPermutation}
 use Rattle.std.proofs.lemmas.Bool.{cases_Bool, eqb-true, eq-eqb}
-use Rattle.std.proofs.lemmas.List.{take_more}
-use Rattle.std.proofs.lemmas.List.Elements.{All-append, All-map, All-nil, All-weaker, All-filter, All-cons, All-head, All-tail}
+use Rattle.std.proofs.lemmas.List.Elements.{All-append, All-map, All-nil, All-weaker, All-filter, All-cons}
 use Rattle.std.proofs.lemmas.List.Sorted.{All-permutation, sum_by-IsPermutation}
 use Rattle.std.proofs.lemmas.List.Sums.{sum_by-append, sum_by-cons, sum_by_more}
-use Rattle.report_moves.specs.Moves.{HaveSameLengths, IsTold, IsToldOf, IsSplit, move_of, records_of, records_in, is_stayed, is_moved}
+use Rattle.report_moves.specs.Moves.{IsTold, IsToldOf, IsSplit, move_of, records_of, records_in, is_stayed, is_moved}
 use Rattle.report_moves.specs.Spans.{pair_eq, span_of}
 use Rattle.report_moves.specs.declared.moves.Move.{Move}
 use Rattle.report_moves.specs.declared.spans.Span.{Span}
@@ -57,11 +56,13 @@ told_more old new at moves more within before told =
           told = subst (λ (k : ℕ). span_of (pair_eq (move.was, move.is)) (zip (get_or old k []) (get_or new k [])) ≡ Some move.span) (sym place) is.told;
         }
 
+-- the moves of one capture more have its records too
 pub sum_more : (old : List (List ℕ)) (at : ℕ) (moves more : List Move) → at < length old → records_of moves ≡ records_in (take at old)
     → records_of more ≡ length (get_or old at []) → records_of (moves ++ more) ≡ records_in (take (at + 1) old)
 sum_more old at moves more within before here =
     omega (arith, sum_by-append (λ (m : Move). m.span.records) moves more, sum_by_more length old at [] within, before, here)
 
+-- one more that passes a filter
 filter_yes : (p : Move → Bool) (ms : List Move) (m : Move) → p m ≡ true → filter p (ms ++ m ∷ []) ≡ filter p ms ++ m ∷ []
 filter_yes p [] m is = rw is refl
 filter_yes p (x ∷ ms) m is = elim (cases_Bool (p x)) [
@@ -69,6 +70,7 @@ filter_yes p (x ∷ ms) m is = elim (cases_Bool (p x)) [
   | inr isn't_in ↦ rw isn't_in (filter_yes p ms m is)
 ]
 
+-- one more that doesn't
 filter_no : (p : Move → Bool) (ms : List Move) (m : Move) → p m ≡ false → filter p (ms ++ m ∷ []) ≡ filter p ms
 filter_no p [] m isn't = rw isn't refl
 filter_no p (x ∷ ms) m isn't = elim (cases_Bool (p x)) [
@@ -91,9 +93,11 @@ module _ (moves moved stayed : List Move) (move : Move) (split : IsSplit moves m
     stayed_is = split.stayed_is ∙ sym (filter_no is_stayed moves move isn't);
   }
 
+-- equal numbers are found equal
 pub equal_numbers : (a b : ℕ) → a ≡ b → nat_eq a b ≡ true
 equal_numbers a b is = eq-eqb a b is
 
+-- others aren't
 pub unequal_numbers : (a b : ℕ) → a ≢ b → nat_eq a b ≡ false
 unequal_numbers a b apart = elim (cases_Bool (nat_eq a b)) [
   | inl is ↦ absurd (apart (eqb-true a b is))

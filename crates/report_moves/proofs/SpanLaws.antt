@@ -1,5 +1,5 @@
 -- How often something is in a list that is mapped, where first and where last.
-use Rattle.std.proofs.Common.{◌≡◌, ◌≢◌, ℕ, ◌+◌, ◌-◌, ◌&&◌, ◌||◌, Bool, true, false, not, cond, List, [], ◌∷◌, ◌++◌, None, Some, length, refl, sym, ap, ◌∙◌, arith, reverse, map, inl, inr, nat_eq}
+use Rattle.std.proofs.Common.{◌≡◌, ◌≢◌, ℕ, ◌&&◌, Bool, true, false, not, cond, List, [], ◌∷◌, ◌++◌, refl, sym, ap, ◌∙◌, reverse, map, inl, inr, nat_eq}
 use Rattle.std.specs.Prelude.{count_by}
 use Rattle.std.specs.List.{list_any, position_or_len, prefix_len, suffix_len, zip}
 use Rattle.std.proofs.lemmas.Bool.{cases_Bool, eqb-true}

@@ -1,9 +1,9 @@
 -- One element more at the end of a list: how often something is in it then, where first and where last.
-use Rattle.std.proofs.Common.{◌≡◌, ◌≢◌, ℕ, suc, ◌+◌, ◌-◌, ◌<◌, ◌≤◌, ◌&&◌, ◌||◌, Bool, true, false, not, cond, List, [], ◌∷◌, ◌++◌, Option, None, Some, length, refl, sym, ap, ◌∙◌, subst, arith, reverse, inl, inr, nat_eq, unwrap_or, get_or, take}
-use Rattle.std.specs.Prelude.{IfSome, count_by, sum_by}
+use Rattle.std.proofs.Common.{◌≡◌, ℕ, ◌+◌, ◌<◌, ◌≤◌, Bool, true, false, not, cond, List, [], ◌∷◌, ◌++◌, Option, None, Some, length, refl, sym, ap, ◌∙◌, subst, arith, inl, inr, nat_eq, unwrap_or, get_or, take}
+use Rattle.std.specs.Prelude.{IfSome, count_by}
 use Rattle.std.specs.Option.{option_map}
 use Rattle.std.specs.Cmp.{IsEquivalence}
-use Rattle.std.specs.HashMap.{HashMap, Updates, PutsEntry, get, values}
+use Rattle.std.specs.HashMap.{HashMap, Updates, PutsEntry, get}
 use Rattle.std.specs.List.{list_any, position_or_len, prefix_len, suffix_len, zip}
 use Rattle.std.proofs.lemmas.Bool.{cases_Bool, eqb-true, eq-eqb, and_parts}
 use Rattle.std.proofs.lemmas.Cmp.{nat_eq_equiv, on_equiv, and_equiv}

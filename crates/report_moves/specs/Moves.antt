@@ -1,6 +1,6 @@
 -- What moved between two lists of outcomes: the pairs of an outcome then and another one now.
-use Rattle.std.specs.Prelude.{◌≡◌, ◌≢◌, ℕ, ◌+◌, ◌-◌, ◌≤◌, ◌<◌, None, Some, List, [], length, slice_index_or, All, sum_by, ◌∷◌, filter, not, nat_eq, Bool}
-use Rattle.std.specs.List.{zip}
+use Rattle.std.specs.Prelude.{◌≡◌, ◌≢◌, ℕ, ◌-◌, ◌≤◌, ◌<◌, ◌&&◌, None, Some, List, [], length, slice_index_or, sum_by, filter, not, nat_eq, Bool}
+use Rattle.std.specs.List.{zip, IsDistinct}
 use Rattle.report_moves.specs.Spans.{pair_eq, span_of}
 use Rattle.report_moves.specs.declared.moves.Move.{Move}
 use Rattle.report_moves.specs.declared.spans.Span.{Span}
@@ -32,6 +32,14 @@ pub record IsToldOf (old new : List (List ℕ)) (move : Move) : Type 0 where
   pub first : 1 ≤ move.capture
   pub last : move.capture ≤ length old
   pub told : span_of (pair_eq (move.was, move.is)) (zip (slice_index_or old (move.capture - 1) []) (slice_index_or new (move.capture - 1) [])) ≡ Some move.span
+
+-- of one capture, from one outcome then to one now
+abbrev pub is_same_move : Move → Move → Bool
+is_same_move move other = nat_eq move.capture other.capture && (nat_eq move.was other.was && nat_eq move.is other.is)
+
+-- no move is told twice: no two of them are the same
+abbrev pub AreToldOnce : List Move → Type 0
+AreToldOnce moves = IsDistinct is_same_move moves
 
 -- how many records some moves have
 abbrev pub records_of : List Move → ℕ

@@ -1,4 +1,5 @@
-//! What moved between two lists of outcomes, record by record: how often, where first and where last.
+//! What moved between two lists of outcomes, record by record: how often, where first and where
+//! last.
 #![tactic(auto)]
 
 pub use laws::{moves_turn_round, nothing_moves_of_itself};

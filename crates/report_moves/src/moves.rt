@@ -1,5 +1,5 @@
 ghost use Rattle.std.specs.Prelude.{◌≡◌, ◌≢◌, ◌+◌, All, IfOk, Some, length, map, true};
-ghost use Rattle.std.specs.HashMap.{get};
+ghost use Rattle.std.specs.HashMap.{get, IsUnique};
 ghost use Rattle.std.specs.List.Sorted.{IsPermutation};
 ghost use Rattle.report_moves.specs.Moves as spec;
 ghost use Rattle.report_moves.specs.Spans.{pair_eq};
@@ -50,6 +50,7 @@ fn moves_in(
     ensures entries { IfOk result (λ moves. moves.items
         ≡ map (spec.move_of capture) spans.now.entries) }
     ensures found { All (λ entry. get pair_eq spans.now entry.0 ≡ Some entry.1) spans.now.entries }
+    ensures unique { IsUnique pair_eq spans.now }
 {
     let moves = spans
         .iter()
@@ -67,6 +68,7 @@ fn capture_moves(
 ) -> Result<Vec<Move>, OutOfMemory>
     requires { length old.now ≡ length new.now }
     ensures told { IfOk result (λ moves. All (spec.IsTold capture old.now new.now) moves.items) }
+    ensures once { IfOk result (λ moves. spec.AreToldOnce moves.items) }
     ensures all { IfOk result (λ moves. spec.records_of moves.items ≡ length old.now) }
 {
     let spans = spans_of(alloc, old, new)?;
@@ -82,6 +84,7 @@ fn all_moves(
 ) -> Result<Vec<Move>, OutOfMemory>
     requires { spec.HaveSameLengths old.now new.now }
     ensures told { IfOk result (λ moves. All (spec.IsToldOf old.now new.now) moves.items) }
+    ensures once { IfOk result (λ moves. spec.AreToldOnce moves.items) }
     ensures all { IfOk result (λ moves. spec.records_of moves.items ≡ spec.records_in old.now) }
 {
     let mut moves = Vec::new(alloc);
@@ -107,7 +110,8 @@ fn sort(moves: &mut Vec<Move>) -> Result<(), OutOfMemory>
 
 /// What moved and what stayed.
 fn split(alloc: Global, moves: &[Move]) -> Result<Moves, OutOfMemory>
-    ensures split { IfOk result (λ told. spec.IsSplit moves.now told.moved.items told.stayed.items) }
+    ensures split { IfOk result (λ told.
+        spec.IsSplit moves.now told.moved.items told.stayed.items) }
 {
     let mut moved = Vec::new(alloc);
     let mut stayed = Vec::new(alloc);
@@ -131,6 +135,9 @@ pub fn moves_between(
     // Each tells how many records of its capture came to its two outcomes, the first and the last.
     ensures moved { IfOk result (λ told. All (spec.IsToldOf old.now new.now) told.moved.items) }
     ensures stayed { IfOk result (λ told. All (spec.IsToldOf old.now new.now) told.stayed.items) }
+    // None is told twice.
+    ensures moved_once { IfOk result (λ told. spec.AreToldOnce told.moved.items) }
+    ensures stayed_once { IfOk result (λ told. spec.AreToldOnce told.stayed.items) }
     // What moved came to another outcome, and what stayed to the same.
     ensures others { IfOk result (λ told. All (λ move. move.was ≢ move.is) told.moved.items) }
     ensures same { IfOk result (λ told. All (λ move. move.was ≡ move.is) told.stayed.items) }

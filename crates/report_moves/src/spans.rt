@@ -57,7 +57,8 @@ fn count_record(
     Ok(())
 }
 
-/// For each pair of an outcome then and an outcome now: how many records came to it, the first and the last.
+/// For each pair of an outcome then and an outcome now: how many records came to it, the first and
+/// the last.
 pub fn spans_of(
     alloc: Global,
     old: &[u32],

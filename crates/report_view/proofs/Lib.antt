@@ -1,0 +1,2 @@
+-- sums over moves
+mod MovesLaws

@@ -1,0 +1,2 @@
+-- what is told of moves
+pub mod MovesTold

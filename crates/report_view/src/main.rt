@@ -1,9 +1,10 @@
-//! `report_view`: shows what an edit of the rules changed, by the reports of `ipfw_replay`.
+//! `report_view`: shows a report of `ipfw_replay`, and what an edit of the rules changed.
 #![tactic(auto)]
 
 mod inputs;
 mod moves_text;
 mod run;
+mod script_text;
 mod words;
 
 use crate::run::run;

@@ -1,6 +1,7 @@
-ghost use Rattle.std.specs.Prelude.{OnOk, nat_eq};
+ghost use Rattle.std.specs.Prelude.{◌≡◌, OnOk, [], nat_eq, slice_index_or};
 ghost use Rattle.std.specs.Cmp.Lexicographic.{pointwise};
 ghost use Rattle.std.specs.List.{IsDistinct};
+ghost use Rattle.report_view.specs.MovesTold as spec;
 
 use crate::inputs::Trouble;
 use fw_base::{Failed, OutOfMemory, Sink, write_pieces, write_text};
@@ -15,6 +16,9 @@ use std::alloc::Global;
 pub(crate) struct Compared {
     /// The texts of the outcomes, by their numbers.
     pub(crate) texts: Vec<Items<u8>>,
+    /// The outcomes' numbers for the records of each capture, then and now.
+    pub(crate) old: Vec<Items<u32>>,
+    pub(crate) new: Vec<Items<u32>>,
     pub(crate) moves: Moves,
 }
 
@@ -67,11 +71,18 @@ pub(crate) fn compare<'a>(
         return Err(unlike(&old, &new));
     }
     let moves = moves_between(alloc, &old, &new)?;
-    Ok(Compared { texts, moves })
+    Ok(Compared {
+        texts,
+        old,
+        new,
+        moves,
+    })
 }
 
 /// How many records some moves have.
-pub(crate) fn records_of(moves: &[Move]) -> u64 {
+pub(crate) fn records_of(moves: &[Move]) -> u64
+    ensures { result ≡ spec.records_told moves.now }
+{
     let mut records: u64 = 0;
     for told in moves {
         records = records.saturating_add(told.span.records);
@@ -80,7 +91,9 @@ pub(crate) fn records_of(moves: &[Move]) -> u64 {
 }
 
 /// The text of an outcome.
-pub(crate) fn text_of(texts: &[Items<u8>], number: u32) -> &[u8] {
+pub(crate) fn text_of(texts: &[Items<u8>], number: u32) -> &[u8]
+    ensures { result.now ≡ slice_index_or texts.now number [] }
+{
     match texts.get(number as usize) {
         Some(text) => text.as_slice(),
         None => b"",

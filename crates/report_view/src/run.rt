@@ -1,17 +1,22 @@
 use crate::inputs::{Trouble, read_text, unfit};
-use crate::moves_text::{Compared, compare, write_compared};
-use crate::words::{Request, read_request};
+use crate::moves_text::{Compared, compare, other_verdicts, records_of, write_compared};
+use crate::script_text::{Reviewed, review_status, write_reviewed};
+use crate::words::{Request, interface_in, read_request};
 use buffered_io::{PIECE_BYTES, PieceSink};
 use core::mem::replace_with;
-use fw_base::{Failed, Library, Sink, write_pieces, write_text};
+use fw_base::{Failed, Library, OutOfMemory, Sink, write_pieces, write_text};
 use itoa::Buffer;
+use report_page::{MovesShown, Piece, page_of, write_page};
 use report_values::read_report;
+use script_review::{findings_in, line_faults};
 use std::alloc::Global;
 
 /// What is shown, which stands whole before a byte is written.
 #[derive(Clone, Copy)]
 enum Shown<'a> {
     Moves(&'a Compared),
+    Page(&'a [Piece<'a>]),
+    Script(Reviewed<'a>),
     Trouble(Trouble<'a>),
 }
 
@@ -46,6 +51,90 @@ fn compared_texts<'a>(
     compare(alloc, &old_report, &new_report)
 }
 
+/// Shows a page of one report.
+fn show_page<'a, L: Library, K: Sink>(
+    alloc: Global,
+    library: &mut L,
+    out: &mut K,
+    name: &'a str,
+) -> Result<u8, Trouble<'a>> {
+    let text = read_text(alloc, library, name)?;
+    let report = match read_report(alloc, &text) {
+        Ok(report) => report,
+        Err(error) => return Err(unfit(name, error)),
+    };
+    let pieces = page_of(alloc, &report, None)?;
+    Ok(show(alloc, out, &Shown::Page(&pieces)))
+}
+
+/// Shows a page of one report with what moved to another.
+fn show_page_with_moves<'a, L: Library, K: Sink>(
+    alloc: Global,
+    library: &mut L,
+    out: &mut K,
+    old: &'a str,
+    new: &'a str,
+) -> Result<u8, Trouble<'a>> {
+    let old_text = read_text(alloc, library, old)?;
+    let new_text = read_text(alloc, library, new)?;
+    let compared = compared_texts(alloc, (old, &old_text), (new, &new_text))?;
+    let report = match read_report(alloc, &old_text) {
+        Ok(report) => report,
+        Err(error) => return Err(unfit(old, error)),
+    };
+    let moves = MovesShown {
+        texts: &compared.texts,
+        old: &compared.old,
+        new: &compared.new,
+        moved: &compared.moves.moved,
+        moved_records: records_of(&compared.moves.moved),
+        verdict_records: other_verdicts(&compared.texts, &compared.moves.moved),
+        stayed_records: records_of(&compared.moves.stayed),
+    };
+    let pieces = page_of(alloc, &report, Some(&moves))?;
+    Ok(show(alloc, out, &Shown::Page(&pieces)))
+}
+
+/// The interfaces of the captures among the words.
+fn interfaces_of(alloc: Global, words: &[String]) -> Result<Vec<&[u8]>, OutOfMemory> {
+    let mut interfaces = Vec::new(alloc);
+    for word in words {
+        if let Some(interface) = interface_in(word) {
+            interfaces.push(interface)?;
+        }
+    }
+    Ok(interfaces)
+}
+
+/// Shows what is wrong or odd with a script, beside captures of these interfaces.
+fn show_reviewed<K: Sink>(
+    alloc: Global,
+    out: &mut K,
+    text: &[u8],
+    interfaces: &[&[u8]],
+) -> Result<u8, OutOfMemory> {
+    let faults = line_faults(alloc, text)?;
+    let findings = findings_in(alloc, text, interfaces)?;
+    let reviewed = Reviewed {
+        faults: &faults,
+        findings: &findings,
+    };
+    Ok(show(alloc, out, &Shown::Script(reviewed)))
+}
+
+/// Shows what is wrong or odd with the script of that name, beside the captures among the words.
+fn show_script<'a, L: Library, K: Sink>(
+    alloc: Global,
+    library: &mut L,
+    out: &mut K,
+    script: &'a str,
+    words: &[String],
+) -> Result<u8, Trouble<'a>> {
+    let text = read_text(alloc, library, script)?;
+    let interfaces = interfaces_of(alloc, words)?;
+    Ok(show_reviewed(alloc, out, &text, &interfaces)?)
+}
+
 /// Carries out what the words ask for, and answers the status of what was shown.
 fn show_asked<'a, L: Library, K: Sink>(
     alloc: Global,
@@ -55,6 +144,14 @@ fn show_asked<'a, L: Library, K: Sink>(
 ) -> Result<u8, Trouble<'a>> {
     match read_request(alloc, words)? {
         Some(Request::Moves { old, new }) => show_moves(alloc, library, out, old, new),
+        Some(Request::Page { report, new: None }) => show_page(alloc, library, out, report),
+        Some(
+            Request::Page {
+                report,
+                new: Some(new),
+            },
+        ) => show_page_with_moves(alloc, library, out, report, new),
+        Some(Request::Script { script }) => show_script(alloc, library, out, script, words),
         None => Err(Trouble::Usage),
     }
 }
@@ -78,7 +175,10 @@ fn write_counts<K: Sink>(
 fn write_trouble<K: Sink>(out: &mut K, trouble: Trouble<'_>) -> Result<(), Failed> {
     let mut digits = Buffer::new();
     match trouble {
-        Trouble::Usage => write_text(out, b"usage: report_view moves OLD NEW\n"),
+        Trouble::Usage => write_text(
+            out,
+            b"usage: report_view moves OLD NEW | page REPORT [NEW] | script SCRIPT [in|out:IF:CAPTURE ..]\n",
+        ),
         Trouble::Unread(name) => write_pieces(out, &[b"cannot read ", name.as_bytes(), b"\n"]),
         Trouble::NoReport(name, line) => {
             let line = digits.format(line).as_bytes();
@@ -134,6 +234,8 @@ fn trouble_status(trouble: &Trouble<'_>) -> u8 {
 fn write_shown<K: Sink>(out: &mut K, shown: &Shown<'_>) -> Result<(), Failed> {
     match shown {
         Shown::Moves(compared) => write_compared(out, compared),
+        Shown::Page(pieces) => write_page(out, pieces),
+        Shown::Script(reviewed) => write_reviewed(out, reviewed),
         Shown::Trouble(trouble) => write_trouble(out, *trouble),
     }
 }
@@ -141,7 +243,8 @@ fn write_shown<K: Sink>(out: &mut K, shown: &Shown<'_>) -> Result<(), Failed> {
 /// The status of what is shown, where it is written.
 fn status_of(shown: &Shown<'_>) -> u8 {
     match shown {
-        Shown::Moves(_) => 0,
+        Shown::Moves(_) | Shown::Page(_) => 0,
+        Shown::Script(reviewed) => review_status(reviewed),
         Shown::Trouble(trouble) => trouble_status(trouble),
     }
 }
@@ -169,9 +272,10 @@ fn show<K: Sink>(alloc: Global, out: &mut K, shown: &Shown<'_>) -> u8 {
     }
 }
 
-/// Shows what the words ask for, and answers the status: 0; 1 where the words are no command; 2 where a text is no
-/// report; 3 where two reports don't have the same captures; 4 where a name could not be opened or read; 5 where the
-/// sink failed; 6 where memory ran out.
+/// Shows what the words ask for, and answers the status: 0; 1 where the words are no command; 2
+/// where a text is no report or a script has a fault; 3 where two reports don't have the same
+/// captures; 4 where a name could not be opened or read; 5 where the sink failed; 6 where memory
+/// ran out.
 pub(crate) fn run<L: Library, K: Sink>(
     alloc: Global,
     words: &[String],

@@ -7,7 +7,41 @@ use std::alloc::{AllocError, Global};
 #[derive(Clone, Copy, Debug, PartialEq, Eq)]
 pub(crate) enum Request<'a> {
     /// What moved from the first report to the second.
-    Moves { old: &'a str, new: &'a str },
+    Moves {
+        old: &'a str,
+        new: &'a str,
+    },
+    /// A page that shows a report, and what moved to another.
+    Page {
+        report: &'a str,
+        new: Option<&'a str>,
+    },
+    /// What is wrong or odd with the script, beside the captures of these words.
+    Script {
+        script: &'a str,
+    },
+}
+
+/// The interface in `in|out:IF:CAPTURE`; `None` where the word is no capture.
+pub(crate) fn interface_in(word: &str) -> Option<&[u8]> {
+    let bytes = word.as_bytes();
+    let rest = match bytes.strip_prefix(b"in:") {
+        Some(rest) => rest,
+        None => bytes.strip_prefix(b"out:")?,
+    };
+    let mut parts = rest.split(|byte| *byte == b':');
+    let interface = parts.next()?;
+    let _capture = parts.next()?;
+    if interface.is_empty() {
+        None
+    } else {
+        Some(interface)
+    }
+}
+
+/// Whether each of these words is a capture.
+fn are_captures(words: &[&str]) -> bool {
+    words.iter().all(|word| interface_in(word).is_some())
 }
 
 /// The command line of each command: positional words.
@@ -22,6 +56,14 @@ fn command_line<'a>(alloc: Global) -> Result<Command<'a>, AllocError> {
 fn request_of<'a>(command: &[u8], words: &[&'a str]) -> Option<Request<'a>> {
     match words {
         [old, new] if command == b"moves".as_slice() => Some(Request::Moves { old, new }),
+        [report] if command == b"page".as_slice() => Some(Request::Page { report, new: None }),
+        [report, new] if command == b"page".as_slice() => Some(Request::Page {
+            report,
+            new: Some(*new),
+        }),
+        [script, captures @ ..] if command == b"script".as_slice() && are_captures(captures) => {
+            Some(Request::Script { script })
+        }
         _ => None,
     }
 }

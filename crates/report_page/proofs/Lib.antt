@@ -1,0 +1,6 @@
+-- an escaped text
+mod EscapeLaws
+-- bins
+mod BinLaws
+-- shares
+pub mod ShareLaws

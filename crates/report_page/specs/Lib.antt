@@ -1,0 +1,7 @@
+-- the text of a page
+pub mod Escapes
+pub mod Pieces
+-- a strip of verdicts
+pub mod Bins
+-- shares of a whole
+pub mod Shares

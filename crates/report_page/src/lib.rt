@@ -1,0 +1,22 @@
+//! A page that shows a report: its text is markup of its own and escaped text of the report.
+#![tactic(auto)]
+
+pub use bins::{Bin, Shade, bins_of};
+pub use escapes::{escaped_text_has_no_markup, write_escaped};
+pub use moves_table::MovesShown;
+pub use page::page_of;
+pub use pieces::{Piece, put, write_page};
+pub use shares::{last_packets, never_met, packets_of, share};
+
+mod bins;
+mod captures;
+mod escapes;
+mod journal_chart;
+mod moves_table;
+mod page;
+mod pieces;
+mod plain_words;
+mod rules_table;
+mod shares;
+mod strip;
+mod style;
