@@ -1,9 +1,17 @@
 //! Tests of the shared world by the public calls of shared_world: lanes and a desk in threads, and the records that
-//! they leave.
+//! they leave. Readers that use the book beside publications (`lanes_regain_beside_publications`), lanes of two
+//! threads whose asks go in turn (`a_state_of_one_lane_is_found_by_the_other`), a lane that regains while the writer
+//! waits (`a_lane_regains_behind_the_writer`), the lock's row of one processor through a world of one lane
+//! (`lock_of_one_processor`), and a lane that wanted memory (`a_lane_that_wanted_memory_answers_so_again`, in which
+//! tests/refusals refuses each allocation in turn).
 #![tactic(auto)]
 
 #[cfg(test)]
+mod beside;
+#[cfg(test)]
 mod configuration;
+#[cfg(test)]
+mod memory;
 #[cfg(test)]
 mod one_lane;
 #[cfg(test)]
