@@ -64,6 +64,10 @@ bench: $(PROGRAM) $(LOCK_BENCH) $(STATES_BENCH) $(REPORT_BENCH) $(EDIT_BENCH) $(
 	$(WORLD_BENCH) 1000000
 	$(REPLAY_BENCH) 1000000
 
+# The pages of the examples as pictures below pictures/, by headless Chromium, light and dark and at two widths.
+pictures: $(VIEW)
+	tests/pictures $(VIEW)
+
 install: $(PROGRAM) $(VIEW)
 	install -d $(DESTDIR)$(PREFIX)/bin
 	install -m 755 $(PROGRAM) $(DESTDIR)$(PREFIX)/bin/ipfw_replay
@@ -74,7 +78,7 @@ install: $(PROGRAM) $(VIEW)
 	install -m 644 docs/RULES.md docs/RECIPES.md $(DESTDIR)$(PREFIX)/share/doc/ipfw_replay
 
 clean:
-	rm -rf bin crates/*/out
+	rm -rf bin pictures crates/*/out
 
 help:
 	@echo "make            proves the crates and builds bin/ipfw_replay and bin/report_view, where something changed"
@@ -82,10 +86,11 @@ help:
 	@echo "make test       proves and tests every crate (rt ci), then runs the program's own checks (tests/run)"
 	@echo "make wrong-bodies  tries the wrong bodies that the gate leaves out: the prover must refuse each"
 	@echo "make bench      builds, and times the program on large captures, beside tcpdump where it is installed (needs python3), the states' asks, the report's lines, edits of a configuration, the lock's sections, the shared world's, and both replays without their reports"
+	@echo "make pictures   builds, and makes pictures of the examples' pages below pictures/ (needs chromium)"
 	@echo "make install    builds, and copies the programs, their manual pages, docs/RULES.md and docs/RECIPES.md below DESTDIR/PREFIX ($(PREFIX))"
 	@echo "make clean      removes all that was built here; what was proved stays with rt"
 	@echo
 	@echo "RT=COMMAND names another command than rt for the Rattle toolchain. RT_JOBS=N in the environment has it do N things at a"
 	@echo "time, in place of one for each processor where memory is free."
 
-.PHONY: all example test wrong-bodies bench install clean help FORCE
+.PHONY: all example test wrong-bodies bench pictures install clean help FORCE

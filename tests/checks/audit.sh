@@ -1,21 +1,50 @@
-# Reports beside tests/audit.py, a second reading that asks whether a report is that of a legal record: it says yes to
-# what the program prints with the journal, and finds each of many reports wrong of which one digit, word or line was
+# Audits of reports, by the program and by tests/audit.py, a second reading of docs/RULES.md: both say yes to what the
+# program prints with the journal, and both name the same first line of reports of which one digit, word or line was
 # changed.
 # shellcheck shell=bash disable=SC2154
 
+# audits WORD..: what the program and the second reading say of a report beside a script and captures.
+audits() { "$program" audit "$@" && "$tests/audit.py" "$@"; }
+
+# The examples, in both modes where no `after` stands in the script.
+: >"$work/wanted"
+: >"$work/got"
+while read -r mode words; do
+    printf '%s %s\naudit yes\naudit yes\n' "$mode" "$words" >>"$work/wanted"
+    (
+        cd "$top" || exit
+        echo "$mode $words"
+        read -r -a words <<<"$words"
+        timeout 100 "$program" "$mode" --journal "${words[@]}" >"$work/report"
+        audits "$work/report" "${words[@]}"
+    ) >>"$work/got"
+done <<'WORDS'
+serial examples/first/rules out:em0:examples/first/session.pcap
+live examples/first/rules out:em0:examples/first/session.pcap
+serial examples/sets/rules out:em0:examples/first/session.pcap
+live examples/sets/rules out:em0:examples/first/session.pcap
+serial examples/edit/rules out:em0:examples/first/session.pcap
+live examples/edit/rules out:em0:examples/first/session.pcap
+serial examples/states/rules out:em0:examples/first/session.pcap in:em0:examples/states/received.pcap
+WORDS
+same audit_accepts_the_examples
+
+# Generated scripts and captures, and five changes of each report.
 : >"$work/wanted"
 : >"$work/got"
 for number in {1..60}; do
     rm -rf made && mkdir made && "$tests/generate.py" "$number" made
     mapfile -t words < <(grep -v '^--journal$' made/words)
-    printf '%s audit yes\n%s status 7\n' "$number" "$number" >>"$work/wanted"
     (
         cd made || exit
         timeout 100 "$program" serial --journal "${words[@]}" >report
-        echo "$number $("$tests/audit.py" report "${words[@]}")"
-        "$tests/change_report.py" "$number" <report >changed
-        "$tests/audit.py" changed "${words[@]}" >/dev/null
-        echo "$number status $?"
-    ) >>"$work/got"
+        printf '%s\naudit yes\nstatus 0\n' "$number" >>"$work/wanted"
+        { echo "$number" && "$program" audit report "${words[@]}"; echo "status $?"; } >>"$work/got"
+        for change in {1..5}; do
+            "$tests/change_report.py" $((5 * number + change)) <report >changed
+            { echo "$number $change" && "$tests/audit.py" changed "${words[@]}"; echo "status $?"; } >>"$work/wanted"
+            { echo "$number $change" && "$program" audit changed "${words[@]}"; echo "status $?"; } >>"$work/got"
+        done
+    )
 done
-same auditor_finds_what_was_changed
+same audits_find_what_was_changed

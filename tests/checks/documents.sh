@@ -58,7 +58,7 @@ if command -v mandoc >/dev/null; then
 fi
 
 # The manual has each status of the README's table.
-sed -n 's/^| \([0-6]\) | .*/\1/p' "$top/README.md" | sort -u >"$work/wanted"
+sed -n 's/^| \([0-7]\) | .*/\1/p' "$top/README.md" | sort -u >"$work/wanted"
 awk '/^\.Sh EXIT STATUS/ { inside = 1; next } /^\.Sh/ { inside = 0 } inside && /^\.It / { print $2 }' "$manual" >"$work/got"
 same manual_has_each_status
 

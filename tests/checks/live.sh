@@ -1,5 +1,5 @@
 # Mode live, in which lanes and edits meet in any order: what no order can change is what serial prints, and the rest
-# is audited by tests/audit.py, which asks whether a report is that of a legal record.
+# is audited by the program and by tests/audit.py: each asks whether a report is that of a legal record.
 # shellcheck shell=bash disable=SC2154
 
 # Without live commands one capture has one order, so live prints what serial prints, byte for byte. So it does over
@@ -33,9 +33,9 @@ for number in {201..400}; do
         cd made || exit
         sed -i '/^after /d' script
         timeout 100 "$program" serial --journal "${words[@]}" >serial
-        { echo "$number status $?" && whatever_order <serial && echo 'audit yes'; } >>"$work/wanted"
+        { echo "$number status $?" && whatever_order <serial && printf 'audit yes\naudit yes\n'; } >>"$work/wanted"
         timeout 100 "$program" live --journal "${words[@]}" >live
-        { echo "$number status $?" && whatever_order <live && "$tests/audit.py" live "${words[@]}"; } >>"$work/got"
+        { echo "$number status $?" && whatever_order <live && "$program" audit live "${words[@]}" && "$tests/audit.py" live "${words[@]}"; } >>"$work/got"
     )
 done
 same live_reports_are_legal

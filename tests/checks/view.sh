@@ -1,4 +1,4 @@
-# report_view on the reports of the examples: its moves, and what is told of a text that is no report.
+# report_view on the reports of the examples: its moves beside awk's, its pages parsed, their figures counted.
 # shellcheck shell=bash disable=SC2154
 
 view=$(dirname "$program")/report_view
@@ -33,4 +33,72 @@ if [[ -x $view ]]; then
     printf '%s\n' 'fault: line 1 is none that a report has there' 'status 2' 'cannot read nowhere' 'status 4' \
         'captures: 1 in the first report, in the second 2' 'status 3' >"$work/wanted"
     same view_no_report_is_told
+
+    # Each figure of the pages beside counts over their reports.
+    {
+        "$view" page "$edit/before.report" "$edit/after.report" >"$work/page" && python3 "$tests/page.py" "$work/page" "$edit/before.report" 95 13 75
+        for report in "$top"/examples/*/expected; do
+            "$view" page "$report" >"$work/page" && python3 "$tests/page.py" "$work/page" "$report"
+        done
+    } >"$work/got" 2>&1
+    : >"$work/wanted"
+    same view_pages_tell_what_the_reports_do
+
+    # Every fault of a script, with its line and a mark under the word; what is odd in one without a fault.
+    printf '%s\n' 'add 100 alow ip from any to any' 'add 70000 allow ip from any to any' \
+        'add 200 allow tcp from 10.0.0.1/33 to any' $'\tadd 300 deny ip from any to any foo # why' \
+        'after 3' live live >"$work/faulty"
+    {
+        "$view" script "$work/faulty"
+        echo "status $?"
+    } >"$work/got"
+    cat >"$work/wanted" <<'END'
+line 1, column 9: this word isn't known here
+    add 100 alow ip from any to any
+            ^
+line 2, column 5: this number is out of its range
+    add 70000 allow ip from any to any
+        ^
+line 3, column 24: a prefix has 0 to 32 bits, of IPv6 0 to 128
+    add 200 allow tcp from 10.0.0.1/33 to any
+                           ^
+line 4, column 34: this word isn't known here
+    TABadd 300 deny ip from any to any foo # why
+    TAB                                ^
+line 5, column 1: this can't stand here
+    after 3
+    ^
+line 7, column 1: this can't stand here
+    live
+    ^
+status 2
+END
+    sed -i 's/TAB/\t/' "$work/wanted"
+    same view_script_tells_each_fault
+
+    printf '%s\n' 'table web create' 'table spare create type number' 'table web add 203.0.113.80 80' \
+        'add 100 allow ip from me to table(web)' 'add 200 allow tcp from any to any recv em7' \
+        'add 210 allow tcp from any to any via em*' 'add 300 deny ip from any to any' \
+        'add 400 count ip from any to any' 'add 500 set 5 allow ip from any to any' \
+        'set disable 5 7' 'delete 999' 'table nowhere list' >"$work/odd"
+    {
+        "$view" script "$work/odd" in:em0:day.pcap
+        echo "status $?"
+        "$view" script "$first/rules" in:em0:day.pcap
+        echo "status $?"
+    } >"$work/got"
+    cat >"$work/wanted" <<'END'
+line 11: refused: no rule has that number
+line 12: refused: no table has that name
+line 4: `me` is nobody: no `local` gives the host an address
+line 8: rule 400 meets no packet while that of line 7 stands, which takes each before it
+line 5: no capture is of the interface em7
+line 2: no rule names the table spare
+set 5 is disabled from the start, rules in it: 1
+set 7 is disabled from the start, rules in it: 0
+status 2
+no fault, and nothing odd
+status 0
+END
+    same view_script_tells_what_is_odd
 fi
