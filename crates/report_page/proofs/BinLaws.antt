@@ -41,6 +41,7 @@ cut_sums size shades (bin ∷ bins) (is, rest) =
 abbrev pub CutsSoFar : ℕ → List Shade → List Shade → List Bin → Type 0
 CutsSoFar size shades rest bins = (more : List Bin) → IsCut size rest more → IsCut size shades (bins ++ more)
 
+-- one bin more of what is left
 pub cuts_more : (size : ℕ) (shades rest : List Shade) (bins : List Bin) → CutsSoFar size shades rest bins
     → CutsSoFar size shades (drop (min size (length rest)) rest) (bins ++ bin_of (take (min size (length rest)) rest) ∷ [])
 unfolding IsCut
@@ -50,6 +51,7 @@ cuts_more size shades rest bins so_far more cut =
     let behind : IsCut size (drop size rest) more = subst (λ (left : List Shade). IsCut size left more) (drop_min size rest) cut in
     subst (IsCut size shades) (sym (append_assoc bins (here ∷ []) more)) (so_far (here ∷ more) (same, behind))
 
+-- where nothing is left they cut it all
 pub cuts_all : (size : ℕ) (shades rest : List Shade) (bins : List Bin) → rest ≡ [] → CutsSoFar size shades rest bins → IsCut size shades bins
 unfolding IsCut
 cuts_all size shades rest bins none so_far = subst (IsCut size shades) (append-nil bins) (so_far [] none)
