@@ -24,6 +24,12 @@ while IFS='|' read -r _ crate _ _ tests_of _; do
 done < <(grep '^| `' table)
 same tests_of_MAP
 
+# Each crate says in its own first lines where its tests stand, as MAP does.
+grep '^| `' table | awk -F ' [|] ' '{ gsub(/[`| ]/, "", $1); cell = $NF; sub(/ *[|]$/, "", cell); if (cell != "") print $1 ": " cell "." }' | sort >"$work/wanted"
+(cd "$top/crates" && grep -H '^//! Tests: ' */src/lib.rt */src/main.rt) |
+    sed -E 's,^([a-z0-9_]+)/src/[a-z]+[.]rt:(//! Tests: ),\1: ,' | sort >"$work/got"
+same tests_named_by_crates
+
 # Its words stand in alphabetical order, and each names crates that there are.
 awk '/^## / { section = $0 } section == "## Whose words are whose" && /^\| / && !/^\| Word / { print }' "$top/docs/MAP.md" >words
 sed 's/^| //; s/ | .*//' words | tr 'A-Z' 'a-z' | tr -cd 'a-z0-9 \n' >"$work/got"
@@ -53,8 +59,8 @@ same layers_of_MAP
 manual=$top/docs/ipfw_replay.1
 if command -v mandoc >/dev/null; then
     : >"$work/wanted"
-    mandoc -Tlint -Wwarning "$manual" >"$work/got" 2>&1
-    same manual_is_well_formed
+    mandoc -Tlint -Wwarning "$manual" "$top/docs/report_view.1" >"$work/got" 2>&1
+    same manuals_are_well_formed
 fi
 
 # The manual has each status of the README's table.

@@ -1,5 +1,7 @@
 //! The command `audit`, which says whether a report is that of a legal record of a script and
 //! captures; and `run`, which carries out whichever command the words are.
+//!
+//! Tests: `run_tests`, src/runs/audits.
 #![tactic(auto)]
 
 pub use audit_command::{AuditWords, audit};

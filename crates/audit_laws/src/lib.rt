@@ -1,5 +1,7 @@
 //! Laws of the auditor, in functions with no body: the report that is printed of a legal record
 //! passes each of its passes.
+//!
+//! Tests: laws: none.
 #![tactic(auto)]
 
 pub use laws::{

@@ -1,4 +1,6 @@
 //! Text before a sink, and the bytes of a source, in pieces of 64 KiB.
+//!
+//! Tests: through `run`: `run_tests`, src/runs.
 #![tactic(auto)]
 
 pub use piece_sink::PieceSink;

@@ -1,5 +1,7 @@
 //! What a replay reads and answers, whichever way it goes through its records and commands: captures that are
 //! read record by record, how they end, and what the lines behind `live` come to.
+//!
+//! Tests: through `run`: `run_tests`, src/runs.
 #![tactic(auto)]
 
 pub use listing::{Listing, answer_listing, listing_of};

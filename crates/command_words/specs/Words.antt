@@ -165,6 +165,7 @@ cache_of (value ∷ other ∷ more) = None
 abbrev pub arguments_from : Given → Option Arguments
 arguments_from given = option_map (λ cache. record { journal = given.journal; cache = cache; positional = given.positional }) (cache_of given.caches)
 
+-- what the words behind the first come to, where they are options and operands
 abbrev pub arguments_of : List (List ℕ) → Option Arguments
 arguments_of words = given_by false words >>= arguments_from
 

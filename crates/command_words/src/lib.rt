@@ -1,6 +1,8 @@
 //! The words of a command line, and what they name: a script and captures to replay, or a load.
 //!
 //! `specs/Words.antt` says which lists of words are a command. `read_words` reads them by `clap`.
+//!
+//! Tests: `input_tests`, src/words.
 #![tactic(auto)]
 
 pub use capture_word::CaptureWord;

@@ -1,5 +1,7 @@
 //! The dynamic states of the packet filter (ipfw(8), "STATEFUL FIREWALL"): what a packet's ask answers,
 //! and what a publication leaves.
+//!
+//! Tests: `states_tests`, src/states.
 #![tactic(auto)]
 
 pub use hashed_states::HashedStates;

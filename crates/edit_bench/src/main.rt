@@ -1,5 +1,7 @@
 //! Makes 4,096 edits of a configuration of 30,000 rules and 36,000 entries of a table, keeps what each of them
 //! made, and times them; `bench/run` measures the memory. Without a kind of edit it says how it is used.
+//!
+//! Tests: none.
 #![tactic(auto)]
 
 use crate::configurations::{edited, first_configuration};

@@ -1,5 +1,7 @@
 //! Evaluates packets: which rule decides one, what it asks of the dynamic states, and what it counts
 //! (ipfw(8), "RULE ACTIONS", "STATEFUL FIREWALL").
+//!
+//! Tests: `engine_tests`, src/evaluations.
 #![tactic(auto)]
 
 pub use beginning::begin;

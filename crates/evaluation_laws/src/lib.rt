@@ -1,4 +1,6 @@
 //! Laws of evaluations, sentence by sentence of the manual, and a plain evaluator beside the one that is shipped.
+//!
+//! Tests: `engine_tests`, src/traces.
 #![tactic(auto)]
 
 pub use evaluation::{Evaluation, Outcome, evaluate};

@@ -1,5 +1,7 @@
 //! What the packet filter is given from outside, and the plain values that every crate above speaks
 //! of: addresses, prefixes, port ranges, link types, names.
+//!
+//! Tests: none of its own.
 #![tactic(auto)]
 
 pub use address::Addr;

@@ -1,4 +1,6 @@
 //! Reads a script of the packet filter: its commands (ipfw(8)), or the first fault.
+//!
+//! Tests: `language_tests`, src/scripts.
 #![tactic(auto)]
 
 pub use laws::{

@@ -1,4 +1,6 @@
 //! Words of a line of a rule script: the longest runs of bytes that aren't blank, before a comment.
+//!
+//! Tests: `language_tests`, src/words.
 #![tactic(auto)]
 
 pub use lexer::{before_comment, is_blank, tokens};

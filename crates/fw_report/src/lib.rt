@@ -1,4 +1,6 @@
 //! The report of a run, and its summary, as texts.
+//!
+//! Tests: `report_tests`, src/reports.
 #![tactic(auto)]
 
 pub use capture_end::CaptureEnd;

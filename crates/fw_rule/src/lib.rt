@@ -1,4 +1,6 @@
 //! Rules of the packet filter and the commands that change them (ipfw(8)), as values.
+//!
+//! Tests: none of its own.
 #![tactic(auto)]
 
 pub use action::Action;

@@ -1,4 +1,6 @@
 //! Editions: configurations that were published under a number, with what an evaluation asks of them.
+//!
+//! Tests: `engine_tests`, src/editions.
 #![tactic(auto)]
 
 pub use edition::Edition;

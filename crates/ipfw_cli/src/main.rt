@@ -1,4 +1,6 @@
 //! `ipfw_replay`: replays captures beside an operator's script of rules.
+//!
+//! Tests: the built program: `tests/run`.
 #![tactic(auto)]
 
 use audit_driver::run;

@@ -1,4 +1,6 @@
 //! Reads the words of a rule (ipfw(8), "RULE FORMAT"): a draft, or the first fault.
+//!
+//! Tests: `language_tests`, src/drafts.
 #![tactic(auto)]
 
 pub use addresses::{address, prefix};

@@ -34,9 +34,11 @@ module _ {S : Type 0} where
   abbrev pub lanes_of : List (Finished S) → List SharedLane
   lanes_of finished = map (λ f. f.lane) finished
 
+  -- the sources of the captures that were read
   abbrev pub sources_of : List (Finished S) → List S
   sources_of finished = map (λ f. f.source) finished
 
+  -- how these captures ended
   abbrev pub ends_of : List (Finished S) → List CaptureEnd
   ends_of finished = map (λ f. f.end) finished
 

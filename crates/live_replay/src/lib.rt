@@ -1,5 +1,7 @@
 //! Replays captures beside the commands behind `live` of a script: each capture by a thread of its own, and the
 //! commands by one more, over one shared world.
+//!
+//! Tests: through `run`: `run_tests`, src/runs/live.
 #![tactic(auto)]
 
 pub use replay::replay_live;

@@ -3,6 +3,8 @@
 //! the book; in one thread, in two and in as many as there are cores; beside two stores and a load on words of
 //! one's own, beside std's locks and counted pointer, and beside the states' book in std's mutex. Without a
 //! number of sections it says how it is used.
+//!
+//! Tests: none.
 #![tactic(auto)]
 
 use crate::timing::print_times;

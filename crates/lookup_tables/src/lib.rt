@@ -1,5 +1,7 @@
 //! The lookup tables of the packet filter: prefixes with values, of which the longest that has an
 //! address answers, and numbers with values, of which the equal one answers.
+//!
+//! Tests: `chain_tests`, src/lookups.
 #![tactic(auto)]
 
 pub use addr_table::AddrTable;

@@ -1,5 +1,7 @@
 //! Reads the headers of a captured frame: the link header, the IPv4 header, and the fields of the TCP,
 //! UDP or ICMP header that packet filter rules test.
+//!
+//! Tests: `input_tests`, src/packets.
 #![tactic(auto)]
 
 pub use flows::Flow;

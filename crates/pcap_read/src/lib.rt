@@ -4,6 +4,8 @@
 //! A capture gives these records and stops so, whatever sizes the source's reads have: `IsReading` ties an
 //! open capture to the bytes that it took and the records that it gave, and each call of `next` goes on
 //! from there.
+//!
+//! Tests: `input_tests`, src/captures.
 #![tactic(auto)]
 
 pub use capture::Capture;

@@ -1,5 +1,7 @@
 //! Times the serial and the live replay of four captures in memory, without their reports: with rules that ask the
 //! states nothing, and with states. Without a number of records it says how it is used.
+//!
+//! Tests: none.
 #![tactic(auto)]
 
 use crate::replays::{print_live, print_serial};

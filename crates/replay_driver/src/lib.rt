@@ -1,4 +1,6 @@
 //! Replays captures beside a script of rules, and prints the report: what `ipfw_replay` does.
+//!
+//! Tests: `run_tests`, src/runs.
 #![tactic(auto)]
 
 pub use first_edition::FirstEdition;

@@ -1,5 +1,7 @@
 //! Times the report: a line for each record and one for each entry of the journal, beside the same bytes
 //! written as many at once. Without a number of lines it says how it is used.
+//!
+//! Tests: none.
 #![tactic(auto)]
 
 use crate::reports::print_reports;

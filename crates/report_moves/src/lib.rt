@@ -1,5 +1,7 @@
 //! What moved between two lists of outcomes, record by record: how often, where first and where
 //! last.
+//!
+//! Tests: the built program: `tests/run`.
 #![tactic(auto)]
 
 pub use laws::{moves_turn_round, nothing_moves_of_itself};

@@ -1,4 +1,6 @@
 //! A page that shows a report: its text is markup of its own and escaped text of the report.
+//!
+//! Tests: the built program: `tests/run`.
 #![tactic(auto)]
 
 pub use bins::{Bin, Shade, bins_of};

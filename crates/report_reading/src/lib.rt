@@ -1,4 +1,6 @@
 //! Lines of a report, read back as what they tell.
+//!
+//! Tests: none of its own.
 #![tactic(auto)]
 
 pub use ask_lines::{AskLine, read_ask};

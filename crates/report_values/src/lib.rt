@@ -1,4 +1,6 @@
 //! A report, read back whole as the values that people ask of it.
+//!
+//! Tests: the built program: `tests/run`.
 #![tactic(auto)]
 
 pub use capture::{Capture, read_captures};

@@ -1,4 +1,6 @@
 //! `report_view`: shows a report of `ipfw_replay`, and what an edit of the rules changed.
+//!
+//! Tests: the built program: `tests/run`.
 #![tactic(auto)]
 
 mod inputs;

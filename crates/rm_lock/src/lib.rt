@@ -1,4 +1,6 @@
 //! A read-mostly lock, rmlock(9), over numbered editions and a book.
+//!
+//! Tests: `lock_tests`, src/lock_rows.
 #![tactic(auto)]
 
 pub use holding::Holding;

@@ -1,5 +1,7 @@
 //! The table under a read-mostly lock, rmlock(9): its words and slots, and one function for each kind
 //! of atomic step.
+//!
+//! Tests: `lock_tests`, src/table_rows.
 #![tactic(auto)]
 
 pub use closing::Closed;

@@ -1,5 +1,7 @@
 //! The read-mostly lock with sections that lie in one another, as RM_RECURSE of rmlock(9) allows, and with
 //! readers that were told of publications.
+//!
+//! Tests: `lock_tests`, src/told_rows.
 #![tactic(auto)]
 
 pub use deep::{Deep, MOST_DEPTH};

@@ -1,4 +1,6 @@
 //! A configuration of the packet filter (ipfw(8)): its rules in order, its sets, tables, settings and flow names.
+//!
+//! Tests: `chain_tests`, src/commands.
 #![tactic(auto)]
 
 pub use config::{Config, LAST_NUMBER, LAST_SET, MOST_COUNTERS, MOST_RULES};

@@ -1,4 +1,6 @@
 //! What each command makes of a configuration of the packet filter (ipfw(8)).
+//!
+//! Tests: `chain_tests`, src/commands.
 #![tactic(auto)]
 
 pub use apply_fault::ApplyFault;

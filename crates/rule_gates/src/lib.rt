@@ -1,6 +1,8 @@
 //! Gates: a few numbers beside each rule, by which an evaluation passes over most rules that have nothing
 //! to do with a packet, without a look at the rule itself; and over each thirty-two gates in a row a hull, by
 //! which a search passes over all of them.
+//!
+//! Tests: `engine_tests`, src/gates.
 #![tactic(auto)]
 
 pub use admission::{admits, is_exact};

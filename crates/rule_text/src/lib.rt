@@ -1,4 +1,6 @@
 //! The canonical text of a rule, and of the addresses, numbers and words in it (ipfw(8), "RULE FORMAT").
+//!
+//! Tests: `language_tests`, src/drafts.
 #![tactic(auto)]
 
 pub use address6_text::{first_longest_runs_are_found, write_address6};

@@ -1,4 +1,6 @@
 //! Says whether a report is that of a legal record.
+//!
+//! Tests: its own, src/opening_rows; `run_tests`, src/runs/audits.
 #![tactic(auto)]
 
 pub use audit::{Audit, MOST_CAPTURES};

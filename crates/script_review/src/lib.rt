@@ -1,4 +1,6 @@
 //! What is wrong with a script, each line by itself, and what is odd in one that has no fault.
+//!
+//! Tests: the built program: `tests/run`.
 #![tactic(auto)]
 
 pub use faulty_lines::{LineFault, line_faults};

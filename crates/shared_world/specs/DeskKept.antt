@@ -45,6 +45,7 @@ pub record DeskView : Type 0 where
   pub history : List (Configuration × Facts)
   pub own : List Item
 
+-- what a desk shows of what is known of it
 abbrev pub desk_view : Known → DeskView
 desk_view v = record { count = v.count; number = v.number; opened = v.opened; history = v.history; own = v.own }
 

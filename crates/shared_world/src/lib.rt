@@ -1,5 +1,7 @@
 //! The world for many threads: lanes and a desk on the read-mostly lock, over shared editions and the one
 //! book of the states.
+//!
+//! Tests: `world_tests`, in threads.
 #![tactic(auto)]
 
 pub use desk::Desk;

@@ -1,4 +1,6 @@
 //! What the dynamic states are asked and told, and what they answer (ipfw(8), "STATEFUL FIREWALL").
+//!
+//! Tests: none of its own.
 #![tactic(auto)]
 
 pub use facts::{Facts, is_ordered};

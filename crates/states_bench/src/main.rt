@@ -1,5 +1,7 @@
 //! Times the asks of the dynamic states, with few live and with as many as there may be, and the entries of
 //! their journal. Without a number of asks it says how it is used.
+//!
+//! Tests: none.
 #![tactic(auto)]
 
 use crate::asks::print_asks;

@@ -1,5 +1,7 @@
 //! A cache of verdicts for one packet thread: the most recent answers of one edition, by what a rule set
 //! can tell of an IPv4 packet.
+//!
+//! Tests: its own, src/tests.
 #![tactic(auto)]
 
 pub use cache::{MOST_VERDICTS, VerdictCache};

@@ -1,6 +1,8 @@
 //! Times sections of the shared world in which a packet is judged: with no ask of the states, with one ask each,
 //! and beside an operator that publishes; in one thread, in two and in four. Without a number of sections it says
 //! how it is used.
+//!
+//! Tests: none.
 #![tactic(auto)]
 
 use crate::sections::print_sections;
