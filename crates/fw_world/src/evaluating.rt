@@ -1,4 +1,4 @@
-ghost use Rattle.std.specs.Prelude.{◌<◌, [], length, IfOk, OnOk};
+ghost use Rattle.std.specs.Prelude.{◌<◌, ◌^◌, [], length, IfOk, OnOk};
 ghost use Rattle.rule_chain.specs.Chain.{IsConfiguration};
 ghost use Rattle.eval_engine.specs.Standing.{StandsAt};
 ghost use Rattle.fw_world.specs.AskRuns.{Evaluates, AsksFront};
@@ -70,11 +70,17 @@ pub fn evaluate_packet<B: AsksBook>(
         match stage {
             Stage::Judged(judgement) => return Ok(judgement),
             Stage::Asks(op, paused) => {
-                // This call's answer is a u64, and each ask raises it: so the loop ends.
-                let _entered = book.entered();
+                entered_fits(book);
                 let reply = book.ask(lane, at, op)?;
                 stage = resume(paused, reply, book.edition(), packet, port, second, tally);
             }
         }
     }
+}
+
+/// Does nothing, and says that a u64 counts the asks: each raises the count, so an evaluation ends.
+fn entered_fits<B: AsksBook>(book: &B)
+    ensures { B.entered book.now < 2 ^ 64 }
+{
+    let _entered = book.entered();
 }

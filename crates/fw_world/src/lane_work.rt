@@ -1,4 +1,5 @@
 ghost use Rattle.std.specs.Prelude.{◌≡◌, ◌+◌, ◌<◌, [], ◌∷◌, ◌++◌, length, true, false, IfOk, OnOk, OnErr};
+ghost use Rattle.rule_chain.specs.Chain.{IsConfiguration};
 ghost use Rattle.eval_engine.specs.Dockets.{judged_entry};
 ghost use Rattle.fw_world.specs.AskRuns.{Evaluates, AsksFront};
 ghost use Rattle.fw_world.specs.Caches.{IsPortFor, IsTrueFor, IsCacheBehind, IsCacheAfter};
@@ -12,6 +13,7 @@ use counter_book::Tally;
 use eval_engine::{Docket, DocketEntry, Judgement};
 use fw_base::{OutOfMemory, Port};
 use ip6_headers::AnyIp;
+use rule_chain::Config;
 use std::alloc::Global;
 
 /// What a lane does with its records, in whatever world.
@@ -160,8 +162,7 @@ impl LaneWork {
     {
         let at = self.docket.entries().len() as u64 + 1;
         let config = book.edition().config();
-        // This call's clause `lawful` says that it is a configuration, as the evaluation requires.
-        let _rules = config.rules();
+        is_configuration(config);
         self.tally.fit(config.counters())?;
         let tally = &mut self.tally;
         let cache = &mut self.cache;
@@ -169,4 +170,11 @@ impl LaneWork {
         self.docket.push(DocketEntry::judged(judgement))?;
         Ok(judgement)
     }
+}
+
+/// Does nothing, and says that it is a configuration, as an evaluation requires.
+fn is_configuration(config: &Config)
+    ensures { IsConfiguration config.now }
+{
+    let _rules = config.rules();
 }

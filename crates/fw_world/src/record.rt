@@ -2,6 +2,7 @@ ghost use Rattle.std.specs.Prelude.{◌≡◌, List, length, map};
 ghost use Rattle.std.specs.Arc.{arc_value};
 ghost use Rattle.fw_rule.specs.declared.command.Command.{Command};
 ghost use Rattle.rule_chain.specs.Configuration.{Configuration};
+ghost use Rattle.state_journal.specs.Journal.{IsJournal};
 ghost use Rattle.fw_world.specs.Editions.{AreEditions};
 ghost use Rattle.fw_world.specs.Inputs.{Input};
 ghost use Rattle.fw_world.specs.Lanes.{EachLane, LaneStands, LaneCounts, LaneRises};
@@ -69,8 +70,7 @@ impl Record {
             → EachLane LaneRises 1 inputs result.dockets result.tallies result.trackers
             → IsLegalButSections first commands inputs result }
     {
-        // This call's clause `lawful` says that the journal is lawful and leaves the states that there are.
-        let _entries = book.entries();
+        is_journal(&book);
         let (dockets, tallies, trackers, hits) = columns.into_parts();
         Record {
             editions,
@@ -125,4 +125,11 @@ impl Record {
     {
         &self.hits
     }
+}
+
+/// Does nothing, and says that the journal is lawful and leaves the states that there are.
+fn is_journal(book: &Book)
+    ensures { IsJournal book.now }
+{
+    let _entries = book.entries();
 }

@@ -1,4 +1,4 @@
-ghost use Rattle.std.specs.Prelude.{◌≤◌, IfOk, length};
+ghost use Rattle.std.specs.Prelude.{◌<◌, ◌≤◌, ◌^◌, IfOk, length};
 ghost use Rattle.fw_world.specs.Caches.{IsPortFor};
 ghost use Rattle.fw_world.specs.Inputs.{Packet};
 ghost use Rattle.fw_world.specs.Skips.{skipped_input};
@@ -22,6 +22,13 @@ struct Met<'a> {
     second: u32,
 }
 
+/// Does nothing, and says that a u64 is the lane's number: so a refusal can raise it only so often.
+fn number_fits(lane: &Lane)
+    ensures { lane.now.number < 2 ^ 64 }
+{
+    let _number = lane.number();
+}
+
 /// The lane in a section. Where it is refused it regains and tries again: at most once for each edition.
 fn admitted<R: Wait>(rt: &R, world: &World, lane: Lane) -> Inside
     requires { IsPosted world.now lane }
@@ -29,8 +36,7 @@ fn admitted<R: Wait>(rt: &R, world: &World, lane: Lane) -> Inside
 {
     let mut lane = lane;
     loop {
-        // A u64: how often a refusal can raise it is bounded.
-        let _number = lane.number();
+        number_fits(&lane);
         match world.enter(lane) {
             LaneEntry::In(inside) => return inside,
             LaneEntry::Revoked(refused, _number) => lane = world.regain(rt, refused),

@@ -17,7 +17,7 @@ regain-lane-requires-clause-lane g c = refused_of c.args.world.now c.args.lane c
 pub loop-inside-smaller : goal.loop-inside-smaller
 loop-inside-smaller g c =
     let rises = number_rises c.args.world.now c.args.lane c.loop-inside.lane c.in-Revoked.refused c.regain-lane.result c.in-Revoked._number c.loop-inside.invariant c.in-Revoked.ensures.entry c.regain-lane.ensures.regained in
-    omega (arith, rises, c.number-number.ensures, c.number-number.type_inv)
+    omega (arith, rises, c.number_fits.ensures)
 
 pub loop-inside-preserved : goal.loop-inside-preserved
 loop-inside-preserved g c = posted_again c.args.world.now c.args.lane c.loop-inside.lane c.in-Revoked.refused c.regain-lane.result c.in-Revoked._number c.loop-inside.invariant c.in-Revoked.ensures.entry c.regain-lane.ensures.regained
