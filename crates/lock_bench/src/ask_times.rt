@@ -1,7 +1,7 @@
 ghost use Rattle.std.specs.Prelude.{◌≡◌, ◌<◌, ◌≤◌};
 
 use crate::asker::{Asker, asks, asks_under_mutex, first_facts, open_asked};
-use crate::timing::print_mean;
+use bench_times::print_mean_of_threads;
 use rm_lock::Opened;
 use state_journal::Book;
 use std::alloc::Global;
@@ -37,7 +37,7 @@ pub fn print_asks<R: Threads + Wait + Clock + Print + Sync>(
             requires { asker.table_id ≡ table.now }
         { asks(rt, table, asker, rounds).ok() },
     )?;
-    print_mean(rt, "take_book, ask, give_book", times.as_slice(), rounds)?;
+    print_mean_of_threads(rt, "take_book, ask, give_book", times.as_slice(), rounds)?;
     let book = Mutex::new(Book::open(alloc, threads, first_facts(alloc)?)?);
     let times = thread::map_indices(
         rt,
@@ -45,5 +45,5 @@ pub fn print_asks<R: Threads + Wait + Clock + Print + Sync>(
         threads as usize,
         &|_| asks_under_mutex(rt, &book, rounds).ok(),
     )?;
-    print_mean(rt, "Mutex: lock, ask", times.as_slice(), rounds)
+    print_mean_of_threads(rt, "Mutex: lock, ask", times.as_slice(), rounds)
 }

@@ -3,7 +3,7 @@ ghost use Rattle.std.specs.Thread.{IsSync};
 
 use crate::publisher::publish_until;
 use crate::reader::{Lock, Reader, open_lock, sections};
-use crate::timing::print_mean;
+use bench_times::print_mean_of_threads;
 use rm_lock::Opened;
 use std::alloc::{AllocError, Global};
 use std::io::Print;
@@ -51,7 +51,7 @@ pub fn print_calls<R: Threads + Wait + Clock + Print + Sync>(
     } = open_lock(alloc, threads)?;
     let done = AtomicBool::new(false);
     let times = all_sections(rt, &lock, processors, rounds, &done)?;
-    print_mean(rt, "enter, read, leave", times.as_slice(), rounds)
+    print_mean_of_threads(rt, "enter, read, leave", times.as_slice(), rounds)
 }
 
 /// The same while an operator publishes about 100 times a second.
@@ -81,7 +81,7 @@ pub fn print_calls_beside_publications<R: Threads + Wait + Clock + Print + Sync>
             requires { (operator.table_id ≡ table.now) × (operator.view.count ≡ threads) }
         { publish_until(rt, alloc, table, operator, threads, flag) },
     );
-    print_mean(
+    print_mean_of_threads(
         rt,
         "the same beside publications",
         times?.as_slice(),

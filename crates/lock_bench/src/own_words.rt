@@ -1,4 +1,4 @@
-use crate::timing::nanoseconds;
+use bench_times::nanoseconds;
 use std::io;
 use std::sync::atomic::{AtomicU64, Ordering};
 use std::time::{Clock, Instant};

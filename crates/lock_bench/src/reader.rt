@@ -2,7 +2,7 @@ ghost use Rattle.std.specs.Prelude.{◌≡◌, ◌<◌, ◌≤◌, All, IfOk};
 
 use crate::book::Book;
 use crate::edition::{Edition, first_editions};
-use crate::timing::nanoseconds;
+use bench_times::nanoseconds;
 use fw_base::OutOfMemory;
 use rm_lock::{Entry, Opened, Processor, RmLock};
 use std::alloc::Global;

@@ -1,5 +1,5 @@
 use crate::edition::Edition;
-use crate::timing::nanoseconds;
+use bench_times::nanoseconds;
 use std::alloc::{AllocError, Global};
 use std::io;
 use std::sync::{Arc, Mutex, RwLock, Wait};

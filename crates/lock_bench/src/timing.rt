@@ -5,34 +5,15 @@ use crate::call_times::{print_calls, print_calls_beside_publications};
 use crate::own_words::OwnWords;
 use crate::shared::{Means, Shared};
 use crate::worker::{Kind, Worker, open_table};
-use anyhow::{Result, bail};
+use anyhow::Result;
+use bench_times::print_mean_of_threads;
 use rm_table::OpenTable;
 use std::alloc::Global;
 use std::io::Print;
 use std::sync::Wait;
+use std::thread;
 use std::thread::Threads;
-use std::time::{Clock, Instant};
-use std::{io, thread};
-
-/// The nanoseconds since the start.
-pub fn nanoseconds(clock: &impl Clock, start: Instant) -> io::Result<u64> {
-    Ok(u64::try_from(start.elapsed(clock)?.as_nanos()).unwrap_or(u64::MAX))
-}
-
-/// Prints a line with the mean of the threads' times for a round, in nanoseconds.
-pub fn print_mean<R: Print>(rt: &R, name: &str, times: &[Option<u64>], rounds: u32) -> Result<()> {
-    let mut all = 0u128;
-    for time in times {
-        let Some(time) = *time else {
-            bail!("the clock can't be read");
-        };
-        all = all.wrapping_add(u128::from(time));
-    }
-    let shares = u128::from(rounds).wrapping_mul(times.len() as u128).max(1);
-    let tenths = all.wrapping_mul(10) / shares;
-    println!(rt; "{name:32} {:>8}.{} ns", tenths / 10, tenths % 10)?;
-    Ok(())
-}
+use std::time::Clock;
 
 /// Two stores and a load on words of each thread's own.
 fn print_own_words<R: Threads + Clock + Print + Sync>(
@@ -51,7 +32,7 @@ fn print_own_words<R: Threads + Clock + Print + Sync>(
         threads as usize,
         &|lane| { words.get(lane).and_then(|own| own.rounds(rt, rounds).ok()) },
     )?;
-    print_mean(rt, "two stores and a load", times.as_slice(), rounds)
+    print_mean_of_threads(rt, "two stores and a load", times.as_slice(), rounds)
 }
 
 /// Sections on a table, of that kind.
@@ -73,7 +54,7 @@ fn print_sections<R: Threads + Clock + Print + Sync>(
         workers,
         &|worker: Worker<'_>| worker.sections(rt, kind, rounds).ok(),
     )?;
-    print_mean(rt, name, times.as_slice(), rounds)
+    print_mean_of_threads(rt, name, times.as_slice(), rounds)
 }
 
 /// Reads an edition that all threads share by these means.
@@ -92,7 +73,7 @@ fn print_shared<R: Threads + Wait + Clock + Print + Sync>(
         threads as usize,
         &|_| shared.rounds(rt, means, rounds).ok(),
     )?;
-    print_mean(rt, name, times.as_slice(), rounds)
+    print_mean_of_threads(rt, name, times.as_slice(), rounds)
 }
 
 /// Prints the time of a section in each of so many threads, and of what it is compared with.

@@ -7,7 +7,7 @@ ghost use Rattle.rm_table.specs.declared.padded_slot.Slot.TheVariants.{Edition a
 
 use crate::book::Book;
 use crate::edition::{Edition, first_editions};
-use crate::timing::nanoseconds;
+use bench_times::nanoseconds;
 use fw_base::OutOfMemory;
 use rm_core::Heard;
 use rm_table::{OpenTable, RmSeat, RmTable, Tried};

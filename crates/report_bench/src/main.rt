@@ -10,7 +10,6 @@ use std::env;
 
 mod reports;
 mod run;
-mod timing;
 
 fn main(rt: HostRuntime) -> Result<()> {
     let Some(word) = env::args(&rt)?.nth(1) else {

@@ -1,6 +1,6 @@
 use crate::run::{Run, run_of};
-use crate::timing::{nanoseconds, print_mean};
 use anyhow::{Result, bail};
+use bench_times::{nanoseconds, print_mean};
 use fw_base::{MemorySink, write_text};
 use fw_report::write_report;
 use std::alloc::Global;

@@ -2,8 +2,8 @@ ghost use Rattle.std.specs.Prelude.{◌<◌, ◌≤◌};
 ghost use Rattle.fw_rule.specs.Settings.{IsLifetime};
 
 use crate::flows::{install, lookup, settings};
-use crate::timing::{nanoseconds, print_mean};
 use anyhow::Result;
+use bench_times::{nanoseconds, print_mean};
 use dyn_states::{ScannedStates, States};
 use fw_base::OutOfMemory;
 use fw_rule::MOST_STATES;

@@ -1,6 +1,6 @@
 use crate::flows::{lookup, settings};
-use crate::timing::{nanoseconds, print_mean};
 use anyhow::{Result, bail};
+use bench_times::{nanoseconds, print_mean};
 use fw_base::OutOfMemory;
 use state_asks::{Facts, Identities, is_ordered};
 use state_journal::{Book, Entry};

@@ -12,7 +12,6 @@ use std::env;
 mod asks;
 mod flows;
 mod journal;
-mod timing;
 
 fn main(rt: HostRuntime) -> Result<()> {
     let Some(word) = env::args(&rt)?.nth(1) else {

@@ -1,9 +1,9 @@
 ghost use Rattle.std.specs.Prelude.{◌≡◌, None, IfOk};
 ghost use Rattle.fw_world.specs.Caches.{IsPortFor};
 
-use crate::timing::nanoseconds;
 use crate::traffic::{datagram, port};
 use anyhow::{Result, bail};
+use bench_times::nanoseconds;
 use fw_base::{Link, OutOfMemory, Port};
 use ip6_headers::{AnyIp, AnyPacket, read_any};
 use shared_world::{Lane, LaneEntry, World};

@@ -14,7 +14,6 @@ mod configuration;
 mod lanes;
 mod publisher;
 mod sections;
-mod timing;
 mod traffic;
 
 fn main(rt: HostRuntime) -> Result<()> {

@@ -4,9 +4,9 @@ ghost use Rattle.std.specs.Thread.{IsSync};
 use crate::configuration::configured;
 use crate::lanes::sections;
 use crate::publisher::publish_until;
-use crate::timing::print_rate;
 use crate::traffic::Traffic;
 use anyhow::Result;
+use bench_times::print_rate_of_threads;
 use shared_world::{Lane, OpenWorld, World};
 use std::alloc::{AllocError, Global};
 use std::io::Print;
@@ -86,7 +86,13 @@ fn print_alone<R: Threads + Wait + Clock + Print + Sync>(
     } = open(alloc, threads, traffic)?;
     let done = AtomicBool::new(false);
     let times = all_sections(rt, alloc, &world, lanes, count, &done)?;
-    print_rate(rt, "enter, judge, leave", times.as_slice(), count)
+    print_rate_of_threads(
+        rt,
+        "enter, judge, leave",
+        times.as_slice(),
+        count,
+        "packets",
+    )
 }
 
 fn print_beside_publications<R: Threads + Wait + Clock + Print + Sync>(
@@ -113,7 +119,13 @@ fn print_beside_publications<R: Threads + Wait + Clock + Print + Sync>(
             requires { desk.world ≡ world.now }
         { publish_until(rt, alloc, world, desk, flag) },
     );
-    print_rate(rt, "the same beside publications", times?.as_slice(), count)?;
+    print_rate_of_threads(
+        rt,
+        "the same beside publications",
+        times?.as_slice(),
+        count,
+        "packets",
+    )?;
     println!(rt; "{:44} {:>12} times", "    published", published?)?;
     Ok(())
 }
