@@ -10,8 +10,13 @@ pub use serial_inside::SerialInside;
 pub use serial_lane::{SerialEntry, SerialLane};
 pub use serial_world::{MOST_LANES, SerialWorld};
 
+mod closing;
+mod judging;
 mod lane_state;
 mod open_serial;
+mod opening;
+mod publishing;
+mod sections;
 mod serial_book;
 mod serial_desk;
 mod serial_inside;

@@ -1,7 +1,7 @@
 use Rattle.std.proofs.Common.{rules}
 use Rattle.std.proofs.lemmas.List.Sorted.{IsNonDecreasingBy-from_sort_by_key}
 use Rattle.fw_world.proofs.Arranging.{by_place-sorted}
-use Rattle.serial_world.proofs.serial_world.ordered.Goals as goal
+use Rattle.serial_world.proofs.closing.ordered.Goals as goal
 
 pub returns-clause-lanes : goal.returns-clause-lanes
 returns-clause-lanes c = λ world place are.

@@ -3,7 +3,7 @@ use Rattle.std.specs.List.{AllByRecursion}
 use Rattle.fw_world.specs.RecordedHits.{counted_by}
 use Rattle.fw_world.specs.Lane.{LaneValue}
 use Rattle.fw_world.specs.LaneKept.{IsLane}
-use Rattle.serial_world.proofs.serial_world.filled.Given as goal
+use Rattle.serial_world.proofs.closing.filled.Given as goal
 
 abbrev pub invariant-loop-lane : goal.invariant-loop-lane
 invariant-loop-lane l = record {

@@ -1,7 +1,7 @@
 use Rattle.std.proofs.Common.{◌≡◌, ℕ, suc, ◌+◌, ◌-◌, ◌≤◌, List, [], ◌∷◌, ◌++◌, ap, ◌∙◌, arith, append_assoc}
 use Rattle.std.specs.Prelude.{Option}
 use Rattle.fw_world.specs.Lane.{LaneValue, first_lane, first_lanes}
-use Rattle.serial_world.proofs.serial_world.open_lanes.Goals as goal
+use Rattle.serial_world.proofs.opening.open_lanes.Goals as goal
 
 next : (cache : Option ℕ) (items all : List LaneValue) (place lanes : ℕ) → place ≤ lanes → items ++ first_lanes cache place (lanes + 1 - place) ≡ all
     → (items ++ first_lane cache place ∷ []) ++ first_lanes cache (place + 1) (lanes + 1 - (place + 1)) ≡ all

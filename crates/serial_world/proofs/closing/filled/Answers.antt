@@ -10,8 +10,8 @@ use Rattle.fw_world.specs.RecordedHits.{counted_by}
 use Rattle.fw_world.proofs.Recording.{counted_by-append}
 use Rattle.fw_world.specs.Lane.{LaneValue}
 use Rattle.fw_world.specs.LaneKept.{IsLane}
-use Rattle.serial_world.proofs.serial_world.filled.Goals as goal
-use Rattle.serial_world.proofs.serial_world.filled.Goals.{After-drop-lane-iterator}
+use Rattle.serial_world.proofs.closing.filled.Goals as goal
+use Rattle.serial_world.proofs.closing.filled.Goals.{After-drop-lane-iterator}
 
 -- a column of one lane more
 pushed : {X : Type 0} (f : LaneValue → X) (column : List X) (lanes : List LaneValue) (lane : LaneValue) → column ≡ map f lanes → column ++ f lane ∷ [] ≡ map f (lanes ++ lane ∷ [])
