@@ -99,7 +99,7 @@ fn taken_apart(
     for lane in lanes {
         let Lane { processor, work } = lane;
         processors.push_reserved(processor);
-        works.push_reserved(work);
+        works.push_reserved(work.into_work());
     }
     (processors, works)
 }

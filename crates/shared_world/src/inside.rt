@@ -1,5 +1,5 @@
+use crate::padded_work::PaddedWork;
 use crate::shared_book::SharedBook;
-use fw_world::LaneWork;
 use generation_store::Edition;
 use rm_lock::Reading;
 use std::marker::Model;
@@ -10,7 +10,7 @@ use std::sync::Arc;
 pub struct Inside {
     pub(crate) reading: Reading<Arc<Edition>, SharedBook>,
     pub(crate) place: u32,
-    pub(crate) work: LaneWork,
+    pub(crate) work: PaddedWork,
     pub(crate) judged: bool,
 }
 

@@ -4,6 +4,7 @@ ghost use Rattle.shared_world.specs.LaneKept.{IsNewSeat};
 ghost use Rattle.shared_world.specs.SharedLane.{new_lane};
 ghost use Rattle.shared_world.specs.Standing.{LaneStandsFor};
 
+use crate::padded_work::PaddedWork;
 use crate::shared_book::SharedBook;
 use fw_base::OutOfMemory;
 use fw_world::{LaneWork, open_cache};
@@ -17,7 +18,7 @@ use std::sync::Arc;
 #[derive(Drop)]
 pub struct Lane {
     pub(crate) processor: Processor<Arc<Edition>, SharedBook>,
-    pub(crate) work: LaneWork,
+    pub(crate) work: PaddedWork,
 }
 
 impl Model for Lane {
@@ -45,10 +46,8 @@ impl Lane {
         ensures stands { IfOk result (λ lane. LaneStandsFor lane []) }
     {
         let cache = open_cache(alloc, cache)?;
-        Ok(Lane {
-            processor,
-            work: LaneWork::new(alloc, cache),
-        })
+        let work = PaddedWork::new(alloc, LaneWork::new(alloc, cache))?;
+        Ok(Lane { processor, work })
     }
 
     /// Its place among the world's lanes, from 1.
@@ -69,6 +68,6 @@ impl Lane {
     pub(crate) fn has_failed(&self) -> bool
         ensures { result ≡ self.now.failed }
     {
-        self.work.failed
+        self.work.has_failed()
     }
 }

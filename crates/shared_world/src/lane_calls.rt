@@ -33,7 +33,7 @@ impl World {
                 })
             }
             Entry::Revoked(processor, number) => {
-                work.docket.refuse();
+                work.refuse();
                 LaneEntry::Revoked(Lane { processor, work }, number)
             }
         }

@@ -23,6 +23,7 @@ mod lane_calls;
 mod lane_entry;
 mod open_world;
 mod opening;
+mod padded_work;
 mod preparing;
 mod shared_book;
 mod world;

@@ -23,7 +23,7 @@ push_reserved-requires-in-loop-lane c =
 pub loop-lane-preserved : goal.loop-lane-preserved
 loop-lane-preserved c = record {
   apart =
-      rw (c.push_reserved.ensures.items, c.push_reserved-in-loop-lane.ensures.items)
+      rw (c.push_reserved.ensures.items, c.push_reserved-in-loop-lane.ensures.items, c.into_work.ensures)
       (AreApart-push c.loop-lane.yielded c.loop-lane.processors.items c.loop-lane.works.items c.in-Some.lane c.lane.inside.processor c.lane.inside.work c.loop-lane.invariant.apart (sym c.lane.view_is) c.lane.invariant);
   seats = omega (arith, c.loop-lane.invariant.seats, c.push_reserved.ensures.capacity);
   works = omega (arith, c.loop-lane.invariant.works, c.push_reserved-in-loop-lane.ensures.capacity);

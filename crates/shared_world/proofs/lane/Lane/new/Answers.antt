@@ -8,5 +8,5 @@ use Rattle.shared_world.specs.Standing.{LaneStandsFor}
 
 pub returns-clause-stands : goal.returns-clause-stands
 returns-clause-stands c =
-    let work = c.new.ensures ∙ ap (λ (own : Option LaneCacheValue). let w : LaneWork = record { docket = record { entries = []; refused = 0 }; tally = []; cache = own; failed = false; loose = 0 } in w) c.in_ok-cache.ensures in
-    subst (λ (lane : SharedLane). LaneStandsFor lane []) (sym (new-is c.args.processor.table_id c.args.cache c.args.processor.view c.new.result c.requires.seat work)) (stands-new c.args.processor.table_id c.args.cache c.args.processor.view.place)
+    let work = c.in_ok-work.ensures ∙ c.new.ensures ∙ ap (λ (own : Option LaneCacheValue). let w : LaneWork = record { docket = record { entries = []; refused = 0 }; tally = []; cache = own; failed = false; loose = 0 } in w) c.in_ok-cache.ensures in
+    subst (λ (lane : SharedLane). LaneStandsFor lane []) (sym (new-is c.args.processor.table_id c.args.cache c.args.processor.view c.in_ok-work.work c.requires.seat work)) (stands-new c.args.processor.table_id c.args.cache c.args.processor.view.place)

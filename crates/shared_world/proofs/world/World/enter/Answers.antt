@@ -1,6 +1,5 @@
 use Rattle.std.proofs.Common.{◌≡◌, ◌+◌, ◌%◌, ◌^◌, Bool, subst, sym, ap, ◌∙◌, false}
 use Rattle.std.specs.Prelude.{is_some}
-use Rattle.eval_engine.specs.Dockets.{DocketValue}
 use Rattle.fw_world.specs.declared.lane_work.LaneWork.{LaneWork}
 use Rattle.generation_store.specs.Published.{Published, IsEdition}
 use Rattle.shared_world.proofs.Sections.{entered, entered-kept, entered-reads, refused, inside_of, loosened}
@@ -42,11 +41,8 @@ returns-in-Revoked c = record {
   entry =
       let v = c.lane.inside.processor.view in
       let counted : c.loosen.new.self ≡ loosened (is_some v.part.refusal) c.lane.inside.work = c.loosen.ensures ∙ ap (λ (b : Bool). loosened b c.lane.inside.work) c.is_refused.ensures in
-      let docket = c.refuse.ensures ∙ ap (λ (w : LaneWork). let d : DocketValue = record { entries = w.docket.entries; refused = (w.docket.refused + 1) % 2 ^ 64 } in d) counted in
-      let work : LaneWork = record { docket = c.refuse.new.self; tally = c.loosen.new.self.tally; cache = c.loosen.new.self.cache; failed = c.loosen.new.self.failed; loose = c.loosen.new.self.loose } in
-      let same : work ≡ record (loosened (is_some v.part.refusal) c.lane.inside.work) { docket = record c.lane.inside.work.docket { refused = (c.lane.inside.work.docket.refused + 1) % 2 ^ 64 } } =
-      (λ i. record { docket = docket i; tally = (counted i).tally; cache = (counted i).cache; failed = (counted i).failed; loose = (counted i).loose }) in
-      subst (λ (l : SharedLane). IsRefused l (lane_of c.in-Revoked.processor.table_id c.in-Revoked.processor.view work) c.in-Revoked.number) c.lane.view_is
-      (refused c.lane.inside.processor.table_id c.in-Revoked.processor.table_id v c.in-Revoked.processor.view c.lane.inside.work work c.in-Revoked.number c.in-Revoked.ensures.entry.0
+      let same = c.refuse.ensures ∙ ap (λ (w : LaneWork). let x : LaneWork = record w { docket = record w.docket { refused = (w.docket.refused + 1) % 2 ^ 64 } } in x) counted in
+      subst (λ (l : SharedLane). IsRefused l (lane_of c.in-Revoked.processor.table_id c.in-Revoked.processor.view c.refuse.new.self) c.in-Revoked.number) c.lane.view_is
+      (refused c.lane.inside.processor.table_id c.in-Revoked.processor.table_id v c.in-Revoked.processor.view c.lane.inside.work c.refuse.new.self c.in-Revoked.number c.in-Revoked.ensures.entry.0
       c.in-Revoked.ensures.entry.1 same c.in-Revoked.ensures.entry.2);
 }
