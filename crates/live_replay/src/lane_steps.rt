@@ -97,17 +97,17 @@ pub(crate) fn meet<R: Wait, G: Gate>(
         record,
     } = taken;
     gate.before(lane.place(), at);
-    match read_any(link, record.bytes) {
+    match &read_any(link, record.bytes) {
         AnyPacket::Ip(packet) => {
             let met = Met {
                 at,
-                packet: &packet,
+                packet,
                 port,
                 second: record.second,
             };
             judge(rt, world, gate, lane, met)
         }
         AnyPacket::Other => skip(world, lane, Skipped::Other),
-        AnyPacket::Malformed(kind) => skip(world, lane, Skipped::Malformed(kind)),
+        AnyPacket::Malformed(kind) => skip(world, lane, Skipped::Malformed(*kind)),
     }
 }
