@@ -5,7 +5,8 @@ use Rattle.std.proofs.lemmas.Option.{none-some, same_Some}
 use Rattle.std.specs.Char.{is_ascii_digit}
 use Rattle.report_reading.specs.Parts.{number_on}
 
-here : (text : List ℕ) (i byte : ℕ) → i < length text → byte ≡ get_or text i 0 → drop i text ≡ byte ∷ drop (i + 1) text
+-- the byte in this place stands before those behind it
+pub here : (text : List ℕ) (i byte : ℕ) → i < length text → byte ≡ get_or text i 0 → drop i text ≡ byte ∷ drop (i + 1) text
 here text i byte inside is = rw (add-one, is) (drop-cons text i 0 inside)
 
 -- with one digit more the number goes on

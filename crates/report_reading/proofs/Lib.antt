@@ -2,6 +2,7 @@
 mod LineEnds
 -- words, and one step after another
 mod Words
+mod WordSteps
 -- numbers
 mod Digits
 mod DigitSteps

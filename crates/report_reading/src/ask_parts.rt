@@ -2,7 +2,7 @@ ghost use Rattle.std.specs.Prelude.{◌≡◌, ◌≤◌, IfSome};
 ghost use Rattle.std.specs.Option.{option_map};
 ghost use Rattle.report_reading.specs.AskParts as spec;
 
-use crate::parts::{behind, number, positive};
+use crate::parts::{behind, is_word, number, positive};
 use crate::record_lines::{count, named_code};
 use fw_rule::LimitMask;
 use state_asks::{Reply, RuleRef, Way};
@@ -93,9 +93,9 @@ fn way(id: u32, text: &[u8]) -> Option<Reply>
     ensures { result ≡ spec.way_in id text.now }
 {
     let rule = RuleRef { id, number: 0 };
-    if text == b" forward\n".as_slice() {
+    if is_word(text, b" forward\n") {
         Some(Reply::Found(Way::Forward, rule))
-    } else if text == b" reverse\n".as_slice() {
+    } else if is_word(text, b" reverse\n") {
         Some(Reply::Found(Way::Reverse, rule))
     } else {
         None
@@ -128,11 +128,11 @@ fn counted_reply(text: &[u8]) -> Option<Reply>
 pub(crate) fn reply(text: &[u8]) -> Option<Reply>
     ensures { result ≡ spec.reply_in text.now }
 {
-    if text == b"notfound\n".as_slice() {
+    if is_word(text, b"notfound\n") {
         Some(Reply::NotFound)
-    } else if text == b"created\n".as_slice() {
+    } else if is_word(text, b"created\n") {
         Some(Reply::Created)
-    } else if text == b"exists\n".as_slice() {
+    } else if is_word(text, b"exists\n") {
         Some(Reply::Exists)
     } else if let Some(reply) = found(text) {
         Some(reply)

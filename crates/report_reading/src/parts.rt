@@ -3,18 +3,37 @@ ghost use Rattle.std.specs.Cmp.Lexicographic.{pointwise};
 ghost use Rattle.std.specs.Option.{option_map};
 ghost use Rattle.report_reading.specs.Parts as spec;
 
-/// The text behind a word that the text begins with.
+/// The text behind a word that the text begins with. It goes byte by byte: most words differ in the
+/// first, and std's comparison of slices is made for long ones.
 pub(crate) fn behind<'a>(word: &[u8], text: &'a [u8]) -> Option<&'a [u8]>
     ensures { option_map (λ rest. rest.now) result ≡ spec.behind word.now text.now }
 {
-    text.strip_prefix(word)
+    if text.len() < word.len() {
+        return None;
+    }
+    for (at, letter) in word.iter().enumerate() {
+        if text[at] != *letter {
+            return None;
+        }
+    }
+    Some(&text[word.len()..])
+}
+
+/// Whether a text is this word.
+pub(crate) fn is_word(text: &[u8], word: &[u8]) -> bool
+    ensures { result ≡ pointwise nat_eq text.now word.now }
+{
+    match behind(word, text) {
+        Some(rest) => rest.is_empty(),
+        None => false,
+    }
 }
 
 /// Whether nothing is left of a line but its end.
 pub(crate) fn is_end(text: &[u8]) -> bool
     ensures { result ≡ pointwise nat_eq text.now (codes "\n") }
 {
-    text == b"\n".as_slice()
+    is_word(text, b"\n")
 }
 
 /// The number with one digit more, where it is at most so great.

@@ -5,7 +5,7 @@ ghost use Rattle.report_reading.specs.Parts.{positive_at};
 ghost use Rattle.report_reading.specs.RecordLines as spec;
 ghost use Rattle.fw_report.specs.DocketText.{record_line};
 
-use crate::parts::{behind, is_end, number, positive, rule_number};
+use crate::parts::{behind, is_end, is_word, number, positive, rule_number};
 use eval_engine::{Cause, DocketEntry, Judgement, Verdict};
 use fw_rule::UNREACH_NAMES;
 use state_asks::RuleRef;
@@ -160,7 +160,7 @@ fn malformed(text: &[u8]) -> Option<DocketEntry>
 fn entry(text: &[u8]) -> Option<DocketEntry>
     ensures { result ≡ spec.entry_in text.now }
 {
-    if text == b" other\n".as_slice() {
+    if is_word(text, b" other\n") {
         Some(DocketEntry::Other)
     } else if let Some(entry) = malformed(text) {
         Some(entry)
