@@ -1,7 +1,8 @@
 -- Counts of line ends, and of bytes that two texts share.
-use Rattle.std.proofs.Common.{◌≡◌, ℕ, suc, ◌+◌, ◌<◌, ◌≤◌, ◌==◌, true, false, List, [], ◌∷◌, ◌++◌, length, drop, get_or, nat_eq, refl, ap, ◌∙◌, inl, inr, arith, add-one, drop-cons}
-use Rattle.std.specs.List.{common_prefix_len}
-use Rattle.std.proofs.lemmas.Bool.{cases_Bool}
+use Rattle.std.proofs.Common.{◌≡◌, ℕ, suc, ◌+◌, ◌<◌, ◌≤◌, ◌==◌, true, false, List, [], ◌∷◌, ◌++◌, length, take, drop, get_or, nat_eq, refl, ap, ◌∙◌, inl, inr, arith, add-one, drop-cons}
+use Rattle.std.specs.Cmp.Lexicographic.{pointwise}
+use Rattle.std.specs.List.{common_prefix_len, starts_with}
+use Rattle.std.proofs.lemmas.Bool.{and_parts, cases_Bool}
 use Rattle.std.proofs.lemmas.List.{drop_all}
 use Rattle.run_audit.specs.Comparison.{line_ends}
 
@@ -43,3 +44,12 @@ nothing_shared (byte ∷ first) = refl
 -- behind the end of the second nothing is shared
 pub none_shared : (first second : List ℕ) (i : ℕ) → length second ≤ i → common_prefix_len nat_eq (drop i first) (drop i second) ≡ 0
 none_shared first second i done = ap (common_prefix_len nat_eq (drop i first)) (drop_all i second done) ∙ nothing_shared (drop i first)
+
+-- a text with which another begins is shared whole
+pub all_shared : (first second : List ℕ) → starts_with nat_eq second first ≡ true → common_prefix_len nat_eq first second ≡ length first
+all_shared [] second is = refl
+all_shared (byte ∷ first) [] is = absurd (cc)
+all_shared (byte ∷ first) (other ∷ second) is =
+    let (here, rest) = and_parts (nat_eq byte other) (pointwise nat_eq first (take (length first) second)) is in
+    let inner : common_prefix_len nat_eq first second ≡ length first = all_shared first second rest in
+    rw here (omega (arith, inner))

@@ -12,6 +12,7 @@ mod KnownRules
 -- a report's lines, and the journal that they tell
 mod JournalSteps
 mod ReadLines
+mod FormedLines
 -- the editions that a script makes
 pub mod Publishing
 mod Opened
@@ -39,6 +40,7 @@ mod AuditSteps
 mod JudgingSteps
 -- lines behind the records
 mod LeftOvers
+mod NothingLefts
 -- a record that is legal
 pub mod LaneAsks
 mod Composed

@@ -11,10 +11,13 @@ use Rattle.report_reading.specs.Steps.{or_else}
 use Rattle.rule_chain.specs.Configuration.{Configuration}
 use Rattle.state_journal.specs.Journal.{Journal}
 use Rattle.run_audit.specs.Audit.{AreEditionsOf, IsOpened, FailsAtOpening, AuditValue, AreTalliesOf, IsAuditOf, no_docket, told_value}
+use Rattle.run_audit.specs.AuditFaults.{IfWrong, NamesLine}
 use Rattle.run_audit.specs.JournalTold.{ToldJournal, Lawful, no_journal, replay, wrong_line}
 use Rattle.run_audit.specs.Judging.{ToldValue, AreToldSo}
-use Rattle.run_audit.specs.Opening.{unformed_line, unlawful_line}
+use Rattle.run_audit.specs.Opening.{opening_fault, unformed_line, unlawful_line}
 use Rattle.run_audit.specs.ToldReport.{lines_told}
+use Rattle.run_audit.specs.declared.audit_fault.AuditFault.{AuditFault}
+use Rattle.run_audit.specs.declared.audit_fault.AuditFault.TheVariants.{Wrong, OutOfMemory}
 
 -- ---- the opening's fault
 
@@ -35,6 +38,12 @@ unlawful config steps report editions line made formed is = record {
   made = made;
   found = ap (λ (o : Option ℕ). or_else o (unlawful_line editions report)) formed ∙ is;
 }
+
+-- a fault that names the line of the opening's fault names one at which it fails
+pub fails_at : (config : Configuration) (steps : List Step) (report : List ℕ) (editions : List Published) (fault : AuditFault) → AreEditionsOf config steps editions
+    → NamesLine (opening_fault editions report) fault → IfWrong fault (FailsAtOpening config steps report)
+fails_at config steps report editions (Wrong line) made is = record { editions = editions; made = made; found = is }
+fails_at config steps report editions OutOfMemory made is = tt
 
 -- none is
 pub opened : (config : Configuration) (steps : List Step) (report : List ℕ) (editions : List Published) (journal : Journal) → AreEditionsOf config steps editions → unformed_line report ≡ None

@@ -34,6 +34,7 @@ pub mod JudgingValues
 pub mod PrintedJournals
 -- lines behind the records, as tests
 pub mod LeftOver
+pub mod NothingLeft
 -- what makes a record legal
 pub mod Composition
 -- what is rebuilt

@@ -10,7 +10,7 @@ use crate::ask_stands::{AskStand, are_timely, ask_stands, asked_by_each};
 use crate::numbered::{Numbered, in_order, of_number};
 use fw_base::OutOfMemory;
 use state_asks::{Op, Reply};
-use state_journal::Book;
+use state_journal::{Book, Entry};
 use std::alloc::Global;
 use std::marker::Model;
 
@@ -25,7 +25,7 @@ pub(crate) struct AskIndex {
 
 impl Model for AskIndex {
     ghost use Rattle.std.specs.Prelude.{◌≡◌};
-    ghost use Rattle.state_journal.specs.Journal.{Journal};
+    ghost use Rattle.state_journal.specs.Journal.{Journal, IsJournal};
     ghost use Rattle.run_audit.specs.AskStands.{stands_of};
     ghost use Rattle.run_audit.specs.Indexes.{stand_number};
     ghost use Rattle.run_audit.specs.Numbering.{numbered_from, AreInOrderOf};
@@ -36,7 +36,8 @@ impl Model for AskIndex {
 
     ghost invariant = { λ a.
         (a.stands.items ≡ stands_of a.book.entries)
-        × AreInOrderOf (numbered_from stand_number 0 a.stands.items) a.by_number.items };
+        × AreInOrderOf (numbered_from stand_number 0 a.stands.items) a.by_number.items
+        × IsJournal a.book };
 }
 
 /// The asks by the numbers of their records.
@@ -100,13 +101,18 @@ impl AskIndex {
         self.alloc
     }
 
+    /// The entries of the journal.
+    pub(crate) fn entries(&self) -> &[Entry]
+        ensures { result.now ≡ self.now.entries }
+    {
+        self.book.entries()
+    }
+
     /// The journal alone, which is one that the states met.
     pub(crate) fn into_book(self) -> Book
         ensures value { result ≡ self }
         ensures lawful { IsJournal self }
     {
-        // This call's clause `lawful` says that it is a journal.
-        let _entries = self.book.entries();
         self.book
     }
 

@@ -39,7 +39,9 @@ pub struct Audit {
 
 impl Model for Audit {
     ghost use Rattle.std.specs.Prelude.{◌≡◌, ◌≤◌, length, map};
+    ghost use Rattle.run_audit.specs.AskNames.{names_in, names_told};
     ghost use Rattle.run_audit.specs.Audit.{AuditValue, told_value};
+    ghost use Rattle.run_audit.specs.ToldReport.{lines_told};
 
     ghost Value = { AuditValue };
 
@@ -58,7 +60,8 @@ impl Model for Audit {
         (a.told ≡ told_value a.told.editions a.told.journal a.report.items)
         × (1 ≤ length a.told.editions)
         × (length a.judging.tallies.items ≡ length a.judging.dockets.items)
-        × (length a.judging.dockets.items ≤ 16) };
+        × (length a.judging.dockets.items ≤ 16)
+        × (names_in a.told.journal.entries ≡ names_told (lines_told a.report.items)) };
 }
 
 impl Audit {

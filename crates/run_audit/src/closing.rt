@@ -4,6 +4,7 @@ ghost use Rattle.run_audit.specs.AuditFaults.{NamesLine};
 ghost use Rattle.run_audit.specs.Closing.{IsMadeOf};
 ghost use Rattle.run_audit.specs.JudgingValues.{entries_of_each, judging_value};
 ghost use Rattle.run_audit.specs.LeftOver.{first_behind};
+ghost use Rattle.run_audit.specs.NothingLeft.{IsKeptOf};
 ghost use Rattle.run_audit.specs.OtherLines.{lane_naming};
 ghost use Rattle.run_audit.specs.ToldReport.{lines_told};
 
@@ -79,6 +80,7 @@ pub(crate) fn rebuilt_of(
     answers: Vec<LineAnswer>,
     judging: Judging,
 ) -> Result<Rebuilt, AuditFault>
+    requires kept { IsKeptOf (lines_told report.items) told }
     ensures made { IfOk result (IsMadeOf told report.items answers.items (judging_value judging)) }
     ensures wrong { IfErr result (NamesLine (first_behind told (lines_told report.items)
         (entries_of_each judging.dockets.items))) }

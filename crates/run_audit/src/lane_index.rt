@@ -75,6 +75,13 @@ impl LaneIndex {
         Ok(LaneIndex { lanes, firsts })
     }
 
+    /// All lines, in the report's order.
+    pub(crate) fn all(&self) -> &[ToldLane]
+        ensures { result.now ≡ self.now }
+    {
+        &self.lanes
+    }
+
     /// The first line that names this lane.
     pub(crate) fn naming(&self, lane: u64) -> Option<ToldLane>
         ensures { result ≡ find (spec.is_line_of_lane lane) self.now }

@@ -1,16 +1,20 @@
 ghost use Rattle.std.specs.Prelude.{◌≡◌, ◌==◌, ◌≤◌, Option, Some, None, length, map, slice_get};
+ghost use Rattle.std.specs.List.{list_all};
 ghost use Rattle.std.specs.Option.{option_map};
 ghost use Rattle.fw_world.specs.Sections.{judged_editions};
 ghost use Rattle.report_reading.specs.Readings.{line_value};
 ghost use Rattle.run_audit.specs.JudgingValues.{entries_of_each};
 ghost use Rattle.run_audit.specs.LeftOver as spec;
+ghost use Rattle.run_audit.specs.NothingLeft as kept;
+ghost use Rattle.run_audit.specs.NothingLeft.{IsKeptOf};
 ghost use Rattle.run_audit.specs.OtherLines as lines;
 ghost use Rattle.run_audit.specs.ToldReport.{lines_told, told_by};
 
 use crate::told::Told;
-use crate::told_report::ToldLane;
+use crate::told_report::{ToldLane, ToldRecord};
 use eval_engine::{Docket, DocketEntry};
 use report_reading::{LaneLine, Reading, next_line, read_line};
+use state_journal::Entry;
 
 /// The entry of a record of a capture, where these dockets have one.
 fn entry_at(dockets: &[Docket], lane: u64, at: u64) -> Option<DocketEntry>
@@ -117,6 +121,52 @@ fn is_wrong_lane(told: &Told, dockets: &[Docket], number: u64, line: &LaneLine) 
     }
 }
 
+/// Whether each of these lines names a record that its capture gives.
+fn are_given(records: &[ToldRecord], dockets: &[Docket]) -> bool
+    ensures { result ≡ list_all (kept.is_given (entries_of_each dockets.now)) records.now }
+{
+    for one in records {
+        if entry_at(dockets, one.told.capture, one.told.at).is_none() {
+            return false;
+        }
+    }
+    true
+}
+
+/// Whether an entry of the journal is of a record that was judged, where it is an ask.
+fn is_of_judged(dockets: &[Docket], entry: &Entry) -> bool
+    ensures { result ≡ kept.is_of_judged (entries_of_each dockets.now) entry.now }
+{
+    match entry {
+        Entry::Publish(_) => true,
+        Entry::Ask { lane, at, .. } => is_judged(dockets, u64::from(*lane), *at),
+    }
+}
+
+/// Whether each ask of the journal is of a record that was judged.
+fn are_of_judged(entries: &[Entry], dockets: &[Docket]) -> bool
+    ensures { result ≡ list_all (kept.is_of_judged (entries_of_each dockets.now)) entries.now }
+{
+    for entry in entries {
+        if !is_of_judged(dockets, entry) {
+            return false;
+        }
+    }
+    true
+}
+
+/// Whether none of these lines of lanes is wrong.
+fn are_right_lanes(told: &Told, lanes: &[ToldLane], dockets: &[Docket]) -> bool
+    ensures { result ≡ list_all (kept.is_right_lane told.now (entries_of_each dockets.now)) lanes.now }
+{
+    for one in lanes {
+        if is_wrong_lane(told, dockets, one.line, &one.told) {
+            return false;
+        }
+    }
+    true
+}
+
 /// Whether what the line of this number tells is left over behind the records.
 fn is_left_over(told: &Told, dockets: &[Docket], number: u64, reading: &Reading<'_>) -> bool
     ensures { result ≡ spec.is_left_over told.now (entries_of_each dockets.now) number
@@ -141,8 +191,17 @@ fn is_line_left_over(told: &Told, dockets: &[Docket], number: u64, line: &[u8]) 
     }
 }
 
-/// The first line of the report that is left over behind the records.
-fn first_left_over(report: &[u8], told: &Told, dockets: &[Docket]) -> Option<u64>
+/// Whether nothing is left of what was kept of the lines.
+fn is_nothing_left(told: &Told, dockets: &[Docket]) -> bool
+    ensures { result ≡ kept.is_nothing_left told.now (entries_of_each dockets.now) }
+{
+    are_given(told.records.all(), dockets)
+        && are_of_judged(told.asks.entries(), dockets)
+        && are_right_lanes(told, told.lanes.all(), dockets)
+}
+
+/// The first line of the report that is left over behind the records: the lines are read again.
+fn find_left_over(report: &[u8], told: &Told, dockets: &[Docket]) -> Option<u64>
     ensures { result ≡ spec.first_left_over told.now (entries_of_each dockets.now) 1
         (lines_told report.now) }
 {
@@ -159,6 +218,20 @@ fn first_left_over(report: &[u8], told: &Told, dockets: &[Docket]) -> Option<u64
                 number += 1;
             }
         }
+    }
+}
+
+/// The first line of the report that is left over behind the records. No line is read again where
+/// nothing is left of what was kept of them.
+fn first_left_over(report: &[u8], told: &Told, dockets: &[Docket]) -> Option<u64>
+    requires kept { IsKeptOf (lines_told report.now) told.now }
+    ensures { result ≡ spec.first_left_over told.now (entries_of_each dockets.now) 1
+        (lines_told report.now) }
+{
+    if is_nothing_left(told, dockets) {
+        None
+    } else {
+        find_left_over(report, told, dockets)
     }
 }
 
@@ -179,6 +252,7 @@ fn has_each_lane(told: &Told, dockets: &[Docket]) -> bool
 
 /// The first line that is wrong behind the records, where all of them are as the report tells them.
 pub(crate) fn first_behind(report: &[u8], told: &Told, dockets: &[Docket]) -> Option<u64>
+    requires kept { IsKeptOf (lines_told report.now) told.now }
     ensures { result ≡ spec.first_behind told.now (lines_told report.now)
         (entries_of_each dockets.now) }
 {

@@ -30,14 +30,19 @@ fn count_below(ordered: &[Numbered], at: u64) -> usize
     ordered.partition_point(|one| one.at < at)
 }
 
-/// How many stand before those of a greater number.
+/// How many stand before those of a greater number. They are passed one by one: each capture has one.
 fn count_within(ordered: &[Numbered], at: u64) -> usize
     requires { IsNonDecreasingBy number_of ordered.now }
     ensures within { result ≤ length ordered.now }
     ensures point { IsPartitionPoint (λ one. number_of one ≤ at) (λ one. at < number_of one)
         ordered.now result }
 {
-    ordered.partition_point(|one| one.at <= at)
+    for (count, one) in ordered.iter().enumerate() {
+        if at < one.at {
+            return count;
+        }
+    }
+    ordered.len()
 }
 
 /// Those of this number.

@@ -1,10 +1,12 @@
-ghost use Rattle.std.specs.Prelude.{◌≡◌, ◌<◌, ◌+◌, ◌^◌, IfOk, IfErr, map};
+ghost use Rattle.std.specs.Prelude.{◌≡◌, ◌<◌, ◌+◌, ◌^◌, None, Some, List, IfOk, IfErr, map};
 ghost use Rattle.std.specs.Arc.{arc_value};
 ghost use Rattle.std.specs.List.{AllByRecursion};
 ghost use Rattle.capture_tracks.specs.Commands.{lines_outcome};
 ghost use Rattle.fw_command.specs.WellFormed.{IsStepInRange};
+ghost use Rattle.generation_store.specs.Published.{Published};
 ghost use Rattle.run_audit.specs.Audit.{FailsAtOpening, IsOpened};
-ghost use Rattle.run_audit.specs.AuditFaults.{IfWrong};
+ghost use Rattle.run_audit.specs.AuditFaults.{IfWrong, NamesLine};
+ghost use Rattle.run_audit.specs.Opening.{opening_fault, unformed_line, unlawful_line};
 ghost use Rattle.run_audit.specs.ToldReport.{IsTold};
 
 use crate::publisher::Publisher;
@@ -15,6 +17,22 @@ use fw_command::Step;
 use fw_report::LineAnswer;
 use rule_chain::Config;
 use std::alloc::Global;
+
+/// This fault, where each line of a report has a form; else that of the first line that has none,
+/// for which the report is read again.
+fn with_form(report: &[u8], fault: AuditFault) -> AuditFault
+    ensures { (editions : List Published)
+        → IfWrong fault (λ line. unformed_line report.now ≡ None
+        → unlawful_line editions report.now ≡ Some line)
+        → NamesLine (opening_fault editions report.now) result }
+{
+    match fault {
+        AuditFault::OutOfMemory => AuditFault::OutOfMemory,
+        AuditFault::Wrong { line } => AuditFault::Wrong {
+            line: first_unformed(report).unwrap_or(line),
+        },
+    }
+}
 
 /// What a report tells beside a script whose edition 1 has this configuration and that has these
 /// steps behind `live`, and the answers to the script's lines: the form of all lines is tested
@@ -37,9 +55,8 @@ pub(crate) fn opened_report(
         report.now)) }
 {
     let (editions, answers) = Publisher::of_steps(alloc, config, steps)?.into_parts();
-    if let Some(line) = first_unformed(report) {
-        return Err(AuditFault::Wrong { line });
+    match told_report(alloc, report, editions) {
+        Ok(told) => Ok((told, answers)),
+        Err(fault) => Err(with_form(report, fault)),
     }
-    let told = told_report(alloc, report, editions)?;
-    Ok((told, answers))
 }

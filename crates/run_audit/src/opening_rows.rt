@@ -33,7 +33,7 @@ const ROWS: [Row<'static>; 9] = [
 
 /// Reports that pass at the opening, and the first line that is wrong behind the records, of which
 /// there are none.
-const CLOSINGS: [Row<'static>; 8] = [
+const CLOSINGS: [Row<'static>; 9] = [
     ("publish 1\nlane 1 refused 0 tracker 0\n", None),
     // Each lane has its line.
     ("publish 1\n", Some(2)),
@@ -53,6 +53,11 @@ const CLOSINGS: [Row<'static>; 8] = [
     ),
     (
         "publish 1\nask 1.1 5 lookup :default tcp 192.0.2.1 1024 192.0.2.2 80 S notfound\n",
+        Some(2),
+    ),
+    // The first of several counts.
+    (
+        "publish 1\nlane 1 refused 0 tracker 2\n1.1 deny 65535 at 1\n",
         Some(2),
     ),
 ];

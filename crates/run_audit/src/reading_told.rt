@@ -1,10 +1,11 @@
-ghost use Rattle.std.specs.Prelude.{◌≡◌, ◌<◌, ◌≤◌, ◌+◌, ◌^◌, ◌==◌, IfOk, IfErr, length, map};
+ghost use Rattle.std.specs.Prelude.{◌≡◌, ◌<◌, ◌≤◌, ◌+◌, ◌^◌, ◌==◌, None, Some, IfOk, IfErr, length, map};
 ghost use Rattle.std.specs.Arc.{arc_value};
-ghost use Rattle.run_audit.specs.AuditFaults.{NamesLine};
-ghost use Rattle.run_audit.specs.JournalTold.{at_the_end, no_journal, replay, wrong_line};
+ghost use Rattle.run_audit.specs.AuditFaults.{IfWrong, NamesLine};
+ghost use Rattle.run_audit.specs.JournalTold.{at_the_end, wrong_line};
+ghost use Rattle.run_audit.specs.Opening.{unformed_line, unlawful_line};
 ghost use Rattle.run_audit.specs.Replaying.{AreNumbered};
 ghost use Rattle.run_audit.specs.Telling.{IsClosed, journal_of};
-ghost use Rattle.run_audit.specs.ToldReport.{IsTold, lines_told};
+ghost use Rattle.run_audit.specs.ToldReport.{IsTold};
 
 use crate::AuditFault;
 use crate::telling::Telling;
@@ -61,7 +62,8 @@ fn closed(
 }
 
 /// What a report tells under these editions: its lines are read one by one, and its journal is met
-/// by the states.
+/// by the states. It fails at a line that has the form of none; where each has a form, at the first
+/// with which the journal is wrong.
 pub(crate) fn told_report(
     alloc: Global,
     report: &[u8],
@@ -70,10 +72,11 @@ pub(crate) fn told_report(
     requires some { 1 ≤ length editions.items }
     requires numbered { AreNumbered (map arc_value editions.items) }
     ensures told { IfOk result (IsTold report.now) }
+    ensures formed { IfOk result (λ told. unformed_line report.now ≡ None) }
     ensures editions { IfOk result (λ told. told.editions.items ≡ editions.items) }
     ensures few { IfOk result (λ told. told.lines + 1 < 2 ^ 64) }
-    ensures wrong { IfErr result (NamesLine (wrong_line
-        (replay (map arc_value editions.items) 1 (lines_told report.now) no_journal))) }
+    ensures wrong { IfErr result (λ fault. IfWrong fault (λ line. unformed_line report.now ≡ None
+        → unlawful_line (map arc_value editions.items) report.now ≡ Some line)) }
 {
     let mut telling = Telling::new(alloc);
     let mut rest = report;

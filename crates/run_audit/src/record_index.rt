@@ -74,6 +74,13 @@ impl RecordIndex {
         Ok(RecordIndex { records, by_number })
     }
 
+    /// All lines, in the report's order.
+    pub(crate) fn all(&self) -> &[ToldRecord]
+        ensures { result.now ≡ self.now }
+    {
+        &self.records
+    }
+
     /// The first line that names this record.
     pub(crate) fn naming(&self, capture: u64, at: u64) -> Option<ToldRecord>
         ensures { result ≡ find (names_record capture at) self.now }

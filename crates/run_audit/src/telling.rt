@@ -1,7 +1,7 @@
-ghost use Rattle.std.specs.Prelude.{◌≡◌, ◌≤◌, ◌+◌, ◌++◌, [], None, Ok, true, false, IfOk, IfErr, OnOk, length, map};
+ghost use Rattle.std.specs.Prelude.{◌≡◌, ◌≤◌, ◌+◌, ◌++◌, [], None, Ok, true, false, IfOk, IfErr, OnOk, is_some, length, map};
 ghost use Rattle.std.specs.Arc.{arc_value};
 ghost use Rattle.report_reading.specs.Lines.{lines_with_ends};
-ghost use Rattle.report_reading.specs.Readings.{line_value};
+ghost use Rattle.report_reading.specs.Readings.{line_value, reading_of};
 ghost use Rattle.run_audit.specs.AuditFaults.{NamesLine};
 ghost use Rattle.run_audit.specs.JournalTold.{with_line, at_the_end, wrong_line};
 ghost use Rattle.run_audit.specs.Replaying.{AreNumbered, IsAskInRange};
@@ -88,7 +88,8 @@ impl Telling {
         Ok(true)
     }
 
-    /// Takes in the line of this number; whether it is right beside the lines before it.
+    /// Takes in the line of this number; whether it has a form and is right beside the lines before
+    /// it.
     pub(crate) fn take_line(
         &mut self,
         alloc: Global,
@@ -100,14 +101,15 @@ impl Telling {
         requires under { IsUnder (map arc_value editions.now) self.old.book }
         ensures taken { result ≡ Ok true
             → TakesLine (map arc_value editions.now) line (told_by text.now) self.old self.new }
+        ensures formed { result ≡ Ok true → is_some (reading_of text.now) ≡ true }
         ensures under { result ≡ Ok true → IsUnder (map arc_value editions.now) self.new.book }
-        ensures wrong { result ≡ Ok false
+        ensures wrong { result ≡ Ok false → is_some (reading_of text.now) ≡ true
             → with_line (map arc_value editions.now) (told_by text.now) (journal_of self.old.book)
             ≡ None }
     {
         match read_line(text) {
             Some(told) => self.take(alloc, editions, line, &told),
-            None => Ok(true),
+            None => Ok(false),
         }
     }
 }

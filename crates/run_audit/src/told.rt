@@ -34,7 +34,7 @@ pub(crate) struct Told {
     pub(crate) editions: Vec<Arc<Edition>>,
     pub(crate) asks: AskIndex,
     ask_lines: Vec<u64>,
-    records: RecordIndex,
+    pub(crate) records: RecordIndex,
     pub(crate) lanes: LaneIndex,
     lines: u64,
 }

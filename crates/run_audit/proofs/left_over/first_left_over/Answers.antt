@@ -1,10 +1,9 @@
-use Rattle.std.proofs.Common.{List, map, ◌∙◌}
-use Rattle.eval_engine.specs.Dockets.{DocketValue}
-use Rattle.eval_engine.specs.declared.docket_entry.DocketEntry.{DocketEntry}
-use Rattle.run_audit.proofs.BehindSteps.{none_over}
+use Rattle.std.proofs.Common.{sym, ◌∙◌}
+use Rattle.run_audit.specs.JudgingValues.{entries_of_each}
+use Rattle.run_audit.specs.ToldReport.{lines_told}
+use Rattle.run_audit.proofs.NothingLefts.{nothing_over}
 use Rattle.run_audit.proofs.left_over.first_left_over.Goals as goal
 
-pub returns-in-None : goal.returns-in-None
-returns-in-None c =
-    let dockets : List (List DocketEntry) = map (λ (docket : DocketValue). docket.entries) c.args.dockets.now in
-    none_over c.args.told.now dockets c.loop-line.number c.loop-line.rest.now c.in-None.ensures.lines ∙ c.loop-line.invariant.same
+pub returns-then-is_nothing_left : goal.returns-then-is_nothing_left
+returns-then-is_nothing_left c =
+    sym (nothing_over c.args.told.now (entries_of_each c.args.dockets.now) (lines_told c.args.report.now) c.requires.kept (sym c.is_nothing_left.ensures ∙ c.if-is_nothing_left.true))

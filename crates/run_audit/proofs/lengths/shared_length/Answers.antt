@@ -1,7 +1,7 @@
-use Rattle.std.proofs.Common.{arith}
-use Rattle.run_audit.proofs.Counts.{none_shared}
+use Rattle.std.proofs.Common.{sym, ◌∙◌}
+use Rattle.run_audit.proofs.Counts.{all_shared}
 use Rattle.run_audit.proofs.lengths.shared_length.Goals as goal
 
-pub returns-then-at-second-clause-value : goal.returns-then-at-second-clause-value
-returns-then-at-second-clause-value c =
-    omega (arith, c.loop-at.invariant.same, none_shared c.args.first.now c.args.second.now c.loop-at.at c.if-at-second.true)
+pub returns-then-starts_with-clause-value : goal.returns-then-starts_with-clause-value
+returns-then-starts_with-clause-value c =
+    sym (all_shared c.args.first.now c.args.second.now (sym c.starts_with.ensures.value ∙ c.if-starts_with.true))

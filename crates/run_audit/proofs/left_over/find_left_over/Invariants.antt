@@ -1,7 +1,7 @@
 use Rattle.std.proofs.Common.{◌≡◌, ◌≤◌, ◌+◌, length, map}
 use Rattle.run_audit.specs.LeftOver.{first_left_over}
 use Rattle.run_audit.specs.ToldReport.{lines_told}
-use Rattle.run_audit.proofs.left_over.first_left_over.Given as goal
+use Rattle.run_audit.proofs.left_over.find_left_over.Given as goal
 
 abbrev pub invariant-loop-line : goal.invariant-loop-line
 invariant-loop-line l = record {

@@ -1,6 +1,6 @@
 use Rattle.std.proofs.Common.{◌≡◌, ◌≤◌, length, drop, nat_eq, ◌+◌}
 use Rattle.std.specs.List.{common_prefix_len}
-use Rattle.run_audit.proofs.lengths.shared_length.Given as goal
+use Rattle.run_audit.proofs.lengths.shared_bytes.Given as goal
 
 abbrev pub invariant-loop-at : goal.invariant-loop-at
 invariant-loop-at l = record {
