@@ -34,7 +34,16 @@ mod Records
 mod Nothing
 -- a report tells one record, which no audit finds wrong
 mod OneRecord
-mod Faultless
+pub mod Faultless
 -- and which has the report again
 mod SamePrint
-mod Rebuilding
+pub mod Rebuilding
+-- a script's commands, and the configurations that they make
+pub mod RuleForms
+mod TableForms
+pub mod KeptForms
+pub mod ScriptForms
+-- captures of bytes, and their records
+mod Frames
+mod Captured
+pub mod PrintableRecords
