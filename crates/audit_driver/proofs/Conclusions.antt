@@ -93,7 +93,7 @@ named_at (word ∷ words) (suc place) blank less = named_at words place blank (o
 
 module _ {S : Type 0} (left : S → Option (List ℕ)) (failures : S → ℕ) where
   -- what was rebuilt is a legal record of the captures
-  has_legal : (edition : FirstEdition) (bytes : List ℕ) (opened : List (OpenedCapture S)) (e : Examined S) (inputs : List (List Input))
+  abbrev has_legal : (edition : FirstEdition) (bytes : List ℕ) (opened : List (OpenedCapture S)) (e : Examined S) (inputs : List (List Input))
       → (goes : GoesOn left failures (record { config = edition.config; steps = edition.live; report = bytes }) (limit_for (length opened)) 0 opened e)
       → inputs ≡ map track_inputs goes.met.tracks ++ []
       → (r : _) → IsRebuilt edition.config edition.live bytes inputs r
@@ -136,9 +136,10 @@ module _ {S : Type 0} (left : S → Option (List ℕ)) (failures : S → ℕ) wh
         count,
         short,
         inr (inr (inr (record {
-          record_of = rebuilt_record compares.rebuilt;
+          rebuilt = compares.rebuilt;
           ends = e.ends.items;
           has = has_legal edition bytes opened e _ goes refl compares.rebuilt compares.is;
+          told = subst (λ (i : List (List Input)). IsRebuilt edition.config edition.live bytes i compares.rebuilt) (append-nil (map track_inputs goes.met.tracks)) compares.is;
           differs = ap (λ (t : List ℕ). line_of_first_other 1 t bytes) (sym (rebuilt_is edition bytes _ e.ends.items compares.rebuilt compares.is))
               ∙ ap (line_of_first_other 1 _) (sym compares.is.reported) ∙ compares.compares;
         }))),

@@ -8,3 +8,14 @@ pub mod Conclusions
 pub mod Found
 -- what it promises
 pub mod Promised
+-- the words of an audit
+pub mod CaptureCounts
+-- what a script gives, and what is read of captures
+pub mod EditionForms
+pub mod SameReadings
+-- that it says yes of what a replay printed
+pub mod Accepted
+-- and that a replay prints such a report
+pub mod RunReports
+-- what a replay promises
+pub mod RunPromises

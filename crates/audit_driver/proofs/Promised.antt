@@ -44,7 +44,7 @@ one_out (Some pairs) b name names left told last took is behind =
     by_place (Some f) took = behind f.1 took.1
 
 -- what an opening takes out of a told list
-took_from : (a b : Option (List Pair)) (name : List ℕ) (left : Option (List ℕ)) (ps : List Pair) (p : Pair) (rest : List Pair) → TakesOut a b name left
+pub took_from : (a b : Option (List Pair)) (name : List ℕ) (left : Option (List ℕ)) (ps : List Pair) (p : Pair) (rest : List Pair) → TakesOut a b name left
     → a ≡ Some ps → take_named name ps ≡ Some (p, rest) → (left ≡ Some p.1) × (b ≡ Some rest)
 took_from None b name left ps p rest took is stands = absurd (cc)
 took_from (Some qs) b name left ps p rest took is stands =

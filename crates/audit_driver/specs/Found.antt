@@ -21,8 +21,9 @@ use Rattle.replay_driver.specs.Outside.{Files}
 use Rattle.replay_driver.specs.RunResult.{report_record}
 use Rattle.replay_driver.specs.Served.{pace_of}
 use Rattle.replay_driver.specs.declared.first_edition.FirstEdition.{FirstEdition}
-use Rattle.run_audit.specs.Audit.{FailsAtInput, FailsAtOpening, IsFirstWrong}
+use Rattle.run_audit.specs.Audit.{FailsAtInput, FailsAtOpening, IsFirstWrong, IsRebuilt, rebuilt_record}
 use Rattle.run_audit.specs.Comparison.{line_of_first_other}
+use Rattle.run_audit.specs.declared.rebuilt.Rebuilt.{Rebuilt}
 use Rattle.audit_driver.specs.AuditNames.{AuditNames}
 use Rattle.audit_driver.specs.Examined.{FailsAtOne, HasGiven}
 use Rattle.audit_driver.specs.declared.audit_result.AuditResult.{AuditResult}
@@ -54,12 +55,14 @@ module _ {S : Type 0} (left : S → Option (List ℕ)) (failures : S → ℕ) wh
     pub has : HasLegalRecord edition opened sources record_of ends
     pub text : bytes ≡ text_of edition record_of ends
 
-  -- Beside the record that it tells the report has another text: this is the first line that differs.
+  -- The report tells a record that is legal for the script and for the captures' records, and that record has another
+  -- text: this is the first line that differs.
   pub record IsOtherText (edition : FirstEdition) (bytes : List ℕ) (opened : List (OpenedCapture S)) (sources : List S) (line : ℕ) : Type 0 where
-    pub record_of : RecordValue
+    pub rebuilt : Rebuilt
     pub ends : List CaptureEnd
-    pub has : HasLegalRecord edition opened sources record_of ends
-    pub differs : line_of_first_other 1 (text_of edition record_of ends) bytes ≡ Some line
+    pub has : HasLegalRecord edition opened sources (rebuilt_record rebuilt) ends
+    pub told : IsRebuilt edition.config edition.live bytes (map track_inputs has.tracks) rebuilt
+    pub differs : line_of_first_other 1 (text_of edition (rebuilt_record rebuilt) ends) bytes ≡ Some line
 
   -- The audit was stopped at a record that a capture gave, with this line: it is that of the first record that isn't as the
   -- report tells it.

@@ -10,6 +10,7 @@ ghost use Rattle.replay_driver.specs.Run.{status_of};
 ghost use Rattle.audit_driver.specs.AuditNames.{words_named};
 ghost use Rattle.audit_driver.specs.Concluding.{ComparesWith, Concludes, IsStoppedSo};
 ghost use Rattle.audit_driver.specs.Found.{ConcludesAudit, FindsAudit, FindsBehindReport};
+ghost use Rattle.audit_driver.specs.Printed.{IsPrintedAudit};
 ghost use Rattle.audit_driver.specs.Promises.{IsQuietAudit, SaysNo, SaysUnread, SaysUnready};
 ghost use Rattle.audit_driver.specs.Promises.{SaysYes};
 ghost use Rattle.audit_driver.specs.Promises.{names_in_order};
@@ -317,6 +318,12 @@ pub fn audit<L: Library, K: Sink>(
     ensures complete { IsQuietAudit ⟦<K as SinkView>⟧.output ⟦<L as LibraryView>⟧.files
         (words_named words.entry) library.old library.new out.old out.new result
         → (result.status ≡ 0) ⊎ ((result.status ≡ 7) ⊎ (result.status ≡ 6)) }
+
+    // Where the report is what a replay prints of the script and the captures, with its journal and
+    // without a cache, it is yes, or memory ran out.
+    ensures accepts { IsPrintedAudit ⟦<K as SinkView>⟧.output ⟦<L as LibraryView>⟧.files
+        (words_named words.entry) library.old library.new out.old out.new result
+        → (result.status ≡ 0) ⊎ (result.status ≡ 6) }
 {
     audit_words(alloc, words, library, out)
 }

@@ -5,6 +5,7 @@
 #![tactic(auto)]
 
 pub use audit_command::{AuditWords, audit};
+pub use laws::runs_take_reports;
 pub use run_command::run;
 
 mod audit_command;
@@ -12,6 +13,7 @@ mod audit_result;
 mod capture_audit;
 mod concluding;
 mod examined;
+mod laws;
 mod run_command;
 mod taken;
 mod text_comparer;

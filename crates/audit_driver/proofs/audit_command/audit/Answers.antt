@@ -1,4 +1,5 @@
 use Rattle.audit_driver.specs.AuditNames.{words_named}
+use Rattle.audit_driver.proofs.Accepted.{audit_accepts, few_names}
 use Rattle.audit_driver.proofs.Promised.{audit_keeps_none, audit_never_1, audit_never_3, audit_no, audit_openings, audit_quiet, audit_risen, audit_silent, audit_unread, audit_unready, audit_yes}
 use Rattle.audit_driver.proofs.audit_command.audit.Goals as goal
 
@@ -34,3 +35,7 @@ returns-clause-complete g c = audit_quiet _ _ (words_named c.args.words) c.args.
 
 pub returns-clause-openings : goal.returns-clause-openings
 returns-clause-openings g c = λ pairs told other. audit_openings _ _ (words_named c.args.words) c.args.library.now c.audit_words.new.library c.args.out.now c.audit_words.new.out c.audit_words.result c.audit_words.ensures other pairs told
+
+pub returns-clause-accepts : goal.returns-clause-accepts
+returns-clause-accepts g c =
+    λ printed. audit_accepts _ _ (words_named c.args.words) c.args.library.now c.audit_words.new.library c.args.out.now c.audit_words.new.out c.audit_words.result (few_names c.args.words.captures.now c.requires.few) printed c.audit_words.ensures
