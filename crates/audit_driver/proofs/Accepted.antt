@@ -1,11 +1,9 @@
 -- Of a report that a replay prints an audit says yes.
-use Rattle.std.proofs.Common.{◌≡◌, ℕ, ◌+◌, ◌<◌, ◌≤◌, Bool, true, false, if◌then◌else◌, ◌==◌, List, [], ◌∷◌, ◌++◌, Option, None, Some, Result, Ok, Err, length, map, refl, ap, ◌∙◌, sym, subst, arith, inl, inr, ◌⊎◌, suc, append-nil, length-append}
+use Rattle.std.proofs.Common.{◌≡◌, ℕ, ◌+◌, ◌<◌, ◌≤◌, Bool, true, if◌then◌else◌, ◌==◌, List, [], ◌∷◌, ◌++◌, Option, None, Some, Result, Ok, length, map, refl, ap, ◌∙◌, sym, subst, arith, inl, inr, ◌⊎◌, suc, append-nil, length-append}
 use Rattle.std.specs.Prelude.{IfSome}
-use Rattle.std.specs.List.{AllByRecursion}
 use Rattle.std.proofs.lemmas.List.{length-map}
-use Rattle.audit_laws.specs.Captures.{AreBytes, HaveToldBytes, IsFromScript}
+use Rattle.audit_laws.specs.Captures.{HaveToldBytes, IsFromScript}
 use Rattle.audit_laws.specs.Completeness.{IsFaultless, IsReported}
-use Rattle.audit_laws.specs.Printable.{report_of}
 use Rattle.audit_laws.proofs.Faultless.{reports_are_faultless}
 use Rattle.audit_laws.proofs.PrintableRecords.{records_are_reported}
 use Rattle.audit_laws.proofs.Rebuilding.{rebuilt_records_print_alike}
@@ -19,19 +17,15 @@ use Rattle.command_words.specs.Invocation.{capture_names}
 use Rattle.command_words.specs.Words.{CaptureNames}
 use Rattle.command_words.specs.declared.capture_word.CaptureWord.{CaptureWord}
 use Rattle.command_words.specs.declared.invocation.Mode.TheVariants.{Serial}
-use Rattle.fw_base.specs.Pairs.{Pair, take_named}
-use Rattle.fw_report.specs.Report.{report_text}
-use Rattle.fw_report.specs.declared.capture_end.CaptureEnd.{CaptureEnd}
+use Rattle.fw_base.specs.Pairs.{Pair}
 use Rattle.fw_report.specs.declared.ends.LineAnswer.{LineAnswer}
 use Rattle.fw_world.specs.Inputs.{Input}
 use Rattle.fw_world.specs.RecordValue.{RecordValue}
-use Rattle.record_laws.specs.SameCaptures.{printed_end}
 use Rattle.record_laws.proofs.SameEnds.{same_report}
 use Rattle.replay_driver.specs.FirstEdition.{first_edition}
 use Rattle.replay_driver.specs.Found.{known_left, no_failures}
 use Rattle.replay_driver.specs.Openings.{OpensAll}
 use Rattle.replay_driver.specs.Outside.{Files, Output}
-use Rattle.replay_driver.specs.RunResult.{report_record}
 use Rattle.replay_driver.specs.Served.{pace_of}
 use Rattle.replay_driver.specs.declared.first_edition.FirstEdition.{FirstEdition}
 use Rattle.replay_driver.specs.declared.outcome.Outcome.{Outcome}
@@ -39,7 +33,6 @@ use Rattle.replay_driver.specs.declared.script_error.ScriptError.{ScriptError}
 use Rattle.replay_driver.proofs.Promised.{IfSome-both}
 use Rattle.run_audit.specs.Audit.{IsFirstWrong, IsRebuilt, rebuilt_record}
 use Rattle.run_audit.specs.Comparison.{line_behind, line_of_first_other}
-use Rattle.run_audit.specs.declared.rebuilt.Rebuilt.{Rebuilt}
 use Rattle.audit_driver.specs.AuditNames.{AuditNames, names_of}
 use Rattle.audit_driver.specs.Found.{IsAudited, IsOtherText, IsWrongAtEnd, IsWrongReport, text_of}
 use Rattle.audit_driver.specs.Printed.{AreUnder, IsPrinted, IsPrintedAudit}

@@ -32,7 +32,6 @@ captures_count (word ∷ words) = by_first (capture_of word) (captures_of words)
     by_first (Some capture) None count = tt
     by_first (Some capture) (Some others) count = omega (arith, count)
 
-
 replay_few : (mode : Mode) (journal : Bool) (cache : Option ℕ) (positional : List (List ℕ)) → IfSome (replay_of mode journal cache positional) HasFew
 unfolding replay_of
 replay_few mode journal cache [] = tt

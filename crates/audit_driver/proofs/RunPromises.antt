@@ -1,5 +1,5 @@
 -- What `run` promises of a replay or a load follows from what it does exactly.
-use Rattle.std.proofs.Common.{◌≡◌, ◌≢◌, None, Some, Option}
+use Rattle.std.proofs.Common.{Some, Option}
 use Rattle.std.specs.Prelude.{IfSome}
 use Rattle.replay_driver.specs.Outside.{Files, Output}
 use Rattle.replay_driver.specs.Run.{IsRunOf}

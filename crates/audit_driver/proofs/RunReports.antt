@@ -1,9 +1,9 @@
 -- What a replay prints, with its journal and without a cache, is the report of what stands under its names.
 use Rattle.std.specs.Bool.{⊤}
-use Rattle.std.proofs.Common.{◌≡◌, ◌≢◌, ℕ, ◌+◌, ◌<◌, ◌≤◌, Bool, true, false, if◌then◌else◌, List, [], ◌∷◌, ◌++◌, Option, None, Some, Result, Ok, Err, length, map, nat_lt, nat_eq, refl, ap, ◌∙◌, sym, subst, arith, inl, inr, ◌⊎◌, ◌||◌, suc, append-nil, length-append}
+use Rattle.std.proofs.Common.{◌≡◌, ◌≢◌, ℕ, ◌<◌, ◌≤◌, Bool, true, false, if◌then◌else◌, List, [], ◌∷◌, ◌++◌, Option, None, Some, Result, Ok, Err, length, map, nat_lt, nat_eq, refl, ap, ◌∙◌, sym, subst, arith, inl, inr, ◌||◌, append-nil}
 use Rattle.std.specs.Cmp.Lexicographic.{pointwise}
 use Rattle.std.specs.Io.KnownBytes.{Appends, IsAtEnd}
-use Rattle.std.specs.List.{AllByRecursion, list_any}
+use Rattle.std.specs.List.{list_any}
 use Rattle.std.specs.Option.{option_map}
 use Rattle.std.specs.Prelude.{MatchOption}
 use Rattle.std.proofs.lemmas.Bool.{or_parts}
@@ -56,8 +56,8 @@ use Rattle.replay_driver.specs.declared.script_error.ScriptError.{ScriptError}
 use Rattle.rule_chain.specs.Configuration.{Configuration}
 use Rattle.rule_chain.specs.First.{first_configuration}
 use Rattle.rule_edits.proofs.FlowNames.{name_same}
-use Rattle.audit_driver.specs.Found.{HasLegalRecord, text_of}
-use Rattle.audit_driver.specs.Printed.{AreUnder, IsPrinted, IsReportOf}
+use Rattle.audit_driver.specs.Found.{text_of}
+use Rattle.audit_driver.specs.Printed.{AreUnder}
 use Rattle.audit_driver.specs.RunReports.{RunsTakeReports, TakesReport}
 use Rattle.audit_driver.proofs.SameReadings.{AreSameFiles, same_count, told_alone}
 

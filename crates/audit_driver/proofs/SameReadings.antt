@@ -1,15 +1,13 @@
 -- What is read of a capture is what its bytes say, whatever it was read from.
 use Rattle.std.specs.Bool.{⊤}
-use Rattle.std.proofs.Common.{◌≡◌, ℕ, suc, ◌+◌, ◌<◌, ◌≤◌, Bool, true, false, ◌||◌, Option, None, Some, List, [], ◌∷◌, ◌++◌, length, map, take, drop, replicate, Result, Ok, Err, nat_lt, MatchBool, MatchResult, MatchOption, inl, inr, refl, sym, ap, ◌∙◌, subst, arith}
-use Rattle.std.specs.Prelude.{IsSomeAnd}
+use Rattle.std.proofs.Common.{◌≡◌, ℕ, suc, ◌+◌, ◌≤◌, false, ◌||◌, Option, None, Some, List, [], ◌∷◌, ◌++◌, length, map, take, drop, replicate, Ok, nat_lt, MatchOption, refl, sym, ap, ◌∙◌, subst, arith}
 use Rattle.std.specs.Io.KnownBytes.{Consumes}
-use Rattle.std.specs.List.{AllByRecursion, list_any}
+use Rattle.std.specs.List.{list_any}
 use Rattle.std.specs.Option.{option_to_list}
-use Rattle.std.proofs.lemmas.Bool.{cases_lt, or_parts}
+use Rattle.std.proofs.lemmas.Bool.{or_parts}
 use Rattle.std.proofs.lemmas.List.{append-nil, length-append, map-append}
 use Rattle.std.proofs.lemmas.Result.{MatchResult-at_ok}
 use lib.Seq.{drop-append-le}
-use Rattle.audit_laws.specs.Captures.{AreBytes, HaveToldBytes}
 use Rattle.audit_laws.specs.Completeness.{AreSoFar}
 use Rattle.capture_tracks.specs.Reading as reading
 use Rattle.capture_tracks.specs.Reading.{AllRead, IsRead, Origin, input_of, link_in, origin_of, track_inputs}
@@ -28,7 +26,7 @@ use Rattle.pcap_read.specs.Reading.{Captured, Closed, EndsAt, HasFront, HasRecor
 use Rattle.pcap_read.specs.declared.capture_fault.CaptureFault.{CaptureFault}
 use Rattle.pcap_read.specs.declared.format.Format.{Format}
 use Rattle.pcap_read.proofs.Fronts.{header_grown, took_grown}
-use Rattle.record_laws.specs.SameCaptures.{HaveSameRecords, printed_end}
+use Rattle.record_laws.specs.SameCaptures.{printed_end}
 use Rattle.record_laws.proofs.ReadCaptures.{AreTold, are_told, same_records, with_contents}
 use Rattle.record_laws.proofs.SameEnds.{same_ends}
 use Rattle.replay_driver.specs.Found.{known_left, no_failures}
@@ -247,9 +245,10 @@ module _ {S : Type 0} (left : S → Option (List ℕ)) (faults : S → ℕ) wher
   part_met limit (b ∷ before) one behind (c ∷ captures) (source ∷ sources) (rest ∷ rests) (t ∷ tracks) (other ∷ others) (end ∷ ends) (otherEnd ∷ otherEnds) track done origin last same read whole made fine tracked held =
       let (here, beyond) = or_parts (is_unread end) (list_any is_unread ends) whole in
       let (made_here, made_behind) = or_parts (is_unread otherEnd) (list_any is_unread otherEnds) fine in
-      let alike = same_reading left faults limit b c source rest t other end otherEnd same.0 same.1 read.0 read.1 here made.0 made.1 made_here in
-      (([], sym alike.inputs ∙ sym (append-nil (track_inputs t))),
-      part_met limit before one behind captures sources rests tracks others ends otherEnds track done origin last same.2 read.2 beyond made.2 made_behind tracked held)
+      let alike = same_reading left faults limit b c source rest t other end otherEnd same.0 same.1 read.0 read.1 here made.0 made.1 made_here in (
+        ([], sym alike.inputs ∙ sym (append-nil (track_inputs t))),
+        part_met limit before one behind captures sources rests tracks others ends otherEnds track done origin last same.2 read.2 beyond made.2 made_behind tracked held,
+      )
 
   -- the records that captures gave are those of their told bytes, from the first on
   pub given_so_far : (limit : ℕ) (opened : List (OpenedCapture S)) (captures : List (OpenedCapture (List ℕ))) (sources : List S) (rests : List (List ℕ)) (others : List reading.Track) (otherEnds : List CaptureEnd) (inputs : List (List Input))
