@@ -1,7 +1,7 @@
 -- how often something is in a list with one element more
-mod SpanSteps
+pub mod SpanSteps
 -- in a list that is mapped
-mod SpanLaws
+pub mod SpanLaws
 -- the moves of captures
 mod Rows
 -- that none is told twice

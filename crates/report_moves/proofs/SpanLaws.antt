@@ -24,7 +24,7 @@ module _ {X Y : Type 0} (f : X → Y) where
     prefix_map [] = refl
     prefix_map (x ∷ xs) = rw (alike x, prefix_map xs) refl
 
-    count_map : (xs : List X) → count_by test xs ≡ count_by other (map f xs)
+    pub count_map : (xs : List X) → count_by test xs ≡ count_by other (map f xs)
     count_map [] = refl
     count_map (x ∷ xs) =
         sum_by-cons (λ x. cond (test x) 1 0) x xs ∙ rw (alike x, count_map xs) (sym (sum_by-cons (λ y. cond (other y) 1 0) (f x) (map f xs)))

@@ -37,10 +37,10 @@ module _ {X : Type 0} (test : X → Bool) where
     | inr isn't ↦ let rest = some_passes xs (rw isn't at some) in rw isn't (omega arith)
   ]
 
-  count_yes : (xs : List X) (x : X) → test x ≡ true → count_by test (xs ++ x ∷ []) ≡ count_by test xs + 1
+  pub count_yes : (xs : List X) (x : X) → test x ≡ true → count_by test (xs ++ x ∷ []) ≡ count_by test xs + 1
   count_yes xs x is = sum_by_push (λ x. cond (test x) 1 0) xs x ∙ rw is refl
 
-  count_no : (xs : List X) (x : X) → test x ≡ false → count_by test (xs ++ x ∷ []) ≡ count_by test xs
+  pub count_no : (xs : List X) (x : X) → test x ≡ false → count_by test (xs ++ x ∷ []) ≡ count_by test xs
   count_no xs x isn't = sum_by_push (λ x. cond (test x) 1 0) xs x ∙ rw isn't (omega arith)
 
   unequal : (a b : ℕ) → a < b → nat_eq a b ≡ false
@@ -78,7 +78,7 @@ module _ {X : Type 0} (test : X → Bool) where
   same_span a b c d e f p q r = ap (λ n. some_span n b c) p ∙ ap (λ n. some_span d n c) q ∙ ap (λ n. some_span d e n) r
 
   -- an element that passes, at the end
-  span_yes : (xs : List X) (x : X) → test x ≡ true → span_of test (xs ++ x ∷ []) ≡ Some (one_more (span_of test xs) (length xs + 1))
+  pub span_yes : (xs : List X) (x : X) → test x ≡ true → span_of test (xs ++ x ∷ []) ≡ Some (one_more (span_of test xs) (length xs + 1))
   unfolding span_of
   span_yes xs x is = elim (cases_Bool (list_any test xs)) [
     | inl some ↦
@@ -90,7 +90,7 @@ module _ {X : Type 0} (test : X → Bool) where
   ]
 
   -- one that doesn't
-  span_no : (xs : List X) (x : X) → test x ≡ false → span_of test (xs ++ x ∷ []) ≡ span_of test xs
+  pub span_no : (xs : List X) (x : X) → test x ≡ false → span_of test (xs ++ x ∷ []) ≡ span_of test xs
   unfolding span_of
   span_no xs x isn't = elim (cases_Bool (list_any test xs)) [
     | inl some ↦
@@ -108,7 +108,7 @@ module _ {X : Type 0} (test : X → Bool) where
   ]
 
 -- what a record more counts
-records_more : (span : Option Span) (number : ℕ) → (one_more span number).records ≡ unwrap_or (option_map (λ span. span.records) span) 0 + 1
+pub records_more : (span : Option Span) (number : ℕ) → (one_more span number).records ≡ unwrap_or (option_map (λ span. span.records) span) 0 + 1
 records_more None number = refl
 records_more (Some span) number = refl
 

@@ -6,7 +6,7 @@
 
 pub use laws::{moves_turn_round, nothing_moves_of_itself};
 pub use moves::{Move, Moves, have_same_lengths, moves_between};
-pub use spans::{Span, spans_of};
+pub use spans::{Span, one_more, spans_of};
 
 mod laws;
 mod moves;

@@ -18,7 +18,7 @@ pub struct Span {
 }
 
 /// What there is behind one more record of this number.
-fn one_more(span: Option<Span>, number: u64) -> Span
+pub fn one_more(span: Option<Span>, number: u64) -> Span
     requires { IfSome span (λ span. span.records < number) }
     ensures { result ≡ spec.one_more span number }
 {
