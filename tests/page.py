@@ -117,6 +117,13 @@ def main():
     same("asks", sum(line.startswith("ask ") for line in report), sum(int(told.group(1)) for told in seconds))
     made = sum(line.startswith("ask ") and line.endswith(" created") for line in report)
     same("states made", made, sum(int(told.group(2)) for told in seconds))
+    if seconds:
+        same("all states made", made, page.ids.get("made"))
+    so_far = [re.match(r"up to the column of second ([0-9]+): ([0-9]+) states made$", title) for title in page.titles]
+    begins = [int(re.match(r"from second ([0-9]+):", told.group(0)).group(1)) for told in seconds]
+    counts = [sum(int(told.group(2)) for told in seconds[:at + 1]) for at in range(len(seconds))]
+    wanted = list(zip(begins, counts)) if made else []
+    same("states made so far", wanted, [(int(told.group(1)), int(told.group(2))) for told in so_far if told])
     if len(sys.argv) > 3:
         same("moved", sys.argv[3], page.ids.get("moved"))
         same("verdicts", sys.argv[4], page.ids.get("verdicts"))

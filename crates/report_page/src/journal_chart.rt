@@ -14,7 +14,23 @@ const MOST_COLUMNS: u64 = 200;
 #[derive(Clone, Copy)]
 struct Column {
     asks: u64,
+    /// How many of the asks made a state.
     made: u64,
+}
+
+/// The columns of a chart: the first second, and how many seconds each stands for.
+#[derive(Clone, Copy)]
+struct Axis<'a> {
+    first: u64,
+    seconds: u64,
+    columns: &'a [Column],
+}
+
+impl Axis<'_> {
+    /// The first second of the column in this place.
+    fn second_at(&self, place: u64) -> u64 {
+        self.first.saturating_add(place.saturating_mul(self.seconds))
+    }
 }
 
 /// The second of an ask.
@@ -124,43 +140,131 @@ fn put_column(
     )
 }
 
-/// Puts the chart of the journal's seconds.
-fn put_chart(
-    alloc: Global,
+/// Puts the beginning of a chart, with its title.
+fn put_beginning(
     pieces: &mut Vec<Piece<'_>>,
-    lines: &[u8],
-    first: u64,
-    last: u64,
+    axis: &Axis<'_>,
+    title: &'static [u8],
 ) -> Result<(), OutOfMemory> {
-    let all = last.saturating_sub(first).saturating_add(1);
-    let seconds = (all / MOST_COLUMNS).saturating_add(1);
-    let count = all.saturating_add(seconds).saturating_sub(1) / seconds.max(1);
-    let columns = columns_of(alloc, lines, first, seconds, count)?;
-    let mut most: u64 = 0;
-    for column in &columns {
-        most = most.max(column.asks);
-    }
+    let count = axis.columns.len() as u64;
     put(
         pieces,
         &[
             Piece::Markup(b"<div class=\"strip\"><svg role=\"img\" viewBox=\"0 0 "),
             Piece::Figure(count.saturating_mul(10)),
-            Piece::Markup(
-                b" 100\" preserveAspectRatio=\"none\"><title>Asks and states made along the \
-                  seconds ",
-            ),
-            Piece::Figure(first),
-            Piece::Markup(b" to "),
-            Piece::Figure(last),
+            Piece::Markup(b" 100\" preserveAspectRatio=\"none\"><title>"),
+            Piece::Markup(title),
+            Piece::Figure(axis.first),
+            Piece::Markup(b" on, each column of "),
+            Piece::Figure(axis.seconds),
             Piece::Markup(b"</title>\n"),
         ],
-    )?;
-    for (place, column) in columns.iter().enumerate() {
+    )
+}
+
+/// Puts the chart of what was asked along the seconds.
+fn put_asks(pieces: &mut Vec<Piece<'_>>, axis: &Axis<'_>) -> Result<(), OutOfMemory> {
+    let mut most: u64 = 0;
+    for column in axis.columns {
+        most = most.max(column.asks);
+    }
+    put_beginning(pieces, axis, b"Asks and states made along the seconds, from ")?;
+    for (place, column) in axis.columns.iter().enumerate() {
         let place = place as u64;
-        let second = first.saturating_add(place.saturating_mul(seconds));
-        put_column(pieces, column, place, second, most)?;
+        put_column(pieces, column, place, axis.second_at(place), most)?;
     }
     put(pieces, &[Piece::Markup(b"</svg></div>\n")])
+}
+
+/// How many states were made in all columns.
+fn made_in(columns: &[Column]) -> u64 {
+    let mut made: u64 = 0;
+    for column in columns {
+        made = made.saturating_add(column.made);
+    }
+    made
+}
+
+/// Puts a column: how many of all states were made so far.
+fn put_made_column(
+    pieces: &mut Vec<Piece<'_>>,
+    place: u64,
+    second: u64,
+    made: u64,
+    all: u64,
+) -> Result<(), OutOfMemory> {
+    let height = share(made, all, 100);
+    put(
+        pieces,
+        &[
+            Piece::Markup(b"<g><title>up to the column of second "),
+            Piece::Figure(second),
+            Piece::Markup(b": "),
+            Piece::Figure(made),
+            Piece::Markup(b" states made</title><rect class=\"allow\" x=\""),
+            Piece::Figure(place.saturating_mul(10)),
+            Piece::Markup(b"\" y=\""),
+            Piece::Figure(100u64.saturating_sub(height)),
+            Piece::Markup(b"\" width=\"9\" height=\""),
+            Piece::Figure(height),
+            Piece::Markup(b"\"/></g>\n"),
+        ],
+    )
+}
+
+/// Puts the chart of the states made so far, and how many of them live at the end.
+fn put_made(
+    pieces: &mut Vec<Piece<'_>>,
+    axis: &Axis<'_>,
+    live: u64,
+) -> Result<(), OutOfMemory> {
+    let all = made_in(axis.columns);
+    put(
+        pieces,
+        &[
+            Piece::Markup(b"<h3>States made so far</h3>\n<p><span id=\"made\">"),
+            Piece::Figure(all),
+            Piece::Markup(b"</span> states were made, and "),
+            Piece::Figure(live),
+            Piece::Markup(
+                b" live at the end. When the others died the report doesn't tell: that goes by \
+                  the lifetimes which the script sets.</p>\n",
+            ),
+        ],
+    )?;
+    if all == 0 {
+        return Ok(());
+    }
+    put_beginning(pieces, axis, b"States made so far along the seconds, from ")?;
+    let mut made: u64 = 0;
+    for (place, column) in axis.columns.iter().enumerate() {
+        let place = place as u64;
+        made = made.saturating_add(column.made);
+        put_made_column(pieces, place, axis.second_at(place), made, all)?;
+    }
+    put(pieces, &[Piece::Markup(b"</svg></div>\n")])
+}
+
+/// Puts the charts of the journal's seconds.
+fn put_charts(
+    alloc: Global,
+    pieces: &mut Vec<Piece<'_>>,
+    lines: &[u8],
+    (first, last): (u64, u64),
+    live: u64,
+) -> Result<(), OutOfMemory> {
+    let all = last.saturating_sub(first).saturating_add(1);
+    let seconds = (all / MOST_COLUMNS).saturating_add(1);
+    let count = all.saturating_add(seconds).saturating_sub(1) / seconds.max(1);
+    let columns = columns_of(alloc, lines, first, seconds, count)?;
+    let axis = Axis {
+        first,
+        seconds,
+        columns: &columns,
+    };
+    put_key(pieces, &KEY)?;
+    put_asks(pieces, &axis)?;
+    put_made(pieces, &axis, live)
 }
 
 /// The key of the chart.
@@ -184,14 +288,13 @@ pub(crate) fn put_journal<'a>(
             ),
             Piece::Figure(journal.entries),
             Piece::Markup(
-                b"</span> entries. From left to right stand the seconds of the asks. When a state \
-                  dies no report tells: those that lived at the end stand above, if any did.</p>\n",
+                b"</span> entries. From left to right stand the seconds of the asks.</p>\n",
             ),
         ],
     )?;
-    if let Some((first, last)) = seconds_in(journal.lines) {
-        put_key(pieces, &KEY)?;
-        put_chart(alloc, pieces, journal.lines, first, last)?;
+    if let Some(seconds) = seconds_in(journal.lines) {
+        let live = report.sections.states.len() as u64;
+        put_charts(alloc, pieces, journal.lines, seconds, live)?;
     }
     put(pieces, &[Piece::Markup(b"</section>\n")])
 }
