@@ -119,7 +119,8 @@ def main():
     same("states made", made, sum(int(told.group(2)) for told in seconds))
     if seconds:
         same("all states made", made, page.ids.get("made"))
-    so_far = [re.match(r"up to the column of second ([0-9]+): ([0-9]+) states made$", title) for title in page.titles]
+    form = re.compile(r"up to the column of second ([0-9]+): ([0-9]+) states made$")
+    so_far = [form.match(title) for title in page.titles]
     begins = [int(re.match(r"from second ([0-9]+):", told.group(0)).group(1)) for told in seconds]
     counts = [sum(int(told.group(2)) for told in seconds[:at + 1]) for at in range(len(seconds))]
     wanted = list(zip(begins, counts)) if made else []

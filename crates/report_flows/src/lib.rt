@@ -1,4 +1,6 @@
 //! Which flows the records of a move have: who spoke to whom, how often, where first and where last.
+//!
+//! Tests: the built program: `tests/run`.
 #![tactic(auto)]
 
 pub use flow::{AnyFlow, Flow6, flow_in};

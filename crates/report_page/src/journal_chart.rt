@@ -29,7 +29,8 @@ struct Axis<'a> {
 impl Axis<'_> {
     /// The first second of the column in this place.
     fn second_at(&self, place: u64) -> u64 {
-        self.first.saturating_add(place.saturating_mul(self.seconds))
+        self.first
+            .saturating_add(place.saturating_mul(self.seconds))
     }
 }
 
@@ -168,7 +169,11 @@ fn put_asks(pieces: &mut Vec<Piece<'_>>, axis: &Axis<'_>) -> Result<(), OutOfMem
     for column in axis.columns {
         most = most.max(column.asks);
     }
-    put_beginning(pieces, axis, b"Asks and states made along the seconds, from ")?;
+    put_beginning(
+        pieces,
+        axis,
+        b"Asks and states made along the seconds, from ",
+    )?;
     for (place, column) in axis.columns.iter().enumerate() {
         let place = place as u64;
         put_column(pieces, column, place, axis.second_at(place), most)?;
@@ -213,11 +218,7 @@ fn put_made_column(
 }
 
 /// Puts the chart of the states made so far, and how many of them live at the end.
-fn put_made(
-    pieces: &mut Vec<Piece<'_>>,
-    axis: &Axis<'_>,
-    live: u64,
-) -> Result<(), OutOfMemory> {
+fn put_made(pieces: &mut Vec<Piece<'_>>, axis: &Axis<'_>, live: u64) -> Result<(), OutOfMemory> {
     let all = made_in(axis.columns);
     put(
         pieces,
