@@ -34,6 +34,62 @@ if [[ -x $view ]]; then
         'captures: 1 in the first report, in the second 2' 'status 3' >"$work/wanted"
     same view_no_report_is_told
 
+    # The flows of what moved beside a reading of its own (tests/flows.py): the example, captures of IPv4 and IPv6, two
+    # merged, and one of more flows than are told.
+    printf 'add 100 allow ip from any to any\n' >"$work/then"
+    printf '%s\n' 'add 100 deny udp from any to any' 'add 200 reset tcp from any to any' 'add 300 deny ip6 from any to any' \
+        'add 400 allow ip from any to any' >"$work/now"
+    : >"$work/wanted"
+    : >"$work/got"
+    moved() { awk '/ then  .* now$/ { on = 1 } /^$/ { on = 0 } on'; }
+    "$view" moves "$edit/before.report" "$edit/after.report" "out:em0:$first/session.pcap" | moved >>"$work/got"
+    "$tests/flows.py" "$edit/before.report" "$edit/after.report" "$first/session.pcap" >>"$work/wanted"
+    while read -r -a words; do
+        captures=("${words[@]/#*:em0:/$tests/captures/}")
+        words=("${words[@]/:em0:/:em0:$tests/captures/}")
+        "$program" serial "$work/then" "${words[@]}" >"$work/then.report"
+        "$program" serial "$work/now" "${words[@]}" >"$work/now.report"
+        "$tests/flows.py" "$work/then.report" "$work/now.report" "${captures[@]}" >>"$work/wanted"
+        "$view" moves "$work/then.report" "$work/now.report" "${words[@]}" | moved >>"$work/got"
+    done <<'WORDS'
+in:em0:v6_any_sll.pcap
+in:em0:dns_any_sll.pcap
+in:em0:icmp_c0.pcap
+out:em0:day_c0_out.pcap in:em0:day_c0_in.pcap
+in:em0:day_r0_in.pcap in:em0:day_s0_in.pcap
+WORDS
+    same view_flows_beside_a_reading_of_its_own
+
+    # Flows alone are added: all else of the moves is told as without captures.
+    "$view" moves "$edit/before.report" "$edit/after.report" "out:em0:$first/session.pcap" | grep -v '^ *[0-9]* \{10,\}[0-9]\|^ * and [0-9]* flows more' >"$work/got"
+    cp "$edit/moves" "$work/wanted"
+    same view_flows_alone_are_added
+
+    # Captures that aren't those of the reports, captures with a fault, and words that are no captures.
+    head -c 1000 "$first/session.pcap" >"$work/cut.pcap"
+    head -c 20 "$first/session.pcap" >"$work/short.pcap"
+    {
+        for words in "out:em0:$first/session.pcap in:em0:$tests/captures/icmp_c0.pcap" "in:em0:$tests/captures/icmp_c0.pcap" \
+            "out:em0:$work/cut.pcap" "out:em0:$work/short.pcap" "out:em0:$edit/rules" "out:em0:$work/nowhere" \
+            em0:x in:em0: in::x inout:em0:x in:em/0:x in:abcdefghijklmnop:x; do
+            read -r -a words <<<"$words"
+            "$view" moves "$edit/before.report" "$edit/after.report" "${words[@]}" | sed -E 's#(^| )/[^ ]*/#\1#g'
+            echo "status ${PIPESTATUS[0]}"
+        done
+        "$view" script "$first/rules" in:em0:
+        echo "status $?"
+        "$view" script "$first/rules" in:em0:x em0
+        echo "status $?"
+    } >"$work/got"
+    usage_of_view='usage: report_view moves OLD NEW [in|out:IF:CAPTURE ..] | page REPORT [NEW] | script SCRIPT [in|out:IF:CAPTURE ..]'
+    {
+        printf '%s\nstatus 3\n' 'captures: 1 in the reports, named 2' 'icmp_c0.pcap: records: 170 in the reports, in the capture 173' \
+            'cut.pcap: record 10 ShortRecordHeader' 'short.pcap: record 0 ShortHeader' 'rules: record 0 BadMagic'
+        printf 'cannot read nowhere\nstatus 4\n'
+        for _ in {1..8}; do printf '%s\nstatus 1\n' "$usage_of_view"; done
+    } >"$work/wanted"
+    same view_captures_that_do_not_fit
+
     # Each figure of the pages beside counts over their reports.
     {
         "$view" page "$edit/before.report" "$edit/after.report" >"$work/page" && python3 "$tests/page.py" "$work/page" "$edit/before.report" 95 13 75

@@ -1,7 +1,10 @@
 use buffered_io::{ReadError, read_up_to};
+use command_words::CaptureWord;
 use fw_base::{Failed, Library, Name, OutOfMemory};
+use pcap_read::CaptureFault;
+use report_flows::FlowsFault;
 use report_values::ReportError;
-use std::alloc::Global;
+use std::alloc::{AllocFailed, Global};
 
 /// How many bytes of a report are read at most: 4 GiB.
 const MOST_BYTES: usize = 4_294_967_296;
@@ -12,13 +15,37 @@ pub(crate) enum Trouble<'a> {
     /// The words are no command.
     Usage,
     /// A name that couldn't be opened or read.
-    Unread(&'a str),
+    Unread(&'a [u8]),
     /// The text of that name is no report: which line isn't one that a report has there.
-    NoReport(&'a str, u64),
+    NoReport(&'a [u8], u64),
     /// The reports don't have as many captures.
-    Captures { old: u64, new: u64 },
+    Captures {
+        old: u64,
+        new: u64,
+    },
     /// A capture doesn't have as many records in both reports.
-    Records { capture: u64, old: u64, new: u64 },
+    Records {
+        capture: u64,
+        old: u64,
+        new: u64,
+    },
+    /// So many captures are in the reports, and so many others were named.
+    Named {
+        told: u64,
+        named: u64,
+    },
+    /// The capture of that name has so many records in the reports, and so many others by itself.
+    OtherRecords {
+        name: &'a [u8],
+        told: u64,
+        read: u64,
+    },
+    /// The capture of that name can't be read further than to this record; 0 stands for its header.
+    Capture {
+        name: &'a [u8],
+        record: u64,
+        fault: CaptureFault,
+    },
     OutOfMemory,
 }
 
@@ -28,11 +55,66 @@ impl From<OutOfMemory> for Trouble<'_> {
     }
 }
 
+impl<T: Drop> From<AllocFailed<T>> for Trouble<'_> {
+    fn from(_error: AllocFailed<T>) -> Self {
+        Trouble::OutOfMemory
+    }
+}
+
 /// The trouble of a text that isn't read as a report.
-pub(crate) fn unfit(name: &str, error: ReportError) -> Trouble<'_> {
+pub(crate) fn unfit(name: &[u8], error: ReportError) -> Trouble<'_> {
     match error {
         ReportError::Line(line) => Trouble::NoReport(name, line),
         ReportError::OutOfMemory => Trouble::OutOfMemory,
+    }
+}
+
+/// The name of the capture of this number, from 1.
+fn name_of<'a>(captures: &[CaptureWord<'a>], number: u64) -> &'a [u8] {
+    match captures.get(number.saturating_sub(1) as usize) {
+        Some(capture) => capture.name,
+        None => b"",
+    }
+}
+
+/// The trouble of flows that aren't told.
+pub(crate) fn without_flows<'a>(captures: &[CaptureWord<'a>], fault: FlowsFault) -> Trouble<'a> {
+    match fault {
+        FlowsFault::Captures { told, given } => Trouble::Named { told, named: given },
+        FlowsFault::Records {
+            capture,
+            told,
+            read,
+        } => Trouble::OtherRecords {
+            name: name_of(captures, capture),
+            told,
+            read,
+        },
+        FlowsFault::Capture {
+            capture,
+            record,
+            fault,
+        } => Trouble::Capture {
+            name: name_of(captures, capture),
+            record,
+            fault,
+        },
+        FlowsFault::OutOfMemory => Trouble::OutOfMemory,
+    }
+}
+
+/// A source of the bytes of that name.
+pub(crate) fn open_source<'a, L: Library>(
+    alloc: Global,
+    library: &mut L,
+    name: &'a [u8],
+) -> Result<L::Reader, Trouble<'a>> {
+    let Ok(path) = Name::new(alloc, name) else {
+        return Err(Trouble::OutOfMemory);
+    };
+    match library.open(path) {
+        Ok(source) => Ok(source),
+        Err(Failed) => Err(Trouble::Unread(name)),
     }
 }
 
@@ -40,14 +122,9 @@ pub(crate) fn unfit(name: &str, error: ReportError) -> Trouble<'_> {
 pub(crate) fn read_text<'a, L: Library>(
     alloc: Global,
     library: &mut L,
-    name: &'a str,
+    name: &'a [u8],
 ) -> Result<Vec<u8>, Trouble<'a>> {
-    let Ok(path) = Name::new(alloc, name.as_bytes()) else {
-        return Err(Trouble::OutOfMemory);
-    };
-    let Ok(mut source) = library.open(path) else {
-        return Err(Trouble::Unread(name));
-    };
+    let mut source = open_source(alloc, library, name)?;
     match read_up_to(alloc, &mut source, MOST_BYTES) {
         Ok(text) => Ok(text),
         Err(ReadError::Failed) => Err(Trouble::Unread(name)),

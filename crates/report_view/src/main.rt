@@ -3,6 +3,7 @@
 //! Tests: the built program: `tests/run`.
 #![tactic(auto)]
 
+mod flows_text;
 mod inputs;
 mod moves_text;
 mod run;

@@ -1,12 +1,14 @@
-ghost use Rattle.std.specs.Prelude.{◌≡◌, OnOk, [], nat_eq, slice_index_or};
+ghost use Rattle.std.specs.Prelude.{◌≡◌, IfOk, OnOk, [], nat_eq, slice_index_or};
 ghost use Rattle.std.specs.Cmp.Lexicographic.{pointwise};
 ghost use Rattle.std.specs.List.{IsDistinct};
 ghost use Rattle.report_view.specs.MovesTold as spec;
 
+use crate::flows_text::write_flows;
 use crate::inputs::Trouble;
 use fw_base::{Failed, OutOfMemory, Sink, write_pieces, write_text};
 use fw_rule::Items;
 use itoa::Buffer;
+use report_flows::FlowSpan;
 use report_moves::{Move, Moves, have_same_lengths, moves_between};
 use report_values::{Report, outcome_numbers};
 use std::alloc::Global;
@@ -20,6 +22,8 @@ pub(crate) struct Compared {
     pub(crate) old: Vec<Items<u32>>,
     pub(crate) new: Vec<Items<u32>>,
     pub(crate) moves: Moves,
+    /// The flows of what moved, a list for each move, where they are told.
+    pub(crate) flows: Option<Vec<Items<FlowSpan>>>,
 }
 
 /// The numbers of the outcomes of each capture.
@@ -63,7 +67,9 @@ pub(crate) fn compare<'a>(
     alloc: Global,
     old: &Report<'_>,
     new: &Report<'_>,
-) -> Result<Compared, Trouble<'a>> {
+) -> Result<Compared, Trouble<'a>>
+    ensures { IfOk result spec.IsCompared }
+{
     let mut texts = Vec::new(alloc);
     let old = numbers_of(alloc, &mut texts, old)?;
     let new = numbers_of(alloc, &mut texts, new)?;
@@ -76,6 +82,7 @@ pub(crate) fn compare<'a>(
         old,
         new,
         moves,
+        flows: None,
     })
 }
 
@@ -121,7 +128,7 @@ pub(crate) fn other_verdicts(texts: &[Items<u8>], moves: &[Move]) -> u64 {
 }
 
 /// Writes so many spaces.
-fn write_spaces<K: Sink>(out: &mut K, count: usize) -> Result<(), Failed> {
+pub(crate) fn write_spaces<K: Sink>(out: &mut K, count: usize) -> Result<(), Failed> {
     for _ in 0..count {
         write_text(out, b" ")?;
     }
@@ -129,10 +136,10 @@ fn write_spaces<K: Sink>(out: &mut K, count: usize) -> Result<(), Failed> {
 }
 
 /// How wide a column of numbers is.
-const NUMBER_WIDTH: usize = 8;
+pub(crate) const NUMBER_WIDTH: usize = 8;
 
 /// Writes a number at the right of its column, and a space before it.
-fn write_number<K: Sink>(out: &mut K, number: u64) -> Result<(), Failed> {
+pub(crate) fn write_number<K: Sink>(out: &mut K, number: u64) -> Result<(), Failed> {
     let mut digits = Buffer::new();
     let digits = digits.format(number).as_bytes();
     write_spaces(out, NUMBER_WIDTH.saturating_sub(digits.len()))?;
@@ -157,19 +164,31 @@ fn width_of(texts: &[Items<u8>], moves: &[Move]) -> usize {
     width
 }
 
-/// Writes what moved, a line each.
+/// The flows of the move in this place, where they are told.
+fn flows_at(compared: &Compared, place: usize) -> &[FlowSpan] {
+    let Some(flows) = &compared.flows else {
+        return &[];
+    };
+    match flows.get(place) {
+        Some(told) => told.as_slice(),
+        None => &[],
+    }
+}
+
+/// Writes what moved, a line each, and below it its flows where they are told.
 fn write_moved<K: Sink>(out: &mut K, compared: &Compared) -> Result<(), Failed> {
     let texts = compared.texts.as_slice();
     let width = width_of(texts, &compared.moves.moved);
     write_text(out, b"\n  records  capture    first     last  then")?;
     write_spaces(out, width.saturating_sub(b"then".len()))?;
     write_text(out, b"  now\n")?;
-    for told in &compared.moves.moved {
+    for (at, told) in compared.moves.moved.iter().enumerate() {
         let was = text_of(texts, told.was);
         write_numbers(out, told)?;
         write_text(out, was)?;
         write_spaces(out, width.saturating_sub(was.len()))?;
         write_pieces(out, &[b"  ", text_of(texts, told.is), b"\n"])?;
+        write_flows(out, flows_at(compared, at))?;
     }
     Ok(())
 }
@@ -193,7 +212,7 @@ fn write_count<K: Sink>(out: &mut K, word: &[u8], records: u64) -> Result<(), Fa
     write_pieces(out, &[word, digits.format(records).as_bytes(), b"\n"])
 }
 
-/// Writes what moved and what stayed.
+/// Writes what moved and what stayed, and the flows of what moved where they are told.
 pub(crate) fn write_compared<K: Sink>(out: &mut K, compared: &Compared) -> Result<(), Failed> {
     let moves = &compared.moves;
     write_count(out, b"moved ", records_of(&moves.moved))?;

@@ -1,11 +1,17 @@
-use crate::inputs::{Trouble, read_text, unfit};
+ghost use Rattle.std.specs.Prelude.{IfOk};
+ghost use Rattle.report_view.specs.MovesTold.{IsCompared};
+
+use crate::inputs::{Trouble, open_source, read_text, unfit, without_flows};
 use crate::moves_text::{Compared, compare, other_verdicts, records_of, write_compared};
 use crate::script_text::{Reviewed, review_status, write_reviewed};
-use crate::words::{Request, interface_in, read_request};
+use crate::words::{Request, read_request, words_of_replay};
 use buffered_io::{PIECE_BYTES, PieceSink};
+use command_words::CaptureWord;
 use core::mem::replace_with;
 use fw_base::{Failed, Library, OutOfMemory, Sink, write_pieces, write_text};
+use fw_rule::Items;
 use itoa::Buffer;
+use report_flows::{FlowSpan, flows_of};
 use report_page::{MovesShown, Piece, page_of, write_page};
 use report_values::read_report;
 use script_review::{findings_in, line_faults};
@@ -20,26 +26,57 @@ enum Shown<'a> {
     Trouble(Trouble<'a>),
 }
 
-/// Shows what moved from the report of one name to that of another.
+/// The flows of what moved, from the captures of these names.
+fn flows_between<'a, L: Library>(
+    alloc: Global,
+    library: &mut L,
+    compared: &Compared,
+    captures: &[CaptureWord<'a>],
+) -> Result<Vec<Items<FlowSpan>>, Trouble<'a>>
+    requires { IsCompared compared.now }
+{
+    let mut sources = Vec::new(alloc);
+    for capture in captures {
+        sources.push(open_source(alloc, library, capture.name)?)?;
+    }
+    match flows_of(
+        alloc,
+        sources,
+        &compared.old,
+        &compared.new,
+        &compared.moves.moved,
+    ) {
+        Ok(flows) => Ok(flows),
+        Err(fault) => Err(without_flows(captures, fault)),
+    }
+}
+
+/// Shows what moved from the report of one name to that of another, and its flows where captures are named.
 fn show_moves<'a, L: Library, K: Sink>(
     alloc: Global,
     library: &mut L,
     out: &mut K,
-    old: &'a str,
-    new: &'a str,
+    (old, new): (&'a [u8], &'a [u8]),
+    captures: &[CaptureWord<'a>],
 ) -> Result<u8, Trouble<'a>> {
     let old_text = read_text(alloc, library, old)?;
     let new_text = read_text(alloc, library, new)?;
-    let compared = compared_texts(alloc, (old, &old_text), (new, &new_text))?;
+    let mut compared = compared_texts(alloc, (old, &old_text), (new, &new_text))?;
+    if !captures.is_empty() {
+        let flows = flows_between(alloc, library, &compared, captures)?;
+        compared.flows = Some(flows);
+    }
     Ok(show(alloc, out, &Shown::Moves(&compared)))
 }
 
 /// What moved from the report in one text to that in another.
 fn compared_texts<'a>(
     alloc: Global,
-    old: (&'a str, &[u8]),
-    new: (&'a str, &[u8]),
-) -> Result<Compared, Trouble<'a>> {
+    old: (&'a [u8], &[u8]),
+    new: (&'a [u8], &[u8]),
+) -> Result<Compared, Trouble<'a>>
+    ensures { IfOk result IsCompared }
+{
     let old_report = match read_report(alloc, old.1) {
         Ok(report) => report,
         Err(error) => return Err(unfit(old.0, error)),
@@ -56,7 +93,7 @@ fn show_page<'a, L: Library, K: Sink>(
     alloc: Global,
     library: &mut L,
     out: &mut K,
-    name: &'a str,
+    name: &'a [u8],
 ) -> Result<u8, Trouble<'a>> {
     let text = read_text(alloc, library, name)?;
     let report = match read_report(alloc, &text) {
@@ -72,8 +109,8 @@ fn show_page_with_moves<'a, L: Library, K: Sink>(
     alloc: Global,
     library: &mut L,
     out: &mut K,
-    old: &'a str,
-    new: &'a str,
+    old: &'a [u8],
+    new: &'a [u8],
 ) -> Result<u8, Trouble<'a>> {
     let old_text = read_text(alloc, library, old)?;
     let new_text = read_text(alloc, library, new)?;
@@ -95,13 +132,14 @@ fn show_page_with_moves<'a, L: Library, K: Sink>(
     Ok(show(alloc, out, &Shown::Page(&pieces)))
 }
 
-/// The interfaces of the captures among the words.
-fn interfaces_of(alloc: Global, words: &[String]) -> Result<Vec<&[u8]>, OutOfMemory> {
+/// The interfaces of captures.
+fn interfaces_of<'a>(
+    alloc: Global,
+    captures: &[CaptureWord<'a>],
+) -> Result<Vec<&'a [u8]>, OutOfMemory> {
     let mut interfaces = Vec::new(alloc);
-    for word in words {
-        if let Some(interface) = interface_in(word) {
-            interfaces.push(interface)?;
-        }
+    for capture in captures {
+        interfaces.push(capture.interface)?;
     }
     Ok(interfaces)
 }
@@ -122,36 +160,52 @@ fn show_reviewed<K: Sink>(
     Ok(show(alloc, out, &Shown::Script(reviewed)))
 }
 
-/// Shows what is wrong or odd with the script of that name, beside the captures among the words.
+/// Shows what is wrong or odd with the script of that name, beside these captures.
 fn show_script<'a, L: Library, K: Sink>(
     alloc: Global,
     library: &mut L,
     out: &mut K,
-    script: &'a str,
-    words: &[String],
+    script: &'a [u8],
+    captures: &[CaptureWord<'_>],
 ) -> Result<u8, Trouble<'a>> {
     let text = read_text(alloc, library, script)?;
-    let interfaces = interfaces_of(alloc, words)?;
+    let interfaces = interfaces_of(alloc, captures)?;
     Ok(show_reviewed(alloc, out, &text, &interfaces)?)
 }
 
-/// Carries out what the words ask for, and answers the status of what was shown.
+/// Shows what is asked for, and answers the status of what was shown.
+fn show_request<'a, L: Library, K: Sink>(
+    alloc: Global,
+    library: &mut L,
+    out: &mut K,
+    request: &Request<'a>,
+) -> Result<u8, Trouble<'a>> {
+    match request {
+        Request::Moves { old, new, captures } => {
+            show_moves(alloc, library, out, (old, new), captures)
+        }
+        Request::Page { report, new: None } => show_page(alloc, library, out, report),
+        Request::Page {
+            report,
+            new: Some(new),
+        } => show_page_with_moves(alloc, library, out, report, new),
+        Request::Script { script, captures } => {
+            show_script(alloc, library, out, script, captures)
+        }
+    }
+}
+
+/// Carries out what the words ask for, which `replay` has as `ipfw_replay` reads them, and answers the status of what
+/// was shown.
 fn show_asked<'a, L: Library, K: Sink>(
     alloc: Global,
     words: &'a [String],
+    replay: &'a [String],
     library: &mut L,
     out: &mut K,
 ) -> Result<u8, Trouble<'a>> {
-    match read_request(alloc, words)? {
-        Some(Request::Moves { old, new }) => show_moves(alloc, library, out, old, new),
-        Some(Request::Page { report, new: None }) => show_page(alloc, library, out, report),
-        Some(
-            Request::Page {
-                report,
-                new: Some(new),
-            },
-        ) => show_page_with_moves(alloc, library, out, report, new),
-        Some(Request::Script { script }) => show_script(alloc, library, out, script, words),
+    match read_request(alloc, words, replay)? {
+        Some(request) => show_request(alloc, library, out, &request),
         None => Err(Trouble::Usage),
     }
 }
@@ -177,20 +231,20 @@ fn write_trouble<K: Sink>(out: &mut K, trouble: Trouble<'_>) -> Result<(), Faile
     match trouble {
         Trouble::Usage => write_text(
             out,
-            b"usage: report_view moves OLD NEW | page REPORT [NEW] | script SCRIPT [in|out:IF:CAPTURE ..]\n",
+            b"usage: report_view moves OLD NEW [in|out:IF:CAPTURE ..] | page REPORT [NEW] \
+              | script SCRIPT [in|out:IF:CAPTURE ..]\n",
         ),
-        Trouble::Unread(name) => write_pieces(out, &[b"cannot read ", name.as_bytes(), b"\n"]),
+        Trouble::Unread(name) => {
+            write_text(out, b"cannot read ")?;
+            write_text(out, name)?;
+            write_text(out, b"\n")
+        }
         Trouble::NoReport(name, line) => {
+            write_text(out, name)?;
             let line = digits.format(line).as_bytes();
-            let name = name.as_bytes();
             write_pieces(
                 out,
-                &[
-                    name,
-                    b": line ",
-                    line,
-                    b" is none that a report has there\n",
-                ],
+                &[b": line ", line, b" is none that a report has there\n"],
             )
         }
         Trouble::Captures { old, new } => {
@@ -215,6 +269,30 @@ fn write_trouble<K: Sink>(out: &mut K, trouble: Trouble<'_>) -> Result<(), Faile
                 new,
             )
         }
+        Trouble::Named { told, named } => {
+            write_counts(out, b"captures: ", told, b" in the reports, named ", named)
+        }
+        Trouble::OtherRecords { name, told, read } => {
+            write_text(out, name)?;
+            write_counts(
+                out,
+                b": records: ",
+                told,
+                b" in the reports, in the capture ",
+                read,
+            )
+        }
+        Trouble::Capture {
+            name,
+            record,
+            fault,
+        } => {
+            write_text(out, name)?;
+            let record = digits.format(record).as_bytes();
+            write_pieces(out, &[b": record ", record, b" "])?;
+            write_text(out, fault.word().as_bytes())?;
+            write_text(out, b"\n")
+        }
         Trouble::OutOfMemory => Ok(()),
     }
 }
@@ -224,7 +302,11 @@ fn trouble_status(trouble: &Trouble<'_>) -> u8 {
     match trouble {
         Trouble::Usage => 1,
         Trouble::NoReport(_, _) => 2,
-        Trouble::Captures { .. } | Trouble::Records { .. } => 3,
+        Trouble::Captures { .. }
+        | Trouble::Records { .. }
+        | Trouble::Named { .. }
+        | Trouble::OtherRecords { .. }
+        | Trouble::Capture { .. } => 3,
         Trouble::Unread(_) => 4,
         Trouble::OutOfMemory => 6,
     }
@@ -274,15 +356,18 @@ fn show<K: Sink>(alloc: Global, out: &mut K, shown: &Shown<'_>) -> u8 {
 
 /// Shows what the words ask for, and answers the status: 0; 1 where the words are no command; 2
 /// where a text is no report or a script has a fault; 3 where two reports don't have the same
-/// captures; 4 where a name could not be opened or read; 5 where the sink failed; 6 where memory
-/// ran out.
+/// captures, captures that are named aren't those of the reports, or one of them has a fault; 4 where a name could not
+/// be opened or read; 5 where the sink failed; 6 where memory ran out.
 pub(crate) fn run<L: Library, K: Sink>(
     alloc: Global,
     words: &[String],
     library: &mut L,
     out: &mut K,
 ) -> u8 {
-    match show_asked(alloc, words, library, out) {
+    let Ok(replay) = words_of_replay(alloc, words) else {
+        return trouble_status(&Trouble::OutOfMemory);
+    };
+    match show_asked(alloc, words, &replay, library, out) {
         Ok(status) => status,
         Err(trouble) => show(alloc, out, &Shown::Trouble(trouble)),
     }

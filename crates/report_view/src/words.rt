@@ -1,47 +1,86 @@
 use clap::error::ErrorKind;
 use clap::{Arg, Command};
+use command_words::{CaptureWord, Invocation, Mode, read_words};
 use fw_base::OutOfMemory;
 use std::alloc::{AllocError, Global};
 
 /// What is asked for.
-#[derive(Clone, Copy, Debug, PartialEq, Eq)]
+#[derive(Drop)]
 pub(crate) enum Request<'a> {
-    /// What moved from the first report to the second.
+    /// What moved from the first report to the second, and the flows in these captures behind them.
     Moves {
-        old: &'a str,
-        new: &'a str,
+        old: &'a [u8],
+        new: &'a [u8],
+        captures: Vec<CaptureWord<'a>>,
     },
     /// A page that shows a report, and what moved to another.
     Page {
-        report: &'a str,
-        new: Option<&'a str>,
+        report: &'a [u8],
+        new: Option<&'a [u8]>,
     },
-    /// What is wrong or odd with the script, beside the captures of these words.
+    /// What is wrong or odd with the script, beside these captures.
     Script {
-        script: &'a str,
+        script: &'a [u8],
+        captures: Vec<CaptureWord<'a>>,
     },
 }
 
-/// The interface in `in|out:IF:CAPTURE`; `None` where the word is no capture.
-pub(crate) fn interface_in(word: &str) -> Option<&[u8]> {
-    let bytes = word.as_bytes();
-    let rest = match bytes.strip_prefix(b"in:") {
-        Some(rest) => rest,
-        None => bytes.strip_prefix(b"out:")?,
-    };
-    let mut parts = rest.split(|byte| *byte == b':');
-    let interface = parts.next()?;
-    let _capture = parts.next()?;
-    if interface.is_empty() {
-        None
+/// The word by which `ipfw_replay` reads a command of as many names before its captures.
+fn word_of_replay(command: &[u8]) -> Option<&'static str> {
+    if command == b"moves".as_slice() {
+        Some("audit")
+    } else if command == b"script".as_slice() {
+        Some("serial")
     } else {
-        Some(interface)
+        None
     }
 }
 
-/// Whether each of these words is a capture.
-fn are_captures(words: &[&str]) -> bool {
-    words.iter().all(|word| interface_in(word).is_some())
+/// These words as `ipfw_replay` reads them, whose captures are read there alone; none where the command has no
+/// captures.
+pub(crate) fn words_of_replay(alloc: Global, words: &[String]) -> Result<Vec<String>, OutOfMemory> {
+    let mut read = Vec::new(alloc);
+    let Some((command, behind)) = words.split_first() else {
+        return Ok(read);
+    };
+    let Some(word) = word_of_replay(command.as_bytes()) else {
+        return Ok(read);
+    };
+    read.push(String::from_str(alloc, word)?)?;
+    for word in behind {
+        read.push(word.clone()?)?;
+    }
+    Ok(read)
+}
+
+/// What a command with captures asks for, by its words as `ipfw_replay` reads them.
+fn request_with_captures<'a>(
+    alloc: Global,
+    replay: &'a [String],
+) -> Result<Option<Request<'a>>, OutOfMemory> {
+    match read_words(alloc, replay)? {
+        Some(
+            Invocation::Audit {
+                report,
+                script,
+                captures,
+            },
+        ) => Ok(Some(Request::Moves {
+            old: report,
+            new: script,
+            captures,
+        })),
+        Some(
+            Invocation::Replay {
+                mode: Mode::Serial,
+                journal: false,
+                cache: None,
+                script,
+                captures,
+            },
+        ) => Ok(Some(Request::Script { script, captures })),
+        _ => Ok(None),
+    }
 }
 
 /// The command line of each command: positional words.
@@ -52,24 +91,32 @@ fn command_line<'a>(alloc: Global) -> Result<Command<'a>, AllocError> {
         .arg(positional)
 }
 
-/// What these words behind a command ask for.
-fn request_of<'a>(command: &[u8], words: &[&'a str]) -> Option<Request<'a>> {
+/// What these words behind a command ask for, which are no captures.
+fn request_of<'a>(alloc: Global, command: &[u8], words: &[&'a str]) -> Option<Request<'a>> {
     match words {
-        [old, new] if command == b"moves".as_slice() => Some(Request::Moves { old, new }),
-        [report] if command == b"page".as_slice() => Some(Request::Page { report, new: None }),
-        [report, new] if command == b"page".as_slice() => Some(Request::Page {
-            report,
-            new: Some(*new),
+        [old, new] if command == b"moves".as_slice() => Some(Request::Moves {
+            old: old.as_bytes(),
+            new: new.as_bytes(),
+            captures: Vec::new(alloc),
         }),
-        [script, captures @ ..] if command == b"script".as_slice() && are_captures(captures) => {
-            Some(Request::Script { script })
-        }
+        [report] if command == b"page".as_slice() => Some(Request::Page {
+            report: report.as_bytes(),
+            new: None,
+        }),
+        [report, new] if command == b"page".as_slice() => Some(Request::Page {
+            report: report.as_bytes(),
+            new: Some(new.as_bytes()),
+        }),
+        [script] if command == b"script".as_slice() => Some(Request::Script {
+            script: script.as_bytes(),
+            captures: Vec::new(alloc),
+        }),
         _ => None,
     }
 }
 
-/// What the words ask for; `None` where they are no command.
-pub(crate) fn read_request(
+/// What the words ask for where they name no captures.
+fn request_without_captures(
     alloc: Global,
     words: &[String],
 ) -> Result<Option<Request<'_>>, OutOfMemory> {
@@ -84,7 +131,20 @@ pub(crate) fn read_request(
         },
     };
     match matches.get_strs("positional") {
-        Some(positional) => Ok(request_of(command.as_bytes(), positional)),
+        Some(positional) => Ok(request_of(alloc, command.as_bytes(), positional)),
         None => Ok(None),
     }
+}
+
+/// What the words ask for, which `replay` has as `ipfw_replay` reads them; `None` where they are no command. Behind
+/// `moves OLD NEW` and `script SCRIPT` may stand 1 to 16 captures, each as `ipfw_replay` has it.
+pub(crate) fn read_request<'a>(
+    alloc: Global,
+    words: &'a [String],
+    replay: &'a [String],
+) -> Result<Option<Request<'a>>, OutOfMemory> {
+    if let Some(request) = request_with_captures(alloc, replay)? {
+        return Ok(Some(request));
+    }
+    request_without_captures(alloc, words)
 }
