@@ -59,4 +59,7 @@ lost lost_usage serial
 lost lost_unread_name serial none in:em0:syn.pcap
 lost lost_script_line serial out_of_form in:em0:syn.pcap
 lost lost_capture_fault serial empty in:em0:empty
+"$program" serial --journal empty in:em0:syn.pcap >printed
+lost lost_audit_of_what_was_printed audit printed empty in:em0:syn.pcap
+lost lost_audit_of_nothing audit empty empty in:em0:syn.pcap
 exec 8>&-
