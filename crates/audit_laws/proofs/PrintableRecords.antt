@@ -45,6 +45,7 @@ abbrev pub IsGoodListing : Listing → Type 0
 IsGoodListing Rules = Unit {0}
 IsGoodListing (Entries name) = HasNameBytes name
 
+-- the listing of a command that the grammar yields is such a one, if it is a listing
 pub listing_on : (command : Command) → IsFormed command → IfSome (listing_of command) IsGoodListing
 listing_on (Add draft) formed = tt
 listing_on (Delete numbers) formed = tt

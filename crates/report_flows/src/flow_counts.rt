@@ -53,7 +53,8 @@ fn told_in(
     spans: &HashMap<Option<AnyFlow>, Span>,
 ) -> Result<Vec<FlowSpan>, OutOfMemory>
     ensures entries { IfOk result (λ told. told.items ≡ map spec.flow_span spans.now.entries) }
-    ensures found { All (λ entry. get same_flow spans.now entry.0 ≡ Some entry.1) spans.now.entries }
+    ensures found { All (λ entry. get same_flow spans.now entry.0 ≡ Some entry.1)
+        spans.now.entries }
     ensures unique { IsUnique same_flow spans.now }
 {
     let told = spans
