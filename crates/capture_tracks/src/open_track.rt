@@ -1,11 +1,11 @@
-ghost use Rattle.std.specs.Prelude.{◌≡◌, None, IfOk, is_some, unwrap_or};
-ghost use Rattle.pcap_read.specs.Capture.{Advances, answer_with, current_of, source_of};
+ghost use Rattle.std.specs.Prelude.{◌≡◌, None, unwrap_or};
+ghost use Rattle.pcap_read.specs.Capture.{source_of};
 ghost use Rattle.fw_report.specs.declared.capture_end.CaptureEnd.TheVariants.{Read};
 ghost use Rattle.capture_tracks.specs.Tracks.{StepsOn, StepsOnOrEnded};
 
 use fw_base::{Port, Source};
 use fw_report::CaptureEnd;
-use pcap_read::{Capture, CaptureFault};
+use pcap_read::Capture;
 
 /// A capture whose header was read, and the record of it that is to be replayed next.
 #[derive(Drop)]
@@ -18,26 +18,13 @@ pub struct OpenTrack<S> {
     pub end: Option<CaptureEnd>,
 }
 
-/// Goes on to the next record; answers whether there is one.
-fn next_record<S: Source>(capture: &mut Capture<S>) -> Result<bool, CaptureFault>
-    ensures advances { Advances S.left S.faults capture.old capture.new
-        (answer_with result (current_of capture.new)) }
-    ensures found { IfOk result (λ found. found ≡ is_some (current_of capture.new)) }
-{
-    match capture.next() {
-        Ok(Some(_)) => Ok(true),
-        Ok(None) => Ok(false),
-        Err(fault) => Err(fault),
-    }
-}
-
 impl<S: Source> OpenTrack<S> {
     /// Goes on to the next record, or to the end.
     pub(crate) fn advance(&mut self)
         requires { self.old.end ≡ None }
         ensures { StepsOn S.left S.faults self.old self.new }
     {
-        match next_record(&mut self.capture) {
+        match self.capture.advance() {
             Ok(true) => self.records = self.records.saturating_add(1),
             Ok(false) => {
                 self.end = Some(CaptureEnd::Read {

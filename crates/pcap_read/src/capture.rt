@@ -104,6 +104,7 @@ impl<S: Source> Capture<S> {
 
     /// The record that the last call of `next` gave, again; `None` exactly where it gave none, or there
     /// was no call.
+    #[inline(always)]
     pub fn current(&self) -> Option<Record<'_>>
         ensures value { option_map captured_of result ≡ current_of self.now }
         ensures small { IfSome result (λ r. length r.bytes.now ≤ 262144) }
@@ -115,13 +116,15 @@ impl<S: Source> Capture<S> {
         Some(record_in(self.format, &bytes[..self.size]))
     }
 
-    /// Goes on to the next record.
-    fn advance(&mut self) -> Result<(), CaptureFault>
-        ensures { Advances S.left S.faults self.old self.new
+    /// Goes on to the next record as `next` does, with its faults; answers whether there is one, which
+    /// `current` lends.
+    pub fn advance(&mut self) -> Result<bool, CaptureFault>
+        ensures advances { Advances S.left S.faults self.old self.new
             (answer_with result (current_of self.new)) }
+        ensures found { IfOk result (λ found. found ≡ is_some (current_of self.new)) }
     {
         match self.stop {
-            Some(Stop::End) => return Ok(()),
+            Some(Stop::End) => return Ok(false),
             Some(Stop::Fault(fault)) => return Err(fault),
             None => {}
         }
@@ -137,11 +140,11 @@ impl<S: Source> Capture<S> {
             Ok(Some(size)) => {
                 self.size = size;
                 self.given += 1;
-                Ok(())
+                Ok(true)
             }
             Ok(None) => {
                 self.stop = Some(Stop::End);
-                Ok(())
+                Ok(false)
             }
             Err(fault) => {
                 self.stop = Some(Stop::Fault(fault));

@@ -6,6 +6,7 @@ use crate::format::ByteOrder;
 
 /// The number of two bytes at a place.
 #[tactic(auto, unfolding(crate::specs::Reading::number_at))]
+#[inline(always)]
 pub(crate) fn u16_at(order: ByteOrder, at: usize, bytes: &[u8]) -> u16
     requires { at + 2 ≤ length bytes.now }
     ensures { result ≡ number_at order w16 at bytes.now }
@@ -21,6 +22,7 @@ pub(crate) fn u16_at(order: ByteOrder, at: usize, bytes: &[u8]) -> u16
 
 /// The number of four bytes at a place.
 #[tactic(auto, unfolding(crate::specs::Reading::number_at))]
+#[inline(always)]
 pub(crate) fn u32_at(order: ByteOrder, at: usize, bytes: &[u8]) -> u32
     requires { at + 4 ≤ length bytes.now }
     ensures { result ≡ number_at order w32 at bytes.now }

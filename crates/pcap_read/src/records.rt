@@ -9,6 +9,7 @@ use crate::record::Record;
 
 /// The record that these bytes are.
 #[tactic(auto, unfolding(crate::specs::Reading::record_of))]
+#[inline(always)]
 pub(crate) fn record_in(format: Format, bytes: &[u8]) -> Record<'_>
     requires { 16 ≤ length bytes.now }
     ensures value { captured_of result ≡ record_of format bytes.now }

@@ -53,6 +53,7 @@ impl Window {
     }
 
     /// How many bytes it holds.
+    #[inline(always)]
     pub(crate) fn len(&self) -> usize
         ensures { result ≡ length self.now }
     {
@@ -60,6 +61,7 @@ impl Window {
     }
 
     /// The bytes that it holds.
+    #[inline(always)]
     pub(crate) fn bytes(&self) -> &[u8]
         ensures { result.now ≡ self.now }
     {
@@ -67,6 +69,7 @@ impl Window {
     }
 
     /// Lets the first `count` bytes go.
+    #[inline(always)]
     pub(crate) fn skip(&mut self, count: usize)
         requires { count ≤ length self.old }
         ensures { self.new ≡ drop count self.old }
