@@ -118,7 +118,8 @@ impl<'a> Ip6<'a> {
         }
     }
 
-    fn has_transport_header(&self) -> bool
+    /// Whether its transport header is there, whole: never in a later fragment.
+    pub fn has_transport_header(&self) -> bool
         ensures { result ≡ has_transport_header6 self.now }
     {
         self.offset == 0 && self.transport.len() >= header_size6(self.protocol)
