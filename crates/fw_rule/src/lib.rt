@@ -17,7 +17,7 @@ pub use names::{FLAG_NAMES, OPTION_NAMES, UNREACH_NAMES};
 pub use opt::Opt;
 pub use port_list::PortList;
 pub use rule::Rule;
-pub use rule_draft::RuleDraft;
+pub use rule_draft::{RuleDraft, copy_body};
 pub use setting::Setting;
 pub use settings::{LONGEST_LIFETIME, MOST_STATES, Settings, USUAL_MOST_STATES};
 pub use state_opt::{LimitMask, StateOpt};

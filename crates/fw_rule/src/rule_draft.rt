@@ -33,7 +33,8 @@ impl RuleDraft {
     }
 }
 
-fn copy_body(alloc: Global, body: &Option<Body>) -> Result<Option<Body>, OutOfMemory>
+/// The same body, a second time, where there is one.
+pub fn copy_body(alloc: Global, body: &Option<Body>) -> Result<Option<Body>, OutOfMemory>
     ensures { IfOk result (λ copied. copied ≡ body.now) }
 {
     match body {

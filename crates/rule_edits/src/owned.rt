@@ -2,19 +2,10 @@ ghost use Rattle.std.specs.Prelude.{◌≡◌, IfOk};
 ghost use Rattle.std.specs.Arc.{arc_value};
 
 use fw_base::{Addr, Name, OutOfMemory};
-use fw_rule::{Body, Rule};
+use fw_rule::{Rule, copy_body};
 use lookup_tables::Tables;
 use std::alloc::Global;
 use std::sync::Arc;
-
-fn copy_body(alloc: Global, body: &Option<Body>) -> Result<Option<Body>, OutOfMemory>
-    ensures { IfOk result (λ copied. copied ≡ body.now) }
-{
-    match body {
-        Some(asked) => Ok(Some(asked.copy(alloc)?)),
-        None => Ok(None),
-    }
-}
 
 fn copy_rule(alloc: Global, rule: &Rule) -> Result<Rule, OutOfMemory>
     ensures { IfOk result (λ copied. copied ≡ rule.now) }
