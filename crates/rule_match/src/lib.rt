@@ -4,11 +4,13 @@
 #![tactic(auto)]
 
 pub use body::matches;
+pub use ip_options::{LOOSE_SOURCE_ROUTE, RECORD_ROUTE, STRICT_SOURCE_ROUTE, TIME_STAMP};
 
 mod addresses;
 mod body;
 mod flags;
 mod interfaces;
+mod ip_options;
 mod lookups;
 mod options;
 mod ports;

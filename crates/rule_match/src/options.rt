@@ -8,21 +8,13 @@ ghost use Rattle.rule_match.specs.Tests as spec;
 use crate::addresses::as_signed;
 use crate::flags::{has_flags, has_icmpv6_type, has_type, is_established, is_setup};
 use crate::interfaces::{holds_recv, holds_via, holds_xmit, is_in, is_out};
+use crate::ip_options::{LOOSE_SOURCE_ROUTE, RECORD_ROUTE, STRICT_SOURCE_ROUTE, TIME_STAMP};
 use crate::lookups::field_value;
 use fw_base::Port;
 use fw_rule::{Opt, Test, TypeSet, has_bit};
 use ip6_headers::AnyIp;
 use lookup_tables::Tables;
 use packet_headers::Ip4;
-
-/// Strict source and record route (RFC 791 section 3.1).
-const STRICT_SOURCE_ROUTE: u8 = 137;
-/// Loose source and record route.
-const LOOSE_SOURCE_ROUTE: u8 = 131;
-/// Record route.
-const RECORD_ROUTE: u8 = 7;
-/// Internet timestamp.
-const TIME_STAMP: u8 = 68;
 
 /// Whether the option of that type is there or isn't, as the rule asks. The header's options are walked
 /// only where it does.

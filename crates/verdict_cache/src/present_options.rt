@@ -2,15 +2,7 @@ ghost use Rattle.std.specs.Prelude.{◌≡◌};
 ghost use Rattle.verdict_cache.specs.Key as spec;
 
 use packet_headers::Ip4;
-
-/// Strict source and record route (RFC 791 section 3.1).
-const STRICT_SOURCE_ROUTE: u8 = 137;
-/// Loose source and record route.
-const LOOSE_SOURCE_ROUTE: u8 = 131;
-/// Record route.
-const RECORD_ROUTE: u8 = 7;
-/// Internet timestamp.
-const TIME_STAMP: u8 = 68;
+use rule_match::{LOOSE_SOURCE_ROUTE, RECORD_ROUTE, STRICT_SOURCE_ROUTE, TIME_STAMP};
 
 /// Which of the IP options that rules can name a header has (ipfw(8), `ipoptions`).
 #[derive(Clone, Copy, Debug, PartialEq, Eq, Hash)]
