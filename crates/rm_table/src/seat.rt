@@ -1,3 +1,5 @@
+ghost use Rattle.std.specs.Prelude.{◌≤◌};
+
 use crate::padded_slot::PaddedSlot;
 use crate::rule::LockView;
 use atomic_table::Seat;
@@ -24,4 +26,13 @@ impl<E: Numbered<Tag = B::Facts>, B: Kept> Model for RmSeat<E, B> {
 
     ghost invariant = { λ s.
         StoresBy s.processors s.place s.number s.tracker s.seat.table_id s.seat.me.0 };
+}
+
+impl<E: Numbered<Tag = B::Facts>, B: Kept> RmSeat<E, B> {
+    /// Does nothing, and says that its table has at most 64 processors.
+    pub(crate) fn tells_processors(&self)
+        ensures { self.now.me.0.count ≤ 64 }
+    {
+        let _ = &self.processors;
+    }
 }

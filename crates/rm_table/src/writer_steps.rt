@@ -49,8 +49,7 @@ impl<E: Numbered<Tag = B::Facts>, B: Kept> RmTable<E, B> {
         ensures step { AnswersDrain (meanings E.Numbered B.Kept) seat.old.me
             processor result seat.new.me }
     {
-        // the seat tells that its table has at most 64 processors
-        let _ = &seat.processors;
+        seat.tells_processors();
         let word = tracker_at(processor);
         let found = self.table.shared.load::<Drain>(&mut seat.seat, word);
         if found % 2 == 0 {
