@@ -7,7 +7,9 @@ pub use addresses::{address, prefix};
 pub use addresses6::{has_colon, prefix6};
 pub use cut::cut as cut_at;
 pub use kind::Kind;
-pub use laws::{drafts_are_in_form, drafts_are_well_formed, faults_stand_at_words};
+pub use laws::{
+    drafts_are_in_form, drafts_are_well_formed, faults_stand_at_words, options_are_read_in_turn,
+};
 pub use line::{line_end, parse_rule, skip, words_of};
 pub use names::table_name;
 pub use numbers::{number, set_number, starts_with_digit};
