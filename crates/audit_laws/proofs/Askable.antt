@@ -6,7 +6,7 @@ use Rattle.std.proofs.lemmas.Bool.{cases_Bool}
 use Rattle.counter_book.specs.declared.tally.Count.{Count}
 use Rattle.dyn_states.specs.StateObject.{StateObject, after_ask}
 use Rattle.eval_engine.specs.Dockets.{DocketValue, judgement_in}
-use Rattle.eval_engine.specs.Question.{Question}
+use Rattle.eval_engine.specs.Question.{Question, question_under}
 use Rattle.eval_engine.specs.declared.docket_entry.DocketEntry.{DocketEntry}
 use Rattle.eval_engine.specs.declared.judgement.Judgement.{Judgement}
 use Rattle.evaluation_laws.proofs.Acting.{installs_are_of_rules}
@@ -17,7 +17,7 @@ use Rattle.fw_rule.specs.declared.command.Command.{Command}
 use Rattle.fw_world.proofs.Records.{asks_are_within}
 use Rattle.fw_world.specs.Asks.{LaneAsk, AreAsksOf, IsAskOfEntry, IsJudgedUnder, asks_in, asks_of_record, lane_asks, ops_of, replies_of}
 use Rattle.fw_world.specs.Editions.{AreEditionsFrom, edition_numbered}
-use Rattle.fw_world.specs.Entries.{EachRecord, IsEntryFor, IsEvaluated, IsEvaluatedTo, IsEvaluation, question_under}
+use Rattle.fw_world.specs.Entries.{EachRecord, IsEntryFor, IsEvaluated, IsEvaluatedTo, IsEvaluation}
 use Rattle.fw_world.specs.Inputs.{Input, Other, Malformed, Packet}
 use Rattle.fw_world.specs.Lanes.{EachLane, LaneStands}
 use Rattle.fw_world.specs.Legal.{IsLegal}

@@ -11,7 +11,7 @@ use Rattle.eval_engine.specs.Encounter.{rule_ref}
 use Rattle.eval_engine.specs.Evaluated.{Evaluated, Whole}
 use Rattle.eval_engine.specs.Evaluation.{evaluate}
 use Rattle.eval_engine.specs.Laws.{verdict_of}
-use Rattle.eval_engine.specs.Question.{Question}
+use Rattle.eval_engine.specs.Question.{Question, question_under}
 use Rattle.eval_engine.specs.declared.docket_entry.DocketEntry.{DocketEntry}
 use Rattle.eval_engine.specs.declared.docket_entry.DocketEntry.TheVariants as entry
 use Rattle.eval_engine.specs.declared.judgement.Cause.{Cause}
@@ -30,7 +30,7 @@ use Rattle.fw_rule.specs.declared.action.Action.TheVariants.{Allow, Deny, Reset,
 use Rattle.fw_rule.specs.declared.rule.Rule.{Rule}
 use Rattle.fw_world.specs.Asks.{LaneAsk, asks_in, asks_of_record, lane_asks, replies_of}
 use Rattle.fw_world.specs.Editions.{edition_numbered}
-use Rattle.fw_world.specs.Entries.{EachRecord, IsEntryFor, IsEvaluated, IsEvaluatedTo, IsEvaluation, question_under}
+use Rattle.fw_world.specs.Entries.{EachRecord, IsEntryFor, IsEvaluated, IsEvaluatedTo, IsEvaluation}
 use Rattle.fw_world.specs.Inputs.{Input, Other, Malformed, Packet}
 use Rattle.fw_world.specs.Lanes.{EachLane, LaneStands}
 use Rattle.fw_world.specs.RecordValue.{RecordValue}

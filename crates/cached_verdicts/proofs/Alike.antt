@@ -22,11 +22,10 @@ use Rattle.generation_store.specs.Published.{Published}
 use Rattle.eval_engine.specs.Encounter.{is_check_state, is_body_met, is_disabled, is_rule_met, looks_up, name_at, state_of, any_flow_of, flags_of, rule_ref, state_limit_of}
 use Rattle.eval_engine.specs.Evaluated.{Evaluated}
 use Rattle.eval_engine.specs.Evaluation.{asks_at_stop}
-use Rattle.eval_engine.specs.Question.{Question}
+use Rattle.eval_engine.specs.Question.{Question, question_under}
 use Rattle.eval_engine.specs.Trace.{Seen, is_name_due, no_names, Pause, Stop, EndsWith, WaitsFor, Mismatch, Trace, PassesOver, Counts, Stops, hits_of, stop_of_trace}
 use Rattle.eval_engine.specs.Walk.{Walk, walk, follows, call_from, return_to, installs, tests, looks, lookup_flow, meets, pause_at, deeper_walk, way_back, first_trace}
 use Rattle.cached_verdicts.specs.Laws.{EqualKeysEvaluateAlike}
-use Rattle.cached_verdicts.specs.Verdicts.{question_on}
 use Rattle.cached_verdicts.proofs.First.{result_of, evaluated_first}
 
 -- ---- traces but for the seconds of their asks
@@ -61,10 +60,10 @@ timeless_end (Stops stop) = refl
 
 module _ (edition : Published) (port : Port) (p r : Fields) (s t : ℕ) (same : key_of p ≡ key_of r) where
   abbrev here : Question
-  here = question_on edition port p s
+  here = question_under edition (Four p) port s
 
   abbrev there : Question
-  there = question_on edition port r t
+  there = question_under edition (Four r) port t
 
   met_by : (body : Option Body) → is_body_met here body ≡ is_body_met there body
   met_by None = refl
@@ -200,13 +199,13 @@ settled Mismatch Mismatch n is = refl
 -- packets of one key are evaluated alike, where one of them asks nothing
 pub equal_keys_evaluate_alike : EqualKeysEvaluateAlike
 equal_keys_evaluate_alike edition port p r s t same none =
-    let one = first_trace (question_on edition port p s) in
-    let other = first_trace (question_on edition port r t) in
+    let one = first_trace (question_under edition (Four p) port s) in
+    let other = first_trace (question_under edition (Four r) port t) in
     let alike = first_alike edition port p r s t same in
     let hits : hits_of other ≡ hits_of one = sym (timeless_hits other) ∙ ap (λ (trace : Trace). hits_of trace) (sym alike) ∙ timeless_hits one in
     let stops : timeless_stop (stop_of_trace one) ≡ timeless_stop (stop_of_trace other) = sym (timeless_end one) ∙ ap (λ (trace : Trace). stop_of_trace trace) alike ∙ timeless_end other in
-    let silent : asks_at_stop (stop_of_trace one) ≡ [] = ap (λ (e : Evaluated). e.asks) (sym (evaluated_first (question_on edition port p s))) ∙ none in
+    let silent : asks_at_stop (stop_of_trace one) ≡ [] = ap (λ (e : Evaluated). e.asks) (sym (evaluated_first (question_under edition (Four p) port s))) ∙ none in
     let stop : stop_of_trace other ≡ stop_of_trace one = settled (stop_of_trace one) (stop_of_trace other) silent stops in
-    evaluated_first (question_on edition port r t)
+    evaluated_first (question_under edition (Four r) port t)
     ∙ (λ i. result_of (hits i) (stop i))
-    ∙ sym (evaluated_first (question_on edition port p s))
+    ∙ sym (evaluated_first (question_under edition (Four p) port s))

@@ -3,6 +3,7 @@ use Rattle.std.proofs.Common.{◌≡◌, ℕ, ◌≤◌, ◌<◌, Bool, true, fa
 use Rattle.std.proofs.lemmas.List.Elements.{All-head}
 use Rattle.std.proofs.lemmas.List.Folds.{find_at}
 use Rattle.std.proofs.lemmas.Option.{slice_get_past, get_or_from_slice_get}
+use Rattle.ip6_headers.specs.declared.any_ip.AnyIp.TheVariants.{Four}
 use Rattle.rule_chain.proofs.Lists.{map_length}
 use Rattle.std.specs.Arc.{arc_value}
 use Rattle.std.specs.List.{position, position_or_len}
@@ -19,13 +20,13 @@ use Rattle.generation_store.specs.Published.{Published, is_identity}
 use Rattle.eval_engine.specs.Evaluated.{Evaluated, Whole}
 use Rattle.eval_engine.specs.Evaluation.{evaluate}
 use Rattle.eval_engine.specs.Laws.{judgement_by}
-use Rattle.eval_engine.specs.Question.{Question}
+use Rattle.eval_engine.specs.Question.{Question, question_under}
 use Rattle.eval_engine.specs.Standing.{StandsAt, counts_after}
 use Rattle.eval_engine.specs.declared.judgement.Judgement.{Judgement}
 use Rattle.eval_engine.specs.declared.stage.Stage.TheVariants.{Judged}
 use Rattle.eval_engine.proofs.Hits.{hits_are_given_out}
 use Rattle.cached_verdicts.specs.LaneCache.{IsToKeep}
-use Rattle.cached_verdicts.specs.Verdicts.{question_on, evaluated_at_once}
+use Rattle.cached_verdicts.specs.Verdicts.{evaluated_at_once}
 use Rattle.cached_verdicts.specs.declared.kept_verdict.KeptVerdict.{KeptVerdict}
 use Rattle.cached_verdicts.proofs.First.{stops_whole}
 use Rattle.cached_verdicts.proofs.Once.{cacheable_editions_hit_once}
@@ -106,7 +107,7 @@ shared_place p rules shared rule place are is there =
 
 module _ (edition : Published) (port : Port) (packet : Fields) (second : ℕ) where
   abbrev asked : Question
-  asked = question_on edition port packet second
+  asked = question_under edition (Four packet) port second
 
   whole_is : (a b : Judgement) → Whole a ≡ Whole b → a ≡ b
   whole_is a b is = grind arith

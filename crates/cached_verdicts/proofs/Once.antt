@@ -10,6 +10,7 @@ use Rattle.fw_rule.specs.declared.rule.Rule.{Rule}
 use Rattle.fw_rule.specs.declared.state_opt.StateOpt.{StateOpt}
 use Rattle.packet_headers.specs.Fields.{Fields}
 use Rattle.packet_headers.specs.declared.flows.Flow.{Flow}
+use Rattle.ip6_headers.specs.declared.any_ip.AnyIp.TheVariants.{Four}
 use Rattle.rule_chain.specs.Chain.{AscendsFrom, HaveOwnIds, IsConfiguration}
 use Rattle.rule_chain.specs.LastRule.{last_rule}
 use Rattle.rule_gates.specs.Cacheable.{is_final, is_cacheable}
@@ -20,11 +21,10 @@ use Rattle.eval_engine.specs.Encounter.{is_check_state, is_disabled, is_rule_met
 use Rattle.eval_engine.specs.Evaluated.{Evaluated}
 use Rattle.eval_engine.specs.Evaluation.{asks_at_stop}
 use Rattle.eval_engine.specs.Laws.{judgement_by}
-use Rattle.eval_engine.specs.Question.{Question}
+use Rattle.eval_engine.specs.Question.{Question, question_under}
 use Rattle.eval_engine.specs.Trace.{Seen, no_names, Pause, Stop, EndsWith, WaitsFor, Trace, PassesOver, Counts, Stops, hits_of, stop_of_trace}
 use Rattle.eval_engine.specs.Walk.{Walk, walk, follows, installs, tests, looks, lookup_flow, meets, pause_at, deeper_walk, way_back, first_trace}
 use Rattle.cached_verdicts.specs.Laws.{CacheableEditionsHitOnce}
-use Rattle.cached_verdicts.specs.Verdicts.{question_on}
 use Rattle.cached_verdicts.proofs.First.{result_of, evaluated_first}
 
 -- ---- each rule is the one that its identity finds
@@ -89,7 +89,7 @@ IsSilent trace = asks_at_stop (stop_of_trace trace) ≡ []
 
 module _ (edition : Published) (port : Port) (packet : Fields) (second : ℕ) (lawful : IsConfiguration edition.config) where
   abbrev asked : Question
-  asked = question_on edition port packet second
+  asked = question_under edition (Four packet) port second
 
   -- one rule hits and decides
   record IsOnce (trace : Trace) : Type 0 where
@@ -170,7 +170,7 @@ module _ (edition : Published) (port : Port) (packet : Fields) (second : ℕ) (l
 -- an evaluation under such an edition that asks nothing hits the deciding rule's counter and no other
 pub cacheable_editions_hit_once : CacheableEditionsHitOnce
 cacheable_editions_hit_once edition port packet second cacheable lawful none =
-    let q = question_on edition port packet second in
+    let q = question_under edition (Four packet) port second in
     let once = first_once edition port packet second lawful cacheable (ap (λ (e : Evaluated). e.asks) (sym (evaluated_first q)) ∙ none) in
     let hits = once.hits in
     let stop = once.stop in

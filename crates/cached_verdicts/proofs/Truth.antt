@@ -6,6 +6,7 @@ use Rattle.std.specs.Map.{lookup, lookup_entry, remove_entry}
 use Rattle.fw_base.specs.declared.port.Port.{Port}
 use Rattle.lru.specs.LruCache.{promoted}
 use Rattle.packet_headers.specs.Fields.{Fields}
+use Rattle.ip6_headers.specs.declared.any_ip.AnyIp.TheVariants.{Four}
 use Rattle.verdict_cache.specs.Cache.{Kept, at_number, kept_value_of, with_key_first, with_pair}
 use Rattle.verdict_cache.specs.Key.{key_of, same_key}
 use Rattle.verdict_cache.specs.declared.key.Key.{Key}
@@ -13,9 +14,10 @@ use Rattle.verdict_cache.proofs.SameKey.{same_key-equal}
 use Rattle.generation_store.specs.Published.{Published}
 use Rattle.eval_engine.specs.Evaluated.{Evaluated}
 use Rattle.eval_engine.specs.Evaluation.{evaluate}
+use Rattle.eval_engine.specs.Question.{question_under}
 use Rattle.cached_verdicts.specs.LaneCache.{with_value}
 use Rattle.cached_verdicts.specs.Laws.{OtherEditionsKeepNothing}
-use Rattle.cached_verdicts.specs.Verdicts.{question_on, evaluated_at_once, IsVerdictOf, KeepsVerdicts}
+use Rattle.cached_verdicts.specs.Verdicts.{evaluated_at_once, IsVerdictOf, KeepsVerdicts}
 use Rattle.cached_verdicts.specs.declared.kept_verdict.KeptVerdict.{KeptVerdict}
 use Rattle.cached_verdicts.proofs.Alike.{equal_keys_evaluate_alike}
 
@@ -24,7 +26,7 @@ pub other_editions_keep_nothing : OtherEditionsKeepNothing
 other_editions_keep_nothing edition port kept other = rw other tt
 
 -- what is so of one packet is so of each of its key
-pub verdict_of_key : (edition : Published) (port : Port) (packet : Fields) (second : ℕ) (kept : KeptVerdict) → evaluate (question_on edition port packet second) [] ≡ evaluated_at_once kept
+pub verdict_of_key : (edition : Published) (port : Port) (packet : Fields) (second : ℕ) (kept : KeptVerdict) → evaluate (question_under edition (Four packet) port second) [] ≡ evaluated_at_once kept
     → IsVerdictOf edition port (key_of packet) kept
 verdict_of_key edition port packet second kept once other later same =
     equal_keys_evaluate_alike edition port packet other second later (sym same) (ap (λ (e : Evaluated). e.asks) once) ∙ once

@@ -3,6 +3,7 @@ use Rattle.std.specs.Prelude.{◌≡◌, ℕ, true, false, Some, [], find}
 use Rattle.fw_base.specs.declared.port.Port.{Port}
 use Rattle.fw_rule.specs.declared.rule.Rule.{Rule}
 use Rattle.packet_headers.specs.Fields.{Fields}
+use Rattle.ip6_headers.specs.declared.any_ip.AnyIp.TheVariants.{Four}
 use Rattle.rule_chain.specs.Chain.{IsConfiguration}
 use Rattle.rule_gates.specs.Cacheable.{is_cacheable}
 use Rattle.verdict_cache.specs.Cache.{is_given, Kept}
@@ -11,9 +12,9 @@ use Rattle.generation_store.specs.Published.{Published, is_identity}
 use Rattle.eval_engine.specs.Evaluated.{Whole}
 use Rattle.eval_engine.specs.Evaluation.{evaluate}
 use Rattle.eval_engine.specs.Laws.{judgement_by}
-use Rattle.eval_engine.specs.Question.{Question}
+use Rattle.eval_engine.specs.Question.{Question, question_under}
 use Rattle.eval_engine.specs.declared.judgement.Judgement.{Judgement}
-use Rattle.cached_verdicts.specs.Verdicts.{question_on, evaluated_at_once, KeepsVerdicts}
+use Rattle.cached_verdicts.specs.Verdicts.{evaluated_at_once, KeepsVerdicts}
 use Rattle.cached_verdicts.specs.declared.kept_verdict.KeptVerdict.{KeptVerdict}
 
 -- Under one edition and at one port two IPv4 packets of one key are evaluated to the same, whatever their seconds
@@ -21,8 +22,8 @@ use Rattle.cached_verdicts.specs.declared.kept_verdict.KeptVerdict.{KeptVerdict}
 abbrev pub EqualKeysEvaluateAlike : Type 0
 EqualKeysEvaluateAlike =
     (edition : Published) (port : Port) (p q : Fields) (s t : ℕ) → key_of p ≡ key_of q
-    → (evaluate (question_on edition port p s) []).asks ≡ []
-    → evaluate (question_on edition port q t) [] ≡ evaluate (question_on edition port p s) []
+    → (evaluate (question_under edition (Four p) port s) []).asks ≡ []
+    → evaluate (question_under edition (Four q) port t) [] ≡ evaluate (question_under edition (Four p) port s) []
 
 -- the verdict by a rule
 abbrev pub verdict_by : Question → Rule → KeptVerdict
@@ -39,8 +40,8 @@ pub record IsDecidedAtOnce (q : Question) : Type 0 where
 abbrev pub CacheableEditionsHitOnce : Type 0
 CacheableEditionsHitOnce =
     (edition : Published) (port : Port) (packet : Fields) (second : ℕ) → is_cacheable edition.config.rules ≡ true → IsConfiguration edition.config
-    → (evaluate (question_on edition port packet second) []).asks ≡ []
-    → IsDecidedAtOnce (question_on edition port packet second)
+    → (evaluate (question_under edition (Four packet) port second) []).asks ≡ []
+    → IsDecidedAtOnce (question_under edition (Four packet) port second)
 
 -- An evaluation that ends with no reply asks nothing.
 abbrev pub WholeEvaluationsAskNothing : Type 0

@@ -10,12 +10,8 @@ use Rattle.verdict_cache.specs.declared.key.Key.{Key}
 use Rattle.generation_store.specs.Published.{Published}
 use Rattle.eval_engine.specs.Evaluated.{Evaluated, Whole}
 use Rattle.eval_engine.specs.Evaluation.{evaluate}
-use Rattle.eval_engine.specs.Question.{Question}
+use Rattle.eval_engine.specs.Question.{question_under}
 use Rattle.cached_verdicts.specs.declared.kept_verdict.KeptVerdict.{KeptVerdict}
-
--- the question about an IPv4 packet
-abbrev pub question_on : Published → Port → Fields → ℕ → Question
-question_on edition port packet second = record { edition = edition; packet = Four packet; port = port; second = second }
 
 -- the evaluation that asks nothing, hits that one counter and ends with that judgement
 abbrev pub evaluated_at_once : KeptVerdict → Evaluated
@@ -23,7 +19,7 @@ evaluated_at_once kept = record { asks = []; hits = kept.counter ∷ []; outcome
 
 -- At this port each IPv4 packet of the key is evaluated under the edition to just this, whatever its second.
 abbrev pub IsVerdictOf : Published → Port → Key → KeptVerdict → Type 0
-IsVerdictOf edition port key kept = (packet : Fields) (second : ℕ) → key_of packet ≡ key → evaluate (question_on edition port packet second) [] ≡ evaluated_at_once kept
+IsVerdictOf edition port key kept = (packet : Fields) (second : ℕ) → key_of packet ≡ key → evaluate (question_under edition (Four packet) port second) [] ≡ evaluated_at_once kept
 
 -- All that a look under the edition can find is true of packets at this port. A cache of another number keeps
 -- nothing for it.

@@ -3,14 +3,15 @@ ghost use Rattle.counter_book.specs.declared.tally.Count.{Count};
 ghost use Rattle.fw_base.specs.declared.port.Port.{Port};
 ghost use Rattle.fw_rule.specs.declared.rule.Rule.{Rule};
 ghost use Rattle.packet_headers.specs.Fields.{Fields};
+ghost use Rattle.ip6_headers.specs.declared.any_ip.AnyIp.TheVariants.{Four};
 ghost use Rattle.rule_chain.specs.Chain.{IsConfiguration};
 ghost use Rattle.generation_store.specs.Published.{is_identity};
 ghost use Rattle.verdict_cache.specs.Cache.{WasMissed};
 ghost use Rattle.eval_engine.specs.Evaluation.{evaluate};
-ghost use Rattle.eval_engine.specs.Question.{Question};
+ghost use Rattle.eval_engine.specs.Question.{Question, question_under};
 ghost use Rattle.eval_engine.specs.Standing.{StandsAt};
 ghost use Rattle.cached_verdicts.specs.LaneCache.{with_value, IsVisited, IsToKeep};
-ghost use Rattle.cached_verdicts.specs.Verdicts.{question_on, evaluated_at_once, KeepsVerdicts};
+ghost use Rattle.cached_verdicts.specs.Verdicts.{evaluated_at_once, KeepsVerdicts};
 ghost use Rattle.cached_verdicts.specs.Visits.{visit_of};
 
 use crate::KeptVerdict;
@@ -19,6 +20,7 @@ use eval_engine::{Judgement, Stage, begin};
 use fw_base::{OutOfMemory, Port};
 use generation_store::Edition;
 use ip6_headers::AnyIp;
+use rule_chain::is_configuration;
 use verdict_cache::{Key, VerdictCache};
 
 /// How far an evaluation is, and whether the cache told its end.
@@ -40,18 +42,12 @@ pub(crate) fn begin_by_cache(
 ) -> Result<Begun, OutOfMemory>
     requires fitted { edition.now.config.greatest_counter < length tally.old }
     requires kept { KeepsVerdicts edition.now port.now kept.old }
-    ensures stands { IfOk result (λ begun. StandsAt (record {
-      edition = edition.now;
-      packet = packet.now;
-      port = port.now;
-      second = second;
-    }) [] [] tally.old begun.stage tally.new) }
-    ensures visited { IfOk result (λ begun. IsVisited (visit_of (record {
-      edition = edition.now;
-      packet = packet.now;
-      port = port.now;
-      second = second;
-    })) begun.is_hit kept.old kept.new) }
+    ensures stands { IfOk result (λ begun.
+        StandsAt (question_under edition.now packet.now port.now second) [] [] tally.old begun.stage
+        tally.new) }
+    ensures visited { IfOk result (λ begun.
+        IsVisited (visit_of (question_under edition.now packet.now port.now second)) begun.is_hit
+        kept.old kept.new) }
     ensures kept { KeepsVerdicts edition.now port.now kept.new }
     ensures room { kept.new.capacity ≡ kept.old.capacity }
     ensures given { (kept.new ≡ kept.old) ⊎ (kept.new.number ≡ Some edition.now.number) }
@@ -63,7 +59,7 @@ pub(crate) fn begin_by_cache(
             is_hit: false,
         });
     };
-    lawful(edition);
+    is_configuration(edition.config());
     let key = Key::of(ip);
     match kept.look(edition.number(), key) {
         Some(verdict) => {
@@ -89,13 +85,6 @@ pub(crate) fn begin_by_cache(
     }
 }
 
-/// The rules of an edition are those of a configuration.
-fn lawful(edition: &Edition)
-    ensures { IsConfiguration edition.now.config }
-{
-    let _rules = edition.config().rules();
-}
-
 /// Keeps the value, if there is one, for a key that the look before didn't find.
 fn keep(
     kept: &mut VerdictCache<KeptVerdict>,
@@ -117,8 +106,9 @@ fn keep(
 /// where it asks, or where some rule of the edition doesn't end the search.
 fn verdict_to_keep(edition: &Edition, stage: &Stage) -> Option<KeptVerdict>
     ensures { (packet : Fields) (port : Port) (second : ℕ) (start tally : List Count)
-        → StandsAt (question_on edition.now port packet second) [] [] start stage.now tally
-        → IsToKeep (question_on edition.now port packet second) result }
+        → StandsAt (question_under edition.now (Four packet) port second) [] [] start stage.now
+        tally
+        → IsToKeep (question_under edition.now (Four packet) port second) result }
 {
     if !edition.is_cacheable() {
         return None;

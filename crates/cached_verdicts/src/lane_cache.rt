@@ -1,5 +1,6 @@
 ghost use Rattle.std.specs.Prelude.{◌≡◌, ◌<◌, ◌≤◌, ◌⊎◌, [], length, Some, IfSome, OnOk, OnErr, IfOk};
 ghost use Rattle.generation_store.specs.Published.{Published};
+ghost use Rattle.eval_engine.specs.Question.{question_under};
 ghost use Rattle.eval_engine.specs.Standing.{StandsAt};
 ghost use Rattle.cached_verdicts.specs.LaneCache.{empty_lane_cache, IsPortOf, IsTrueUnder, IsLookedInto, SeesPacket, HasRecent};
 
@@ -83,21 +84,14 @@ impl LaneCache {
         requires fitted { edition.now.config.greatest_counter < length tally.old }
         requires port { IsPortOf self.old port.now }
         requires kept { IsTrueUnder edition.now self.old }
-        ensures stands { IfOk result (λ stage. StandsAt (record {
-          edition = edition.now;
-          packet = packet.now;
-          port = port.now;
-          second = second;
-        }) [] [] tally.old stage tally.new) }
+        ensures stands { IfOk result (λ stage.
+            StandsAt (question_under edition.now packet.now port.now second) [] [] tally.old stage
+            tally.new) }
         ensures behind { (self.new ≡ self.old)
             ⊎ IsLookedInto edition.now port.now self.old self.new }
         ensures looked { OnOk result (IsLookedInto edition.now port.now self.old self.new) }
-        ensures seen { OnOk result (SeesPacket (record {
-          edition = edition.now;
-          packet = packet.now;
-          port = port.now;
-          second = second;
-        }) self.old self.new) }
+        ensures seen { OnOk result
+            (SeesPacket (question_under edition.now packet.now port.now second) self.old self.new) }
     {
         note_port(&mut self.port, port)?;
         let begun = begin_by_cache(&mut self.kept, edition, packet, port, second, tally)?;

@@ -108,7 +108,7 @@ pub stands_begun : (q same : Question) (searched : Searched) (at : Position) (st
 stands_begun q same searched at stage before now is none outside first comes =
     subst (λ (x : Question). StandsAt x [] [] before stage now) is (stands_first same (walk_at same (seen_by searched) at) stage before now (rw (none, outside, first) refl) comes)
 
--- behind one reply more the evaluation stands where the search came to from that reply on
+-- behind one reply more the evaluation stands where the call came to from that reply on
 pub stands_resumed : (q same : Question) (searched : Searched) (op : Op) (paused : Paused) (reply : Reply) (asks : List Op) (replies : List Reply) (start before now : List Count) (stage : Stage)
     → same ≡ q → seen_by searched ≡ seen_after same (seen_by paused.searched) (drop paused.place same.edition.config.rules) reply
     → StandsAt q asks replies start (Asks op paused) before → AnswersOpenAsk q paused reply

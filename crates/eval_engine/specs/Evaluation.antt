@@ -7,7 +7,7 @@ use Rattle.state_asks.specs.declared.reply.Reply.{Reply}
 use Rattle.state_asks.specs.declared.reply.Reply.TheVariants.{Found, NotFound, Created, Exists, LimitReached, TableFull}
 use Rattle.generation_store.specs.Published.{has_identity}
 use Rattle.eval_engine.specs.Evaluated.{Evaluated, Outcome, Whole, OpenAt, Neither}
-use Rattle.eval_engine.specs.Question.{Question}
+use Rattle.eval_engine.specs.Question.{Question, rules_of}
 use Rattle.eval_engine.specs.Trace.{Stop, EndsWith, WaitsFor, Mismatch, Trace, hits_of, stop_of_trace}
 use Rattle.eval_engine.specs.Walk.{first_trace, trace_after_reply}
 
@@ -47,7 +47,7 @@ progress_by asks hits trace = record { asks = asks ++ asks_at_stop (stop_of_trac
 abbrev pub progress_after_reply : Question → List Op → List ℕ → Reply → Stop → Progress
 progress_after_reply q asks hits reply (EndsWith judgement) = record { asks = asks; hits = hits; stop = Mismatch }
 progress_after_reply q asks hits reply (WaitsFor op pause) =
-    if is_reply_to q.edition.config.rules op reply then progress_by asks hits (trace_after_reply q pause reply)
+    if is_reply_to (rules_of q) op reply then progress_by asks hits (trace_after_reply q pause reply)
     else record { asks = asks; hits = hits; stop = Mismatch }
 progress_after_reply q asks hits reply Mismatch = record { asks = asks; hits = hits; stop = Mismatch }
 

@@ -13,7 +13,7 @@ use Rattle.eval_engine.specs.declared.judgement.Verdict.TheVariants as verdict
 use Rattle.eval_engine.specs.Encounter.{is_disabled, is_rule_met, state_of, rule_ref}
 use Rattle.eval_engine.specs.Evaluated.{Whole, Neither}
 use Rattle.eval_engine.specs.Evaluation.{evaluate}
-use Rattle.eval_engine.specs.Question.{Question}
+use Rattle.eval_engine.specs.Question.{Question, rules_of}
 
 -- the verdict of an action that ends the search
 abbrev pub verdict_of : Action → Option Verdict
@@ -56,7 +56,7 @@ pub record IsPlain (rule : Rule) : Type 0 where
 -- Where no rule has a jump, a call or a state the first rule that decides the packet decides it, with
 -- nothing asked.
 abbrev pub FirstMatchDecides : Type 0
-FirstMatchDecides = (q : Question) → AllByRecursion IsPlain q.edition.config.rules → (evaluate q []).outcome ≡ Whole (judgement_by q (find (decides q) q.edition.config.rules))
+FirstMatchDecides = (q : Question) → AllByRecursion IsPlain (rules_of q) → (evaluate q []).outcome ≡ Whole (judgement_by q (find (decides q) (rules_of q)))
 
 -- an evaluation that is whole is neither whole nor open with more replies
 abbrev pub EndsOnce : Type 0
@@ -69,4 +69,4 @@ is_counter_of rules counter = list_any (λ rule. rule.counter == counter) rules
 
 -- each hit is of a rule of the edition
 abbrev pub HitsAreOfRules : Type 0
-HitsAreOfRules = (q : Question) (replies : List Reply) → AllByRecursion (λ counter. is_counter_of q.edition.config.rules counter ≡ true) (evaluate q replies).hits
+HitsAreOfRules = (q : Question) (replies : List Reply) → AllByRecursion (λ counter. is_counter_of (rules_of q) counter ≡ true) (evaluate q replies).hits

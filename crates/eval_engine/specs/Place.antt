@@ -6,7 +6,7 @@ use Rattle.fw_rule.specs.declared.rule.Rule.{Rule}
 use Rattle.rule_chain.specs.Chain.{AscendsFrom}
 use Rattle.generation_store.specs.Published.{has_identity}
 use Rattle.eval_engine.specs.Encounter.{is_rule_met, looks_up, name_at}
-use Rattle.eval_engine.specs.Question.{Question}
+use Rattle.eval_engine.specs.Question.{Question, rules_of}
 
 -- the number of a flow name is one of the 64 that there are
 abbrev pub IsNumbered : FlowName → Type 0
@@ -16,13 +16,13 @@ IsNumbered (Named number) = number < 64
 -- The rule in this place: its number of flow name, its counter number and its identity are the
 -- configuration's.
 pub record IsRuleAt (q : Question) (place : ℕ) (rule : Rule) : Type 0 where
-  pub there : drop place q.edition.config.rules ≡ rule ∷ drop (place + 1) q.edition.config.rules
-  pub within : place < length q.edition.config.rules
+  pub there : drop place (rules_of q) ≡ rule ∷ drop (place + 1) (rules_of q)
+  pub within : place < length (rules_of q)
   pub few : place < 65535
   pub counter : rule.counter ≤ q.edition.config.greatest_counter
   pub named : IsNumbered (name_at q rule)
-  pub ordered : AscendsFrom 1 q.edition.config.rules
-  pub listed : has_identity q.edition.config.rules rule.id ≡ true
+  pub ordered : AscendsFrom 1 (rules_of q)
+  pub listed : has_identity (rules_of q) rule.id ≡ true
 
 -- a rule of which the gate told all: it looks nothing up, and its body holds
 pub record IsTold (q : Question) (rule : Rule) : Type 0 where

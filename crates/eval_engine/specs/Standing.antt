@@ -1,5 +1,5 @@
 -- How far an evaluation is after a call.
-use Rattle.std.specs.Prelude.{◌≡◌, ℕ, Bool, true, if◌then◌else◌, IsTrue, ⊤, List, [], ◌∷◌, ◌++◌, drop, slice_set}
+use Rattle.std.specs.Prelude.{◌≡◌, ℕ, ◌<◌, length, Bool, true, if◌then◌else◌, IsTrue, ⊤, List, [], ◌∷◌, ◌++◌, drop, slice_set}
 use Rattle.counter_book.specs.Counts.{counted_under, count_after_packet}
 use Rattle.counter_book.specs.declared.tally.Count.{Count}
 use Rattle.state_asks.specs.Flags.{HasKeptFlags}
@@ -16,7 +16,7 @@ use Rattle.eval_engine.specs.Callers.{innermost_first}
 use Rattle.eval_engine.specs.Evaluated.{Outcome, Whole, OpenAt}
 use Rattle.eval_engine.specs.Evaluation.{evaluate, progress_of}
 pub use Rattle.eval_engine.specs.Evaluation.{is_reply_to}
-use Rattle.eval_engine.specs.Question.{Question}
+use Rattle.eval_engine.specs.Question.{Question, rules_of}
 use Rattle.eval_engine.specs.Trace.{Seen, Done, Names, Pause, Stop, EndsWith, WaitsFor}
 use Rattle.eval_engine.specs.Walk.{pause_at}
 use Rattle.eval_engine.specs.declared.paused.AskKind.{AskKind}
@@ -36,6 +36,10 @@ InstallsRuleOf rules (Install flags flow second rule limit name) = IsTrue (has_i
 unfoldable pub counts_after : ℕ → List ℕ → List Count → List Count
 counts_after bytes [] counts = counts
 counts_after bytes (counter ∷ hits) counts = counts_after bytes hits (slice_set counts counter (count_after_packet (counted_under counts counter) bytes))
+
+-- the tally has a count under each counter number of the rules
+abbrev pub IsTallyFor : Question → List Count → Type 0
+IsTallyFor q counts = q.edition.config.greatest_counter < length counts
 
 -- a stage is the end, or an ask that has no reply yet
 abbrev pub outcome_at : Stage → Outcome
@@ -62,7 +66,7 @@ callers_of callers = innermost_first callers.numbers callers.depth
 
 -- the pause that a paused evaluation stands for
 abbrev pub pause_of : Question → Paused → Pause
-pause_of q paused = pause_at (seen_by paused.searched) (callers_of paused.callers) (drop paused.place q.edition.config.rules)
+pause_of q paused = pause_at (seen_by paused.searched) (callers_of paused.callers) (drop paused.place (rules_of q))
 
 -- how the definition stops at this stage
 abbrev pub stop_of_stage : Question → Stage → Stop
@@ -82,13 +86,13 @@ IsOpenAt q op paused = kind_of op ≡ paused.kind
 pub record AnswersOpenAsk (q : Question) (paused : Paused) (reply : Reply) : Type 0 where
   pub op : Op
   pub waiting : IsOpenAt q op paused
-  pub fits : is_reply_to q.edition.config.rules op reply ≡ true
+  pub fits : is_reply_to (rules_of q) op reply ≡ true
 
 -- a stage asks what its pause waits for, an install names a rule of the edition, and of TCP's flags the ask
 -- has FIN, SYN and RST alone
 abbrev pub IsAskOf : Question → Stage → Type 0
 IsAskOf q (Judged judgement) = ⊤
-IsAskOf q (Asks op paused) = IsOpenAt q op paused × InstallsRuleOf q.edition.config.rules op × HasKeptFlags op
+IsAskOf q (Asks op paused) = IsOpenAt q op paused × InstallsRuleOf (rules_of q) op × HasKeptFlags op
 
 -- With these replies to the asks before it the evaluation has come to this stage, and the tally has risen
 -- from its start by exactly the hits so far.

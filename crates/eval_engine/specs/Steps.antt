@@ -5,7 +5,7 @@ use Rattle.state_asks.specs.declared.op.Op.{Op}
 use Rattle.fw_rule.specs.declared.rule.Rule.{Rule}
 use Rattle.ip6_headers.specs.Either.{total_of}
 use Rattle.eval_engine.specs.Encounter.{rule_ref}
-use Rattle.eval_engine.specs.Question.{Question}
+use Rattle.eval_engine.specs.Question.{Question, rules_of}
 use Rattle.eval_engine.specs.Standing.{callers_of, counts_after, kind_of, seen_by, stop_of_stage, IsAskOf}
 use Rattle.eval_engine.specs.Trace.{Seen, Trace, Stops, hits_of, stop_of_trace, length_of}
 use Rattle.eval_engine.specs.Walk.{walk_from}
@@ -13,7 +13,6 @@ use Rattle.eval_engine.specs.declared.judgement.Cause.{Cause}
 use Rattle.eval_engine.specs.declared.judgement.Cause.TheVariants as causes
 use Rattle.eval_engine.specs.declared.judgement.Judgement.{Judgement}
 use Rattle.eval_engine.specs.declared.position.Position.{Position}
-use Rattle.eval_engine.specs.declared.search.Search.{Search}
 use Rattle.eval_engine.specs.declared.position.Step.{Step}
 use Rattle.eval_engine.specs.declared.position.Step.TheVariants.{On, Decides, Waits}
 use Rattle.eval_engine.specs.declared.searched.Searched.{Searched}
@@ -22,13 +21,9 @@ use Rattle.eval_engine.specs.declared.stage.Stage.TheVariants.{Judged, Asks}
 use Rattle.eval_engine.specs.declared.judgement.Verdict.{Verdict}
 use Rattle.eval_engine.specs.declared.judgement.Verdict.TheVariants as verdicts
 
--- what is evaluated, as the definition names it
-abbrev pub question_of : Search → Question
-question_of search = record { edition = search.edition.now; packet = search.packet.now; port = search.port.now; second = search.second }
-
 -- the evaluation from this position on
 abbrev pub walk_at : Question → Seen → Position → Trace
-walk_at q seen at = walk_from q seen (callers_of at.callers) (drop at.place q.edition.config.rules) 0
+walk_at q seen at = walk_from q seen (callers_of at.callers) (drop at.place (rules_of q)) 0
 
 -- the rules between are passed over: nothing is counted, the trace stops alike, and no more rules are on the way
 pub record PassesTo (trace next : Trace) : Type 0 where
@@ -48,7 +43,7 @@ judgement_from q verdict cause (rule ∷ rest) = record { edition = q.edition.nu
 
 -- the rule at this position decides the packet so
 abbrev pub judged_at : Question → Verdict → Cause → Position → Stage
-judged_at q verdict cause at = Judged (judgement_from q verdict cause (drop at.place q.edition.config.rules))
+judged_at q verdict cause at = Judged (judgement_from q verdict cause (drop at.place (rules_of q)))
 
 -- the evaluation waits at this position for the reply to this ask
 abbrev pub waiting_at : Searched → Op → Position → Stage

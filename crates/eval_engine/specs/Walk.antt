@@ -15,7 +15,7 @@ use Rattle.eval_engine.specs.declared.judgement.Cause.TheVariants as cause
 use Rattle.eval_engine.specs.declared.judgement.Verdict.{Verdict}
 use Rattle.eval_engine.specs.declared.judgement.Verdict.TheVariants as verdict
 use Rattle.eval_engine.specs.Encounter.{is_disabled, is_rule_met, is_check_state, state_of, looks_up, any_flow_of, name_at, rule_ref, lookup_by, install_by}
-use Rattle.eval_engine.specs.Question.{Question}
+use Rattle.eval_engine.specs.Question.{Question, rules_of}
 use Rattle.eval_engine.specs.Trace.{Seen, Done, is_name_due, with_seen, no_names, Pause, EndsWith, WaitsFor, Trace, PassesOver, Counts, Stops}
 
 -- a judgement ends the evaluation
@@ -35,7 +35,7 @@ Walk = ℕ → List Rule → List ℕ → Option Trace → Trace
 -- is passed over
 abbrev pub call_from : Question → Option Walk → ℕ → Rule → (ℕ → Trace) → List ℕ → Trace
 call_from q None number rule next callers = next 0
-call_from q (Some deeper) number rule next callers = deeper number q.edition.config.rules (rule.number ∷ callers) (Some (next (rule.number + 1)))
+call_from q (Some deeper) number rule next callers = deeper number (rules_of q) (rule.number ∷ callers) (Some (next (rule.number + 1)))
 
 -- `return` goes on behind the last call; where there is none it is passed over
 abbrev pub return_to : Option Trace → (ℕ → Trace) → Trace
@@ -104,7 +104,7 @@ deeper_walk (suc left) q seen = Some (walk (deeper_walk left q seen) q seen)
 unfoldable pub way_back : ℕ → Question → Seen → List ℕ → Option Trace
 way_back left q seen [] = None
 way_back left q seen (number ∷ callers) =
-    Some (walk (deeper_walk (suc left) q seen) q seen (number + 1) q.edition.config.rules callers (way_back (suc left) q seen callers))
+    Some (walk (deeper_walk (suc left) q seen) q seen (number + 1) (rules_of q) callers (way_back (suc left) q seen callers))
 
 -- at most sixteen calls are open at once
 abbrev pub calls_left : List ℕ → ℕ
@@ -159,7 +159,7 @@ suffix_of id rules = drop (position_or_len (is_identity id) rules) rules
 
 -- where the reply leads: a state's rule acts in its own place, and a rule acts once its state is there
 abbrev pub leads_to : Question → Seen → List ℕ → List Rule → Reply → Trace
-leads_to q seen callers suffix (Found way rule) = acts_from q seen callers (suffix_of rule.id q.edition.config.rules)
+leads_to q seen callers suffix (Found way rule) = acts_from q seen callers (suffix_of rule.id (rules_of q))
 leads_to q seen callers suffix NotFound = tests_from q seen callers suffix
 leads_to q seen callers suffix Created = acts_from q seen callers suffix
 leads_to q seen callers suffix Exists = acts_from q seen callers suffix
@@ -186,4 +186,4 @@ trace_after_reply q pause reply = leads_to q (seen_after q pause.seen pause.suff
 
 -- how the evaluation begins
 abbrev pub first_trace : Question → Trace
-first_trace q = walk_from q no_names [] q.edition.config.rules 0
+first_trace q = walk_from q no_names [] (rules_of q) 0

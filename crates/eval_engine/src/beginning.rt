@@ -1,10 +1,11 @@
 ghost use Rattle.std.specs.Prelude.{◌<◌, [], length};
+ghost use Rattle.eval_engine.specs.Question.{question_under};
 ghost use Rattle.eval_engine.specs.Standing.{StandsAt};
 
 use crate::Stage;
 use crate::callers::Callers;
-use crate::encounter::search_for;
 use crate::position::Position;
+use crate::question::Question;
 use crate::searched::Searched;
 use crate::walking::walk;
 use counter_book::Tally;
@@ -23,19 +24,15 @@ pub fn begin(
     tally: &mut Tally,
 ) -> Stage
     requires fitted { edition.now.config.greatest_counter < length tally.old }
-    ensures { StandsAt (record {
-      edition = edition.now;
-      packet = packet.now;
-      port = port.now;
-      second = second;
-    }) [] [] tally.old result tally.new }
+    ensures { StandsAt (question_under edition.now packet.now port.now second) [] [] tally.old
+        result tally.new }
 {
-    let search = search_for(edition, packet, port, second);
+    let question = Question::new(edition, packet, port, second);
     let mut at = Position {
         place: 0,
         callers: Callers::none(),
         ask: None,
     };
-    let key = key_of(search.packet);
-    walk(&search, &key, &Searched::none(), &mut at, tally)
+    let key = key_of(question.packet);
+    walk(&question, &key, &Searched::none(), &mut at, tally)
 }

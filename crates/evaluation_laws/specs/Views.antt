@@ -16,7 +16,7 @@ use Rattle.evaluation_laws.specs.declared.story.Story.{Story}
 
 -- what is evaluated, as the definition names it
 abbrev pub viewed_question : Question → spec.Question
-viewed_question q = record { edition = q.edition.now; packet = q.packet.now; port = q.port.now; second = q.second }
+viewed_question q = spec.question_under q.edition.now q.packet.now q.port.now q.second
 
 -- the flow names that were looked up, by their numbers
 abbrev pub is_looked : Looked → FlowName → Bool

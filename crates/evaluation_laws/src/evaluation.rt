@@ -1,6 +1,6 @@
 ghost use Rattle.std.specs.Prelude.{◌≡◌, IfOk};
 ghost use Rattle.eval_engine.specs.Evaluation as spec;
-ghost use Rattle.rule_chain.specs.Chain.{IsConfiguration};
+ghost use Rattle.eval_engine.specs.Question.{question_under};
 ghost use Rattle.evaluation_laws.specs.Story as told;
 ghost use Rattle.evaluation_laws.specs.Views.{ending_of, viewed_outcome};
 
@@ -12,6 +12,7 @@ use eval_engine::Judgement;
 use fw_base::{OutOfMemory, Port};
 use generation_store::Edition;
 use ip6_headers::AnyIp;
+use rule_chain::is_configuration;
 use state_asks::{Op, Reply};
 use std::alloc::Global;
 use std::collections::LinkedList;
@@ -48,26 +49,14 @@ pub fn evaluate(
     replies: &[Reply],
 ) -> Result<Evaluation, OutOfMemory>
     ensures asks { IfOk result (λ e. e.asks
-        ≡ (spec.evaluate (record {
-          edition = edition.now;
-          packet = packet.now;
-          port = port.now;
-          second = second;
-        }) replies.now).asks) }
+        ≡ (spec.evaluate (question_under edition.now packet.now port.now second)
+        replies.now).asks) }
     ensures hits { IfOk result (λ e. e.hits
-        ≡ (spec.evaluate (record {
-          edition = edition.now;
-          packet = packet.now;
-          port = port.now;
-          second = second;
-        }) replies.now).hits) }
+        ≡ (spec.evaluate (question_under edition.now packet.now port.now second)
+        replies.now).hits) }
     ensures outcome { IfOk result (λ e. viewed_outcome e.outcome
-        ≡ (spec.evaluate (record {
-          edition = edition.now;
-          packet = packet.now;
-          port = port.now;
-          second = second;
-        }) replies.now).outcome) }
+        ≡ (spec.evaluate (question_under edition.now packet.now port.now second)
+        replies.now).outcome) }
 {
     let question = Question {
         edition,
@@ -76,7 +65,7 @@ pub fn evaluate(
         second,
         alloc,
     };
-    lawful(edition);
+    is_configuration(edition.config());
     let story = meet(&question, 0, &Looked::none(), 0, replies)?;
     let outcome = outcome_by(&story.ending);
     Ok(Evaluation {
@@ -84,13 +73,6 @@ pub fn evaluate(
         hits: story.hits,
         outcome,
     })
-}
-
-/// The rules of an edition are those of a configuration.
-fn lawful(edition: &Edition)
-    ensures { IsConfiguration edition.now.config }
-{
-    let _rules = edition.config().rules();
 }
 
 /// Whole where the run ended and used every reply; a run outside of calls never returns.

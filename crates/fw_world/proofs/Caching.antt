@@ -12,6 +12,7 @@ use Rattle.generation_store.specs.Published.{Published, IsEdition, IsBuilt}
 use Rattle.verdict_cache.specs.Cache.{Kept, is_given}
 use Rattle.eval_engine.proofs.Dockets.{judgement_in-judged}
 use Rattle.eval_engine.specs.Dockets.{DocketValue, judged_entry, judgement_in}
+use Rattle.eval_engine.specs.Question.{question_under}
 use Rattle.eval_engine.specs.declared.docket_entry.DocketEntry.{DocketEntry}
 use Rattle.eval_engine.specs.declared.judgement.Judgement.{Judgement}
 use Rattle.cached_verdicts.specs.LaneCache.{LaneCacheValue, IsNoneBefore, HasRecent, IsPortOf}
@@ -20,7 +21,7 @@ use Rattle.cached_verdicts.specs.Visits.{Visit, last_number, visit_of}
 use Rattle.cached_verdicts.specs.declared.kept_verdict.KeptVerdict.{KeptVerdict}
 use Rattle.fw_world.specs.Caches.{capacity_of, IsPortFor, IsTrueFor, IsCacheBehind, IsCacheAfter, KeepsUnder, IsCacheAmong, KeepsSeen, IsCacheSeen}
 use Rattle.fw_world.specs.Editions.{edition_numbered, judging_edition}
-use Rattle.fw_world.specs.Entries.{EachRecord, IsEntryFor, question_under}
+use Rattle.fw_world.specs.Entries.{EachRecord, IsEntryFor}
 use Rattle.fw_world.specs.Inputs.{Input, Other, Malformed, Packet}
 use Rattle.fw_world.specs.Sections.{judged_editions}
 use Rattle.fw_world.specs.Standing.{CacheStandsFor, AreSeenOf}

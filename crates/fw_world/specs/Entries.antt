@@ -6,7 +6,7 @@ use Rattle.generation_store.specs.Published.{Published}
 use Rattle.eval_engine.specs.Dockets.{judgement_in}
 use Rattle.eval_engine.specs.Evaluated.{Evaluated, Whole}
 use Rattle.eval_engine.specs.Evaluation.{evaluate}
-use Rattle.eval_engine.specs.Question.{Question}
+use Rattle.eval_engine.specs.Question.{question_under}
 use Rattle.eval_engine.specs.declared.docket_entry.DocketEntry.{DocketEntry}
 use Rattle.eval_engine.specs.declared.docket_entry.DocketEntry.TheVariants as entry
 use Rattle.eval_engine.specs.declared.judgement.Judgement.{Judgement}
@@ -27,10 +27,6 @@ abbrev pub IsEntryFor : ℕ → Input → DocketEntry → Type 0
 IsEntryFor at Other entered = entered ≡ entry.Other
 IsEntryFor at (Malformed kind) entered = entered ≡ entry.Malformed kind
 IsEntryFor at (Packet packet port second) entered = IsSome (judgement_in entered)
-
--- what is evaluated for a packet under an edition
-abbrev pub question_under : Published → AnyIp → Port → ℕ → Question
-question_under edition packet port second = record { edition = edition; packet = packet; port = port; second = second }
 
 -- the evaluation of a packet under an edition, with the replies to these asks
 abbrev pub evaluation_under : Published → AnyIp → Port → ℕ → List LaneAsk → Evaluated

@@ -3,10 +3,10 @@ use Rattle.std.specs.Prelude.{ℕ, Option, Some, None, List, [], ◌∷◌, ◌+
 use Rattle.fw_base.specs.declared.port.Port.{Port}
 use Rattle.ip6_headers.specs.declared.any_ip.AnyIp.{AnyIp}
 use Rattle.generation_store.specs.Published.{Published}
+use Rattle.eval_engine.specs.Question.{question_under}
 use Rattle.eval_engine.specs.declared.docket_entry.DocketEntry.{DocketEntry}
 use Rattle.cached_verdicts.specs.Visits.{Visit, visit_of}
 use Rattle.fw_world.specs.Editions.{judging_edition}
-use Rattle.fw_world.specs.Entries.{question_under}
 use Rattle.fw_world.specs.Inputs.{Input, Other, Malformed, Packet}
 
 -- a packet under an edition

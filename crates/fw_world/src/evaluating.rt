@@ -1,9 +1,9 @@
 ghost use Rattle.std.specs.Prelude.{◌<◌, ◌^◌, [], length, IfOk, OnOk};
 ghost use Rattle.rule_chain.specs.Chain.{IsConfiguration};
+ghost use Rattle.eval_engine.specs.Question.{question_under};
 ghost use Rattle.eval_engine.specs.Standing.{StandsAt};
 ghost use Rattle.fw_world.specs.AskRuns.{Evaluates, AsksFront};
 ghost use Rattle.fw_world.specs.Caches.{IsPortFor, IsTrueFor, IsCacheBehind, IsCacheAfter};
-ghost use Rattle.fw_world.specs.Entries.{question_under};
 
 use crate::asks_book::AsksBook;
 use cached_verdicts::LaneCache;
@@ -14,6 +14,7 @@ use generation_store::Edition;
 use ip6_headers::AnyIp;
 
 /// Begins the evaluation of a packet, by a look into the lane's cache where it has one.
+#[inline(always)]
 fn begin_beside(
     cache: &mut Option<LaneCache>,
     edition: &Edition,

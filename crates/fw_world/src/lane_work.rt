@@ -1,9 +1,8 @@
 ghost use Rattle.std.specs.Prelude.{◌≡◌, ◌+◌, ◌<◌, [], ◌∷◌, ◌++◌, length, true, false, IfOk, OnOk, OnErr};
-ghost use Rattle.rule_chain.specs.Chain.{IsConfiguration};
 ghost use Rattle.eval_engine.specs.Dockets.{judged_entry};
+ghost use Rattle.eval_engine.specs.Question.{question_under};
 ghost use Rattle.fw_world.specs.AskRuns.{Evaluates, AsksFront};
 ghost use Rattle.fw_world.specs.Caches.{IsPortFor, IsTrueFor, IsCacheBehind, IsCacheAfter};
-ghost use Rattle.fw_world.specs.Entries.{question_under};
 ghost use Rattle.fw_world.specs.Lane.{one_looser};
 
 use crate::asks_book::AsksBook;
@@ -13,7 +12,7 @@ use counter_book::Tally;
 use eval_engine::{Docket, DocketEntry, Judgement};
 use fw_base::{OutOfMemory, Port};
 use ip6_headers::AnyIp;
-use rule_chain::Config;
+use rule_chain::is_configuration;
 use std::alloc::Global;
 
 /// What a lane does with its records, in whatever world.
@@ -97,7 +96,8 @@ impl LaneWork {
         ensures judged { IfOk result
             (Evaluates (λ old op reply new.
             B.enters old lane (length self.old.docket.entries + 1) op reply new) book.old book.new
-            (question_under (B.edition book.old) packet.now port.now second) self.old.tally self.new.tally) }
+            (question_under (B.edition book.old) packet.now port.now second) self.old.tally
+            self.new.tally) }
         ensures entered { IfOk result (λ judgement. self.new ≡ record self.old {
           docket = record self.old.docket { entries = self.old.docket.entries ++ judged_entry judgement ∷ [] };
           tally = self.new.tally;
@@ -141,7 +141,8 @@ impl LaneWork {
         ensures judged { IfOk result
             (Evaluates (λ old op reply new.
             B.enters old lane (length self.old.docket.entries + 1) op reply new) book.old book.new
-            (question_under (B.edition book.old) packet.now port.now second) self.old.tally self.new.tally) }
+            (question_under (B.edition book.old) packet.now port.now second) self.old.tally
+            self.new.tally) }
         ensures entered { IfOk result (λ judgement. self.new ≡ record self.old {
           docket = record self.old.docket { entries = self.old.docket.entries ++ judged_entry judgement ∷ [] };
           tally = self.new.tally;
@@ -170,11 +171,4 @@ impl LaneWork {
         self.docket.push(DocketEntry::judged(judgement))?;
         Ok(judgement)
     }
-}
-
-/// Does nothing, and says that it is a configuration, as an evaluation requires.
-fn is_configuration(config: &Config)
-    ensures { IsConfiguration config.now }
-{
-    let _rules = config.rules();
 }

@@ -17,12 +17,11 @@ use Rattle.state_journal.specs.Journal.{Journal, with_ask, with_publication}
 use Rattle.eval_engine.proofs.Hits.{judgement_names_edition}
 use Rattle.eval_engine.specs.Dockets.{judged_entry}
 use Rattle.eval_engine.specs.Evaluation.{evaluate}
-use Rattle.eval_engine.specs.Question.{Question}
+use Rattle.eval_engine.specs.Question.{Question, question_under}
 use Rattle.eval_engine.specs.declared.judgement.Judgement.{Judgement}
 use Rattle.fw_world.specs.AskRuns.{EntersEach, Evaluates, AsksFront}
 use Rattle.fw_world.specs.Asks.{LaneAsk, lane_asks, with_asks}
 use Rattle.fw_world.specs.Editions.{IsNextEdition, edition_numbered}
-use Rattle.fw_world.specs.Entries.{question_under}
 use Rattle.fw_world.specs.Inputs.{Input, Packet}
 use Rattle.fw_world.specs.Lane.{LaneValue}
 use Rattle.fw_world.specs.Caches.{IsCacheAfter}

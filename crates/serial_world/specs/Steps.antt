@@ -6,6 +6,7 @@ use Rattle.state_asks.specs.declared.reply.Reply.{Reply}
 use Rattle.eval_engine.specs.Dockets.{judged_entry}
 use Rattle.eval_engine.specs.Evaluated.{Whole}
 use Rattle.eval_engine.specs.Evaluation.{evaluate}
+use Rattle.eval_engine.specs.Question.{question_under}
 use Rattle.eval_engine.specs.declared.judgement.Judgement.{Judgement}
 use Rattle.fw_rule.specs.declared.command.Command.{Command}
 use Rattle.generation_store.specs.Published.{Published}
@@ -19,7 +20,6 @@ use Rattle.fw_world.specs.AskRuns.{RisesBy, IsFrontOf}
 use Rattle.fw_world.specs.Asks.{with_asks}
 use Rattle.fw_world.specs.Caches.{capacity_of, IsPortFor}
 use Rattle.fw_world.specs.Editions.{IsLastOf, IsNextEdition}
-use Rattle.fw_world.specs.Entries.{question_under}
 use Rattle.fw_world.specs.CommitFaults.{IsCauseOf}
 use Rattle.fw_world.specs.Inputs.{Input, Packet}
 use Rattle.fw_world.specs.Lane.{LaneValue, lane_after_admission, lane_after_leave, with_docket_entry}

@@ -1,8 +1,8 @@
 ghost use Rattle.std.specs.Prelude.{◌≡◌, ◌+◌, ℕ, Option, None, length, ◌==◌, true, false, IfOk, OnOk, OnErr};
 ghost use Rattle.eval_engine.specs.Dockets.{judged_entry};
+ghost use Rattle.eval_engine.specs.Question.{question_under};
 ghost use Rattle.fw_world.specs.AskRuns.{Evaluates, AsksFront};
 ghost use Rattle.fw_world.specs.Caches.{first_cache, IsPortFor, IsTrueFor, IsCacheBehind, IsCacheAfter};
-ghost use Rattle.fw_world.specs.Entries.{question_under};
 ghost use Rattle.fw_world.specs.Lane as lanes;
 ghost use Rattle.fw_world.specs.Lane.{first_lane, lane_after_try, lane_after_admission, lane_after_regain, with_docket_entry};
 

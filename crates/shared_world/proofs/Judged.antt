@@ -8,7 +8,7 @@ use Rattle.atomic_table.specs.Seated.{TableId}
 use Rattle.eval_engine.proofs.Hits.{judgement_names_edition}
 use Rattle.eval_engine.specs.Dockets.{DocketValue, judged_entry}
 use Rattle.eval_engine.specs.Evaluation.{evaluate}
-use Rattle.eval_engine.specs.Question.{Question}
+use Rattle.eval_engine.specs.Question.{Question, question_under}
 use Rattle.eval_engine.specs.declared.judgement.Judgement.{Judgement}
 use Rattle.fw_base.specs.declared.failure.OutOfMemory.{OutOfMemory}
 use Rattle.fw_base.specs.declared.port.Port.{Port}
@@ -25,7 +25,6 @@ use Rattle.fw_world.proofs.Running.{EntersEach-length}
 use Rattle.fw_world.specs.AskRuns.{EntersEach, Evaluates, AsksFront}
 use Rattle.fw_world.specs.Asks.{LaneAsk, asks_in}
 use Rattle.fw_world.specs.Editions.{edition_numbered}
-use Rattle.fw_world.specs.Entries.{question_under}
 use Rattle.fw_world.specs.Inputs.{Input, Packet}
 use Rattle.fw_world.specs.Lane.{LaneValue, with_docket_entry}
 use Rattle.fw_world.specs.LaneKept.{IsLane, pending_of}

@@ -5,13 +5,13 @@ use Rattle.state_asks.specs.declared.reply.Reply.{Reply}
 use Rattle.eval_engine.specs.Dockets.{judged_entry}
 use Rattle.eval_engine.specs.Evaluated.{Whole}
 use Rattle.eval_engine.specs.Evaluation.{evaluate}
+use Rattle.eval_engine.specs.Question.{question_under}
 use Rattle.eval_engine.specs.declared.judgement.Judgement.{Judgement}
 use Rattle.fw_base.specs.declared.failure.OutOfMemory.{OutOfMemory}
 use Rattle.fw_base.specs.declared.port.Port.{Port}
 use Rattle.fw_world.proofs.AskLists.{record_asks}
 use Rattle.fw_world.specs.AskRuns.{RisesBy, IsFrontOf}
 use Rattle.fw_world.specs.Caches.{capacity_of, IsPortFor}
-use Rattle.fw_world.specs.Entries.{question_under}
 use Rattle.fw_world.specs.Inputs.{Input, Packet}
 use Rattle.generation_store.specs.Published.{Published}
 use Rattle.ip6_headers.specs.Either.{total_of}

@@ -1,4 +1,5 @@
 use Rattle.std.proofs.Common.{◌∷◌, ◌++◌, [], subst, arith}
+use Rattle.eval_engine.specs.Question.{question_under}
 use Rattle.eval_engine.specs.Standing.{StandsAt}
 use Rattle.eval_engine.specs.declared.stage.Stage.{Stage}
 use Rattle.eval_engine.proofs.Progressing.{stands-length}
@@ -15,5 +16,5 @@ resume-stage-requires-clause-fitted c =
 pub loop-turn-preserved : goal.loop-turn-preserved
 loop-turn-preserved c =
     let h = c.loop-turn.invariant in
-    let stands = subst (λ (stage : Stage). StandsAt (record { edition = c.args.edition.now; packet = c.args.packet.now; port = c.args.port.now; second = 9 }) h.0 h.1 h.2 stage c.loop-turn.tally) c.in-Asks.is h.4 in
+    let stands = subst (λ (stage : Stage). StandsAt (question_under c.args.edition.now c.args.packet.now c.args.port.now 9) h.0 h.1 h.2 stage c.loop-turn.tally) c.in-Asks.is h.4 in
     (h.0 ++ c.in-Asks.op ∷ [], h.1 ++ _ ∷ [], h.2, h.3, c.resume-stage.ensures c.in-Asks.op h.0 h.1 h.2 stands)

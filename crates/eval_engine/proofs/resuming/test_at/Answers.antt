@@ -1,7 +1,7 @@
 use Rattle.std.proofs.Common.{List, ap}
 use Rattle.fw_rule.specs.declared.rule.Rule.{Rule}
 use Rattle.eval_engine.specs.Standing.{callers_of, seen_by}
-use Rattle.eval_engine.specs.Steps.{question_of, judged_at}
+use Rattle.eval_engine.specs.Steps.{judged_at}
 use Rattle.eval_engine.specs.Walk.{tests_from}
 use Rattle.eval_engine.specs.declared.judgement.Cause.TheVariants as causes
 use Rattle.eval_engine.specs.declared.judgement.Verdict.TheVariants as verdicts
@@ -10,7 +10,7 @@ use Rattle.eval_engine.proofs.resuming.test_at.Goals as goal
 
 pub returns-in-None : goal.returns-in-None
 returns-in-None c =
-    let q = question_of c.args.search.now in
+    let q = c.args.question.now in
     let denied = denied_there q c.args.at.now verdicts.Deny causes.Rule c.in-None.ensures in
     let comes = comes_at_once q _ (judged_at q verdicts.Deny causes.Rule c.args.at.now) c.args.tally.now denied in
     let ended = ap (λ (suffix : List Rule). tests_from q (seen_by c.args.searched.now) (callers_of c.args.at.now.callers) suffix) c.in-None.ensures in

@@ -1,5 +1,4 @@
 use Rattle.std.proofs.Common.{ℕ, List, ◌≤◌, length, drop, ◌+◌, ap, sym, ◌∙◌, arith}
-use Rattle.eval_engine.specs.Steps.{question_of}
 use Rattle.eval_engine.specs.Standing.{callers_of}
 use Rattle.eval_engine.specs.Walk.{walk_from}
 use Rattle.eval_engine.proofs.Calls.{innermost_first-length}
@@ -9,7 +8,7 @@ use Rattle.eval_engine.proofs.walking.back.Goals as goal
 
 pub returns-in-Some : goal.returns-in-Some
 returns-in-Some c = λ seen.
-    let q = question_of c.args.search.now in
+    let q = c.args.question.now in
     let callers = callers_of c.args.at.now.callers in
     let size = innermost_first-length c.args.at.now.callers.numbers c.args.at.now.callers.depth in
     let bound : c.args.at.now.callers.depth ≤ 16 = c.args.at.now.callers.bounded in
@@ -19,7 +18,7 @@ returns-in-Some c = λ seen.
 
 pub returns-in-None : goal.returns-in-None
 returns-in-None c = λ seen.
-    let q = question_of c.args.search.now in
+    let q = c.args.question.now in
     let callers = callers_of c.args.at.now.callers in
     let same = ap (λ (open_calls : Callers). walk_from q seen (callers_of open_calls) (drop (c.args.at.now.place + 1) q.edition.config.rules) 0) c.in-None.ensures.1 in
     returns_none q seen callers (walk_from q seen callers (drop (c.args.at.now.place + 1) q.edition.config.rules)) c.in-None.ensures.0 ∙ sym same ∙ sym (c.leave.ensures seen)

@@ -1,5 +1,4 @@
 use Rattle.std.proofs.Common.{◌≡◌, ℕ, ◌<◌, ◌≤◌, length, drop, ◌+◌, nat_eq, false, true, sym, ◌∙◌, arith}
-use Rattle.eval_engine.specs.Steps.{question_of}
 use Rattle.eval_engine.specs.Standing.{callers_of}
 use Rattle.eval_engine.specs.Walk.{walk_from, way_back, calls_left}
 use Rattle.eval_engine.proofs.Calls.{innermost_first-length}
@@ -21,7 +20,7 @@ push-requires c =
 
 pub returns-then-is_full : goal.returns-then-is_full
 returns-then-is_full c = λ seen.
-    let q = question_of c.args.search.now in
+    let q = c.args.question.now in
     let callers = callers_of c.args.at.now.callers in
     let full : 16 ≤ length callers = is_full _ c.if-is_full.ensures in
     call_full q seen c.args.rule.now (walk_from q seen callers (drop (c.args.at.now.place + 1) q.edition.config.rules)) callers (way_back (calls_left callers) q seen callers) c.args.rule.now.action
@@ -30,7 +29,7 @@ returns-then-is_full c = λ seen.
 
 pub returns-else-is_full : goal.returns-else-is_full
 returns-else-is_full c = λ seen.
-    let q = question_of c.args.search.now in
+    let q = c.args.question.now in
     let callers = callers_of c.args.at.now.callers in
     let there = c.requires.there in
     let size = innermost_first-length c.args.at.now.callers.numbers c.args.at.now.callers.depth in

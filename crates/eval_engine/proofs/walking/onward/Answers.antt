@@ -1,12 +1,11 @@
 use Rattle.eval_engine.specs.Standing.{callers_of}
-use Rattle.eval_engine.specs.Steps.{question_of}
 use Rattle.eval_engine.specs.Walk.{deeper_walk, calls_left, way_back}
 use Rattle.eval_engine.proofs.Walks.{onward_next}
 use Rattle.eval_engine.proofs.walking.onward.Goals as goal
 
 pub returns : goal.returns
 returns c = λ seen.
-    let q = question_of c.args.search.now in
+    let q = c.args.question.now in
     let callers = callers_of c.args.at.now.callers in
     let there = c.requires.there in
     rw c.target-at.ensures

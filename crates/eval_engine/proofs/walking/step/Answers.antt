@@ -1,7 +1,7 @@
 use Rattle.std.proofs.Common.{◌∙◌, List, ap}
 use Rattle.fw_rule.specs.declared.rule.Rule.{Rule}
 use Rattle.eval_engine.specs.Standing.{callers_of, seen_by}
-use Rattle.eval_engine.specs.Steps.{question_of, judged_at, walk_at, PassesTo}
+use Rattle.eval_engine.specs.Steps.{judged_at, walk_at, PassesTo}
 use Rattle.eval_engine.specs.Walk.{walk_from}
 use Rattle.eval_engine.specs.declared.judgement.Cause.TheVariants as causes
 use Rattle.eval_engine.specs.declared.position.Step.TheVariants.{Decides}
@@ -12,12 +12,12 @@ use Rattle.eval_engine.proofs.walking.step.Goals as goal
 
 pub returns-in-Some : goal.returns-in-Some
 returns-in-Some c =
-    leads_passed (question_of c.args.search.now) c.args.searched.now _ _ c.meet.result c.meet.new.at c.args.tally.now c.meet.new.tally
+    leads_passed c.args.question.now c.args.searched.now _ _ c.meet.result c.meet.new.at c.args.tally.now c.meet.new.tally
     (c.pass_shut_gates-is_told.ensures.passes (seen_by c.args.searched.now)) c.meet.ensures
 
 pub returns-in-None : goal.returns-in-None
 returns-in-None c =
-    let q = question_of c.args.search.now in
+    let q = c.args.question.now in
     let seen = seen_by c.args.searched.now in
     let next = c.pass_shut_gates-is_told.new.at in
     let callers = callers_of next.callers in

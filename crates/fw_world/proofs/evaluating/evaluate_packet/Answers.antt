@@ -3,10 +3,10 @@ use Rattle.counter_book.specs.declared.tally.Count.{Count}
 use Rattle.state_asks.specs.declared.op.Op.{Op}
 use Rattle.state_asks.specs.declared.reply.Reply.{Reply}
 use Rattle.eval_engine.proofs.Progressing.{stands-length}
+use Rattle.eval_engine.specs.Question.{question_under}
 use Rattle.eval_engine.specs.Standing.{StandsAt, AnswersOpenAsk, InstallsRuleOf, is_reply_to}
 use Rattle.eval_engine.specs.declared.stage.Stage.TheVariants.{Asks}
 use Rattle.generation_store.specs.Published.{Published}
-use Rattle.fw_world.specs.Entries.{question_under}
 use Rattle.fw_world.proofs.Running.{IsReached-ended, IsReached-answered, AsksFront-reached, AsksFront-missed, AsksFront-none}
 use Rattle.fw_world.proofs.evaluating.evaluate_packet.Goals as goal
 

@@ -1,5 +1,5 @@
 use Rattle.std.proofs.Common.{◌≡◌, ◌<◌, length, ◌-◌, ◌^◌}
-use Rattle.fw_world.specs.Entries.{question_under}
+use Rattle.eval_engine.specs.Question.{question_under}
 use Rattle.fw_world.proofs.Running.{IsReached}
 use Rattle.fw_world.proofs.evaluating.evaluate_packet.Given as goal
 

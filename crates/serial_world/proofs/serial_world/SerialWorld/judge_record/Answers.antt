@@ -2,11 +2,11 @@ use Rattle.std.proofs.Common.{◌≡◌, ℕ, ◌+◌, List, [], ◌∷◌, ◌+
 use Rattle.std.proofs.lemmas.Result.{IfOk-weaker}
 use Rattle.std.specs.Prelude.{Some, IfOk, OnOk}
 use Rattle.eval_engine.specs.Dockets.{judged_entry}
+use Rattle.eval_engine.specs.Question.{question_under}
 use Rattle.fw_world.specs.AskRuns.{Evaluates}
 use Rattle.fw_world.specs.Caches.{IsCacheAfter, IsCacheBehind, IsCacheAmong}
 use Rattle.fw_world.specs.Columns.{no_columns}
 use Rattle.fw_world.specs.Editions.{edition_numbered}
-use Rattle.fw_world.specs.Entries.{question_under}
 use Rattle.fw_world.specs.Inputs.{Input, Packet}
 use Rattle.fw_world.specs.Lane.{LaneValue, with_docket_entry}
 use Rattle.fw_world.specs.World.{WorldValue, published_count, LaneStandsFor}

@@ -1,7 +1,7 @@
 use Rattle.std.proofs.Common.{◌≡◌, ◌+◌, ◌∙◌, length, IfOk, ap, subst}
 use Rattle.crossbeam_utils.specs.Padded.{padded_value}
+use Rattle.eval_engine.specs.Question.{question_under}
 use Rattle.fw_world.specs.AskRuns.{Evaluates, AsksFront}
-use Rattle.fw_world.specs.Entries.{question_under}
 use Rattle.fw_world.specs.declared.lane_work.LaneWork.{LaneWork}
 use Rattle.shared_world.proofs.padded_work.PaddedWork.judge.Goals as goal
 

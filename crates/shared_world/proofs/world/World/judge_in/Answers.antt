@@ -1,8 +1,8 @@
 use Rattle.std.proofs.Common.{◌≡◌, ◌+◌, Bool, false, length, ◌∙◌, sym, ap, subst}
 use Rattle.std.specs.Prelude.{IfOk, OnOk}
+use Rattle.eval_engine.specs.Question.{question_under}
 use Rattle.fw_world.specs.AskRuns.{Evaluates, AsksFront}
 use Rattle.fw_world.specs.Caches.{IsPortFor, IsTrueFor, IsCacheBehind, IsCacheAfter}
-use Rattle.fw_world.specs.Entries.{question_under}
 use Rattle.fw_world.specs.LaneKept.{pending_of}
 use Rattle.shared_world.proofs.Judged.{Enters, Misses, is_true, next, kept, reads_still, place_still, lock_still}
 use Rattle.shared_world.proofs.Sections.{inside_of}
