@@ -6,7 +6,7 @@ use crate::audit_result::AuditResult;
 use crate::text_comparer::TextComparer;
 use command_words::CaptureWord;
 use fw_base::{Name, OutOfMemory};
-use fw_report::{CaptureEnd, Ends, LineAnswer, write_report};
+use fw_report::{CaptureEnd, Ends, LineAnswer, Recorded, write_report};
 use fw_rule::Items;
 use run_audit::{Audit, AuditFault, Comparer, Rebuilt};
 use std::alloc::Global;
@@ -42,17 +42,15 @@ fn compare(rebuilt: Rebuilt, ends: &Ends) -> Result<AuditResult, OutOfMemory>
     let mut sink = TextComparer {
         comparer: Comparer::new(report),
     };
-    let written = write_report(
-        &editions,
-        &book,
-        &dockets,
-        &tallies,
-        &trackers,
-        &[],
-        ends,
-        true,
-        &mut sink,
-    );
+    let recorded = Recorded {
+        editions: &editions,
+        book: &book,
+        dockets: &dockets,
+        tallies: &tallies,
+        trackers: &trackers,
+        hits: &[],
+    };
+    let written = write_report(&recorded, ends, true, &mut sink);
     if written.is_err() {
         return Err(OutOfMemory);
     }

@@ -316,28 +316,25 @@ fn write_long_ask<K: Sink>(
     write_around(out, &front, name, rest)
 }
 
-/// Writes the line of an ask: at once, unless the name is long.
-#[tactic(auto, unfolding(crate::specs::JournalText::ask_line))]
+/// Writes the line of an ask, behind whose name the line is composed: at once, unless the name is long.
 fn write_ask<K: Sink>(
     out: &mut K,
-    line: &mut Line,
-    names: &[Name],
+    rest: &mut Line,
     lane: u32,
     at: u64,
     op: &Op,
-    reply: Reply,
+    name: &[u8],
 ) -> Result<(), Failed>
+    requires { length rest.old ≤ 135 }
     ensures { WritesText (K.written out.old) (K.written out.new) (K.faults out.old)
-        (K.faults out.new) (text.ask_line names.now lane at op.now reply) result }
+        (K.faults out.new) (ask.ask_front lane at op.now ++ (name.now ++ rest.old)) result }
 {
-    put_ask_rest(line, op, reply);
-    let name = asked_name(names, op);
     if name.len() <= LONGEST_NAME {
-        line.put_text(name);
-        put_ask_front(line, lane, at, op);
-        line.write(out)
+        rest.put_text(name);
+        put_ask_front(rest, lane, at, op);
+        rest.write(out)
     } else {
-        write_long_ask(out, lane, at, op, name, line)
+        write_long_ask(out, lane, at, op, name, rest)
     }
 }
 
@@ -370,7 +367,10 @@ fn write_entry<K: Sink>(
             op,
             reply,
             at,
-        } => write_ask(out, line, names, u32::from(*lane), *at, op, *reply),
+        } => {
+            put_ask_rest(line, op, *reply);
+            write_ask(out, line, u32::from(*lane), *at, op, asked_name(names, op))
+        }
     }
 }
 

@@ -6,6 +6,7 @@
 pub use capture_end::CaptureEnd;
 pub use ends::{Answer, Ends, LineAnswer};
 pub use laws::record_lines_are_records;
+pub use recorded::Recorded;
 pub use report::write_report;
 pub use summary::write_summary;
 
@@ -16,6 +17,7 @@ mod ends;
 mod journal_lines;
 mod laws;
 mod line;
+mod recorded;
 mod report;
 mod rule_lines;
 mod summary;

@@ -5,11 +5,11 @@ ghost use Rattle.state_texts.specs.StateTexts.{states_text};
 ghost use Rattle.fw_report.specs.JournalText.{optional_journal};
 ghost use Rattle.fw_report.specs.Report as text;
 
-use crate::Ends;
 use crate::answer_lines::write_answers;
 use crate::docket_lines::write_captures;
 use crate::journal_lines::{write_hits, write_journal};
 use crate::rule_lines::{write_counted_rules, write_disabled, write_editions};
+use crate::{Ends, Recorded};
 use counter_book::Tally;
 use dyn_states::States;
 use eval_engine::Docket;
@@ -17,7 +17,7 @@ use fw_base::{Failed, Name, Sink};
 use generation_store::Edition;
 use rule_chain::Config;
 use rule_text::WriteFault;
-use state_journal::{Book, Entry};
+use state_journal::Entry;
 use state_texts::write_states;
 use std::sync::Arc;
 
@@ -88,68 +88,44 @@ fn write_start<K: Sink>(
     write_editions(out, editions.len())
 }
 
+/// Writes what follows by the last edition's configuration.
 fn write_closing<K: Sink>(
     out: &mut K,
     config: &Config,
-    book: &Book,
-    dockets: &[Docket],
-    tallies: &[Tally],
-    trackers: &[u64],
-    hits: &[u64],
+    recorded: &Recorded<'_>,
     journal: bool,
 ) -> Result<(), Failed>
     ensures { WritesText (K.written out.old) (K.written out.new) (K.faults out.old)
-        (K.faults out.new)
-        (text.closing_text (record {
-          editions = [];
-          journal = book.now;
-          dockets = dockets.now;
-          tallies = tallies.now;
-          trackers = trackers.now;
-          hits = hits.now;
-        }) journal config.now)
-        result }
+        (K.faults out.new) (text.closing_text recorded.now journal config.now) result }
 {
-    write_last(out, config, tallies, book.states())?;
-    write_hits(out, hits)?;
+    let book = recorded.book;
+    write_last(out, config, recorded.tallies, book.states())?;
+    write_hits(out, recorded.hits)?;
     write_optional_journal(
         out,
         journal,
         config.names(),
         book.entries(),
-        dockets,
-        trackers,
+        recorded.dockets,
+        recorded.trackers,
     )
 }
 
 /// Writes the report's sections one after another.
 fn write_sections<K: Sink>(
     out: &mut K,
-    editions: &[Arc<Edition>],
-    book: &Book,
-    dockets: &[Docket],
-    tallies: &[Tally],
-    trackers: &[u64],
-    hits: &[u64],
+    recorded: &Recorded<'_>,
     ends: &Ends,
     journal: bool,
 ) -> Result<(), Failed>
-    requires { 0 < length editions.now }
+    requires { 0 < length recorded.now.editions }
     ensures { WritesText (K.written out.old) (K.written out.new) (K.faults out.old)
         (K.faults out.new)
-        (text.report_text (record {
-          editions = map arc_value editions.now;
-          journal = book.now;
-          dockets = dockets.now;
-          tallies = tallies.now;
-          trackers = trackers.now;
-          hits = hits.now;
-        })
-        ends.now.captures ends.now.answers journal) result }
+        (text.report_text recorded.now ends.now.captures ends.now.answers journal) result }
 {
-    let config = last_of(editions).config();
-    write_start(out, editions, dockets, ends)?;
-    write_closing(out, config, book, dockets, tallies, trackers, hits, journal)
+    let config = last_of(recorded.editions).config();
+    write_start(out, recorded.editions, recorded.dockets, ends)?;
+    write_closing(out, config, recorded, journal)
 }
 
 /// Writes the report of a run: of each capture its records' lines, the answers to lines of the script,
@@ -157,31 +133,15 @@ fn write_sections<K: Sink>(
 /// where it is asked for. There is an edition. It takes no memory. Where the sink fails, a front of the text
 /// was written.
 pub fn write_report<K: Sink>(
-    editions: &[Arc<Edition>],
-    book: &Book,
-    dockets: &[Docket],
-    tallies: &[Tally],
-    trackers: &[u64],
-    hits: &[u64],
+    recorded: &Recorded<'_>,
     ends: &Ends,
     journal: bool,
     out: &mut K,
 ) -> Result<(), WriteFault>
-    requires { 0 < length editions.now }
+    requires { 0 < length recorded.now.editions }
     ensures { WritesText (K.written out.old) (K.written out.new) (K.faults out.old)
         (K.faults out.new)
-        (text.report_text (record {
-          editions = map arc_value editions.now;
-          journal = book.now;
-          dockets = dockets.now;
-          tallies = tallies.now;
-          trackers = trackers.now;
-          hits = hits.now;
-        })
-        ends.now.captures ends.now.answers journal) result }
+        (text.report_text recorded.now ends.now.captures ends.now.answers journal) result }
 {
-    write_sections(
-        out, editions, book, dockets, tallies, trackers, hits, ends, journal,
-    )
-    .map_err(|_| WriteFault)
+    write_sections(out, recorded, ends, journal).map_err(|_| WriteFault)
 }

@@ -8,7 +8,7 @@ use Rattle.cached_verdicts.specs.LaneCache.{LaneCacheValue}
 use Rattle.state_asks.specs.declared.reply.Reply.{Reply}
 use Rattle.eval_engine.specs.Evaluated.{Whole}
 use Rattle.eval_engine.specs.Evaluation.{evaluate}
-use Rattle.eval_engine.specs.Question.{Question}
+use Rattle.eval_engine.specs.Question.{Question, question_under}
 use Rattle.eval_engine.specs.declared.docket_entry.DocketEntry.{DocketEntry}
 use Rattle.eval_engine.specs.declared.docket_entry.DocketEntry.TheVariants as entry
 use Rattle.eval_engine.specs.declared.judgement.Judgement.{Judgement}
@@ -18,7 +18,6 @@ use Rattle.fw_world.specs.Editions.{IsLastOf}
 use Rattle.fw_world.specs.Inputs.{Input, Other, Malformed, Packet}
 use Rattle.fw_world.specs.Lane.{LaneValue, with_docket_entry}
 use Rattle.serial_world.specs.Steps.{Judges, Publishes}
-use Rattle.fw_world.specs.Entries.{question_under}
 use Rattle.fw_world.specs.Asks.{with_asks}
 use Rattle.fw_world.specs.World.{WorldValue, published_count}
 use Rattle.generation_store.proofs.OneEdition.{same_edition}

@@ -8,13 +8,13 @@ use Rattle.generation_store.specs.Published.{Published}
 use Rattle.eval_engine.specs.Dockets.{DocketValue, judgements}
 use Rattle.eval_engine.specs.Evaluated.{Evaluated}
 use Rattle.eval_engine.specs.Evaluation.{evaluate}
+use Rattle.eval_engine.specs.Question.{question_under}
 use Rattle.eval_engine.specs.declared.docket_entry.DocketEntry.{DocketEntry}
 use Rattle.eval_engine.specs.declared.judgement.Judgement.{Judgement}
 use Rattle.fw_world.specs.Asks.{LaneAsk, asks_of_record, replies_of, lane_asks}
 use Rattle.fw_world.specs.Editions.{judging_edition}
 use Rattle.fw_world.specs.Inputs.{Input, Other, Malformed, Packet}
 use Rattle.fw_world.specs.RecordValue.{RecordValue}
-use Rattle.fw_world.specs.Entries.{question_under}
 
 -- a packet, where and when it was captured, the edition that judged it, and the replies to its asks
 pub record JudgedPacket : Type 0 where

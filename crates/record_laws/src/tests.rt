@@ -12,7 +12,7 @@ use crate::laws::{
 };
 use fw_base::{Direction, Link, MemorySink, MemorySource, Name, Port};
 use fw_command::{Line, Pace, Script, Step, parse_script};
-use fw_report::{Answer, CaptureEnd, Ends, LineAnswer, write_report};
+use fw_report::{Answer, CaptureEnd, Ends, LineAnswer, Recorded, write_report};
 use fw_rule::Items;
 use fw_world::{CommitFault, Record, Skipped};
 use ip6_headers::{AnyIp, AnyPacket, read_any};
@@ -250,18 +250,15 @@ fn printed(
 ) -> Result<MemorySink, Fail> {
     let mut out = MemorySink::new(alloc, 4096)?;
     assert!(rt; !record.editions().is_empty());
-    write_report(
-        record.editions(),
-        record.book(),
-        record.dockets(),
-        record.tallies(),
-        record.trackers(),
-        record.hits(),
-        ends,
-        true,
-        &mut out,
-    )
-    .or(Err("not written"))?;
+    let recorded = Recorded {
+        editions: record.editions(),
+        book: record.book(),
+        dockets: record.dockets(),
+        tallies: record.tallies(),
+        trackers: record.trackers(),
+        hits: record.hits(),
+    };
+    write_report(&recorded, ends, true, &mut out).or(Err("not written"))?;
     Ok(out)
 }
 

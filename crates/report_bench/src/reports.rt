@@ -2,7 +2,7 @@ use crate::run::{Run, run_of};
 use anyhow::{Result, bail};
 use bench_times::{nanoseconds, print_mean};
 use fw_base::{MemorySink, write_text};
-use fw_report::write_report;
+use fw_report::{Recorded, write_report};
 use std::alloc::Global;
 use std::io::Print;
 use std::time::{Clock, Instant};
@@ -15,18 +15,16 @@ fn time_report<R: Clock>(rt: &R, run: &Run, journal: bool, out: &mut MemorySink)
     if run.editions.is_empty() {
         bail!("there is no edition");
     }
+    let recorded = Recorded {
+        editions: &run.editions,
+        book: &run.book,
+        dockets: &run.dockets,
+        tallies: &run.tallies,
+        trackers: &[0],
+        hits: &[],
+    };
     let start = Instant::now(rt)?;
-    let written = write_report(
-        &run.editions,
-        &run.book,
-        &run.dockets,
-        &run.tallies,
-        &[0],
-        &[],
-        &run.ends,
-        journal,
-        out,
-    );
+    let written = write_report(&recorded, &run.ends, journal, out);
     let time = nanoseconds(rt, start)?;
     if written.is_err() {
         bail!("the report doesn't fit");

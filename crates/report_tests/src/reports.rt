@@ -6,7 +6,7 @@ use editions::{Change, editions_of};
 use ends::{Told, ends_of};
 use eval_engine::{Cause, Verdict};
 use fw_base::MemorySink;
-use fw_report::{CaptureEnd, Ends, write_report, write_summary};
+use fw_report::{CaptureEnd, Ends, Recorded, write_report, write_summary};
 use generation_store::Edition;
 use pcap_read::CaptureFault;
 use rule_edits::ApplyFault;
@@ -55,18 +55,15 @@ fn write_both(
     requires { 0 < length editions.now }
 {
     let Records { dockets, tallies } = records;
-    write_report(
+    let recorded = Recorded {
         editions,
         book,
         dockets,
         tallies,
-        &[10],
-        row.hits,
-        ends,
-        row.is_asked,
-        out,
-    )
-    .or(Err("not written"))?;
+        trackers: &[10],
+        hits: row.hits,
+    };
+    write_report(&recorded, ends, row.is_asked, out).or(Err("not written"))?;
     write_summary(editions, book, dockets, tallies, out).or(Err("not written"))
 }
 
