@@ -1,5 +1,6 @@
 -- What a replay of either mode leaves, with the answers of the listings before `live` before those behind it.
 use Rattle.std.proofs.Common.{◌≡◌, ℕ, ◌<◌, List, ◌++◌, Option, length, refl, ap, sym, subst}
+use Rattle.std.specs.Prelude.{IfOk, Result}
 use Rattle.command_words.specs.declared.invocation.Mode.{Mode}
 use Rattle.capture_tracks.specs.Replay.{IsReplay}
 use Rattle.fw_report.specs.declared.ends.LineAnswer.{LineAnswer}
@@ -25,6 +26,14 @@ module _ {S : Type 0} (left : S → Option (List ℕ)) (failures : S → ℕ) wh
     lines_answered = refl;
     given_back = refl;
   })
+
+  -- What was replayed with a cache is so with the same cache. An answer that goes by this is refused by the equation
+  -- alone where a body replays with another.
+  pub same_cache : {E : Type 0} (m : Mode) (first : FirstEdition) (opened : List (OpenedCapture S)) (result : Result (Replayed S) E)
+      → (told cache : Option ℕ) → told ≡ cache
+      → IfOk result (ReplaysEdition left failures m first told opened)
+      → IfOk result (ReplaysEdition left failures m first cache opened)
+  same_cache m first opened result told cache same is = subst (λ (c : Option ℕ). IfOk result (ReplaysEdition left failures m first c opened)) same is
 
 -- the editions are those that were replayed
 pub editions_stay : {S : Type 0} (answers : List LineAnswer) (replayed with : Replayed S) → 0 < length replayed.record.editions

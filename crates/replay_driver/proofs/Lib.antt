@@ -15,3 +15,4 @@ pub mod Statuses
 -- what a run promises
 pub mod Promised
 pub mod Complete
+pub mod SameAnswer

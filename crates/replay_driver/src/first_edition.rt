@@ -133,7 +133,7 @@ fn read_lines(alloc: Global, pace: Pace, bytes: &[u8]) -> Result<Script, ScriptE
 }
 
 /// What a script of that pace gives before a packet is read, or why there is no edition 1.
-pub(crate) fn read_first_edition(
+pub fn read_first_edition(
     alloc: Global,
     pace: Pace,
     bytes: &[u8],

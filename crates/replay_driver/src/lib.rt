@@ -3,7 +3,7 @@
 //! Tests: `run_tests`, src/runs.
 #![tactic(auto)]
 
-pub use first_edition::FirstEdition;
+pub use first_edition::{FirstEdition, read_first_edition};
 pub use named_source::{NamedSource, read_named};
 pub use outcome::Outcome;
 pub use outside::{LibraryView, SinkView};

@@ -7,7 +7,7 @@ ghost use Rattle.replay_driver.specs.RunResult as spec;
 
 use crate::ScriptError;
 use fw_base::{Failed, Name, Sink, write_pieces, write_text};
-use fw_report::{Answer, CaptureEnd, Ends, LineAnswer, write_report, write_summary};
+use fw_report::{Answer, CaptureEnd, Ends, LineAnswer, Recorded, write_report, write_summary};
 use fw_rule::Items;
 use fw_world::Record;
 use pcap_read::CaptureFault;
@@ -172,18 +172,15 @@ fn report<K: Sink>(out: &mut K, kept: &Record, ends: &Ends, journal: bool) -> Re
         (K.faults out.new) (report_text (spec.report_record kept.now) ends.now.captures
         ends.now.answers journal) result }
 {
-    write_report(
-        kept.editions(),
-        kept.book(),
-        kept.dockets(),
-        kept.tallies(),
-        kept.trackers(),
-        kept.hits(),
-        ends,
-        journal,
-        out,
-    )
-    .map_err(|_| Failed)
+    let recorded = Recorded {
+        editions: kept.editions(),
+        book: kept.book(),
+        dockets: kept.dockets(),
+        tallies: kept.tallies(),
+        trackers: kept.trackers(),
+        hits: kept.hits(),
+    };
+    write_report(&recorded, ends, journal, out).map_err(|_| Failed)
 }
 
 /// Writes the summary of a record.
