@@ -1,14 +1,15 @@
 -- The records of a capture so far, and one more.
-use Rattle.std.proofs.Common.{◌≡◌, ℕ, ◌+◌, ◌<◌, ◌≤◌, true, false, List, [], ◌∷◌, ◌++◌, Option, None, Some, Ok, Result, length, length-append, get_or, take, refl, sym, ap, ◌∙◌, subst, arith}
+use Rattle.std.proofs.Common.{◌≡◌, ℕ, ◌+◌, ◌<◌, ◌≤◌, true, false, List, [], ◌∷◌, ◌++◌, Option, None, Some, Ok, Err, Result, length, length-append, get_or, take, refl, sym, ap, ◌∙◌, subst, arith}
 use Rattle.std.specs.Prelude.{IfOk, IfSome, is_some}
 use Rattle.std.proofs.lemmas.List.{length-map, map-append, take-append-le}
 use Rattle.fw_base.specs.declared.link.Link.{Link}
 use Rattle.pcap_read.specs.declared.capture.Capture.{Capture}
+use Rattle.pcap_read.specs.declared.capture_fault.CaptureFault.{CaptureFault}
 use Rattle.pcap_read.specs.Reading.{Captured, header_of}
 use Rattle.pcap_read.specs.Capture.{IsReading, IsOpened, StopsWith, Advances, limit_of, link_of, source_of, format_of, given_of}
 use Rattle.report_moves.specs.Moves.{AreToldOnce}
 use Rattle.report_moves.specs.declared.moves.Move.{Move}
-use Rattle.report_flows.specs.Captures.{IsCountedCapture, flows_in, held_flow, most_records}
+use Rattle.report_flows.specs.Captures.{IsCountedCapture, StopsAt, flows_in, held_flow, most_records}
 use Rattle.report_flows.specs.Counting.{Row, Entries, AreCounted, CountsAt, IsBelow, IsPlaceOf, entries_at, move_at, rows_of}
 use Rattle.report_flows.specs.Flows.{flow_in}
 use Rattle.report_flows.specs.declared.flow.AnyFlow.{AnyFlow}
@@ -124,6 +125,21 @@ module _ {S : Type 0} (left : S → Option (List ℕ)) (faults : S → ℕ) (sou
           };
           count_is = flows_at;
           counted = so.counted;
+        }
+
+    -- a fault stands at the next record
+    pub read_stopped : (fault : CaptureFault) → Advances left faults c mid (Err fault) → limit_of c ≡ most_records
+        → StopsAt left faults source (at + 1) fault
+    read_stopped fault step limit =
+        let q = step.continues source so.bytes so.records so.reading in
+        record {
+          now = source_of mid;
+          bytes = so.bytes ++ q.0;
+          records = so.records;
+          stops =
+              subst (λ n. StopsWith left faults most_records source (source_of mid) (so.bytes ++ q.0) so.records (n + 1) (Some fault)) so.count
+              (subst (λ n. StopsWith left faults n source (source_of mid) (so.bytes ++ q.0) so.records (length so.records + 1) (Some fault)) limit q.1);
+          has_memory = λ is. (step.cause so.reading.running).has_memory (ap Err is);
         }
 
   -- a record more was given

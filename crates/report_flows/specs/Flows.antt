@@ -15,10 +15,6 @@ use Rattle.report_flows.specs.declared.flow.Flow6.{Flow6}
 use Rattle.report_flows.specs.declared.flow.AnyFlow.{AnyFlow}
 use Rattle.report_flows.specs.declared.flow.AnyFlow.TheVariants.{Four, Six}
 
--- how many bytes of a protocol's header have to be there behind IPv6's
-abbrev pub header_size6 : ℕ → ℕ
-header_size6 = six.header_size6
-
 -- the addresses with these ports
 abbrev pub flow6_between : Fields6 → ℕ × ℕ → Flow6
 flow6_between f ports = record {

@@ -1,16 +1,16 @@
-ghost use Rattle.std.specs.Prelude.{◌≡◌, ℕ, ◌<◌, ◌+◌, [], Some, IfOk, IfSome, OnOk, is_some, length};
+ghost use Rattle.std.specs.Prelude.{◌≡◌, ℕ, ◌<◌, ◌+◌, [], Some, IfErr, IfOk, IfSome, OnOk, length};
 ghost use Rattle.std.specs.HashMap.{get};
-ghost use Rattle.pcap_read.specs.Capture.{Advances, answer_with, current_of, link_of};
+ghost use Rattle.pcap_read.specs.Capture.{IsOpened, current_of, link_of};
 ghost use Rattle.report_moves.specs.Moves.{AreToldOnce};
 ghost use Rattle.report_moves.specs.Spans.{pair_eq};
-ghost use Rattle.report_flows.specs.Captures.{IsCountedCapture, held_flow};
+ghost use Rattle.report_flows.specs.Captures.{IsCauseIn, IsCountedCapture, held_flow, most_records};
 ghost use Rattle.report_flows.specs.Counting as spec;
 
 use crate::flow_counts::FlowCounts;
 use crate::move_places::places_of;
 use crate::{AnyFlow, FlowsFault, flow_in};
 use fw_base::{OutOfMemory, Source};
-use pcap_read::{Capture, CaptureFault, OpenFault};
+use pcap_read::{Capture, CaptureFault};
 use report_moves::Move;
 use std::alloc::Global;
 use std::collections::HashMap;
@@ -27,28 +27,22 @@ pub(crate) struct Outcomes<'a> {
     pub(crate) new: &'a [u32],
 }
 
-/// The fault of a source that is no capture.
-fn header_fault<S>(capture: u64, refused: &OpenFault<S>) -> FlowsFault {
-    match refused.fault {
-        CaptureFault::OutOfMemory => FlowsFault::OutOfMemory,
-        fault => FlowsFault::Capture {
-            capture,
-            record: 0,
-            fault,
-        },
-    }
-}
-
-/// Goes on to the next record; answers whether there is one.
-fn next_record<S: Source>(capture: &mut Capture<S>) -> Result<bool, CaptureFault>
-    ensures advances { Advances S.left S.faults capture.old capture.new
-        (answer_with result (current_of capture.new)) }
-    ensures found { IfOk result (λ found. found ≡ is_some (current_of capture.new)) }
+/// Opens the capture of this number.
+fn open_capture<S: Source>(alloc: Global, number: u64, source: S) -> Result<Capture<S>, FlowsFault>
+    ensures opened { IfOk result (IsOpened S.left S.faults most_records source) }
+    ensures cause { (told : ℕ)
+        → IfErr result (IsCauseIn S.left S.faults number told source) }
 {
-    match capture.next() {
-        Ok(Some(_)) => Ok(true),
-        Ok(None) => Ok(false),
-        Err(fault) => Err(fault),
+    match Capture::open(alloc, source, MOST_RECORDS) {
+        Ok(capture) => Ok(capture),
+        Err(refused) => match refused.fault {
+            CaptureFault::OutOfMemory => Err(FlowsFault::OutOfMemory),
+            fault => Err(FlowsFault::Capture {
+                capture: number,
+                record: 0,
+                fault,
+            }),
+        },
     }
 }
 
@@ -100,17 +94,16 @@ pub(crate) fn count_capture<S: Source>(
     requires count { length counts.old ≡ length moves.now }
     requires none { (place : ℕ) → (spec.move_at moves.now place).capture ≡ told.now.capture
         → spec.entries_at counts.old place ≡ [] }
-    ensures { IfOk result (λ count. IsCountedCapture S.left S.faults source moves.now
+    ensures counted { IfOk result (λ count. IsCountedCapture S.left S.faults source moves.now
         told.now.capture told.now.old.now told.now.new.now count counts.old counts.new) }
+    ensures cause { IfErr result (IsCauseIn S.left S.faults told.now.capture
+        (length told.now.old.now) source) }
 {
     let places = places_of(alloc, moves, told.capture)?;
-    let mut capture = match Capture::open(alloc, source, MOST_RECORDS) {
-        Ok(capture) => capture,
-        Err(refused) => return Err(header_fault(told.capture, &refused)),
-    };
+    let mut capture = open_capture(alloc, told.capture, source)?;
     let mut at: usize = 0;
     loop {
-        match next_record(&mut capture) {
+        match capture.advance() {
             Ok(true) => {
                 if at < told.old.len() {
                     let place = place_at(&places, (told.old[at], told.new[at]));

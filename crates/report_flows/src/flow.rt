@@ -3,7 +3,7 @@ ghost use Rattle.report_flows.specs.Flows as spec;
 
 use fw_base::{Addr6, Link};
 use ip6_headers::{AnyIp, AnyPacket, Ip6, read_any};
-use packet_headers::{Flow, TCP, UDP, flow};
+use packet_headers::{Flow, flow};
 
 /// Who speaks to whom by IPv6: the protocol, and both ends. The ports are 0 for protocols other than
 /// TCP and UDP.
@@ -23,28 +23,12 @@ pub enum AnyFlow {
     Six(Flow6),
 }
 
-/// The protocol number of ICMPv6 (RFC 4443).
-const ICMP6: u8 = 58;
-
-/// How many bytes of a protocol's header have to be there behind IPv6's.
-fn header_size6(protocol: u8) -> usize
-    ensures { result ≡ spec.header_size6 protocol }
-{
-    match protocol {
-        TCP => 20,
-        UDP => 8,
-        ICMP6 => 4,
-        _ => 0,
-    }
-}
-
 /// The flow of an IPv6 packet; `None` exactly where it is a later fragment or lacks its transport header.
 #[tactic(auto, unfolding(crate::specs::Flows::flow6_of))]
 fn ipv6_flow(packet: &Ip6<'_>) -> Option<Flow6>
     ensures { result ≡ spec.flow6_of packet.now }
 {
-    let protocol = packet.protocol();
-    if packet.offset() != 0 || packet.transport().len() < header_size6(protocol) {
+    if !packet.has_transport_header() {
         return None;
     }
     let (source_port, destination_port) = packet.ports().unwrap_or((0, 0));
@@ -53,7 +37,7 @@ fn ipv6_flow(packet: &Ip6<'_>) -> Option<Flow6>
         destination: packet.destination(),
         source_port,
         destination_port,
-        protocol,
+        protocol: packet.protocol(),
     })
 }
 

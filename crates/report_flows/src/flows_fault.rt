@@ -1,3 +1,6 @@
+ghost use Rattle.std.specs.Prelude.{◌≡◌};
+ghost use Rattle.report_flows.specs.declared.flows_fault.FlowsFault.TheVariants.{OutOfMemory};
+
 use fw_base::OutOfMemory as NoMemory;
 use pcap_read::CaptureFault;
 use std::alloc::AllocError;
@@ -27,12 +30,16 @@ pub enum FlowsFault {
 }
 
 impl From<NoMemory> for FlowsFault {
+    ghost from_gives = { λ _ fault. fault ≡ OutOfMemory };
+
     fn from(_error: NoMemory) -> FlowsFault {
         FlowsFault::OutOfMemory
     }
 }
 
 impl From<AllocError> for FlowsFault {
+    ghost from_gives = { λ _ fault. fault ≡ OutOfMemory };
+
     fn from(_error: AllocError) -> FlowsFault {
         FlowsFault::OutOfMemory
     }

@@ -1,6 +1,7 @@
-ghost use Rattle.std.specs.Prelude.{◌≡◌, ◌≤◌, ◌<◌, ℕ, All, IfOk, length};
+ghost use Rattle.std.specs.Prelude.{◌≡◌, ◌≢◌, ℕ, [], All, Err, IfErr, IfOk, OnOk, OnErr, length};
 ghost use Rattle.report_moves.specs.Moves.{AreToldOnce, HaveSameLengths, IsToldOf};
-ghost use Rattle.report_flows.specs.Captures.{AreAllCounted, AreToldFlows};
+ghost use Rattle.report_flows.specs.Captures.{AreAllCounted, AreToldFlows, HasCause, IsCauseIn, IsCountedCapture, IsFirstCause};
+ghost use Rattle.report_flows.specs.declared.flows_fault.FlowsFault.TheVariants.{Captures};
 ghost use Rattle.report_flows.specs.Counting as spec;
 
 use crate::capture_counts::{Outcomes, count_capture};
@@ -22,12 +23,35 @@ fn none_counted(alloc: Global, moves: usize) -> Result<Vec<FlowCounts>, OutOfMem
     Ok(counts)
 }
 
-/// That so many captures were given, and others are in the reports.
-fn other_captures(told: usize, given: usize) -> FlowsFault {
-    FlowsFault::Captures {
-        told: told as u64,
-        given: given as u64,
+/// Counts the flows of the records of a capture, which has as many of them as the reports.
+fn count_whole<S: Source>(
+    alloc: Global,
+    counts: &mut [FlowCounts],
+    moves: &[Move],
+    told: &Outcomes<'_>,
+    source: S,
+) -> Result<(), FlowsFault>
+    requires once { AreToldOnce moves.now }
+    requires lengths { length told.now.old.now ≡ length told.now.new.now }
+    requires count { length counts.old ≡ length moves.now }
+    requires none { (place : ℕ) → (spec.move_at moves.now place).capture ≡ told.now.capture
+        → spec.entries_at counts.old place ≡ [] }
+    ensures counted { OnOk result (IsCountedCapture S.left S.faults source moves.now
+        told.now.capture told.now.old.now told.now.new.now (length told.now.old.now)
+        counts.old counts.new) }
+    ensures cause { IfErr result (IsCauseIn S.left S.faults told.now.capture
+        (length told.now.old.now) source) }
+{
+    let read = count_capture(alloc, counts, moves, told, source)?;
+    let records = told.old.len() as u64;
+    if read != records {
+        return Err(FlowsFault::Records {
+            capture: told.capture,
+            told: records,
+            read,
+        });
     }
+    Ok(())
 }
 
 /// Counts the flows of each capture's records.
@@ -38,35 +62,23 @@ fn count_captures<S: Source>(
     new: &[Items<u32>],
     moves: &[Move],
 ) -> Result<Vec<FlowCounts>, FlowsFault>
+    requires captures { length captures.items ≡ length old.now }
     requires lengths { HaveSameLengths old.now new.now }
     requires once { AreToldOnce moves.now }
-    ensures { IfOk result (λ counts. AreAllCounted S.left S.faults captures.items old.now
+    ensures counted { IfOk result (λ counts. AreAllCounted S.left S.faults captures.items old.now
         new.now moves.now counts.items) }
+    ensures cause { IfErr result (HasCause S.left S.faults captures.items old.now) }
 {
-    let given = captures.len();
     let mut counts = none_counted(alloc, moves.len())?;
     let mut at: usize = 0;
     for source in captures {
-        if at >= old.len() {
-            return Err(other_captures(old.len(), given));
-        }
         let told = Outcomes {
             capture: at as u64 + 1,
             old: old[at].as_slice(),
             new: new[at].as_slice(),
         };
-        let read = count_capture(alloc, &mut counts, moves, &told, source)?;
-        if read != told.old.len() as u64 {
-            return Err(FlowsFault::Records {
-                capture: told.capture,
-                told: told.old.len() as u64,
-                read,
-            });
-        }
+        count_whole(alloc, &mut counts, moves, &told, source)?;
         at += 1;
-    }
-    if at < old.len() {
-        return Err(other_captures(old.len(), given));
     }
     Ok(counts)
 }
@@ -83,7 +95,8 @@ fn tell_all(alloc: Global, counts: &[FlowCounts]) -> Result<Vec<Items<FlowSpan>>
 }
 
 /// The flows of the records of each of these moves between two lists of outcomes, from the captures behind them: of
-/// each move the most records first, and of as many the first record.
+/// each move the most records first, and of as many the first record. No capture is read where their number isn't that
+/// of the lists.
 pub fn flows_of<S: Source>(
     alloc: Global,
     captures: Vec<S>,
@@ -98,7 +111,18 @@ pub fn flows_of<S: Source>(
     // records of the move have it, the first and the last, and together they have the move's records.
     ensures flows { IfOk result (λ told. AreToldFlows S.left S.faults captures.items
         old.now new.now moves.now told.items) }
+    // Another number of captures than the reports have is always told.
+    ensures number { length captures.items ≢ length old.now
+        → result ≡ Err (Captures (length old.now) (length captures.items)) }
+    // Each other fault stands in the first capture that isn't whole or has another number of records than the reports.
+    ensures cause { IfErr result (HasCause S.left S.faults captures.items old.now) }
 {
+    if captures.len() != old.len() {
+        return Err(FlowsFault::Captures {
+            told: old.len() as u64,
+            given: captures.len() as u64,
+        });
+    }
     let counts = count_captures(alloc, captures, old, new, moves)?;
     Ok(tell_all(alloc, &counts)?)
 }
