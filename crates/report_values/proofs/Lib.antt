@@ -3,5 +3,9 @@ mod RecordPlaces
 -- the lines of records and of captures
 mod CaptureLines
 -- the texts of outcomes, and their numbers
-mod OutcomeTexts
+mod OutcomeParts
 mod OutcomeNumbers
+-- where the rules of a number in an edition stand
+mod KnownPlaces
+-- texts and the map that tells their numbers
+mod TextNumbers

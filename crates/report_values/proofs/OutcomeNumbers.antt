@@ -1,9 +1,6 @@
 -- The numbers of texts.
-use Rattle.std.proofs.Common.{◌≡◌, ℕ, ◌+◌, ◌<◌, ◌≤◌, Bool, true, false, List, [], ◌∷◌, ◌++◌, length, refl, sym, ap, ◌∙◌, subst, arith, get_or, map, take, nat_eq}
+use Rattle.std.proofs.Common.{◌≡◌, ℕ, ◌+◌, ◌<◌, List, [], ◌∷◌, ◌++◌, length, refl, sym, ap, ◌∙◌, subst, arith, get_or, map, take}
 use Rattle.std.specs.Prelude.{All}
-use Rattle.std.specs.Cmp.Lexicographic.{pointwise}
-use Rattle.std.specs.List.{IsDistinct}
-use Rattle.std.proofs.lemmas.Cmp.{nat_list_eq_equiv}
 use Rattle.std.proofs.lemmas.List.{map-append, length-map, length_push, get_or-map, get_or_append_left, get_or_push, take_more}
 use Rattle.std.proofs.lemmas.List.Elements.{All-nil, All-cons, All-head, All-tail, All-push, All-weaker, All-get_or}
 use Rattle.eval_engine.specs.declared.docket_entry.DocketEntry.{DocketEntry}
@@ -30,30 +27,23 @@ keeps_on old mid new first second = record {
 }
 
 -- a text that was there
-pub numbered_there : (texts : List (List ℕ)) (text : List ℕ) (place number : ℕ) → IsDistinct (pointwise nat_eq) texts → number ≡ place
-    → IsNumbered texts place text → Numbers texts texts text number
-numbered_there texts text place number distinct is found = record {
-  kept = keeps_itself texts;
-  distinct = distinct;
-  numbered = subst (λ (n : ℕ). IsNumbered texts n text) (sym is) found;
-}
+pub numbered_there : (texts : List (List ℕ)) (text : List ℕ) (number : ℕ) → IsNumbered texts number text → Numbers texts texts text number
+numbered_there texts text number found = record { kept = keeps_itself texts; numbered = found }
 
 -- a text that is added
 pub numbered_new : (texts news : List (List ℕ)) (text : List ℕ) (number : ℕ) → number ≡ length texts → news ≡ texts ++ text ∷ []
-    → IsDistinct (pointwise nat_eq) (texts ++ text ∷ []) → Numbers texts news text number
-numbered_new texts news text number is more distinct =
+    → Numbers texts news text number
+numbered_new texts news text number is more =
     subst (λ (ts : List (List ℕ)). Numbers texts ts text number) (sym more)
     (record {
       kept = keeps_push texts text;
-      distinct = distinct;
       numbered = record { within = omega (arith, is, length_push texts text); is = get_or_push texts text [] number (sym is) };
     })
 
 -- at the beginning no text has a number
-pub none_numbered : (texts : List (List ℕ)) → IsDistinct (pointwise nat_eq) texts → NumbersAll texts texts [] []
-none_numbered texts distinct = record {
+pub none_numbered : (texts : List (List ℕ)) → NumbersAll texts texts [] []
+none_numbered texts = record {
   kept = keeps_itself texts;
-  distinct = distinct;
   within = All-nil (λ number. number < length texts);
   told = refl;
 }
@@ -70,7 +60,6 @@ numbers_more : (old mid new texts : List (List ℕ)) (numbers : List ℕ) (text 
     → Numbers mid new text number → NumbersAll old new (texts ++ text ∷ []) (numbers ++ number ∷ [])
 numbers_more old mid new texts numbers text number all one = record {
   kept = keeps_on old mid new all.kept one.kept;
-  distinct = one.distinct;
   within =
       All-push (λ n. n < length new) numbers number
       (All-weaker (λ n. n < length mid) (λ n. n < length new) (λ n less. omega (arith, one.kept.count)) numbers all.within) one.numbered.within;
@@ -133,7 +122,6 @@ module _ (old new : List (List ℕ)) (known : List KnownRule) (kinds : List Dock
       (subst (λ (ns : List ℕ). NumbersAll old new (map (outcome_text known) (entries_at kinds places)) ns) (sym found)
       (record {
         kept = all.kept;
-        distinct = all.distinct;
         within = within_at places within;
         told = told_at places within;
       }))

@@ -4,3 +4,7 @@ pub mod Records
 pub mod Captures
 -- what a record came to
 pub mod Outcomes
+-- where the rules of a number in an edition stand
+pub mod KnownPlaces
+-- texts and the map that tells their numbers
+pub mod TextNumbers

@@ -1,7 +1,6 @@
 -- What a record came to, by the verdict and the texts of the rule.
-use Rattle.std.specs.Prelude.{◌≡◌, ℕ, ◌<◌, ◌≤◌, ◌==◌, ◌&&◌, Bool, if◌then◌else◌, List, [], ◌∷◌, ◌++◌, codes, decimal, length, map, nat_eq, slice_index_or, All}
-use Rattle.std.specs.Cmp.Lexicographic.{pointwise}
-use Rattle.std.specs.List.{flat_map, IsDistinct}
+use Rattle.std.specs.Prelude.{◌≡◌, ℕ, ◌<◌, ◌≤◌, ◌==◌, ◌&&◌, Bool, if◌then◌else◌, List, [], ◌∷◌, ◌++◌, codes, decimal, length, map, slice_index_or, All}
+use Rattle.std.specs.List.{flat_map}
 use Rattle.rule_text.specs.Canonical.{code_word}
 use Rattle.eval_engine.specs.declared.docket_entry.DocketEntry.{DocketEntry}
 use Rattle.eval_engine.specs.declared.docket_entry.DocketEntry.TheVariants as entry
@@ -66,12 +65,10 @@ pub record IsNumbered (texts : List (List ℕ)) (number : ℕ) (text : List ℕ)
 -- a text has this number behind the call, whether it was there or was added
 pub record Numbers (old new : List (List ℕ)) (text : List ℕ) (number : ℕ) : Type 0 where
   pub kept : Keeps old new
-  pub distinct : IsDistinct (pointwise nat_eq) new
   pub numbered : IsNumbered new number text
 
 -- each of these texts has its number
 pub record NumbersAll (old new texts : List (List ℕ)) (numbers : List ℕ) : Type 0 where
   pub kept : Keeps old new
-  pub distinct : IsDistinct (pointwise nat_eq) new
   pub within : All (λ number. number < length new) numbers
   pub told : texts_at new numbers ≡ texts

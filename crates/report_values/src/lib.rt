@@ -4,8 +4,11 @@
 #![tactic(auto)]
 
 pub use capture::{Capture, read_captures};
+pub use journal_columns::JournalColumns;
+pub use known_rules::KnownRules;
 pub use lines::{EndLine, Lines};
 pub use outcome_parts::outcome_text;
+pub use outcome_texts::OutcomeTexts;
 pub use outcomes::outcome_numbers;
 pub use records::Records;
 pub use report::{Report, ReportError, read_report};
@@ -14,8 +17,11 @@ pub use sections::{Journal, Sections};
 
 mod capture;
 mod fields;
+mod journal_columns;
+mod known_rules;
 mod lines;
 mod outcome_parts;
+mod outcome_texts;
 mod outcomes;
 mod records;
 mod report;

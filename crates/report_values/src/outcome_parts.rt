@@ -3,7 +3,7 @@ ghost use Rattle.std.specs.List.{flat_map};
 ghost use Rattle.rule_text.specs.Canonical.{code_word};
 ghost use Rattle.report_values.specs.Outcomes as spec;
 
-use crate::KnownRule;
+use crate::{KnownRule, KnownRules};
 use eval_engine::{DocketEntry, Verdict};
 use fw_base::OutOfMemory;
 use fw_rule::{Items, UNREACH_NAMES};
@@ -146,14 +146,14 @@ fn put_known_or(
 fn put_rules(
     alloc: Global,
     text: &mut Vec<u8>,
-    known: &[KnownRule<'_>],
+    known: &KnownRules<'_>,
     edition: u64,
     number: u16,
 ) -> Result<(), OutOfMemory>
     ensures { OnOk result (text.new.items
         ≡ text.old.items ++ spec.rules_part known.now edition number) }
 {
-    let told = known_texts(alloc, known, edition, number)?;
+    let told = known_texts(alloc, known.around(edition, number), edition, number)?;
     put_known_or(text, &told, edition, number)?;
     Ok(())
 }
@@ -162,7 +162,7 @@ fn put_rules(
 #[tactic(auto, unfolding(crate::specs::Outcomes::judged_part))]
 fn judged_part(
     alloc: Global,
-    known: &[KnownRule<'_>],
+    known: &KnownRules<'_>,
     verdict: Verdict,
     words: &[u8],
     edition: u64,
@@ -197,7 +197,7 @@ fn malformed_part(alloc: Global, kind: u8) -> Result<Vec<u8>, OutOfMemory>
 /// What a record came to: the verdict, and the rule by its text.
 fn outcome_bytes(
     alloc: Global,
-    known: &[KnownRule<'_>],
+    known: &KnownRules<'_>,
     entry: &DocketEntry,
 ) -> Result<Vec<u8>, OutOfMemory>
     ensures { IfOk result (λ text. text.items ≡ spec.outcome_text known.now entry.now) }
@@ -235,7 +235,7 @@ fn outcome_bytes(
 /// What a record came to: the verdict, and the rule by its text.
 pub fn outcome_text(
     alloc: Global,
-    known: &[KnownRule<'_>],
+    known: &KnownRules<'_>,
     entry: &DocketEntry,
 ) -> Result<Items<u8>, OutOfMemory>
     ensures { IfOk result (λ text. text ≡ spec.outcome_text known.now entry.now) }

@@ -1,74 +1,26 @@
-ghost use Rattle.std.specs.Prelude.{◌≡◌, ◌<◌, All, IfOk, IfNone, IfSome, OnOk, false, length, map, nat_eq, slice_index_or};
-ghost use Rattle.std.specs.Cmp.Lexicographic.{pointwise};
-ghost use Rattle.std.specs.List.{IsDistinct, list_any};
+ghost use Rattle.std.specs.Prelude.{◌≡◌, IfOk, map, slice_index_or};
 ghost use Rattle.report_values.specs.Outcomes as spec;
 
-use crate::{KnownRule, Records, outcome_text};
+use crate::{KnownRules, OutcomeTexts, Records, outcome_text};
 use eval_engine::DocketEntry;
 use fw_base::OutOfMemory;
 use fw_rule::Items;
 use std::alloc::Global;
 
-/// The place of this text among others.
-fn place_of(texts: &[Items<u8>], text: &[u8]) -> Option<usize>
-    ensures found { IfSome result (λ place. spec.IsNumbered texts.now place text.now) }
-    ensures none { IfNone result (list_any (pointwise nat_eq text.now) texts.now ≡ false) }
-{
-    for (place, other) in texts.iter().enumerate() {
-        if text == other.as_slice() {
-            return Some(place);
-        }
-    }
-    None
-}
-
-/// A place as a number, of which there are 2^32.
-fn number_from(place: usize) -> Result<u32, OutOfMemory>
-    ensures { IfOk result (λ number. number ≡ place) }
-{
-    match u32::try_from(place) {
-        Ok(number) => Ok(number),
-        Err(_) => Err(OutOfMemory),
-    }
-}
-
-/// Adds a text that isn't among the others, and answers its number.
-fn add_text(texts: &mut Vec<Items<u8>>, text: Items<u8>) -> Result<u32, OutOfMemory>
-    requires distinct { IsDistinct (pointwise nat_eq) texts.old.items }
-    requires new { list_any (pointwise nat_eq text) texts.old.items ≡ false }
-    ensures { IfOk result (λ number. spec.Numbers texts.old.items texts.new.items text number) }
-{
-    let number = number_from(texts.len())?;
-    texts.push(text)?;
-    Ok(number)
-}
-
-/// The number of this text, which is added where it is new.
-fn number_of(texts: &mut Vec<Items<u8>>, text: Items<u8>) -> Result<u32, OutOfMemory>
-    requires { IsDistinct (pointwise nat_eq) texts.old.items }
-    ensures { IfOk result (λ number. spec.Numbers texts.old.items texts.new.items text number) }
-{
-    match place_of(texts.as_slice(), text.as_slice()) {
-        Some(place) => number_from(place),
-        None => add_text(texts, text),
-    }
-}
-
 /// The numbers of what entries stand for.
 fn numbers_of_kinds(
     alloc: Global,
-    texts: &mut Vec<Items<u8>>,
-    known: &[KnownRule<'_>],
+    texts: &mut OutcomeTexts,
+    known: &KnownRules<'_>,
     kinds: &[DocketEntry],
 ) -> Result<Vec<u32>, OutOfMemory>
-    requires { IsDistinct (pointwise nat_eq) texts.old.items }
-    ensures { IfOk result (λ numbers. spec.NumbersAll texts.old.items texts.new.items
+    ensures { IfOk result (λ numbers. spec.NumbersAll texts.old texts.new
         (map (spec.outcome_text known.now) kinds.now) numbers.items) }
 {
     let mut numbers = Vec::new(alloc);
     for kind in kinds {
         let text = outcome_text(alloc, known, kind)?;
-        let number = number_of(texts, text)?;
+        let number = texts.number_of(alloc, text)?;
         numbers.push(number)?;
     }
     Ok(numbers)
@@ -97,12 +49,11 @@ fn numbers_at(alloc: Global, numbers: &[u32], places: &[u32]) -> Result<Vec<u32>
 /// stands there once: two records came to the same exactly where their numbers are equal.
 pub fn outcome_numbers(
     alloc: Global,
-    texts: &mut Vec<Items<u8>>,
-    known: &[KnownRule<'_>],
+    texts: &mut OutcomeTexts,
+    known: &KnownRules<'_>,
     records: &Records,
 ) -> Result<Items<u32>, OutOfMemory>
-    requires { IsDistinct (pointwise nat_eq) texts.old.items }
-    ensures { IfOk result (λ numbers. spec.NumbersAll texts.old.items texts.new.items
+    ensures { IfOk result (λ numbers. spec.NumbersAll texts.old texts.new
         (map (spec.outcome_text known.now) records.now) numbers) }
 {
     let (kinds, places) = records.parts();

@@ -1,6 +1,7 @@
 use crate::fields::{number_before, rule_number, whole_number};
 use crate::{CountedRule, KnownRule, Lines, ReportError};
 use std::alloc::Global;
+use std::collections::HashSet;
 
 /// What a report tells behind its captures.
 #[derive(Drop)]
@@ -30,6 +31,8 @@ pub struct Sections<'a> {
 pub struct Journal<'a> {
     /// How many entries it has.
     pub entries: u64,
+    /// The line of the report at which they begin, from 1.
+    pub line: u64,
     /// Their lines.
     pub lines: &'a [u8],
     /// What is told of each lane, as `C refused N tracker W`.
@@ -71,26 +74,28 @@ fn read_lines<'a>(
     Ok(read)
 }
 
-/// Whether the rules of this edition are known already.
-fn is_known(known: &[KnownRule<'_>], edition: u64) -> bool {
-    known.iter().any(|rule| rule.edition == edition)
+/// The rules that are listed, and their editions.
+#[derive(Drop)]
+struct Listed<'a> {
+    rules: Vec<KnownRule<'a>>,
+    editions: HashSet<u64>,
 }
 
 /// The rules that the edition lists, which become known unless they are.
 fn read_listing<'a>(
     lines: &mut Lines<'a>,
     edition: u64,
-    known: &mut Vec<KnownRule<'a>>,
+    listed: &mut Listed<'a>,
 ) -> Result<(), ReportError> {
     let count = wanted_number(lines, b"rules ")?;
-    let is_new = !is_known(known, edition);
+    let is_new = count > 0 && listed.editions.insert(edition)?;
     for _ in 0..count {
         let line = *lines;
         let Some((number, text)) = rule_number(wanted(lines, b"")?) else {
             return Err(unfit(&line));
         };
         if is_new {
-            known.push(KnownRule {
+            listed.rules.push(KnownRule {
                 edition,
                 number,
                 text,
@@ -123,7 +128,7 @@ fn entries_in(text: &[u8]) -> Option<u64> {
 fn read_answers<'a>(
     alloc: Global,
     lines: &mut Lines<'a>,
-    known: &mut Vec<KnownRule<'a>>,
+    listed: &mut Listed<'a>,
 ) -> Result<Vec<&'a [u8]>, ReportError> {
     let mut refused = Vec::new(alloc);
     for _ in 0..u64::MAX {
@@ -134,7 +139,7 @@ fn read_answers<'a>(
             let Some(edition) = edition_in(told) else {
                 return Err(unfit(&line));
             };
-            read_listing(lines, edition, known)?;
+            read_listing(lines, edition, listed)?;
         } else if let Some(told) = lines.behind(b"table ") {
             let Some(entries) = entries_in(told) else {
                 return Err(unfit(&line));
@@ -181,15 +186,15 @@ fn read_rules<'a>(
 
 /// The rules of the last edition become known, unless that edition is listed.
 fn know_last<'a>(
-    known: &mut Vec<KnownRule<'a>>,
+    listed: &mut Listed<'a>,
     edition: u64,
     rules: &[CountedRule<'a>],
 ) -> Result<(), ReportError> {
-    if is_known(known, edition) {
+    if listed.editions.contains(&edition) {
         return Ok(());
     }
     for rule in rules {
-        known.push(KnownRule {
+        listed.rules.push(KnownRule {
             edition,
             number: rule.number,
             text: rule.text,
@@ -226,6 +231,7 @@ fn read_journal<'a>(
     let Some(entries) = whole_number(told) else {
         return Err(unfit(&line));
     };
+    let first = lines.read.saturating_add(1);
     let begun = lines.rest;
     for _ in 0..entries {
         let _entry = wanted(lines, b"")?;
@@ -240,6 +246,7 @@ fn read_journal<'a>(
     }
     Ok(Some(Journal {
         entries,
+        line: first,
         lines: begun.get(..length).unwrap_or(begun),
         lanes,
     }))
@@ -250,12 +257,15 @@ pub(crate) fn read_sections<'a>(
     alloc: Global,
     lines: &mut Lines<'a>,
 ) -> Result<Sections<'a>, ReportError> {
-    let mut known = Vec::new(alloc);
-    let refused = read_answers(alloc, lines, &mut known)?;
+    let mut listed = Listed {
+        rules: Vec::new(alloc),
+        editions: HashSet::new(alloc),
+    };
+    let refused = read_answers(alloc, lines, &mut listed)?;
     let editions = wanted_number(lines, b"editions ")?;
     let disabled = lines.behind(b"disabled ").unwrap_or(b"");
     let rules = read_rules(alloc, lines)?;
-    know_last(&mut known, editions, &rules)?;
+    know_last(&mut listed, editions, &rules)?;
     let clock = wanted_number(lines, b"clock ")?;
     let count = wanted_number(lines, b"states ")?;
     let states = read_lines(alloc, lines, count)?;
@@ -266,7 +276,7 @@ pub(crate) fn read_sections<'a>(
     }
     Ok(Sections {
         refused,
-        known,
+        known: listed.rules,
         editions,
         disabled,
         rules,

@@ -1,7 +1,7 @@
 use Rattle.std.proofs.Common.{ℕ, ◌++◌, ap, ◌∙◌}
 use Rattle.std.specs.Fmt.{decimal}
 use Rattle.report_values.specs.Outcomes.{unknown_part}
-use Rattle.report_values.proofs.OutcomeTexts.{four_parts}
+use Rattle.report_values.proofs.OutcomeParts.{four_parts}
 use Rattle.report_values.proofs.outcome_parts.put_unknown.Goals as goal
 
 pub returns : goal.returns

@@ -1,5 +1,5 @@
 -- Texts of outcomes: the rules so far, and which text stands for no rule.
-use Rattle.std.proofs.Common.{◌≡◌, ℕ, ◌+◌, ◌<◌, List, [], ◌∷◌, ◌++◌, length, refl, sym, ap, ◌∙◌, get_or, take, flat_map, append_assoc}
+use Rattle.std.proofs.Common.{◌≡◌, ℕ, ◌+◌, ◌<◌, List, [], ◌∷◌, ◌++◌, length, sym, ap, ◌∙◌, get_or, take, flat_map, append_assoc}
 use Rattle.std.proofs.lemmas.List.{take_more, flat_map_more}
 
 -- one more element of a text that is made of parts
