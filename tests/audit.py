@@ -135,9 +135,9 @@ def editions_of(script_text):
     return run
 
 
-def replayed(lines, editions):
+def replayed(lines, editions, states=None):
     """The asks of the journal, whose replies are the state object's; Wrong where one isn't."""
-    states = reference.States(dict(reference.DEFAULTS))
+    states = states or reference.States(dict(reference.DEFAULTS))
     numbers = {}
     asks, published, greatest = [], 0, {}
     for number, line in enumerate(lines, 1):

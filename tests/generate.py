@@ -2,7 +2,8 @@
 """Makes a script and captures from a number, the same at each run, for tests/reference.py and the program to be
 held against each other: rules of every action and option over few hosts and ports, so that much of them is met.
 
-usage: tests/generate.py NUMBER FOLDER      writes FOLDER/script, FOLDER/1 and on, and FOLDER/words, one word a line
+usage: tests/generate.py NUMBER FOLDER [TIMES]      writes FOLDER/script, FOLDER/1 and on, and FOLDER/words, one word
+                                                    a line; the captures' seconds lie TIMES times as far apart
 """
 
 import os
@@ -18,8 +19,8 @@ NAMES = ["", "", "", " :web", " :dns", " :default"]
 
 
 class Maker:
-    def __init__(self, number):
-        self.random = random.Random(number)
+    def __init__(self, number, times):
+        self.random, self.times = random.Random(number), times
         self.choice = self.random.choice
         self.chance = lambda share: self.random.random() < share
 
@@ -192,7 +193,7 @@ class Maker:
             second = max(0, second + self.choice([0, 0, 0, 0, 1, 1, 2, 5, -3]))
             frame = self.frame(link)
             fraction = self.random.randrange(1000)
-            data += struct.pack(order + "IIII", second, fraction, len(frame), len(frame)) + frame
+            data += struct.pack(order + "IIII", second * self.times, fraction, len(frame), len(frame)) + frame
         return data[:self.random.randrange(len(data))] if self.chance(0.08) else data
 
 
@@ -208,7 +209,7 @@ def eight(text):
 
 def main():
     number, folder = int(sys.argv[1]), sys.argv[2]
-    maker = Maker(number)
+    maker = Maker(number, int(sys.argv[3]) if len(sys.argv) > 3 else 1)
     with open(os.path.join(folder, "script"), "w", encoding="ascii") as file:
         file.write(maker.script())
     words = ["--journal"] if maker.chance(0.8) else []

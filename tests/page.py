@@ -1,8 +1,10 @@
 #!/usr/bin/env python3
 """Parses a page of report_view, and compares its figures with counts over the report.
 
-usage: page.py PAGE REPORT [MOVED VERDICTS STAYED]     how many records moved, how many of them to another verdict,
-                                                      and how many stayed, as the page is to tell them
+usage: page.py [--script SCRIPT] PAGE REPORT [MOVED VERDICTS STAYED]
+                                  the script by which the page tells live states, which tests/live_states.py counts;
+                                  how many records moved, how many of them to another verdict, and how many stayed,
+                                  as the page is to tell them
 
 Prints one line for each figure that differs; nothing where all is as it should be.
 """
@@ -10,6 +12,10 @@ import re
 import sys
 from collections import Counter
 from html.parser import HTMLParser
+
+sys.dont_write_bytecode = True
+
+import live_states
 
 VOID = {"meta", "rect", "br"}
 
@@ -59,7 +65,17 @@ class Page(HTMLParser):
             self.titles.append(data)
 
 
+def columns(page, form):
+    """What the titles of this form tell: the second of a column, and its count."""
+    told = [re.match(form, title) for title in page.titles]
+    return [(int(one.group(1)), int(one.group(2))) for one in told if one]
+
+
 def main():
+    script = None
+    if sys.argv[1] == "--script":
+        script = open(sys.argv[2], "rb").read()
+        del sys.argv[1:3]
     page, report = Page(), open(sys.argv[2], encoding="utf-8", errors="replace").read().split("\n")
     page.feed(open(sys.argv[1], encoding="utf-8").read())
     page.close()
@@ -119,12 +135,14 @@ def main():
     same("states made", made, sum(int(told.group(2)) for told in seconds))
     if seconds:
         same("all states made", made, page.ids.get("made"))
-    form = re.compile(r"up to the column of second ([0-9]+): ([0-9]+) states made$")
-    so_far = [form.match(title) for title in page.titles]
     begins = [int(re.match(r"from second ([0-9]+):", told.group(0)).group(1)) for told in seconds]
     counts = [sum(int(told.group(2)) for told in seconds[:at + 1]) for at in range(len(seconds))]
-    wanted = list(zip(begins, counts)) if made else []
-    same("states made so far", wanted, [(int(told.group(1)), int(told.group(2))) for told in so_far if told])
+    so_far = list(zip(begins, counts)) if made and script is None else []
+    same("states made so far", so_far, columns(page, r"up to the column of second ([0-9]+): ([0-9]+) states made$"))
+    live = live_states.live_counts("\n".join(report), script) if script is not None else []
+    most = max((count for _, count in live), default=0)
+    same("live states", live if most else [], columns(page, r"in the column of second ([0-9]+): at most ([0-9]+) live states$"))
+    same("most live states", most if live else None, page.ids.get("most"))
     if len(sys.argv) > 3:
         same("moved", sys.argv[3], page.ids.get("moved"))
         same("verdicts", sys.argv[4], page.ids.get("verdicts"))

@@ -70,7 +70,7 @@ WORDS
     head -c 20 "$first/session.pcap" >"$work/short.pcap"
     {
         for words in "out:em0:$first/session.pcap in:em0:$tests/captures/icmp_c0.pcap" "in:em0:$tests/captures/icmp_c0.pcap" \
-            "out:em0:$work/cut.pcap" "out:em0:$work/short.pcap" "out:em0:$edit/rules" "out:em0:$work/nowhere" \
+            "out:em0:$work/cut.pcap out:em0:$work/short.pcap" "out:em0:$work/cut.pcap" "out:em0:$work/short.pcap" "out:em0:$edit/rules" "out:em0:$work/nowhere" \
             em0:x in:em0: in::x inout:em0:x in:em/0:x in:abcdefghijklmnop:x; do
             read -r -a words <<<"$words"
             "$view" moves "$edit/before.report" "$edit/after.report" "${words[@]}" | sed -E 's#(^| )/[^ ]*/#\1#g'
@@ -81,10 +81,10 @@ WORDS
         "$view" script "$first/rules" in:em0:x em0
         echo "status $?"
     } >"$work/got"
-    usage_of_view='usage: report_view moves OLD NEW [in|out:IF:CAPTURE ..] | page REPORT [NEW] | script SCRIPT [in|out:IF:CAPTURE ..]'
+    usage_of_view='usage: report_view moves OLD NEW [in|out:IF:CAPTURE ..] | page [--script SCRIPT] REPORT [NEW] | script SCRIPT [in|out:IF:CAPTURE ..]'
     {
         printf '%s\nstatus 3\n' 'captures: 1 in the reports, named 2' 'icmp_c0.pcap: records: 170 in the reports, in the capture 173' \
-            'cut.pcap: record 10 ShortRecordHeader' 'short.pcap: record 0 ShortHeader' 'rules: record 0 BadMagic'
+            'captures: 1 in the reports, named 2' 'cut.pcap: record 10 ShortRecordHeader' 'short.pcap: record 0 ShortHeader' 'rules: record 0 BadMagic'
         printf 'cannot read nowhere\nstatus 4\n'
         for _ in {1..8}; do printf '%s\nstatus 1\n' "$usage_of_view"; done
     } >"$work/wanted"

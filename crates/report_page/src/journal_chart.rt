@@ -3,7 +3,7 @@ use crate::strip::put_key;
 use crate::{Piece, put};
 use fw_base::OutOfMemory;
 use report_reading::{Reading, next_line, read_line};
-use report_values::Report;
+use report_values::{Journal, JournalColumns, Report};
 use state_asks::{Op, Reply};
 use std::alloc::Global;
 
@@ -35,9 +35,9 @@ impl Axis<'_> {
 }
 
 /// The second of an ask.
-fn second_of(op: &Op) -> u64 {
+fn second_of(op: &Op) -> u32 {
     match op {
-        Op::Lookup { second, .. } | Op::Install { second, .. } => u64::from(*second),
+        Op::Lookup { second, .. } | Op::Install { second, .. } => *second,
     }
 }
 
@@ -54,7 +54,7 @@ fn is_made(reply: &Reply) -> bool {
 }
 
 /// The first and the last second of the asks, where there is one.
-fn seconds_in(lines: &[u8]) -> Option<(u64, u64)> {
+fn seconds_in(lines: &[u8]) -> Option<(u32, u32)> {
     let mut rest = lines;
     let mut found = None;
     for _ in 0..u64::MAX {
@@ -73,16 +73,27 @@ fn seconds_in(lines: &[u8]) -> Option<(u64, u64)> {
     found
 }
 
-/// What was asked in each column, each of so many seconds from the first on.
-fn columns_of(
+/// The columns in which a journal is shown; none where the states were asked nothing.
+pub fn columns_of(journal: &Journal<'_>) -> Option<JournalColumns> {
+    let (first, last) = seconds_in(journal.lines)?;
+    let all = u64::from(last.saturating_sub(first)).saturating_add(1);
+    let seconds = (all / MOST_COLUMNS).saturating_add(1);
+    let count = all.saturating_add(seconds).saturating_sub(1) / seconds.max(1);
+    Some(JournalColumns {
+        first,
+        seconds: seconds as u32,
+        count: count.min(MOST_COLUMNS) as u32,
+    })
+}
+
+/// What was asked in each column.
+fn asks_in(
     alloc: Global,
     lines: &[u8],
-    first: u64,
-    seconds: u64,
-    count: u64,
+    shown: &JournalColumns,
 ) -> Result<Vec<Column>, OutOfMemory> {
     let mut columns = Vec::new(alloc);
-    for _ in 0..count {
+    for _ in 0..shown.count {
         columns.push(Column { asks: 0, made: 0 })?;
     }
     let mut rest = lines;
@@ -92,7 +103,8 @@ fn columns_of(
         };
         rest = behind;
         if let Some(Reading::Ask(told)) = read_line(line) {
-            let place = second_of(&told.op).saturating_sub(first) / seconds.max(1);
+            let behind_first = second_of(&told.op).saturating_sub(shown.first);
+            let place = behind_first / shown.seconds.max(1);
             if let Some(column) = columns.get_mut(place as usize) {
                 column.asks = column.asks.saturating_add(1);
                 if is_made(&told.reply) {
@@ -246,36 +258,102 @@ fn put_made(pieces: &mut Vec<Piece<'_>>, axis: &Axis<'_>, live: u64) -> Result<(
     put(pieces, &[Piece::Markup(b"</svg></div>\n")])
 }
 
-/// Puts the charts of the journal's seconds.
-fn put_charts(
-    alloc: Global,
+/// The greatest of some counts.
+fn most_of(counts: &[u64]) -> u64 {
+    let mut most: u64 = 0;
+    for count in counts {
+        most = most.max(*count);
+    }
+    most
+}
+
+/// Puts a column: how many states lived.
+fn put_live_column(
     pieces: &mut Vec<Piece<'_>>,
-    lines: &[u8],
-    (first, last): (u64, u64),
+    place: u64,
+    second: u64,
+    live: u64,
+    most: u64,
+) -> Result<(), OutOfMemory> {
+    let height = share(live, most, 100);
+    put(
+        pieces,
+        &[
+            Piece::Markup(b"<g><title>in the column of second "),
+            Piece::Figure(second),
+            Piece::Markup(b": at most "),
+            Piece::Figure(live),
+            Piece::Markup(b" live states</title><rect class=\"allow\" x=\""),
+            Piece::Figure(place.saturating_mul(10)),
+            Piece::Markup(b"\" y=\""),
+            Piece::Figure(100u64.saturating_sub(height)),
+            Piece::Markup(b"\" width=\"9\" height=\""),
+            Piece::Figure(height),
+            Piece::Markup(b"\"/></g>\n"),
+        ],
+    )
+}
+
+/// Puts the chart of the live states, which has a count for each column, and how many live at the end.
+fn put_live(
+    pieces: &mut Vec<Piece<'_>>,
+    axis: &Axis<'_>,
+    counts: &[u64],
     live: u64,
 ) -> Result<(), OutOfMemory> {
-    let all = last.saturating_sub(first).saturating_add(1);
-    let seconds = (all / MOST_COLUMNS).saturating_add(1);
-    let count = all.saturating_add(seconds).saturating_sub(1) / seconds.max(1);
-    let columns = columns_of(alloc, lines, first, seconds, count)?;
-    let axis = Axis {
-        first,
-        seconds,
-        columns: &columns,
-    };
+    let most = most_of(counts);
+    put(
+        pieces,
+        &[
+            Piece::Markup(b"<h3>Live states</h3>\n<p><span id=\"made\">"),
+            Piece::Figure(made_in(axis.columns)),
+            Piece::Markup(b"</span> states were made. At most <span id=\"most\">"),
+            Piece::Figure(most),
+            Piece::Markup(b"</span> lived at once, and "),
+            Piece::Figure(live),
+            Piece::Markup(
+                b" live at the end. A column shows the greatest number that lived at once in its \
+                  seconds, by the lifetimes which the script sets.</p>\n",
+            ),
+        ],
+    )?;
+    if most == 0 {
+        return Ok(());
+    }
+    put_beginning(pieces, axis, b"Live states along the seconds, from ")?;
+    for (place, count) in counts.iter().enumerate() {
+        let place = place as u64;
+        put_live_column(pieces, place, axis.second_at(place), *count, most)?;
+    }
+    put(pieces, &[Piece::Markup(b"</svg></div>\n")])
+}
+
+/// Puts the charts of the journal's seconds: with the counts of live states, where they are given, else
+/// with the states made so far.
+fn put_charts(
+    pieces: &mut Vec<Piece<'_>>,
+    axis: &Axis<'_>,
+    live: u64,
+    counts: Option<&[u64]>,
+) -> Result<(), OutOfMemory> {
     put_key(pieces, &KEY)?;
-    put_asks(pieces, &axis)?;
-    put_made(pieces, &axis, live)
+    put_asks(pieces, axis)?;
+    match counts {
+        Some(counts) => put_live(pieces, axis, counts, live),
+        None => put_made(pieces, axis, live),
+    }
 }
 
 /// The key of the chart.
 const KEY: [(&[u8], &[u8]); 2] = [(b"fill", b"asks"), (b"allow", b"those that made a state")];
 
-/// Puts what the states were asked along the seconds, where the report has its journal.
+/// Puts what the states were asked along the seconds, where the report has its journal, and how many
+/// of them lived, where that is given for each of the journal's columns.
 pub(crate) fn put_journal<'a>(
     alloc: Global,
     pieces: &mut Vec<Piece<'a>>,
     report: &Report<'a>,
+    counts: Option<&[u64]>,
 ) -> Result<(), OutOfMemory> {
     let Some(journal) = &report.sections.journal else {
         return Ok(());
@@ -293,9 +371,14 @@ pub(crate) fn put_journal<'a>(
             ),
         ],
     )?;
-    if let Some(seconds) = seconds_in(journal.lines) {
-        let live = report.sections.states.len() as u64;
-        put_charts(alloc, pieces, journal.lines, seconds, live)?;
+    if let Some(shown) = columns_of(journal) {
+        let columns = asks_in(alloc, journal.lines, &shown)?;
+        let axis = Axis {
+            first: u64::from(shown.first),
+            seconds: u64::from(shown.seconds),
+            columns: &columns,
+        };
+        put_charts(pieces, &axis, report.sections.states.len() as u64, counts)?;
     }
     put(pieces, &[Piece::Markup(b"</section>\n")])
 }

@@ -5,6 +5,7 @@
 
 pub use bins::{Bin, Shade, bins_of};
 pub use escapes::{escaped_text_has_no_markup, write_escaped};
+pub use journal_chart::columns_of;
 pub use moves_table::MovesShown;
 pub use page::page_of;
 pub use pieces::{Piece, put, write_page};

@@ -187,11 +187,14 @@ fn put_states<'a>(pieces: &mut Vec<Piece<'a>>, report: &Report<'a>) -> Result<()
     put(pieces, &[Piece::Markup(b"</section>\n")])
 }
 
-/// The pieces of a page that shows a report, and what moved to another one where that is given.
+/// The pieces of a page that shows a report, and what moved to another one where that is given. Where
+/// counts of live states are given, one for each of the journal's columns, they stand in place of the
+/// states made so far.
 pub fn page_of<'a>(
     alloc: Global,
     report: &Report<'a>,
     moves: Option<&MovesShown<'a>>,
+    live: Option<&[u64]>,
 ) -> Result<Vec<Piece<'a>>, OutOfMemory> {
     let mut pieces = Vec::new(alloc);
     put(
@@ -214,7 +217,7 @@ pub fn page_of<'a>(
     put_captures(alloc, &mut pieces, report)?;
     put_rules(&mut pieces, &report.sections.rules)?;
     put_states(&mut pieces, report)?;
-    put_journal(alloc, &mut pieces, report)?;
+    put_journal(alloc, &mut pieces, report, live)?;
     put(
         &mut pieces,
         &[Piece::Markup(b"</main>\n</body>\n</html>\n")],

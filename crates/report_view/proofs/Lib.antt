@@ -1,2 +1,4 @@
 -- sums over moves
 mod MovesLaws
+-- reports whose captures don't fit
+mod Unlike

@@ -1,9 +1,15 @@
+ghost use Rattle.std.specs.Prelude.{◌≡◌};
+ghost use Rattle.report_view.specs.declared.inputs.Trouble.TheVariants.{OutOfMemory as NoMemory};
+ghost use Rattle.report_view.specs.MovesTold.{IsUnfit};
+
 use buffered_io::{ReadError, read_up_to};
 use command_words::CaptureWord;
 use fw_base::{Failed, Library, Name, OutOfMemory};
 use pcap_read::CaptureFault;
+use replay_driver::ScriptError;
 use report_flows::FlowsFault;
-use report_values::ReportError;
+use report_states::StatesFault;
+use report_values::{Journal, ReportError};
 use std::alloc::{AllocFailed, Global};
 
 /// How many bytes of a report are read at most: 4 GiB.
@@ -18,6 +24,16 @@ pub(crate) enum Trouble<'a> {
     Unread(&'a [u8]),
     /// The text of that name is no report: which line isn't one that a report has there.
     NoReport(&'a [u8], u64),
+    /// The script gives no edition.
+    Script(ScriptError),
+    /// The report of that name has no journal.
+    NoJournal(&'a [u8]),
+    /// This line of the report isn't what the script of that name gives.
+    OtherScript {
+        report: &'a [u8],
+        line: u64,
+        script: &'a [u8],
+    },
     /// The reports don't have as many captures.
     Captures {
         old: u64,
@@ -50,19 +66,25 @@ pub(crate) enum Trouble<'a> {
 }
 
 impl From<OutOfMemory> for Trouble<'_> {
+    ghost from_gives = { λ _ trouble. trouble ≡ NoMemory };
+
     fn from(_error: OutOfMemory) -> Self {
         Trouble::OutOfMemory
     }
 }
 
 impl<T: Drop> From<AllocFailed<T>> for Trouble<'_> {
+    ghost from_gives = { λ _ trouble. trouble ≡ NoMemory };
+
     fn from(_error: AllocFailed<T>) -> Self {
         Trouble::OutOfMemory
     }
 }
 
 /// The trouble of a text that isn't read as a report.
-pub(crate) fn unfit(name: &[u8], error: ReportError) -> Trouble<'_> {
+pub(crate) fn unfit(name: &[u8], error: ReportError) -> Trouble<'_>
+    ensures { IsUnfit result }
+{
     match error {
         ReportError::Line(line) => Trouble::NoReport(name, line),
         ReportError::OutOfMemory => Trouble::OutOfMemory,
@@ -100,6 +122,23 @@ pub(crate) fn without_flows<'a>(captures: &[CaptureWord<'a>], fault: FlowsFault)
             fault,
         },
         FlowsFault::OutOfMemory => Trouble::OutOfMemory,
+    }
+}
+
+/// The trouble of the journal of a report whose live states aren't told.
+pub(crate) fn without_states<'a>(
+    (report, script): (&'a [u8], &'a [u8]),
+    journal: &Journal<'_>,
+    fault: StatesFault,
+) -> Trouble<'a> {
+    match fault {
+        StatesFault::Script(error) => Trouble::Script(error),
+        StatesFault::Line(line) => Trouble::OtherScript {
+            report,
+            line: journal.line.saturating_add(line).saturating_sub(1),
+            script,
+        },
+        StatesFault::OutOfMemory => Trouble::OutOfMemory,
     }
 }
 

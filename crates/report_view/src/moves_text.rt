@@ -1,6 +1,5 @@
-ghost use Rattle.std.specs.Prelude.{◌≡◌, IfOk, OnOk, [], nat_eq, slice_index_or};
-ghost use Rattle.std.specs.Cmp.Lexicographic.{pointwise};
-ghost use Rattle.std.specs.List.{IsDistinct};
+ghost use Rattle.std.specs.Prelude.{◌≡◌, IfErr, IfOk, MatchOption, [], length, map, min, slice_index_or};
+ghost use Rattle.report_moves.specs.Moves.{HaveSameLengths};
 ghost use Rattle.report_view.specs.MovesTold as spec;
 
 use crate::flows_text::write_flows;
@@ -10,7 +9,7 @@ use fw_rule::Items;
 use itoa::Buffer;
 use report_flows::FlowSpan;
 use report_moves::{Move, Moves, have_same_lengths, moves_between};
-use report_values::{Report, outcome_numbers};
+use report_values::{KnownRules, OutcomeTexts, Report, outcome_numbers};
 use std::alloc::Global;
 
 /// The outcomes of two reports, and what moved between them.
@@ -29,36 +28,49 @@ pub(crate) struct Compared {
 /// The numbers of the outcomes of each capture.
 fn numbers_of(
     alloc: Global,
-    texts: &mut Vec<Items<u8>>,
+    texts: &mut OutcomeTexts,
     report: &Report<'_>,
 ) -> Result<Vec<Items<u32>>, OutOfMemory>
-    requires { IsDistinct (pointwise nat_eq) texts.old.items }
-    ensures { OnOk result (IsDistinct (pointwise nat_eq) texts.new.items) }
+    ensures { IfOk result (λ numbers. map length numbers.items
+        ≡ spec.counts_of report.now.captures.items) }
 {
-    let known = report.sections.known.as_slice();
+    let known = KnownRules::new(alloc, report.sections.known.as_slice())?;
     let mut numbers = Vec::new(alloc);
     for capture in &report.captures {
-        numbers.push(outcome_numbers(alloc, texts, known, &capture.records)?)?;
+        numbers.push(outcome_numbers(alloc, texts, &known, &capture.records)?)?;
     }
     Ok(numbers)
 }
 
-/// Where the reports don't have as many captures or records.
-fn unlike<'a>(old: &[Items<u32>], new: &[Items<u32>]) -> Trouble<'a> {
-    for (at, (was, is)) in old.iter().zip(new).enumerate() {
-        let was = was.as_slice().len();
-        let is = is.as_slice().len();
-        if was != is {
-            return Trouble::Records {
-                capture: (at as u64).saturating_add(1),
-                old: was as u64,
-                new: is as u64,
-            };
+/// The place of the first capture of both reports that doesn't have as many records in both.
+fn first_other(old: &[Items<u32>], new: &[Items<u32>]) -> Option<usize>
+    ensures { MatchOption result
+        (spec.AreAlike (map length old.now) (map length new.now) (min (length old.now) (length new.now)))
+        (spec.IsOtherAt (map length old.now) (map length new.now)) }
+{
+    for place in 0..old.len().min(new.len()) {
+        if old[place].as_slice().len() != new[place].as_slice().len() {
+            return Some(place);
         }
     }
-    Trouble::Captures {
-        old: old.len() as u64,
-        new: new.len() as u64,
+    None
+}
+
+/// Where the reports don't have as many captures or records.
+fn unlike<'a>(old: &[Items<u32>], new: &[Items<u32>]) -> Trouble<'a>
+    requires { HaveSameLengths old.now new.now → ⊥ }
+    ensures { spec.IsUnlike (map length old.now) (map length new.now) result }
+{
+    match first_other(old, new) {
+        Some(place) => Trouble::Records {
+            capture: place as u64 + 1,
+            old: old[place].as_slice().len() as u64,
+            new: new[place].as_slice().len() as u64,
+        },
+        None => Trouble::Captures {
+            old: old.len() as u64,
+            new: new.len() as u64,
+        },
     }
 }
 
@@ -68,9 +80,15 @@ pub(crate) fn compare<'a>(
     old: &Report<'_>,
     new: &Report<'_>,
 ) -> Result<Compared, Trouble<'a>>
-    ensures { IfOk result spec.IsCompared }
+    ensures compared { IfOk result spec.IsCompared }
+    // What is compared are the records of the reports.
+    ensures counts { IfOk result (λ compared. spec.HasCounts
+        (spec.counts_of old.now.captures.items) (spec.counts_of new.now.captures.items) compared) }
+    // Where they don't fit, the first capture that doesn't is told, or that one report has more.
+    ensures cause { IfErr result (spec.IsUnlike
+        (spec.counts_of old.now.captures.items) (spec.counts_of new.now.captures.items)) }
 {
-    let mut texts = Vec::new(alloc);
+    let mut texts = OutcomeTexts::new(alloc);
     let old = numbers_of(alloc, &mut texts, old)?;
     let new = numbers_of(alloc, &mut texts, new)?;
     if !have_same_lengths(&old, &new) {
@@ -78,7 +96,7 @@ pub(crate) fn compare<'a>(
     }
     let moves = moves_between(alloc, &old, &new)?;
     Ok(Compared {
-        texts,
+        texts: texts.into_vec(),
         old,
         new,
         moves,

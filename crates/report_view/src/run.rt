@@ -1,7 +1,7 @@
-ghost use Rattle.std.specs.Prelude.{IfOk};
-ghost use Rattle.report_view.specs.MovesTold.{IsCompared};
+ghost use Rattle.std.specs.Prelude.{IfErr, IfOk};
+ghost use Rattle.report_view.specs.MovesTold.{IsCompared, IsTroubleOf};
 
-use crate::inputs::{Trouble, open_source, read_text, unfit, without_flows};
+use crate::inputs::{Trouble, open_source, read_text, unfit, without_flows, without_states};
 use crate::moves_text::{Compared, compare, other_verdicts, records_of, write_compared};
 use crate::script_text::{Reviewed, review_status, write_reviewed};
 use crate::words::{Request, read_request, words_of_replay};
@@ -12,8 +12,9 @@ use fw_base::{Failed, Library, OutOfMemory, Sink, write_pieces, write_text};
 use fw_rule::Items;
 use itoa::Buffer;
 use report_flows::{FlowSpan, flows_of};
-use report_page::{MovesShown, Piece, page_of, write_page};
-use report_values::read_report;
+use report_page::{MovesShown, Piece, columns_of, page_of, write_page};
+use report_states::live_states;
+use report_values::{JournalColumns, Report, read_report};
 use script_review::{findings_in, line_faults};
 use std::alloc::Global;
 
@@ -61,7 +62,7 @@ fn show_moves<'a, L: Library, K: Sink>(
 ) -> Result<u8, Trouble<'a>> {
     let old_text = read_text(alloc, library, old)?;
     let new_text = read_text(alloc, library, new)?;
-    let mut compared = compared_texts(alloc, (old, &old_text), (new, &new_text))?;
+    let mut compared = compared_texts(alloc, (old, new), &old_text, &new_text)?;
     if !captures.is_empty() {
         let flows = flows_between(alloc, library, &compared, captures)?;
         compared.flows = Some(flows);
@@ -69,56 +70,112 @@ fn show_moves<'a, L: Library, K: Sink>(
     Ok(show(alloc, out, &Shown::Moves(&compared)))
 }
 
-/// What moved from the report in one text to that in another.
+/// What moved from the report in one text to that in another, which have these names.
 fn compared_texts<'a>(
     alloc: Global,
-    old: (&'a [u8], &[u8]),
-    new: (&'a [u8], &[u8]),
+    names: (&'a [u8], &'a [u8]),
+    old: &[u8],
+    new: &[u8],
 ) -> Result<Compared, Trouble<'a>>
-    ensures { IfOk result IsCompared }
+    ensures compared { IfOk result IsCompared }
+    ensures cause { IfErr result (IsTroubleOf old.now new.now) }
 {
-    let old_report = match read_report(alloc, old.1) {
+    let old_report = match read_report(alloc, old) {
         Ok(report) => report,
-        Err(error) => return Err(unfit(old.0, error)),
+        Err(error) => return Err(unfit(names.0, error)),
     };
-    let new_report = match read_report(alloc, new.1) {
+    let new_report = match read_report(alloc, new) {
         Ok(report) => report,
-        Err(error) => return Err(unfit(new.0, error)),
+        Err(error) => return Err(unfit(names.1, error)),
     };
     compare(alloc, &old_report, &new_report)
 }
 
-/// Shows a page of one report.
+/// The report of that name, in its text.
+fn report_in<'a, 't>(
+    alloc: Global,
+    name: &'a [u8],
+    text: &'t [u8],
+) -> Result<Report<'t>, Trouble<'a>> {
+    match read_report(alloc, text) {
+        Ok(report) => Ok(report),
+        Err(error) => Err(unfit(name, error)),
+    }
+}
+
+/// How many states lived in each column of the journal of that report, by the script of that name.
+fn counts_by<'a, L: Library>(
+    alloc: Global,
+    library: &mut L,
+    name: &'a [u8],
+    report: &Report<'_>,
+    script: &'a [u8],
+) -> Result<Vec<u64>, Trouble<'a>> {
+    let text = read_text(alloc, library, script)?;
+    let Some(journal) = &report.sections.journal else {
+        return Err(Trouble::NoJournal(name));
+    };
+    let columns = columns_of(journal).unwrap_or(NO_COLUMNS);
+    match live_states(alloc, &text, journal.lines, columns) {
+        Ok(counts) => Ok(counts),
+        Err(fault) => Err(without_states((name, script), journal, fault)),
+    }
+}
+
+/// The columns of a journal in which the states are asked nothing.
+const NO_COLUMNS: JournalColumns = JournalColumns {
+    first: 0,
+    seconds: 1,
+    count: 0,
+};
+
+/// The same where a script is named.
+fn counts_if<'a, L: Library>(
+    alloc: Global,
+    library: &mut L,
+    name: &'a [u8],
+    report: &Report<'_>,
+    script: Option<&'a [u8]>,
+) -> Result<Option<Vec<u64>>, Trouble<'a>> {
+    match script {
+        Some(script) => Ok(Some(counts_by(alloc, library, name, report, script)?)),
+        None => Ok(None),
+    }
+}
+
+/// Shows a page of one report, by the script of that name where there is one.
 fn show_page<'a, L: Library, K: Sink>(
     alloc: Global,
     library: &mut L,
     out: &mut K,
     name: &'a [u8],
+    script: Option<&'a [u8]>,
 ) -> Result<u8, Trouble<'a>> {
     let text = read_text(alloc, library, name)?;
-    let report = match read_report(alloc, &text) {
-        Ok(report) => report,
-        Err(error) => return Err(unfit(name, error)),
-    };
-    let pieces = page_of(alloc, &report, None)?;
+    let report = report_in(alloc, name, &text)?;
+    let live = counts_if(alloc, library, name, &report, script)?;
+    let pieces = page_of(alloc, &report, None, live.as_deref())?;
     Ok(show(alloc, out, &Shown::Page(&pieces)))
 }
 
-/// Shows a page of one report with what moved to another.
+/// Shows a page of one report with what moved to another, by the script of that name where there is
+/// one.
 fn show_page_with_moves<'a, L: Library, K: Sink>(
     alloc: Global,
     library: &mut L,
     out: &mut K,
-    old: &'a [u8],
-    new: &'a [u8],
+    (old, new): (&'a [u8], &'a [u8]),
+    script: Option<&'a [u8]>,
 ) -> Result<u8, Trouble<'a>> {
     let old_text = read_text(alloc, library, old)?;
     let new_text = read_text(alloc, library, new)?;
-    let compared = compared_texts(alloc, (old, &old_text), (new, &new_text))?;
+    let compared = compared_texts(alloc, (old, new), &old_text, &new_text)?;
     let report = match read_report(alloc, &old_text) {
         Ok(report) => report,
         Err(error) => return Err(unfit(old, error)),
     };
+    let live = counts_if(alloc, library, old, &report, script)?;
+    let counts = live.as_deref();
     let moves = MovesShown {
         texts: &compared.texts,
         old: &compared.old,
@@ -128,7 +185,7 @@ fn show_page_with_moves<'a, L: Library, K: Sink>(
         verdict_records: other_verdicts(&compared.texts, &compared.moves.moved),
         stayed_records: records_of(&compared.moves.stayed),
     };
-    let pieces = page_of(alloc, &report, Some(&moves))?;
+    let pieces = page_of(alloc, &report, Some(&moves), counts)?;
     Ok(show(alloc, out, &Shown::Page(&pieces)))
 }
 
@@ -184,11 +241,16 @@ fn show_request<'a, L: Library, K: Sink>(
         Request::Moves { old, new, captures } => {
             show_moves(alloc, library, out, (old, new), captures)
         }
-        Request::Page { report, new: None } => show_page(alloc, library, out, report),
+        Request::Page {
+            report,
+            new: None,
+            script,
+        } => show_page(alloc, library, out, report, *script),
         Request::Page {
             report,
             new: Some(new),
-        } => show_page_with_moves(alloc, library, out, report, new),
+            script,
+        } => show_page_with_moves(alloc, library, out, (report, new), *script),
         Request::Script { script, captures } => {
             show_script(alloc, library, out, script, captures)
         }
@@ -231,8 +293,8 @@ fn write_trouble<K: Sink>(out: &mut K, trouble: Trouble<'_>) -> Result<(), Faile
     match trouble {
         Trouble::Usage => write_text(
             out,
-            b"usage: report_view moves OLD NEW [in|out:IF:CAPTURE ..] | page REPORT [NEW] \
-              | script SCRIPT [in|out:IF:CAPTURE ..]\n",
+            b"usage: report_view moves OLD NEW [in|out:IF:CAPTURE ..] \
+              | page [--script SCRIPT] REPORT [NEW] | script SCRIPT [in|out:IF:CAPTURE ..]\n",
         ),
         Trouble::Unread(name) => {
             write_text(out, b"cannot read ")?;
@@ -246,6 +308,25 @@ fn write_trouble<K: Sink>(out: &mut K, trouble: Trouble<'_>) -> Result<(), Faile
                 out,
                 &[b": line ", line, b" is none that a report has there\n"],
             )
+        }
+        Trouble::Script(error) => error.write(out),
+        Trouble::NoJournal(name) => {
+            write_text(out, name)?;
+            write_text(
+                out,
+                b": has no journal, which ipfw_replay prints with --journal\n",
+            )
+        }
+        Trouble::OtherScript {
+            report,
+            line,
+            script,
+        } => {
+            write_text(out, report)?;
+            let line = digits.format(line).as_bytes();
+            write_pieces(out, &[b": line ", line, b" is not what "])?;
+            write_text(out, script)?;
+            write_text(out, b" gives\n")
         }
         Trouble::Captures { old, new } => {
             write_counts(
@@ -301,8 +382,10 @@ fn write_trouble<K: Sink>(out: &mut K, trouble: Trouble<'_>) -> Result<(), Faile
 fn trouble_status(trouble: &Trouble<'_>) -> u8 {
     match trouble {
         Trouble::Usage => 1,
-        Trouble::NoReport(_, _) => 2,
-        Trouble::Captures { .. }
+        Trouble::NoReport(_, _) | Trouble::Script(_) => 2,
+        Trouble::NoJournal(_)
+        | Trouble::OtherScript { .. }
+        | Trouble::Captures { .. }
         | Trouble::Records { .. }
         | Trouble::Named { .. }
         | Trouble::OtherRecords { .. }
@@ -356,8 +439,9 @@ fn show<K: Sink>(alloc: Global, out: &mut K, shown: &Shown<'_>) -> u8 {
 
 /// Shows what the words ask for, and answers the status: 0; 1 where the words are no command; 2
 /// where a text is no report or a script has a fault; 3 where two reports don't have the same
-/// captures, captures that are named aren't those of the reports, or one of them has a fault; 4 where a name could not
-/// be opened or read; 5 where the sink failed; 6 where memory ran out.
+/// captures, captures that are named aren't those of the reports, or one of them has a fault, and where the journal of a
+/// report lacks or isn't that of the script; 4 where a name could not be opened or read; 5 where the sink failed; 6 where
+/// memory ran out.
 pub(crate) fn run<L: Library, K: Sink>(
     alloc: Global,
     words: &[String],

@@ -13,10 +13,12 @@ pub(crate) enum Request<'a> {
         new: &'a [u8],
         captures: Vec<CaptureWord<'a>>,
     },
-    /// A page that shows a report, and what moved to another.
+    /// A page that shows a report, what moved to another, and the live states by the script behind the
+    /// report.
     Page {
         report: &'a [u8],
         new: Option<&'a [u8]>,
+        script: Option<&'a [u8]>,
     },
     /// What is wrong or odd with the script, beside these captures.
     Script {
@@ -83,29 +85,40 @@ fn request_with_captures<'a>(
     }
 }
 
-/// The command line of each command: positional words.
+/// The command line of each command: positional words, and the option of `page`.
 fn command_line<'a>(alloc: Global) -> Result<Command<'a>, AllocError> {
     let positional = Arg::new(alloc, "positional").num_args(0..);
+    let script = Arg::new(alloc, "script").long("script");
     Command::new(alloc, "report_view")
         .disable_help_flag(true)
+        .arg(script)?
         .arg(positional)
 }
 
-/// What these words behind a command ask for, which are no captures.
+/// The page that these words ask for, beside this script.
+fn page_request<'a>(words: &[&'a str], script: Option<&'a [u8]>) -> Option<Request<'a>> {
+    match words {
+        [report] => Some(Request::Page {
+            report: report.as_bytes(),
+            new: None,
+            script,
+        }),
+        [report, new] => Some(Request::Page {
+            report: report.as_bytes(),
+            new: Some(new.as_bytes()),
+            script,
+        }),
+        _ => None,
+    }
+}
+
+/// What these words behind a command ask for, which are no captures and no option.
 fn request_of<'a>(alloc: Global, command: &[u8], words: &[&'a str]) -> Option<Request<'a>> {
     match words {
         [old, new] if command == b"moves".as_slice() => Some(Request::Moves {
             old: old.as_bytes(),
             new: new.as_bytes(),
             captures: Vec::new(alloc),
-        }),
-        [report] if command == b"page".as_slice() => Some(Request::Page {
-            report: report.as_bytes(),
-            new: None,
-        }),
-        [report, new] if command == b"page".as_slice() => Some(Request::Page {
-            report: report.as_bytes(),
-            new: Some(new.as_bytes()),
         }),
         [script] if command == b"script".as_slice() => Some(Request::Script {
             script: script.as_bytes(),
@@ -130,9 +143,15 @@ fn request_without_captures(
             _ => return Ok(None),
         },
     };
-    match matches.get_strs("positional") {
-        Some(positional) => Ok(request_of(alloc, command.as_bytes(), positional)),
-        None => Ok(None),
+    let Some(positional) = matches.get_strs("positional") else {
+        return Ok(None);
+    };
+    match matches.get_str("script") {
+        script if command.as_bytes() == b"page".as_slice() => {
+            Ok(page_request(positional, script.map(|name| name.as_bytes())))
+        }
+        Some(_) => Ok(None),
+        None => Ok(request_of(alloc, command.as_bytes(), positional)),
     }
 }
 

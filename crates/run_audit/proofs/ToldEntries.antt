@@ -3,7 +3,7 @@ use Rattle.std.proofs.Common.{◌≡◌, ℕ, ◌<◌, ◌≤◌, List, [], ◌�
 use Rattle.std.specs.Prelude.{IsSome, IfSome, IsSomeAnd, OnSome, option_and_then}
 use Rattle.std.proofs.lemmas.List.Elements.{All-weaker}
 use Rattle.eval_engine.proofs.Hits.{hits_are_given_out}
-use Rattle.eval_engine.specs.Question.{Question}
+use Rattle.eval_engine.specs.Question.{Question, question_under}
 use Rattle.eval_engine.specs.Standing.{counts_after}
 use Rattle.fw_world.proofs.Running.{RisesBy-after}
 use Rattle.rule_chain.specs.Chain.{IsConfiguration}
@@ -22,7 +22,7 @@ use Rattle.fw_world.proofs.Judging.{count_in-hits}
 use Rattle.fw_world.specs.AskRuns.{RisesBy, raised_by}
 use Rattle.fw_world.specs.Asks.{LaneAsk, asks_of_record, ops_of, replies_of}
 use Rattle.fw_world.specs.Editions.{edition_numbered, judging_edition}
-use Rattle.fw_world.specs.Entries.{question_under, IsEvaluation, IsEvaluatedTo}
+use Rattle.fw_world.specs.Entries.{IsEvaluation, IsEvaluatedTo}
 use Rattle.fw_world.specs.Inputs.{Packet}
 use Rattle.fw_world.specs.Tallies.{Hit, hits_under, IsTallyOf, record_hits, packet_hits}
 use Rattle.generation_store.specs.Published.{Published}

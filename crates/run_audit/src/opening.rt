@@ -16,6 +16,7 @@ use crate::{AuditFault, first_unformed};
 use fw_command::Step;
 use fw_report::LineAnswer;
 use rule_chain::Config;
+use state_journal::Book;
 use std::alloc::Global;
 
 /// This fault, where each line of a report has a form; else that of the first line that has none,
@@ -59,4 +60,24 @@ pub(crate) fn opened_report(
         Ok(told) => Ok((told, answers)),
         Err(fault) => Err(with_form(report, fault)),
     }
+}
+
+/// The states with the journal that lines tell beside a script whose edition 1 has this
+/// configuration and that has these steps behind `live`. The lines are those of a report or of its
+/// journal alone. It fails exactly where a line is wrong, as `Audit::open` does, with the first such
+/// line, or for want of memory.
+pub fn open_journal(
+    alloc: Global,
+    lines: &[u8],
+    config: Config,
+    steps: &[Step],
+) -> Result<Book, AuditFault>
+    requires steps { AllByRecursion IsStepInRange steps.now }
+    ensures opened { IfOk result (λ book. (editions : List Published)
+        × IsOpened config steps.now lines.now editions book) }
+    ensures wrong { IfErr result (λ fault. IfWrong fault (FailsAtOpening config steps.now
+        lines.now)) }
+{
+    let (told, _) = opened_report(alloc, lines, config, steps)?;
+    Ok(told.book)
 }

@@ -2,11 +2,10 @@ ghost use Rattle.std.specs.Prelude.{◌≡◌, ◌<◌, ◌==◌, true, None, So
 ghost use Rattle.eval_engine.specs.Dockets.{judged_entry};
 ghost use Rattle.eval_engine.specs.declared.judgement.Judgement.{Judgement};
 ghost use Rattle.eval_engine.specs.Evaluation.{evaluate};
+ghost use Rattle.eval_engine.specs.Question.{question_under};
 ghost use Rattle.fw_world.specs.AskRuns.{RisesBy};
-ghost use Rattle.fw_world.specs.Entries.{question_under};
 ghost use Rattle.ip6_headers.specs.Either.{total_of};
 ghost use Rattle.report_reading.specs.RecordLines.{printed_rule, printed};
-ghost use Rattle.rule_chain.specs.Chain.{IsConfiguration};
 ghost use Rattle.run_audit.specs.ToldEvaluations.{ComesTo, replies_told};
 
 use crate::evaluate_told;
@@ -15,7 +14,7 @@ use eval_engine::{DocketEntry, Judgement};
 use fw_base::{OutOfMemory, Port};
 use generation_store::Edition;
 use ip6_headers::AnyIp;
-use rule_chain::Config;
+use rule_chain::is_configuration;
 use state_asks::{Op, Reply, RuleRef};
 
 /// A rule by its number alone, as a line tells it.
@@ -83,13 +82,6 @@ pub(crate) fn is_told_as(told: &DocketEntry, entry: &DocketEntry) -> bool
     is_same(told, &printed_entry(entry))
 }
 
-/// For proofs alone: a configuration's rules are lawful, as the evaluation requires.
-fn show_lawful(config: &Config)
-    ensures { IsConfiguration config.now }
-{
-    let _ = config.rules();
-}
-
 /// The judgement to which the evaluation of a packet comes with these replies, where it makes
 /// exactly these asks. Its hits are counted; where it doesn't, some may be.
 pub(crate) fn judged_under(
@@ -109,7 +101,7 @@ pub(crate) fn judged_under(
         → ComesTo (question_under edition.now packet.now port.now second) asked.now judgement → ⊥ }
 {
     let config = edition.config();
-    show_lawful(config);
+    is_configuration(config);
     tally.fit(config.counters())?;
     Ok(evaluate_told(edition, packet, port, second, asked, tally))
 }

@@ -1,8 +1,8 @@
 ghost use Rattle.std.specs.Prelude.{◌≡◌, ◌<◌, true, length, Some, IfSome, OnSome};
 ghost use Rattle.eval_engine.specs.Evaluation.{evaluate};
+ghost use Rattle.eval_engine.specs.Question.{question_under};
 ghost use Rattle.eval_engine.specs.Standing.{counts_after};
 ghost use Rattle.ip6_headers.specs.Either.{total_of};
-ghost use Rattle.fw_world.specs.Entries.{question_under};
 ghost use Rattle.run_audit.specs.ToldEvaluations as spec;
 
 use counter_book::Tally;

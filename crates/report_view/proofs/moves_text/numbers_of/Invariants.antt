@@ -1,8 +1,7 @@
--- Each text stands there once.
-use Rattle.std.proofs.Common.{nat_eq}
-use Rattle.std.specs.Cmp.Lexicographic.{pointwise}
-use Rattle.std.specs.List.{IsDistinct}
+-- The captures so far have as many numbers as records.
+use Rattle.std.proofs.Common.{◌≡◌, length, map, take}
+use Rattle.report_view.specs.MovesTold.{counts_of}
 use Rattle.report_view.proofs.moves_text.numbers_of.Given as goal
 
 abbrev pub invariant-loop-capture : goal.invariant-loop-capture
-invariant-loop-capture l = IsDistinct (pointwise nat_eq) l.texts.items
+invariant-loop-capture l = map length l.numbers.items ≡ counts_of (take l.capture-index l.report.captures.items)

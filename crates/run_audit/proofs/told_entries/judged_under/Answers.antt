@@ -1,7 +1,7 @@
 use Rattle.std.proofs.Common.{◌≡◌, ◌+◌, ◌<◌, length, subst, arith}
 use Rattle.rule_chain.specs.Chain.{IsConfiguration}
 use Rattle.rule_chain.specs.Configuration.{Configuration}
-use Rattle.fw_world.specs.Entries.{question_under}
+use Rattle.eval_engine.specs.Question.{question_under}
 use Rattle.run_audit.specs.ToldEvaluations.{replies_told}
 use Rattle.run_audit.proofs.ToldEntries.{on_some_map, rises_fitted}
 use Rattle.run_audit.proofs.told_entries.judged_under.Goals as goal
@@ -9,7 +9,7 @@ use Rattle.run_audit.proofs.told_entries.judged_under.Goals as goal
 pub returns-clause-counted : goal.returns-clause-counted
 returns-clause-counted c =
     let same = c.config-config.ensures.value in
-    let lawful : IsConfiguration c.args.edition.now.config = subst (λ (config : Configuration). IsConfiguration config) same c.show_lawful.ensures in
+    let lawful : IsConfiguration c.args.edition.now.config = subst (λ (config : Configuration). IsConfiguration config) same c.is_configuration.ensures in
     let counted = c.counters.ensures in
     let greatest = subst (λ (config : Configuration). c.counters.result ≡ config.greatest_counter + 1) same counted in
     let within : c.args.edition.now.config.greatest_counter < length c.fit.new.self = omega (arith, greatest, c.in_ok-fit.ensures.fitted) in

@@ -1,6 +1,6 @@
 use Rattle.std.proofs.Common.{◌<◌, length, take}
+use Rattle.eval_engine.specs.Question.{question_under}
 use Rattle.eval_engine.specs.Standing.{StandsAt}
-use Rattle.fw_world.specs.Entries.{question_under}
 use Rattle.run_audit.specs.ToldEvaluations.{ops_told, replies_told}
 use Rattle.run_audit.proofs.told_evaluations.evaluate_told.Given as goal
 

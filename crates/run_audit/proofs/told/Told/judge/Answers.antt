@@ -4,11 +4,11 @@ use Rattle.std.specs.List.{find}
 use Rattle.eval_engine.proofs.Dockets.{judgement_in-judged}
 use Rattle.eval_engine.specs.Dockets.{judged_entry, judgement_in}
 use Rattle.eval_engine.specs.Evaluation.{evaluate}
+use Rattle.eval_engine.specs.Question.{question_under}
 use Rattle.eval_engine.specs.declared.docket_entry.DocketEntry.{DocketEntry}
 use Rattle.fw_world.specs.AskRuns.{RisesBy}
 use Rattle.fw_world.specs.Asks.{asks_of_record}
 use Rattle.fw_world.specs.Editions.{edition_numbered}
-use Rattle.fw_world.specs.Entries.{question_under}
 use Rattle.fw_world.specs.Inputs.{Packet}
 use Rattle.fw_world.specs.Tallies.{IsTallyOf, record_hits}
 use Rattle.ip6_headers.specs.Either.{total_of}
