@@ -12,6 +12,7 @@ REPORT_BENCH = bin/report_bench
 EDIT_BENCH = bin/edit_bench
 WORLD_BENCH = bin/world_bench
 REPLAY_BENCH = bin/replay_bench
+BENCHES = $(LOCK_BENCH) $(STATES_BENCH) $(REPORT_BENCH) $(EDIT_BENCH) $(WORLD_BENCH) $(REPLAY_BENCH)
 
 # Fails with one line where the toolchain's command is missing.
 need_rt = @command -v $(RT) >/dev/null || { \
@@ -19,18 +20,19 @@ need_rt = @command -v $(RT) >/dev/null || { \
 
 all: $(PROGRAM) $(VIEW)
 
-# rt ci proves the program and the crates below it, links it and runs it on the capture that lies beside it.
-$(PROGRAM): bin/sources
+# rt ci proves the programs and the crates below them, once for both, links them and runs each on what lies beside it.
+$(PROGRAM) $(VIEW) &: bin/sources
 	$(need_rt)
-	@echo "proving the crates and linking $@: a first build takes minutes, and each proved crate has its lines"
-	RT=$(RT) build/run ipfw_cli
-	@mv bin/ipfw_cli $@
-	@echo "built $@"
+	@echo "proving the crates and linking $(PROGRAM) and $(VIEW): a first build takes minutes, and each proved crate has its lines"
+	RT=$(RT) build/run ipfw_cli report_view
+	@mv bin/ipfw_cli $(PROGRAM)
+	@echo "built $(PROGRAM) and $(VIEW)"
 
-$(VIEW) $(LOCK_BENCH) $(STATES_BENCH) $(REPORT_BENCH) $(EDIT_BENCH) $(WORLD_BENCH) $(REPLAY_BENCH): bin/%: bin/sources
+# The programs that measure, once for all.
+$(BENCHES) &: bin/sources
 	$(need_rt)
-	RT=$(RT) build/run $*
-	@echo "built $@"
+	RT=$(RT) build/run $(notdir $(BENCHES))
+	@echo "built $(BENCHES)"
 
 # The checksum of each source. The file is replaced only where one of them changed, so that nothing is built
 # anew else. Wrong bodies are no part of a program.
@@ -56,7 +58,7 @@ wrong-bodies:
 	$(need_rt)
 	RT=$(RT) wrong-bodies/run
 
-bench: $(PROGRAM) $(LOCK_BENCH) $(STATES_BENCH) $(REPORT_BENCH) $(EDIT_BENCH) $(WORLD_BENCH) $(REPLAY_BENCH)
+bench: $(PROGRAM) $(BENCHES)
 	bench/run $(PROGRAM) $(EDIT_BENCH)
 	$(STATES_BENCH) 1000000
 	$(REPORT_BENCH) 1000000
@@ -88,7 +90,7 @@ help:
 	@echo "make bench      builds, and times the program on large captures, beside tcpdump where it is installed (needs python3), the states' asks, the report's lines, edits of a configuration, the lock's sections, the shared world's, and both replays without their reports"
 	@echo "make pictures   builds, and makes pictures of the examples' pages below pictures/ (needs chromium)"
 	@echo "make install    builds, and copies the programs, their manual pages, docs/RULES.md and docs/RECIPES.md below DESTDIR/PREFIX ($(PREFIX))"
-	@echo "make clean      removes all that was built here; what was proved stays with rt"
+	@echo "make clean      removes all that was built here"
 	@echo
 	@echo "RT=COMMAND names another command than rt for the Rattle toolchain. RT_JOBS=N in the environment has it do N things at a"
 	@echo "time, in place of one for each processor where memory is free."
