@@ -1,6 +1,6 @@
 -- The editions in the operator's hand, which are exchanged one by one.
 use Rattle.std.proofs.Common.{◌≡◌, ℕ, zero, suc, ◌+◌, ◌<◌, Some, List, [], ◌∷◌, ◌++◌, append_assoc, length, length-append, refl, sym, ◌∙◌, ap, arith}
-use Rattle.std.specs.Prelude.{slice_get, slice_set, slice_index_or, take}
+use Rattle.std.specs.Prelude.{slice_get, slice_set, take}
 use Rattle.atomic_table.specs.Table.{rest}
 use Rattle.rm_table.specs.declared.padded_slot.Slot.TheVariants.{Edition}
 use Rattle.rm_table.specs.Moves.{Hand, editions_from, rest_from}

@@ -10,7 +10,6 @@ use Rattle.rm_table.specs.declared.view.View.{View}
 use Rattle.rm_table.specs.Meanings.{Meanings}
 use Rattle.rm_table.specs.Moves.{joined_view, kept_at, AllSplit, AllJoined, NoneRevoked}
 use Rattle.rm_table.specs.Ends.{ClosesWith}
-use Rattle.rm_table.specs.Rests.{IsAtRest}
 use Rattle.rm_table.proofs.Base.{snoc_get}
 use Rattle.rm_lock.proofs.Hands.{get_prefix}
 use Rattle.rm_lock.specs.Tokens.{TokenState, IsAtRestBy}

@@ -4,7 +4,6 @@ pub mod Told
 -- a write: its beginning, the editions in the hand, the publication
 pub mod Marks
 pub mod Hands
-pub mod Begins
 pub mod Publications
 -- the book, taken and given back
 pub mod Givings

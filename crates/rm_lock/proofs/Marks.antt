@@ -9,9 +9,9 @@ use Rattle.rm_table.specs.declared.padded_slot.Slot.TheVariants.{Edition}
 use Rattle.rm_table.specs.declared.view.View.{View}
 use Rattle.rm_table.specs.Layout.{tracker_index, token_index}
 use Rattle.rm_table.specs.Meanings.{Meanings, values_from}
-use Rattle.rm_table.specs.Moves.{with_step, revoked_view, drained_view, is_revoked, is_drained, editions_from, IsOperator, IsLast, NoneRevoked, NoneDrained, AllRevoked}
+use Rattle.rm_table.specs.Moves.{with_step, revoked_view, drained_view, is_revoked, is_drained, editions_from, IsOperator, IsLast, NoneDrained}
 use Rattle.rm_table.proofs.Base.{pushed_values}
-use Rattle.rm_lock.specs.Calls.{with_loads, with_looks, waited_view, revocations, WaitsForProcessor}
+use Rattle.rm_lock.specs.Calls.{with_loads, with_looks, waited_view, WaitsForProcessor}
 use Rattle.rm_lock.specs.Writes.{unmarked_view, HasFoundAll}
 
 module _ {E B T L I : Type 0} where

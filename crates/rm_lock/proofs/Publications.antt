@@ -3,21 +3,19 @@ use Rattle.std.proofs.Common.{◌≡◌, ◌≢◌, inr, ℕ, ◌+◌, ◌<◌, 
 use Rattle.std.specs.Prelude.{slice_get}
 use Rattle.std.proofs.lemmas.List.{length-replicate}
 use Rattle.atomic_table.specs.Table.{Me, rest, turned}
-use Rattle.rm_table.specs.declared.lock_steps.Tried.{Tried}
-use Rattle.rm_table.specs.declared.lock_steps.Tried.TheVariants.{Taken}
+use Rattle.atomic_table.specs.Seated.{TableId}
 use Rattle.rm_table.specs.declared.padded_slot.Slot.{Slot}
 use Rattle.rm_table.specs.declared.padded_slot.Slot.TheVariants.{Book}
 use Rattle.rm_table.specs.declared.view.View.{View}
 use Rattle.rm_table.specs.Layout.{number_index, book_index, behind_index}
 use Rattle.rm_table.specs.Meanings.{Meanings}
 use Rattle.rm_table.specs.Moves.{Hand, with_step, book_taken, book_given, behind_given, published_view, published_as, rest_from, editions_from, HasNext, HasBook, IsWorking, NoneRevoked, FoundBy}
-use Rattle.rm_table.specs.Answers.{AnswersBookTry}
 use Rattle.rm_table.proofs.Publishing.{flag_of-replicate}
 use Rattle.rm_table.proofs.Writes.{written_hand, published_of, has_written}
 use Rattle.rm_lock.specs.Calls.{AreNext, PublishesEditions, after_write}
-use Rattle.rm_lock.specs.Tokens.{IsAtRestBy}
+use Rattle.rm_lock.specs.Tokens.{TokenState, IsAtRestBy, WritesBy, AreOld}
 use Rattle.rm_lock.specs.Writes.{IsWriting}
-use Rattle.rm_lock.proofs.Hands.{editions_before, rest_behind}
+use Rattle.rm_lock.proofs.Hands.{editions_before, rest_behind, same_editions}
 
 one_more : {A : Type 0} (xs : List A) (x : A) → length (xs ++ x ∷ []) ≡ length xs + 1
 one_more [] x = refl
@@ -174,3 +172,40 @@ module _ {E B T L I : Type 0} (m : Meanings E B T L I) where
         count_is = count;
         number_is = ap (λ (n : ℕ). n + 1) is;
       })
+
+  -- the editions were exchanged, and nothing else is changed
+  pub is_writing : (processors number : ℕ) (s0 s1 : Me (Slot E B) (View E B T L I)) → WritesBy m processors number s0.0 s0.1 → s1.0 ≡ s0.0 → IsWriting s1.0
+  is_writing processors number s0 s1 w same = subst (λ (v : View E B T L I). IsWriting v) (sym same) (record {
+    operator = w.operator;
+    some = w.some;
+    behind = w.behind;
+    bookless = w.bookless;
+    unpublished = w.unpublished;
+    ready = w.ready;
+    room = w.room;
+    drained = w.drained;
+    kept_size = w.kept_size;
+    begun = w.begun;
+    counts = w.counts;
+  })
+
+  -- what publishing asks of the operator that has exchanged the editions
+  pub may_write : (token : TokenState E B T L I) (table : TableId) (s0 s1 : Me (Slot E B) (View E B T L I)) (editions : List E) (facts : T) → record { table_id = table; view = s0.0 } ≡ token → s1 ≡ (s0.0, editions_from 1 editions []) → length editions ≡ token.view.count → AreNext m token.view.number editions facts
+      → (length editions ≡ s1.0.count) × (s1.1 ≡ editions_from 1 editions []) × AreNext m s1.0.number editions facts
+  may_write token table s0 s1 editions facts is now count next =
+      let view : token.view ≡ s1.0 = sym (ap (λ (u : TokenState E B T L I). u.view) is) ∙ sym (ap (λ (s : Me (Slot E B) (View E B T L I)). s.0) now) in (
+        count ∙ ap (λ (v : View E B T L I). v.count) view,
+        ap (λ (s : Me (Slot E B) (View E B T L I)). s.1) now,
+        subst (λ (v : View E B T L I). AreNext m v.number editions facts) view next,
+      )
+
+  -- the editions that are given back are the old ones
+  pub old_again : (token : TokenState E B T L I) (table : TableId) (processors number : ℕ) (s0 : Me (Slot E B) (View E B T L I)) (editions : List E) → record { table_id = table; view = s0.0 } ≡ token → WritesBy m processors number s0.0 s0.1 → s0.1 ≡ editions_from 1 editions [] → AreOld m token.view editions
+  old_again token table processors number s0 editions is w was =
+      let same : w.editions ≡ editions = same_editions 1 w.editions editions s0.1 w.hand_is was in
+      subst (λ (u : TokenState E B T L I). AreOld m u.view editions) is (subst (λ (es : List E). AreOld m s0.0 es) same w.old)
+
+  -- what the operator's seat publishes, its token publishes
+  pub published_for : (token : TokenState E B T L I) (table : TableId) (s0 s1 : Me (Slot E B) (View E B T L I)) (editions : List E) (facts : T) (after : View E B T L I) → record { table_id = table; view = s0.0 } ≡ token → s1 ≡ (s0.0, editions_from 1 editions []) → PublishesEditions m s1.0 editions facts after → PublishesEditions m token.view editions facts after
+  published_for token table s0 s1 editions facts after is now p =
+      subst (λ (v : View E B T L I). PublishesEditions m v editions facts after) (ap (λ (s : Me (Slot E B) (View E B T L I)). s.0) now ∙ ap (λ (u : TokenState E B T L I). u.view) is) p

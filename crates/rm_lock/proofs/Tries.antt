@@ -2,18 +2,17 @@
 use Rattle.std.proofs.Common.{◌≡◌, inl, inr, ℕ, ◌≤◌, Bool, Option, Some, None, List, [], ◌∷◌, refl, sym, ◌∙◌, ap, subst}
 use Rattle.atomic_table.specs.Table.{Me, rest}
 use Rattle.atomic_table.specs.Seated.{TableId}
-use Rattle.rm_core.specs.declared.event.Heard.TheVariants.{Drained}
 use Rattle.rm_table.specs.declared.view.Role.TheVariants.{Processor}
 use Rattle.rm_table.specs.declared.padded_slot.Slot.{Slot}
-use Rattle.rm_table.specs.declared.padded_slot.Slot.TheVariants.{Edition, Book}
+use Rattle.rm_table.specs.declared.padded_slot.Slot.TheVariants.{Book}
 use Rattle.rm_table.specs.declared.lock_steps.Tried.TheVariants.{Taken}
 use Rattle.rm_table.specs.declared.view.View.{View}
-use Rattle.rm_table.specs.Layout.{number_index, behind_index, tracker_index, token_index}
+use Rattle.rm_table.specs.Layout.{number_index, behind_index, token_index}
 use Rattle.rm_table.specs.Meanings.{Meanings}
-use Rattle.rm_table.specs.Moves.{Hand, with_step, drained_view, behind_taken, behind_given, number_read, regained_view, SeenUpTo, IsOperator, IsWorking, IsLast, FoundBy}
-use Rattle.rm_table.specs.Answers.{AnswersDrain, AnswersNumberRead, AnswersRegain, AnswersBookTry}
+use Rattle.rm_table.specs.Moves.{Hand, with_step, behind_taken, behind_given, number_read, regained_view, SeenUpTo, IsOperator, IsWorking, FoundBy}
+use Rattle.rm_table.specs.Answers.{AnswersNumberRead, AnswersRegain, AnswersBookTry}
 use Rattle.rm_lock.specs.Tokens.{TokenState, IsInBy}
-use Rattle.rm_lock.specs.Calls.{waited_view, after_taking_behind, after_taking_book, Regains, TakesBook, WaitsForProcessor}
+use Rattle.rm_lock.specs.Calls.{waited_view, after_taking_behind, after_taking_book, Regains, TakesBook}
 
 module _ {E B : Type 0} where
   -- the book on top of the hand

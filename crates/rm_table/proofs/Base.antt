@@ -1,7 +1,7 @@
 -- Functions changed at one place, words of the table, and the core that functions stand for.
-use Rattle.std.proofs.Common.{◌≡◌, ◌≢◌, ℕ, zero, suc, ◌+◌, ◌-◌, ◌<◌, ◌≤◌, ◌⊎◌, inl, inr, Bool, true, false, Option, Some, None, List, [], ◌∷◌, ◌++◌, map, length, length-set, refl, sym, ◌∙◌, ap, arith, subst, eq-eqb, ne_eqb, ⊎_elim}
+use Rattle.std.proofs.Common.{◌≡◌, ◌≢◌, ℕ, zero, suc, ◌+◌, ◌-◌, ◌<◌, ◌≤◌, ◌⊎◌, inl, inr, Bool, false, Option, Some, None, List, [], ◌∷◌, ◌++◌, map, length, length-set, refl, sym, ◌∙◌, ap, arith, subst, eq-eqb, ne_eqb, ⊎_elim}
 use Rattle.std.proofs.lemmas.Option.{get_or_from_slice_get}
-use Rattle.std.specs.Prelude.{All, IsSome, MatchBool, slice_index, slice_index_or, slice_set, slice_get, if◌then◌else◌}
+use Rattle.std.specs.Prelude.{All, IsSome, slice_index, slice_index_or, slice_set, slice_get, if◌then◌else◌}
 use Rattle.std.proofs.lemmas.Bool.Decides.{eqb_tells}
 use Rattle.std.proofs.lemmas.List.{set-get_or, get_or-set_same, get_or-set_other}
 use mathlib.Core.Option as at

@@ -1,8 +1,7 @@
 -- The publication, which sends every edition home.
-use Rattle.std.proofs.Common.{◌≡◌, ◌≢◌, ℕ, zero, suc, ◌+◌, ◌-◌, ◌<◌, ◌≤◌, ◌⊎◌, inl, inr, Bool, true, false, Some, None, List, [], ◌∷◌, ◌++◌, length, length-set, length-append, refl, sym, ◌∙◌, ap, arith, subst, ⊎_elim, append_assoc}
-use Rattle.std.specs.Prelude.{slice_set, slice_get, slice_index_or, replicate, nat_lt, if◌then◌else◌, ◌==◌}
+use Rattle.std.proofs.Common.{◌≡◌, ◌≢◌, ℕ, zero, suc, ◌+◌, ◌-◌, ◌<◌, ◌≤◌, ◌⊎◌, inl, inr, Bool, true, false, Some, List, [], ◌∷◌, ◌++◌, length, length-set, length-append, refl, sym, ◌∙◌, ap, arith, subst, ⊎_elim, append_assoc}
+use Rattle.std.specs.Prelude.{slice_set, slice_get, slice_index_or, replicate, nat_lt}
 use Rattle.std.proofs.lemmas.List.{length-replicate}
-use Rattle.std.proofs.lemmas.Bool.{eqb-true}
 use Rattle.std.proofs.lemmas.Bool.Decides.{nat_tests}
 use mathlib.Core.Option as at
 use lib.ListN.{get_elem?}

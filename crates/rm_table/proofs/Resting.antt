@@ -1,5 +1,5 @@
 -- The operator's seat through opening and closing.
-use Rattle.std.proofs.Common.{◌≡◌, ◌⊎◌, inl, inr, ℕ, zero, suc, ◌+◌, ◌<◌, ◌≤◌, true, false, Option, Some, None, List, [], ◌∷◌, length, length-set, refl, sym, ◌∙◌, ap, subst, arith}
+use Rattle.std.proofs.Common.{◌≡◌, ◌⊎◌, inl, inr, ℕ, zero, suc, ◌+◌, ◌<◌, ◌≤◌, true, false, Some, None, List, [], ◌∷◌, length, length-set, refl, sym, ◌∙◌, ap, subst, arith}
 use Rattle.std.specs.Prelude.{slice_get, slice_set, replicate}
 use Rattle.std.proofs.lemmas.List.{length-replicate}
 use Rattle.std.proofs.lemmas.Bool.Decides.{eqb_tells}
@@ -10,9 +10,9 @@ use Rattle.rm_table.specs.declared.padded_slot.Slot.{Slot}
 use Rattle.rm_table.specs.declared.part.Part.{Part}
 use Rattle.rm_table.specs.declared.view.View.{View}
 use Rattle.rm_table.specs.Meanings.{Meanings, with_value_at}
-use Rattle.rm_table.specs.Moves.{Hand, KeepsPart, kept_at, split_off, right_of, processor_view, joined_view, AllSplit, AllJoined, NoneRevoked, NoneDrained}
+use Rattle.rm_table.specs.Moves.{Hand, KeepsPart, kept_at, split_off, joined_view, AllSplit, AllJoined, NoneRevoked, NoneDrained}
 use Rattle.rm_table.specs.Ends.{first_part, first_view, OpensTable}
-use Rattle.rm_table.specs.Rests.{IsIdle, IsAtRest, IsOpening, IsClosing, IsRejoined, OpensFrom, IsRejoinedFrom}
+use Rattle.rm_table.specs.Rests.{IsAtRest, IsOpening, IsClosing, IsRejoined, OpensFrom, IsRejoinedFrom}
 use Rattle.rm_table.proofs.Base.{at_put, length-values, values_at}
 use Rattle.rm_table.proofs.Publishing.{flag_of-replicate}
 

@@ -88,6 +88,7 @@ module _ {E B T L I : Type 0} (m : Meanings E B T L I) where
     others_away : (r : ProcessorState) (k : ℕ) → k ≢ v.place → IsAway (c.state k) → IsAway (with_value_at c.state v.place r k)
     others_away r k other was = subst IsAway (sym (put_else c.state v.place r k other)) was
 
+    -- the processor, raised
     abbrev pub raised_state : ProcessorState
     raised_state = record (c.state v.place) { phase = Raised }
 

@@ -180,6 +180,7 @@ module _ {E B T L I : Type 0} (m : Meanings E B T L I) where
         is_there c (λ q. (q.revoked ≡ true) × (q.drained ≡ false)) k low within
         (sym (writer_keeps.revoked k low within) ∙ revoked, sym (writer_keeps.drained k low within) ∙ undrained)
 
+    -- a processor, drained
     abbrev pub drained_state : ℕ → ProcessorState
     drained_state k = record (c.state k) { drained = true }
 

@@ -5,7 +5,7 @@ use Rattle.std.proofs.lemmas.List.{length-replicate}
 use Rattle.rm_core.proofs.Changes.{same_of-replicate}
 use Rattle.atomic_table.specs.Table.{Me, rest, turned}
 use Rattle.rm_core.specs.declared.event.Heard.{Heard}
-use Rattle.rm_core.specs.declared.event.Heard.TheVariants.{Held, Drained}
+use Rattle.rm_core.specs.declared.event.Heard.TheVariants.{Drained}
 use Rattle.rm_table.specs.declared.view.Role.TheVariants.{Operator}
 use Rattle.rm_table.specs.declared.lock_steps.Tried.{Tried}
 use Rattle.rm_table.specs.declared.lock_steps.Tried.TheVariants.{Taken}
@@ -14,7 +14,7 @@ use Rattle.rm_table.specs.declared.padded_slot.Slot.TheVariants.{Edition, Book}
 use Rattle.rm_table.specs.declared.view.View.{View}
 use Rattle.rm_table.specs.Meanings.{Meanings}
 use Rattle.rm_table.specs.Moves.{Hand, with_step, published_view, published_as, joined_view, rest_from, editions_from, HasNext, HasBook, LeftByOperator, AllJoined}
-use Rattle.rm_table.specs.Answers.{AnswersCheck, AnswersDrain, AnswersBookTry}
+use Rattle.rm_table.specs.Answers.{AnswersDrain, AnswersBookTry}
 use Rattle.rm_table.specs.Rests.{IsAtRest, IsRejoinedFrom}
 use Rattle.rm_table.proofs.Resting.{after_join, rejoined_closing, all_joined}
 

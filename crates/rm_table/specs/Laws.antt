@@ -5,6 +5,7 @@ use lib.ListN.{get_elem?}
 use prog.Atomic.{either}
 use Rattle.atomic_table.specs.Table.{State, step, stepped, Act, Valid, carried_after}
 use Rattle.rm_core.specs.declared.processor_state.Phase.TheVariants.{Out, Raised, In}
+use Rattle.rm_core.specs.declared.event.Event.{Event}
 use Rattle.rm_core.specs.declared.event.Event.TheVariants.{Raise, Check, Lower, TakeBack, GiveBack, Regain, Revoke, Drain, ReadNumber, Publish}
 use Rattle.rm_core.specs.CoreState.{CoreState, MayCome, after}
 use Rattle.rm_table.specs.declared.view.Role.TheVariants.{Processor, Operator, Receipt}
@@ -21,6 +22,10 @@ use Rattle.rm_table.specs.Plays.{Seated, TellsRaise, TellsCheck, TellsLower, Tel
 abbrev pub Going : Type 1
 Going = CoreState → ℕ → CoreState → Type 0
 
+-- the event may come, and the lock's core takes it
+abbrev pub TakesEvent : Event → Going
+TakesEvent event = λ s found after_it. MayCome s event × (after_it ≡ after s event)
+
 module _ {E B T L I : Type 0} (m : Meanings E B T L I) where
   -- Whatever state the table shows when the word i becomes f of what it was, the seat has a new view and an act, the table shows a state
   -- by the rule again, the lock's core goes on like this, and `then` is told.
@@ -33,32 +38,32 @@ module _ {E B T L I : Type 0} (m : Meanings E B T L I) where
   -- raise is the core's event Raise: a processor that is out stores an odd number in its tracker
   abbrev pub RaiseLaw : Type 0
   RaiseLaw = (slots id : ℕ) (me : Seated m) (i x : ℕ) → i ≡ tracker_index me.0.place → me.0.role ≡ Processor → me.0.phase ≡ Out → x ≡ tracker_word (me.0.part.sections + 1) Raised
-      → Makes slots id me i (λ _. x) (λ s found after_it. MayCome s (Raise me.0.place) × (after_it ≡ after s (Raise me.0.place))) (λ _. TellsRaise m (step slots i x 0 at.none) me x)
+      → Makes slots id me i (λ _. x) (TakesEvent (Raise me.0.place)) (λ _. TellsRaise m (step slots i x 0 at.none) me x)
 
   -- check is the core's event Check: a processor that is raised loads its token
   abbrev pub CheckLaw : Type 0
   CheckLaw = (slots id : ℕ) (me : Seated m) (i : ℕ) → i ≡ token_index me.0.count me.0.place → me.0.role ≡ Processor → me.0.phase ≡ Raised
-      → Makes slots id me i (λ n. n) (λ s found after_it. MayCome s (Check me.0.place) × (after_it ≡ after s (Check me.0.place))) (TellsCheck m (step slots i 0 0 at.none) me)
+      → Makes slots id me i (λ n. n) (TakesEvent (Check me.0.place)) (TellsCheck m (step slots i 0 0 at.none) me)
 
   -- lower is the core's event Lower: a processor that is raised or in, and hasn't the book, stores an even number in its tracker
   abbrev pub LowerLaw : Type 0
   LowerLaw = (slots id : ℕ) (me : Seated m) (i x : ℕ) → i ≡ tracker_index me.0.place → me.0.role ≡ Processor → (me.0.phase ≡ Raised) ⊎ (me.0.phase ≡ In) → me.0.book ≡ None → (me.0.phase ≡ In → HasEdition m me.0 me.1) → x ≡ tracker_word me.0.part.sections Out
-      → Makes slots id me i (λ _. x) (λ s found after_it. MayCome s (Lower me.0.place) × (after_it ≡ after s (Lower me.0.place))) (λ _. TellsLower m (step slots i x 0 at.none) me x)
+      → Makes slots id me i (λ _. x) (TakesEvent (Lower me.0.place)) (λ _. TellsLower m (step slots i x 0 at.none) me x)
 
   -- regain is the core's event Regain: a processor that is out, holds the lock behind and has read the number stores 0 in its token
   abbrev pub RegainLaw : Type 0
   RegainLaw = (slots id : ℕ) (me : Seated m) (i number : ℕ) → i ≡ token_index me.0.count me.0.place → me.0.role ≡ Processor → me.0.phase ≡ Out → me.0.behind ≡ true → me.0.part.read ≡ Some number
-      → Makes slots id me i (λ _. 0) (λ s found after_it. MayCome s (Regain me.0.place) × (after_it ≡ after s (Regain me.0.place))) (λ _. TellsRegain m (step slots i 0 0 at.none) me 0)
+      → Makes slots id me i (λ _. 0) (TakesEvent (Regain me.0.place)) (λ _. TellsRegain m (step slots i 0 0 at.none) me 0)
 
   -- a try that finds another holder is no event
   abbrev pub TakeBackLaw : Type 0
   TakeBackLaw = (slots id : ℕ) (me : Seated m) (i x : ℕ) → i ≡ behind_index → IsWorking me.0 → x ≡ me.0.place
-      → Makes slots id me i (λ n. either (n == 0) x n) (λ s found after_it. MatchBool (found == 0) (MayCome s (TakeBack me.0.place) × (after_it ≡ after s (TakeBack me.0.place))) (after_it ≡ s)) (TellsTakeBehind m (step slots i 0 x at.none) me)
+      → Makes slots id me i (λ n. either (n == 0) x n) (λ s found after_it. MatchBool (found == 0) (TakesEvent (TakeBack me.0.place) s found after_it) (after_it ≡ s)) (TellsTakeBehind m (step slots i 0 x at.none) me)
 
   -- give back is the core's event GiveBack: who holds the lock behind stores 0 in its word, the operator only where no token is revoked
   abbrev pub GiveBackLaw : Type 0
   GiveBackLaw = (slots id : ℕ) (me : Seated m) (i : ℕ) → i ≡ behind_index → IsWorking me.0 → me.0.behind ≡ true → (me.0.role ≡ Operator → NoneRevoked me.0)
-      → Makes slots id me i (λ _. 0) (λ s found after_it. MayCome s (GiveBack me.0.place) × (after_it ≡ after s (GiveBack me.0.place))) (λ _. TellsGiveBehind m (step slots i 0 0 at.none) me 0)
+      → Makes slots id me i (λ _. 0) (TakesEvent (GiveBack me.0.place)) (λ _. TellsGiveBehind m (step slots i 0 0 at.none) me 0)
 
   -- read number is the core's event ReadNumber: what is loaded is the published number
   abbrev pub ReadNumberLaw : Type 0
@@ -68,17 +73,17 @@ module _ {E B T L I : Type 0} (m : Meanings E B T L I) where
   -- revoke is the core's event Revoke: the operator, who holds the lock behind, stores the next number in a processor's token
   abbrev pub RevokeLaw : Type 0
   RevokeLaw = (slots id : ℕ) (me : Seated m) (i k x : ℕ) → i ≡ token_index me.0.count k → IsOperator me.0 → 0 < k → k ≤ me.0.count → me.0.behind ≡ true → is_revoked me.0 k ≡ false → me.0.number < 2 ^ 64 - 1 → x ≡ me.0.number + 1
-      → Makes slots id me i (λ _. x) (λ s found after_it. MayCome s (Revoke k) × (after_it ≡ after s (Revoke k))) (λ _. TellsRevoke m (step slots i x 0 at.none) me x)
+      → Makes slots id me i (λ _. x) (TakesEvent (Revoke k)) (λ _. TellsRevoke m (step slots i x 0 at.none) me x)
 
   -- drain is the core's event Drain: the operator loads the tracker of a processor whose token it revoked
   abbrev pub DrainLaw : Type 0
   DrainLaw = (slots id : ℕ) (me : Seated m) (i k : ℕ) → i ≡ tracker_index k → IsOperator me.0 → 0 < k → k ≤ me.0.count → is_revoked me.0 k ≡ true → is_drained me.0 k ≡ false
-      → Makes slots id me i (λ n. n) (λ s found after_it. MayCome s (Drain k) × (after_it ≡ after s (Drain k))) (TellsDrain m (step slots i 0 0 at.none) me)
+      → Makes slots id me i (λ n. n) (TakesEvent (Drain k)) (TellsDrain m (step slots i 0 0 at.none) me)
 
   -- publish is the core's event Publish: once all processors are drained the operator stores the next number
   abbrev pub PublishLaw : Type 0
   PublishLaw = (slots id : ℕ) (me : Seated m) (i x : ℕ) (book : B) → i ≡ number_index → IsOperator me.0 → HasNext m me.0 me.1 → AllDrained me.0 → me.0.behind ≡ true → me.0.book ≡ Some book → 0 < me.0.count → x ≡ me.0.number + 1
-      → Makes slots id me i (λ _. x) (λ s found after_it. MayCome s Publish × (after_it ≡ after s Publish)) (λ _. TellsPublish m (step slots i x 0 at.none) me x)
+      → Makes slots id me i (λ _. x) (TakesEvent Publish) (λ _. TellsPublish m (step slots i x 0 at.none) me x)
 
   -- a book step: the lock's core stays
   abbrev pub TakeBookLaw : Type 0
@@ -114,3 +119,38 @@ module _ {E B T L I : Type 0} (m : Meanings E B T L I) where
   HearLaw = (id other : ℕ) (v w : View E B T L I) → v.role ≡ Processor → w.role ≡ Receipt
       → (t : State (Slot E B) (View E B T L I)) (whole : Whole m t) → get_elem? t.views id ≡ at.some v → ¬ (other ≡ id) → get_elem? (slice_set t.views id (informed_view v w)) other ≡ at.some w
       → (d : WholeState E B T L I) × Shows m d (record { words = t.words; homes = t.homes; views = slice_set (slice_set t.views id (informed_view v w)) other spent_view }) × (core_of d ≡ core_of whole.0)
+
+  -- All kinds together: each keeps the running rule, and is the event of its row in the lock's core, a book step, or no event.
+  pub record EachKindIsItsEvent : Type 0 where
+    -- a processor that is out raises its tracker
+    pub raise : RaiseLaw
+    -- a processor that is raised loads its token
+    pub check : CheckLaw
+    -- a processor that is raised or in lowers its tracker
+    pub lower : LowerLaw
+    -- a seat tries for the lock behind
+    pub take_back : TakeBackLaw
+    -- who holds the lock behind gives it back
+    pub give_back : GiveBackLaw
+    -- a processor that holds the lock behind takes its token again
+    pub regain : RegainLaw
+    -- the operator revokes a processor's token
+    pub revoke : RevokeLaw
+    -- the operator looks whether a processor whose token it revoked is out
+    pub drain : DrainLaw
+    -- a seat reads the published number
+    pub read_number : ReadNumberLaw
+    -- the operator publishes the next number
+    pub publish : PublishLaw
+    -- a seat tries for the book
+    pub take_book : TakeBookLaw
+    -- who has the book gives it back
+    pub give_book : GiveBookLaw
+    -- a processor's seat is split off the opening seat
+    pub split_seat : SplitLaw
+    -- a processor's seat is joined into the operator's
+    pub join_seat : JoinLaw
+    -- a receipt's seat is split off the operator's
+    pub split_receipt : ReceiptLaw
+    -- a receipt's seat is joined into a processor's
+    pub join_receipt : HearLaw

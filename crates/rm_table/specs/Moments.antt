@@ -93,3 +93,41 @@ module _ {E B T L I : Type 0} (m : Meanings E B T L I) where
   -- answers of a check and of a regain: it reads that edition or a later one.
   abbrev pub HeardLaw : Type 0
   HeardLaw = (v r : View E B T L I) (number : ℕ) → r.opened ≤ r.number → r.opened + length r.history ≡ r.number + 1 → SeenUpTo (informed_view v r).part number → r.number ≤ number
+
+  -- At every moment a processor that is in reads what is published, and so until it leaves.
+  pub record ReadersReadWhatIsPublished : Type 0 where
+    -- the edition of who is in has the published number, and the last name and tag of the history
+    pub reading : ReadingLaw
+    -- while a processor is in, the published number stays
+    pub staying : StayingLaw
+
+  -- No edition is replaced under a reader.
+  pub record NoEditionIsReplacedUnderAReader : Type 0 where
+    -- an edition that isn't in its slot is with its processor, or with the operator
+    pub away : AwayLaw
+    -- of whom the operator counts as drained, nobody is in
+    pub apart : ApartLaw
+    -- an edition in its slot has the published number
+    pub home : HomeLaw
+
+  -- Every seat exists, once, so whom the words of the two locks name is somebody, who knows of it.
+  pub record HoldersAreSeats : Type 0 where
+    -- each processor's place has a seat
+    pub seats : SeatLaw
+    -- the operator has a seat, at the last place
+    pub operator : OperatorLaw
+    -- no place has two seats
+    pub places : PlaceLaw
+    -- the holder of the lock behind has a seat, which knows that it holds it
+    pub behind : BehindLaw
+    -- the holder of the book has a seat, with the book
+    pub book : BookLaw
+
+  -- What a processor has seen, or was told of by a receipt, is published, and stands in the history.
+  pub record WhatIsSeenIsPublished : Type 0 where
+    -- each number and name that a processor has seen is published, and in the history
+    pub seen : SeenLaw
+    -- the history begins with that of each receipt
+    pub told : PrefixLaw
+    -- who has heard a receipt has seen its number
+    pub heard : HeardLaw

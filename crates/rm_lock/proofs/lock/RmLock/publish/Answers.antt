@@ -1,7 +1,6 @@
 use Rattle.std.proofs.Common.{rules, ap, ◌∙◌}
 use Rattle.rm_table.specs.Meanings.{meanings}
-use Rattle.rm_lock.proofs.Begins.{may_write, old_again, published_for, is_writing}
-use Rattle.rm_lock.proofs.Publications.{rests_again}
+use Rattle.rm_lock.proofs.Publications.{rests_again, may_write, old_again, published_for, is_writing}
 use Rattle.rm_lock.proofs.lock.RmLock.publish.Goals as goal
 
 pub publish_book-requires-clause-editions : goal.publish_book-requires-clause-editions
