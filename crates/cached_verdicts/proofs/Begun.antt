@@ -23,7 +23,7 @@ use Rattle.eval_engine.specs.Laws.{judgement_by}
 use Rattle.eval_engine.specs.Question.{Question, question_under}
 use Rattle.eval_engine.specs.Standing.{StandsAt, counts_after}
 use Rattle.eval_engine.specs.declared.judgement.Judgement.{Judgement}
-use Rattle.eval_engine.specs.declared.stage.Stage.TheVariants.{Judged}
+use Rattle.eval_engine.specs.declared.paused.Paused.{Paused}
 use Rattle.eval_engine.proofs.Hits.{hits_are_given_out}
 use Rattle.cached_verdicts.specs.LaneCache.{IsToKeep}
 use Rattle.cached_verdicts.specs.Verdicts.{evaluated_at_once}
@@ -32,10 +32,10 @@ use Rattle.cached_verdicts.proofs.First.{stops_whole}
 use Rattle.cached_verdicts.proofs.Once.{cacheable_editions_hit_once}
 
 -- a hit ends the evaluation, with its rule's counter risen
-pub hit_stands : (q : Question) (kept : KeptVerdict) (start : List Count) → evaluate q [] ≡ evaluated_at_once kept
-    → StandsAt q [] [] start (Judged kept.judgement) (slice_set start kept.counter (count_after_packet (counted_under start kept.counter) (total_of q.packet)))
+pub hit_stands : (q : Question) (kept : KeptVerdict) (start : List Count) (paused : Paused) → evaluate q [] ≡ evaluated_at_once kept
+    → StandsAt q [] [] start (Some kept.judgement) paused (slice_set start kept.counter (count_after_packet (counted_under start kept.counter) (total_of q.packet)))
 unfolding counts_after
-hit_stands q kept start once = record {
+hit_stands q kept start paused once = record {
   asked = ap (λ (e : Evaluated). e.asks) once;
   outcome = ap (λ (e : Evaluated). e.outcome) once;
   tallied = ap (λ (e : Evaluated). counts_after (total_of q.packet) e.hits start) (sym once);

@@ -10,23 +10,24 @@ ghost use Rattle.verdict_cache.specs.Cache.{WasMissed};
 ghost use Rattle.eval_engine.specs.Evaluation.{evaluate};
 ghost use Rattle.eval_engine.specs.Question.{Question, question_under};
 ghost use Rattle.eval_engine.specs.Standing.{StandsAt};
+ghost use Rattle.eval_engine.specs.declared.paused.Paused.{Paused};
 ghost use Rattle.cached_verdicts.specs.LaneCache.{with_value, IsVisited, IsToKeep};
 ghost use Rattle.cached_verdicts.specs.Verdicts.{evaluated_at_once, KeepsVerdicts};
 ghost use Rattle.cached_verdicts.specs.Visits.{visit_of};
 
 use crate::KeptVerdict;
 use counter_book::Tally;
-use eval_engine::{Judgement, Stage, begin};
-use fw_base::{OutOfMemory, Port};
+use eval_engine::{Judgement, Paused, Question, begin};
+use fw_base::OutOfMemory;
 use generation_store::Edition;
 use ip6_headers::AnyIp;
 use rule_chain::is_configuration;
 use verdict_cache::{Key, VerdictCache};
 
-/// How far an evaluation is, and whether the cache told its end.
+/// What an evaluation that began comes to, if it ends with no ask, and whether the cache told it.
 #[derive(Clone, Copy, Debug)]
 pub(crate) struct Begun {
-    pub(crate) stage: Stage,
+    pub(crate) judged: Option<Judgement>,
     pub(crate) is_hit: bool,
 }
 
@@ -34,51 +35,49 @@ pub(crate) struct Begun {
 /// cache doesn't know is evaluated, and kept where it may be.
 pub(crate) fn begin_by_cache(
     kept: &mut VerdictCache<KeptVerdict>,
-    edition: &Edition,
-    packet: &AnyIp<'_>,
-    port: &Port,
-    second: u32,
+    question: &Question<'_, '_, '_>,
+    paused: &mut Paused,
     tally: &mut Tally,
 ) -> Result<Begun, OutOfMemory>
-    requires fitted { edition.now.config.greatest_counter < length tally.old }
-    requires kept { KeepsVerdicts edition.now port.now kept.old }
+    requires fitted { question.now.edition.config.greatest_counter < length tally.old }
+    requires kept { KeepsVerdicts question.now.edition question.now.port kept.old }
     ensures stands { IfOk result (λ begun.
-        StandsAt (question_under edition.now packet.now port.now second) [] [] tally.old begun.stage
-        tally.new) }
+        StandsAt question.now [] [] tally.old begun.judged paused.new tally.new) }
     ensures visited { IfOk result (λ begun.
-        IsVisited (visit_of (question_under edition.now packet.now port.now second)) begun.is_hit
-        kept.old kept.new) }
-    ensures kept { KeepsVerdicts edition.now port.now kept.new }
+        IsVisited (visit_of question.now) begun.is_hit kept.old kept.new) }
+    ensures kept { KeepsVerdicts question.now.edition question.now.port kept.new }
     ensures room { kept.new.capacity ≡ kept.old.capacity }
-    ensures given { (kept.new ≡ kept.old) ⊎ (kept.new.number ≡ Some edition.now.number) }
+    ensures given { (kept.new ≡ kept.old) ⊎ (kept.new.number ≡ Some question.now.edition.number) }
 {
+    let packet = question.packet();
     let AnyIp::Four(ip) = packet else {
-        let stage = begin(edition, packet, port, second, tally);
+        let judged = begin(question, paused, tally);
         return Ok(Begun {
-            stage,
+            judged,
             is_hit: false,
         });
     };
+    let edition = question.edition();
     is_configuration(edition.config());
     let key = Key::of(ip);
     match kept.look(edition.number(), key) {
         Some(verdict) => {
             tally.hit(verdict.counter, packet.total());
             Ok(Begun {
-                stage: Stage::Judged(verdict.judgement),
+                judged: Some(verdict.judgement),
                 is_hit: true,
             })
         }
         None => {
-            let stage = begin(edition, packet, port, second, tally);
+            let judged = begin(question, paused, tally);
             keep(
                 kept,
                 edition.number(),
                 key,
-                verdict_to_keep(edition, &stage),
+                verdict_to_keep(edition, judged),
             )?;
             Ok(Begun {
-                stage,
+                judged,
                 is_hit: false,
             })
         }
@@ -102,20 +101,21 @@ fn keep(
     }
 }
 
-/// What is to be kept of the evaluation of an IPv4 packet that has come to this stage with no reply: nothing
+/// What is to be kept of the evaluation of an IPv4 packet that has come to this with no reply: nothing
 /// where it asks, or where some rule of the edition doesn't end the search.
-fn verdict_to_keep(edition: &Edition, stage: &Stage) -> Option<KeptVerdict>
+fn verdict_to_keep(edition: &Edition, judged: Option<Judgement>) -> Option<KeptVerdict>
     ensures { (packet : Fields) (port : Port) (second : ℕ) (start tally : List Count)
-        → StandsAt (question_under edition.now (Four packet) port second) [] [] start stage.now
-        tally
+        (paused : Paused)
+        → StandsAt (question_under edition.now (Four packet) port second) [] [] start judged
+        paused tally
         → IsToKeep (question_under edition.now (Four packet) port second) result }
 {
     if !edition.is_cacheable() {
         return None;
     }
-    match stage {
-        Stage::Judged(judgement) => verdict_by_rule(edition, *judgement),
-        Stage::Asks(..) => None,
+    match judged {
+        Some(judgement) => verdict_by_rule(edition, judgement),
+        None => None,
     }
 }
 

@@ -1,16 +1,13 @@
 ghost use Rattle.std.specs.Prelude.{◌≡◌, ◌<◌, ◌≤◌, ◌⊎◌, [], length, Some, IfSome, OnOk, OnErr, IfOk};
 ghost use Rattle.generation_store.specs.Published.{Published};
-ghost use Rattle.eval_engine.specs.Question.{question_under};
 ghost use Rattle.eval_engine.specs.Standing.{StandsAt};
 ghost use Rattle.cached_verdicts.specs.LaneCache.{empty_lane_cache, IsPortOf, IsTrueUnder, IsLookedInto, SeesPacket, HasRecent};
 
 use crate::KeptVerdict;
 use crate::beginning::begin_by_cache;
 use counter_book::Tally;
-use eval_engine::Stage;
+use eval_engine::{Judgement, Paused, Question};
 use fw_base::{OutOfMemory, Port};
-use generation_store::Edition;
-use ip6_headers::AnyIp;
 use std::alloc::Global;
 use std::marker::Model;
 use verdict_cache::{MOST_VERDICTS, VerdictCache};
@@ -75,30 +72,27 @@ impl LaneCache {
     /// the name of the port of the first packet, is an error.
     pub fn begin(
         &mut self,
-        edition: &Edition,
-        packet: &AnyIp<'_>,
-        port: &Port,
-        second: u32,
+        question: &Question<'_, '_, '_>,
+        paused: &mut Paused,
         tally: &mut Tally,
-    ) -> Result<Stage, OutOfMemory>
-        requires fitted { edition.now.config.greatest_counter < length tally.old }
-        requires port { IsPortOf self.old port.now }
-        requires kept { IsTrueUnder edition.now self.old }
-        ensures stands { IfOk result (λ stage.
-            StandsAt (question_under edition.now packet.now port.now second) [] [] tally.old stage
-            tally.new) }
+    ) -> Result<Option<Judgement>, OutOfMemory>
+        requires fitted { question.now.edition.config.greatest_counter < length tally.old }
+        requires port { IsPortOf self.old question.now.port }
+        requires kept { IsTrueUnder question.now.edition self.old }
+        ensures stands { IfOk result (λ judged.
+            StandsAt question.now [] [] tally.old judged paused.new tally.new) }
         ensures behind { (self.new ≡ self.old)
-            ⊎ IsLookedInto edition.now port.now self.old self.new }
-        ensures looked { OnOk result (IsLookedInto edition.now port.now self.old self.new) }
-        ensures seen { OnOk result
-            (SeesPacket (question_under edition.now packet.now port.now second) self.old self.new) }
+            ⊎ IsLookedInto question.now.edition question.now.port self.old self.new }
+        ensures looked { OnOk result
+            (IsLookedInto question.now.edition question.now.port self.old self.new) }
+        ensures seen { OnOk result (SeesPacket question.now self.old self.new) }
     {
-        note_port(&mut self.port, port)?;
-        let begun = begin_by_cache(&mut self.kept, edition, packet, port, second, tally)?;
+        note_port(&mut self.port, question.port())?;
+        let begun = begin_by_cache(&mut self.kept, question, paused, tally)?;
         if begun.is_hit {
             self.hits = self.hits.saturating_add(1);
         }
-        Ok(begun.stage)
+        Ok(begun.judged)
     }
 
     /// How many of the packets were hits; it stands still at 2^64 - 1.

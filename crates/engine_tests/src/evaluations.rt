@@ -6,7 +6,7 @@ mod worked;
 use crate::drafts::{Deed, added, applied};
 use crate::frames::{incoming, packet_of};
 use counter_book::Tally;
-use eval_engine::{DocketEntry, Judgement, Stage, begin, is_reply_to, resume};
+use eval_engine::{DocketEntry, Judgement, Paused, Question, begin, is_reply_to, resume};
 use fw_base::Port;
 use fw_rule::Command;
 use generation_store::Edition;
@@ -58,20 +58,19 @@ fn judged(
 ) -> Option<Judgement>
     requires { edition.now.config.greatest_counter < length tally.old }
 {
-    let mut stage = begin(edition, packet, port, 9, tally);
+    let question = Question::new(edition, packet, port, 9);
+    let mut paused = Paused::new();
+    let mut judgement = begin(&question, &mut paused, tally);
     for turn in turns {
-        let Stage::Asks(op, paused) = stage else {
-            return None;
-        };
-        if op != turn.op || !is_reply_to(edition, &op, &turn.reply) {
+        if judgement.is_some() {
             return None;
         }
-        stage = resume(paused, turn.reply, edition, packet, port, 9, tally);
+        if *paused.ask() != turn.op || !is_reply_to(edition, paused.ask(), &turn.reply) {
+            return None;
+        }
+        judgement = resume(&question, &mut paused, turn.reply, tally);
     }
-    match stage {
-        Stage::Judged(judgement) => Some(judgement),
-        Stage::Asks(..) => None,
-    }
+    judgement
 }
 
 /// Each rule counted as many packets as the row says, of the packet's bytes.

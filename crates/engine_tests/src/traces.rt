@@ -6,7 +6,7 @@ mod numbers;
 use crate::drafts::{applied, body, checking, name, rule};
 use crate::frames::{SYN, incoming, packet_of};
 use counter_book::Tally;
-use eval_engine::{Stage, begin, is_reply_to, resume};
+use eval_engine::{Judgement, Paused, Question, begin, is_reply_to, resume};
 use evaluation_laws::{Evaluation, Outcome, evaluate};
 use fw_base::Port;
 use fw_rule::{Action, Body, Command, LimitMask, StateOpt};
@@ -184,13 +184,18 @@ fn note(asks: &mut Vec<Op>, replies: &mut Vec<Reply>, op: Op, reply: Reply) -> R
     Ok(())
 }
 
-/// What was asked and replied, and the end, which may be an ask more.
-fn ended(mut asks: Vec<Op>, replies: Vec<Reply>, stage: Stage) -> Result<Shipped, Fail> {
-    let outcome = match stage {
-        Stage::Judged(judgement) => Outcome::Whole(judgement),
-        Stage::Asks(op, _) => {
-            asks.push(op)?;
-            Outcome::OpenAt(op)
+/// What was asked and replied, and the end: the judgement, or else an ask more.
+fn ended(
+    mut asks: Vec<Op>,
+    replies: Vec<Reply>,
+    judgement: Option<Judgement>,
+    ask: Op,
+) -> Result<Shipped, Fail> {
+    let outcome = match judgement {
+        Some(judgement) => Outcome::Whole(judgement),
+        None => {
+            asks.push(ask)?;
+            Outcome::OpenAt(ask)
         }
     };
     Ok(Shipped {
@@ -213,19 +218,21 @@ fn in_steps(
 {
     let mut asks = Vec::new(alloc);
     let mut replies = Vec::new(alloc);
-    let mut stage = begin(edition, packet, port, 9, tally);
+    let question = Question::new(edition, packet, port, 9);
+    let mut paused = Paused::new();
+    let mut judgement = begin(&question, &mut paused, tally);
     for _turn in 0..numbers.below(40) {
-        let Stage::Asks(op, paused) = stage else {
-            break;
-        };
-        let answer = reply(edition, numbers, &op);
-        if !is_reply_to(edition, &op, &answer) {
+        if judgement.is_some() {
             break;
         }
-        note(&mut asks, &mut replies, op, answer)?;
-        stage = resume(paused, answer, edition, packet, port, 9, tally);
+        let answer = reply(edition, numbers, paused.ask());
+        if !is_reply_to(edition, paused.ask(), &answer) {
+            break;
+        }
+        note(&mut asks, &mut replies, *paused.ask(), answer)?;
+        judgement = resume(&question, &mut paused, answer, tally);
     }
-    ended(asks, replies, stage)
+    ended(asks, replies, judgement, *paused.ask())
 }
 
 /// How often the list has this number.

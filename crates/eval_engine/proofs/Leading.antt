@@ -1,22 +1,21 @@
 -- How steps move an evaluation on.
-use Rattle.std.proofs.Common.{◌≡◌, ℕ, suc, ◌<◌, Option, Some, None, IsSome, IsSomeAnd, List, [], ◌∷◌, drop, length, refl, ap, sym, ◌∙◌, subst, arith, slice_set}
+use Rattle.std.proofs.Common.{◌≡◌, ℕ, suc, ◌<◌, Option, Some, List, [], ◌∷◌, drop, length, refl, ap, sym, ◌∙◌, subst, arith, slice_set}
 use Rattle.std.proofs.lemmas.List.{length-set}
 use Rattle.counter_book.specs.Counts.{counted_under, count_after_packet}
 use Rattle.counter_book.specs.declared.tally.Count.{Count}
 use Rattle.ip6_headers.specs.Either.{total_of}
-use Rattle.state_asks.specs.declared.op.Op.{Op}
 use Rattle.fw_rule.specs.declared.rule.Rule.{Rule}
 use Rattle.eval_engine.specs.Encounter.{rule_ref}
 use Rattle.eval_engine.specs.Question.{Question}
 use Rattle.eval_engine.specs.Standing.{counts_after, seen_by}
-use Rattle.eval_engine.specs.Steps.{walk_at, judged_at, judgement_from, waiting_at, IsStopped, IsStep, Comes, Remains, Nears, LeadsOn, PassesTo}
+use Rattle.eval_engine.specs.Steps.{walk_at, judged_at, judgement_from, paused_at, IsStopped, IsStep, Comes, Remains, Nears, LeadsOn, PassesTo}
 use Rattle.eval_engine.specs.Trace.{Trace, PassesOver, Counts, hits_of, stop_of_trace, length_of}
 use Rattle.eval_engine.specs.Walk.{trace_of_judgement, denied_at_end, refuses_from}
 use Rattle.eval_engine.specs.declared.judgement.Cause.{Cause}
+use Rattle.eval_engine.specs.declared.judgement.Judgement.{Judgement}
+use Rattle.eval_engine.specs.declared.paused.Paused.{Paused}
 use Rattle.eval_engine.specs.declared.position.Position.{Position}
 use Rattle.eval_engine.specs.declared.searched.Searched.{Searched}
-use Rattle.eval_engine.specs.declared.stage.Stage.{Stage}
-use Rattle.eval_engine.specs.declared.stage.Stage.TheVariants.{Judged}
 use Rattle.eval_engine.specs.declared.position.Step.{Step}
 use Rattle.eval_engine.specs.declared.position.Step.TheVariants.{On, Decides, Waits}
 use Rattle.eval_engine.specs.declared.judgement.Verdict.{Verdict}
@@ -38,28 +37,28 @@ nears_by q trace next before is = record {
 }
 
 -- a rule that stops the evaluation
-pub comes_at_once : (q : Question) (trace : Trace) (stage : Stage) (before : List Count) → IsStopped q trace stage → Comes q trace stage before before
+pub comes_at_once : (q : Question) (trace : Trace) (judged : Option Judgement) (paused : Paused) (before : List Count) → IsStopped q trace judged paused → Comes q trace judged paused before before
 unfolding hits_of stop_of_trace counts_after
-comes_at_once q trace stage before is = record {
+comes_at_once q trace judged paused before is = record {
   tallied = ap (λ (t : Trace). counts_after (total_of q.packet) (hits_of t) before) (sym is.stop);
   stop = ap (λ (t : Trace). stop_of_trace t) is.stop;
   asked = is.asked;
 }
 
 -- the rule at a position decides the packet
-pub decided_there : (q : Question) (at : Position) (rule : Rule) (rest : List Rule) (verdict : Verdict) (cause : Cause) → drop at.place q.edition.config.rules ≡ rule ∷ rest
-    → IsStopped q (trace_of_judgement q verdict (rule_ref rule) cause) (judged_at q verdict cause at)
-decided_there q at rule rest verdict cause there = rw there (record { stop = refl; asked = tt })
+pub decided_there : (q : Question) (searched : Searched) (at : Position) (rule : Rule) (rest : List Rule) (verdict : Verdict) (cause : Cause) → drop at.place q.edition.config.rules ≡ rule ∷ rest
+    → IsStopped q (trace_of_judgement q verdict (rule_ref rule) cause) (judged_at q verdict cause at) (paused_at searched at)
+decided_there q searched at rule rest verdict cause there = rw there (record { stop = refl; asked = tt })
 
 -- behind the last rule the packet is denied
-pub denied_there : (q : Question) (at : Position) (verdict : Verdict) (cause : Cause) → drop at.place q.edition.config.rules ≡ [] → IsStopped q (denied_at_end q) (judged_at q verdict cause at)
-denied_there q at verdict cause there = rw there (record { stop = refl; asked = tt })
+pub denied_there : (q : Question) (searched : Searched) (at : Position) (verdict : Verdict) (cause : Cause) → drop at.place q.edition.config.rules ≡ [] → IsStopped q (denied_at_end q) (judged_at q verdict cause at) (paused_at searched at)
+denied_there q searched at verdict cause there = rw there (record { stop = refl; asked = tt })
 
 -- the rule at a position denies without a hit
-pub refused_there : (q : Question) (at : Position) (cause : Cause) → IsStopped q (refuses_from q cause (drop at.place q.edition.config.rules)) (judged_at q verdicts.Deny cause at)
-refused_there q at cause = go (drop at.place q.edition.config.rules)
+pub refused_there : (q : Question) (searched : Searched) (at : Position) (cause : Cause) → IsStopped q (refuses_from q cause (drop at.place q.edition.config.rules)) (judged_at q verdicts.Deny cause at) (paused_at searched at)
+refused_there q searched at cause = go (drop at.place q.edition.config.rules)
   where
-    go : (suffix : List Rule) → IsStopped q (refuses_from q cause suffix) (Judged (judgement_from q verdicts.Deny cause suffix))
+    go : (suffix : List Rule) → IsStopped q (refuses_from q cause suffix) (Some (judgement_from q verdicts.Deny cause suffix)) (paused_at searched at)
     go [] = record { stop = refl; asked = tt }
     go (rule ∷ rest) = record { stop = refl; asked = tt }
 
@@ -84,9 +83,9 @@ leads_counted q searched trace (Decides verdict cause) at counter before now cou
 leads_counted q searched trace Waits at counter before now counted is = absurd is
 
 -- the rest of an evaluation ends it
-pub comes_by : (q : Question) (trace next : Trace) (stage : Stage) (before between now : List Count) → Remains q trace next before between → Comes q next stage between now
-    → Comes q trace stage before now
-comes_by q trace next stage before between now first last = record {
+pub comes_by : (q : Question) (trace next : Trace) (judged : Option Judgement) (paused : Paused) (before between now : List Count) → Remains q trace next before between → Comes q next judged paused between now
+    → Comes q trace judged paused before now
+comes_by q trace next judged paused before between now first last = record {
   tallied = last.tallied ∙ sym first.tallied;
   stop = first.stop ∙ last.stop;
   asked = last.asked;
@@ -101,8 +100,9 @@ remains_by q trace next later before between now first last = record {
   fitted = last.fitted ∙ first.fitted;
 }
 
-comes_passed : (q : Question) (trace next : Trace) (stage : Stage) (before now : List Count) → PassesTo trace next → Comes q next stage before now → Comes q trace stage before now
-comes_passed q trace next stage before now passes comes = record {
+comes_passed : (q : Question) (trace next : Trace) (judged : Option Judgement) (paused : Paused) (before now : List Count) → PassesTo trace next → Comes q next judged paused before now
+    → Comes q trace judged paused before now
+comes_passed q trace next judged paused before now passes comes = record {
   tallied = comes.tallied ∙ ap (λ (hits : List ℕ). counts_after (total_of q.packet) hits before) (sym passes.hits);
   stop = passes.stop ∙ comes.stop;
   asked = comes.asked;
@@ -119,20 +119,5 @@ leads_passed q searched trace next On at before now passes leads = record {
   };
   sooner = let less = leads.sooner in let more = passes.sooner in omega arith;
 }
-leads_passed q searched trace next (Decides verdict cause) at before now passes leads = comes_passed q trace next _ before now passes leads
-leads_passed q searched trace next Waits at before now passes leads = go at.ask leads
-  where
-    go : (ask : Option Op) → IsSomeAnd ask (λ op. Comes q next (waiting_at searched op at) before now) → IsSomeAnd ask (λ op. Comes q trace (waiting_at searched op at) before now)
-    go None leads = absurd leads
-    go (Some op) leads = comes_passed q trace next _ before now passes leads
-
--- an ask of which something holds is there
-pub ask_is_there : (ask : Option Op) (P : Op → Type 0) → IsSomeAnd ask P → IsSome ask
-ask_is_there None P holds = absurd holds
-ask_is_there (Some op) P holds = refl
-
--- where an evaluation waits it comes to the ask
-pub comes_waiting : (q : Question) (trace : Trace) (searched : Searched) (at : Position) (stage : Stage) (before now : List Count) (ask : Option Op)
-    → IsSomeAnd ask (λ op. Comes q trace (waiting_at searched op at) before now) → IsSomeAnd ask (λ op. stage ≡ waiting_at searched op at) → Comes q trace stage before now
-comes_waiting q trace searched at stage before now None comes is = absurd comes
-comes_waiting q trace searched at stage before now (Some op) comes is = subst (λ (s : Stage). Comes q trace s before now) (sym is) comes
+leads_passed q searched trace next (Decides verdict cause) at before now passes leads = comes_passed q trace next _ _ before now passes leads
+leads_passed q searched trace next Waits at before now passes leads = comes_passed q trace next _ _ before now passes leads

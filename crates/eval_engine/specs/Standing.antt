@@ -1,5 +1,5 @@
 -- How far an evaluation is after a call.
-use Rattle.std.specs.Prelude.{◌≡◌, ℕ, ◌<◌, length, Bool, true, if◌then◌else◌, IsTrue, ⊤, List, [], ◌∷◌, ◌++◌, drop, slice_set}
+use Rattle.std.specs.Prelude.{◌≡◌, ℕ, ◌<◌, length, Bool, true, if◌then◌else◌, IsTrue, ⊤, Option, Some, None, List, [], ◌∷◌, ◌++◌, drop, slice_set}
 use Rattle.counter_book.specs.Counts.{counted_under, count_after_packet}
 use Rattle.counter_book.specs.declared.tally.Count.{Count}
 use Rattle.state_asks.specs.Flags.{HasKeptFlags}
@@ -19,13 +19,10 @@ pub use Rattle.eval_engine.specs.Evaluation.{is_reply_to}
 use Rattle.eval_engine.specs.Question.{Question, rules_of}
 use Rattle.eval_engine.specs.Trace.{Seen, Done, Names, Pause, Stop, EndsWith, WaitsFor}
 use Rattle.eval_engine.specs.Walk.{pause_at}
-use Rattle.eval_engine.specs.declared.paused.AskKind.{AskKind}
-use Rattle.eval_engine.specs.declared.paused.AskKind.TheVariants as kind
 use Rattle.eval_engine.specs.declared.callers.Callers.{Callers}
+use Rattle.eval_engine.specs.declared.judgement.Judgement.{Judgement}
 use Rattle.eval_engine.specs.declared.paused.Paused.{Paused}
 use Rattle.eval_engine.specs.declared.searched.Searched.{Searched}
-use Rattle.eval_engine.specs.declared.stage.Stage.{Stage}
-use Rattle.eval_engine.specs.declared.stage.Stage.TheVariants.{Judged, Asks}
 
 -- an install asks for a rule of the list
 abbrev pub InstallsRuleOf : List Rule → Op → Type 0
@@ -41,15 +38,19 @@ counts_after bytes (counter ∷ hits) counts = counts_after bytes hits (slice_se
 abbrev pub IsTallyFor : Question → List Count → Type 0
 IsTallyFor q counts = q.edition.config.greatest_counter < length counts
 
--- a stage is the end, or an ask that has no reply yet
-abbrev pub outcome_at : Stage → Outcome
-outcome_at (Judged judgement) = Whole judgement
-outcome_at (Asks op paused) = OpenAt op
+-- what a paused evaluation asks
+abbrev pub asked_by : Paused → Op
+asked_by paused = paused.position.ask
+
+-- an evaluation with no judgement yet is open at its ask
+abbrev pub outcome_at : Option Judgement → Paused → Outcome
+outcome_at (Some judgement) paused = Whole judgement
+outcome_at None paused = OpenAt (asked_by paused)
 
 -- the ask that has no reply yet
-abbrev pub asks_at : Stage → List Op
-asks_at (Judged judgement) = []
-asks_at (Asks op paused) = op ∷ []
+abbrev pub asks_at : Option Judgement → Paused → List Op
+asks_at (Some judgement) paused = []
+asks_at None paused = asked_by paused ∷ []
 
 -- the flow names that were looked up, by the bits of a mask
 abbrev pub is_searched : Searched → FlowName → Bool
@@ -66,39 +67,27 @@ callers_of callers = innermost_first callers.numbers callers.depth
 
 -- the pause that a paused evaluation stands for
 abbrev pub pause_of : Question → Paused → Pause
-pause_of q paused = pause_at (seen_by paused.searched) (callers_of paused.callers) (drop paused.place (rules_of q))
+pause_of q paused = pause_at (seen_by paused.searched) (callers_of paused.position.callers) (drop paused.position.place (rules_of q))
 
--- how the definition stops at this stage
-abbrev pub stop_of_stage : Question → Stage → Stop
-stop_of_stage q (Judged judgement) = EndsWith judgement
-stop_of_stage q (Asks op paused) = WaitsFor op (pause_of q paused)
-
--- a lookup or an install
-abbrev pub kind_of : Op → AskKind
-kind_of (Lookup flags flow second name) = kind.Lookup
-kind_of (Install flags flow second rule limit name) = kind.Install
-
--- the paused evaluation waits for the reply to an ask of this kind
-abbrev pub IsOpenAt : Question → Op → Paused → Type 0
-IsOpenAt q op paused = kind_of op ≡ paused.kind
+-- how the definition stops there
+abbrev pub stop_at : Question → Option Judgement → Paused → Stop
+stop_at q (Some judgement) paused = EndsWith judgement
+stop_at q None paused = WaitsFor (asked_by paused) (pause_of q paused)
 
 -- the reply is one to the ask that the evaluation is open at
-pub record AnswersOpenAsk (q : Question) (paused : Paused) (reply : Reply) : Type 0 where
-  pub op : Op
-  pub waiting : IsOpenAt q op paused
-  pub fits : is_reply_to (rules_of q) op reply ≡ true
+abbrev pub AnswersOpenAsk : Question → Paused → Reply → Type 0
+AnswersOpenAsk q paused reply = is_reply_to (rules_of q) (asked_by paused) reply ≡ true
 
--- a stage asks what its pause waits for, an install names a rule of the edition, and of TCP's flags the ask
--- has FIN, SYN and RST alone
-abbrev pub IsAskOf : Question → Stage → Type 0
-IsAskOf q (Judged judgement) = ⊤
-IsAskOf q (Asks op paused) = IsOpenAt q op paused × InstallsRuleOf (rules_of q) op × HasKeptFlags op
+-- an install that is asked names a rule of the edition, and of TCP's flags an ask has FIN, SYN and RST alone
+abbrev pub IsAskOf : Question → Option Judgement → Paused → Type 0
+IsAskOf q (Some judgement) paused = ⊤
+IsAskOf q None paused = InstallsRuleOf (rules_of q) (asked_by paused) × HasKeptFlags (asked_by paused)
 
--- With these replies to the asks before it the evaluation has come to this stage, and the tally has risen
--- from its start by exactly the hits so far.
-pub record StandsAt (q : Question) (asks : List Op) (replies : List Reply) (start : List Count) (stage : Stage) (tally : List Count) : Type 0 where
-  pub asked : (evaluate q replies).asks ≡ asks ++ asks_at stage
-  pub outcome : (evaluate q replies).outcome ≡ outcome_at stage
+-- With these replies to the asks before it the evaluation has come to this judgement, or where there is none
+-- to this pause, and the tally has risen from its start by exactly the hits so far.
+pub record StandsAt (q : Question) (asks : List Op) (replies : List Reply) (start : List Count) (judged : Option Judgement) (paused : Paused) (tally : List Count) : Type 0 where
+  pub asked : (evaluate q replies).asks ≡ asks ++ asks_at judged paused
+  pub outcome : (evaluate q replies).outcome ≡ outcome_at judged paused
   pub tallied : tally ≡ counts_after (total_of q.packet) (evaluate q replies).hits start
-  pub waiting : IsAskOf q stage
-  pub stop : (progress_of q replies).stop ≡ stop_of_stage q stage
+  pub waiting : IsAskOf q judged paused
+  pub stop : (progress_of q replies).stop ≡ stop_at q judged paused

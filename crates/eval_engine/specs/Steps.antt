@@ -1,23 +1,21 @@
 -- How a call moves an evaluation on.
-use Rattle.std.specs.Prelude.{◌≡◌, ◌<◌, ◌≤◌, List, [], ◌∷◌, drop, length, IsSomeAnd}
+use Rattle.std.specs.Prelude.{◌≡◌, ◌<◌, ◌≤◌, Option, Some, None, List, [], ◌∷◌, drop, length}
 use Rattle.counter_book.specs.declared.tally.Count.{Count}
-use Rattle.state_asks.specs.declared.op.Op.{Op}
 use Rattle.fw_rule.specs.declared.rule.Rule.{Rule}
 use Rattle.ip6_headers.specs.Either.{total_of}
 use Rattle.eval_engine.specs.Encounter.{rule_ref}
 use Rattle.eval_engine.specs.Question.{Question, rules_of}
-use Rattle.eval_engine.specs.Standing.{callers_of, counts_after, kind_of, seen_by, stop_of_stage, IsAskOf}
+use Rattle.eval_engine.specs.Standing.{callers_of, counts_after, seen_by, stop_at, IsAskOf}
 use Rattle.eval_engine.specs.Trace.{Seen, Trace, Stops, hits_of, stop_of_trace, length_of}
 use Rattle.eval_engine.specs.Walk.{walk_from}
 use Rattle.eval_engine.specs.declared.judgement.Cause.{Cause}
 use Rattle.eval_engine.specs.declared.judgement.Cause.TheVariants as causes
 use Rattle.eval_engine.specs.declared.judgement.Judgement.{Judgement}
+use Rattle.eval_engine.specs.declared.paused.Paused.{Paused}
 use Rattle.eval_engine.specs.declared.position.Position.{Position}
 use Rattle.eval_engine.specs.declared.position.Step.{Step}
 use Rattle.eval_engine.specs.declared.position.Step.TheVariants.{On, Decides, Waits}
 use Rattle.eval_engine.specs.declared.searched.Searched.{Searched}
-use Rattle.eval_engine.specs.declared.stage.Stage.{Stage}
-use Rattle.eval_engine.specs.declared.stage.Stage.TheVariants.{Judged, Asks}
 use Rattle.eval_engine.specs.declared.judgement.Verdict.{Verdict}
 use Rattle.eval_engine.specs.declared.judgement.Verdict.TheVariants as verdicts
 
@@ -31,10 +29,14 @@ pub record PassesTo (trace next : Trace) : Type 0 where
   pub stop : stop_of_trace trace ≡ stop_of_trace next
   pub sooner : length_of next ≤ length_of trace
 
--- the evaluation stops in this stage
-pub record IsStopped (q : Question) (trace : Trace) (stage : Stage) : Type 0 where
-  pub stop : trace ≡ Stops (stop_of_stage q stage)
-  pub asked : IsAskOf q stage
+-- an evaluation that waits at this position, where these names were looked up
+abbrev pub paused_at : Searched → Position → Paused
+paused_at searched at = record { position = at; searched = searched }
+
+-- the evaluation stops with this judgement, or where there is none at this pause
+pub record IsStopped (q : Question) (trace : Trace) (judged : Option Judgement) (paused : Paused) : Type 0 where
+  pub stop : trace ≡ Stops (stop_at q judged paused)
+  pub asked : IsAskOf q judged paused
 
 -- the first rule of the suffix decides the packet so; behind the last one rule 65535 denies it
 abbrev pub judgement_from : Question → Verdict → Cause → List Rule → Judgement
@@ -42,24 +44,20 @@ judgement_from q verdict cause [] = record { edition = q.edition.number; verdict
 judgement_from q verdict cause (rule ∷ rest) = record { edition = q.edition.number; verdict = verdict; rule = rule_ref rule; cause = cause }
 
 -- the rule at this position decides the packet so
-abbrev pub judged_at : Question → Verdict → Cause → Position → Stage
-judged_at q verdict cause at = Judged (judgement_from q verdict cause (drop at.place (rules_of q)))
-
--- the evaluation waits at this position for the reply to this ask
-abbrev pub waiting_at : Searched → Op → Position → Stage
-waiting_at searched op at = Asks op (record { place = at.place; callers = at.callers; searched = searched; kind = kind_of op })
+abbrev pub judged_at : Question → Verdict → Cause → Position → Option Judgement
+judged_at q verdict cause at = Some (judgement_from q verdict cause (drop at.place (rules_of q)))
 
 -- the evaluation is that of the step to this position, with no hit between; an action waits for nothing
 abbrev pub IsStep : Question → Searched → Trace → Step → Position → Type 0
 IsStep q searched trace On at = trace ≡ walk_at q (seen_by searched) at
-IsStep q searched trace (Decides verdict cause) at = IsStopped q trace (judged_at q verdict cause at)
+IsStep q searched trace (Decides verdict cause) at = IsStopped q trace (judged_at q verdict cause at) (paused_at searched at)
 IsStep q searched trace Waits at = ⊥
 
--- the evaluation comes to this stage, and the tally rises by its hits
-pub record Comes (q : Question) (trace : Trace) (stage : Stage) (before now : List Count) : Type 0 where
+-- the evaluation comes to this judgement, or where there is none to this pause, and the tally rises by its hits
+pub record Comes (q : Question) (trace : Trace) (judged : Option Judgement) (paused : Paused) (before now : List Count) : Type 0 where
   pub tallied : now ≡ counts_after (total_of q.packet) (hits_of trace) before
-  pub stop : stop_of_trace trace ≡ stop_of_stage q stage
-  pub asked : IsAskOf q stage
+  pub stop : stop_of_trace trace ≡ stop_at q judged paused
+  pub asked : IsAskOf q judged paused
 
 -- what remains of the evaluation is the next, and what it counted on the way is tallied
 pub record Remains (q : Question) (trace next : Trace) (before now : List Count) : Type 0 where
@@ -75,5 +73,5 @@ pub record Nears (q : Question) (trace next : Trace) (before now : List Count) :
 -- where a step to this position leads: on from there, to the judgement there, or to the ask there
 abbrev pub LeadsOn : Question → Searched → Trace → Step → Position → List Count → List Count → Type 0
 LeadsOn q searched trace On at before now = Nears q trace (walk_at q (seen_by searched) at) before now
-LeadsOn q searched trace (Decides verdict cause) at before now = Comes q trace (judged_at q verdict cause at) before now
-LeadsOn q searched trace Waits at before now = IsSomeAnd at.ask (λ op. Comes q trace (waiting_at searched op at) before now)
+LeadsOn q searched trace (Decides verdict cause) at before now = Comes q trace (judged_at q verdict cause at) (paused_at searched at) before now
+LeadsOn q searched trace Waits at before now = Comes q trace None (paused_at searched at) before now

@@ -24,6 +24,14 @@ impl Callers {
         }
     }
 
+    /// Closes all calls.
+    #[tactic(auto, unfolding(crate::specs::Callers::innermost_first))]
+    pub(crate) fn close_all(&mut self)
+        ensures { innermost_first self.new.numbers self.new.depth ≡ [] }
+    {
+        self.depth = 0;
+    }
+
     /// Whether no call more may be made.
     #[tactic(auto, unfolding(crate::specs::Callers::innermost_first))]
     pub(crate) fn is_full(&self) -> bool

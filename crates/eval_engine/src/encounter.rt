@@ -7,7 +7,7 @@ ghost use Rattle.eval_engine.specs.Standing.{seen_by};
 ghost use Rattle.eval_engine.specs.Question.{rules_of};
 ghost use Rattle.eval_engine.specs.Walk as walk;
 
-use crate::question::Question;
+use crate::Question;
 use crate::searched::Searched;
 use fw_rule::{LimitMask, Rule, StateOpt, has_bit};
 use packet_headers::Flow;
@@ -16,7 +16,7 @@ use rule_match::matches;
 use state_asks::{FlowName, Op, RuleRef, kept_flags};
 
 /// The rule in that place; `None` behind the last.
-pub(crate) fn rule_at<'a>(question: &Question<'a, '_>, place: usize) -> Option<&'a Rule>
+pub(crate) fn rule_at<'a>(question: &Question<'a, '_, '_>, place: usize) -> Option<&'a Rule>
     ensures { MatchOption result (drop place (rules_of question.now) ≡ []) (λ rule.
         IsRuleAt question.now place rule.now) }
 {
@@ -30,7 +30,7 @@ pub(crate) fn rule_at<'a>(question: &Question<'a, '_>, place: usize) -> Option<&
 
 /// Whether the rule's set is disabled.
 #[tactic(auto, unfolding(crate::specs::Encounter::is_disabled))]
-pub(crate) fn is_disabled(question: &Question<'_, '_>, rule: &Rule) -> bool
+pub(crate) fn is_disabled(question: &Question<'_, '_, '_>, rule: &Rule) -> bool
     ensures { result ≡ spec.is_disabled question.now rule.now }
 {
     rule.set < 32 && has_bit(question.edition.config().disabled(), u32::from(rule.set))
@@ -39,7 +39,7 @@ pub(crate) fn is_disabled(question: &Question<'_, '_>, rule: &Rule) -> bool
 /// Whether the rule's body holds of the packet.
 #[inline(never)]
 #[tactic(auto, unfolding(crate::specs::Encounter::is_rule_met))]
-pub(crate) fn is_held(question: &Question<'_, '_>, rule: &Rule) -> bool
+pub(crate) fn is_held(question: &Question<'_, '_, '_>, rule: &Rule) -> bool
     ensures { result ≡ spec.is_rule_met question.now rule.now }
 {
     match &rule.body {
@@ -58,7 +58,7 @@ pub(crate) fn is_held(question: &Question<'_, '_>, rule: &Rule) -> bool
 }
 
 /// The flow name that the rule in that place looks up.
-pub(crate) fn name_at(question: &Question<'_, '_>, place: usize, rule: &Rule) -> FlowName
+pub(crate) fn name_at(question: &Question<'_, '_, '_>, place: usize, rule: &Rule) -> FlowName
     requires { IsRuleAt question.now place rule.now }
     ensures value { result ≡ spec.name_at question.now rule.now }
     ensures numbered { IsNumbered result }
@@ -68,7 +68,7 @@ pub(crate) fn name_at(question: &Question<'_, '_>, place: usize, rule: &Rule) ->
 
 /// The packet's flow, where the rule's name is due.
 pub(crate) fn lookup_flow(
-    question: &Question<'_, '_>,
+    question: &Question<'_, '_, '_>,
     searched: &Searched,
     place: usize,
     rule: &Rule,
@@ -84,7 +84,7 @@ pub(crate) fn lookup_flow(
 }
 
 /// Of TCP's flags those that an ask has, 0 where the packet isn't TCP.
-fn flags_of(question: &Question<'_, '_>) -> u8
+fn flags_of(question: &Question<'_, '_, '_>) -> u8
     ensures { result ≡ spec.flags_of question.now.packet }
 {
     kept_flags(question.packet.tcp_flags().unwrap_or(0))
@@ -101,7 +101,12 @@ pub(crate) fn rule_ref(rule: &Rule) -> RuleRef
 }
 
 /// The rule looks the packet's flow up.
-pub(crate) fn lookup_by(question: &Question<'_, '_>, place: usize, rule: &Rule, flow: Flow) -> Op
+pub(crate) fn lookup_by(
+    question: &Question<'_, '_, '_>,
+    place: usize,
+    rule: &Rule,
+    flow: Flow,
+) -> Op
     requires { IsRuleAt question.now place rule.now }
     ensures { result ≡ spec.lookup_by question.now rule.now flow }
 {
@@ -133,7 +138,7 @@ fn name_number(name: FlowName) -> u8
 
 /// A state is asked for by a rule that is no `check-state`.
 pub(crate) fn install_by(
-    question: &Question<'_, '_>,
+    question: &Question<'_, '_, '_>,
     place: usize,
     rule: &Rule,
     state: &StateOpt,
@@ -155,7 +160,7 @@ pub(crate) fn install_by(
 }
 
 /// Where the evaluation goes on behind the rule in that place.
-pub(crate) fn target(question: &Question<'_, '_>, place: usize, rule: &Rule) -> usize
+pub(crate) fn target(question: &Question<'_, '_, '_>, place: usize, rule: &Rule) -> usize
     requires { IsRuleAt question.now place rule.now }
     ensures { result ≡ jumps.target (rules_of question.now) place rule.now.action }
 {
@@ -163,7 +168,7 @@ pub(crate) fn target(question: &Question<'_, '_>, place: usize, rule: &Rule) -> 
 }
 
 /// The place of the first rule of a greater number.
-pub(crate) fn first_behind(question: &Question<'_, '_>, number: u16) -> usize
+pub(crate) fn first_behind(question: &Question<'_, '_, '_>, number: u16) -> usize
     ensures { result ≡ jumps.first_from (number + 1) (rules_of question.now) }
 {
     match number.checked_add(1) {

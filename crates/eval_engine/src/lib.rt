@@ -11,9 +11,9 @@ pub use docket_entry::DocketEntry;
 pub use judgement::{Cause, Judgement, Verdict};
 pub use laws::{evaluations_end_once, first_match_decides, hits_are_of_rules};
 pub use paused::Paused;
+pub use question::Question;
 pub use replies::is_reply_to;
 pub use resuming::resume;
-pub use stage::Stage;
 
 mod beginning;
 mod callers;
@@ -28,5 +28,4 @@ mod question;
 mod replies;
 mod resuming;
 mod searched;
-mod stage;
 mod walking;

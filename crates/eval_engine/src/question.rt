@@ -15,14 +15,14 @@ use std::sync::Arc;
 /// What is evaluated, handed round as one: a packet that was captured there at that second, under the rules of an
 /// edition.
 #[derive(Drop)]
-pub(crate) struct Question<'a, 'p> {
+pub struct Question<'a, 's, 'p> {
     pub(crate) edition: &'a Edition,
-    pub(crate) packet: &'a AnyIp<'p>,
-    pub(crate) port: &'a Port,
+    pub(crate) packet: &'s AnyIp<'p>,
+    pub(crate) port: &'s Port,
     pub(crate) second: u32,
 }
 
-impl<'a, 'p> Model for Question<'a, 'p> {
+impl<'a, 's, 'p> Model for Question<'a, 's, 'p> {
     ghost use Rattle.eval_engine.specs.Question.{Question, question_under};
 
     ghost Value = { Question };
@@ -30,14 +30,14 @@ impl<'a, 'p> Model for Question<'a, 'p> {
     ghost view = { λ q. question_under q.edition.now q.packet.now q.port.now q.second };
 }
 
-impl<'a, 'p> Question<'a, 'p> {
+impl<'a, 's, 'p> Question<'a, 's, 'p> {
     /// The packet, there and at that second, under those rules.
-    pub(crate) fn new(
+    pub fn new(
         edition: &'a Edition,
-        packet: &'a AnyIp<'p>,
-        port: &'a Port,
+        packet: &'s AnyIp<'p>,
+        port: &'s Port,
         second: u32,
-    ) -> Question<'a, 'p>
+    ) -> Question<'a, 's, 'p>
         ensures { result ≡ question_under edition.now packet.now port.now second }
     {
         Question {
@@ -46,6 +46,27 @@ impl<'a, 'p> Question<'a, 'p> {
             port,
             second,
         }
+    }
+
+    /// The edition whose rules are evaluated.
+    pub fn edition(&self) -> &'a Edition
+        ensures { result.now ≡ self.now.edition }
+    {
+        self.edition
+    }
+
+    /// The packet.
+    pub fn packet(&self) -> &'s AnyIp<'p>
+        ensures { result.now ≡ self.now.packet }
+    {
+        self.packet
+    }
+
+    /// Where it was captured.
+    pub fn port(&self) -> &'s Port
+        ensures { result.now ≡ self.now.port }
+    {
+        self.port
     }
 
     /// The rules, in order.

@@ -1,95 +1,79 @@
-ghost use Rattle.std.specs.Prelude.{◌≡◌, ◌<◌, [], ◌∷◌, ◌++◌, List, length, drop};
+ghost use Rattle.std.specs.Prelude.{◌≡◌, ◌<◌, [], ◌∷◌, ◌++◌, List, None, length, drop};
 ghost use Rattle.state_asks.specs.declared.op.Op.{Op};
 ghost use Rattle.state_asks.specs.declared.reply.Reply.{Reply};
 ghost use Rattle.counter_book.specs.declared.tally.Count.{Count};
-ghost use Rattle.eval_engine.specs.Question.{question_under, rules_of};
-ghost use Rattle.eval_engine.specs.Standing.{StandsAt, AnswersOpenAsk, IsTallyFor, callers_of, seen_by};
+ghost use Rattle.eval_engine.specs.Question.{rules_of};
+ghost use Rattle.eval_engine.specs.Standing.{StandsAt, AnswersOpenAsk, IsTallyFor, asked_by, callers_of, seen_by};
 ghost use Rattle.eval_engine.specs.Steps.{LeadsOn};
 ghost use Rattle.eval_engine.specs.Trace.{Seen};
 ghost use Rattle.eval_engine.specs.Walk as definition;
-ghost use Rattle.eval_engine.specs.declared.stage.Stage.TheVariants.{Asks};
 
 use crate::encounter::{name_at, rule_at};
 use crate::position::{Position, Step};
-use crate::question::Question;
 use crate::searched::Searched;
-use crate::walking::{act, judgement_at, test, waiting, walk};
-use crate::{Cause, Paused, Stage, Verdict};
+use crate::walking::{act, judgement_at, test, walk};
+use crate::{Cause, Judgement, Paused, Question, Verdict};
 use counter_book::Tally;
-use fw_base::Port;
-use generation_store::Edition;
-use ip6_headers::AnyIp;
 use rule_gates::key_of;
 use state_asks::Reply;
 
-/// Goes on with an evaluation that waits for this reply, to its next ask or to its end. Edition, packet,
-/// port and second are those that it began with. It takes no memory.
+/// Goes on with an evaluation that waits for this reply, to its next ask or to its end. The question is the one
+/// that it began with. It takes no memory.
 pub fn resume(
-    paused: Paused,
+    question: &Question<'_, '_, '_>,
+    paused: &mut Paused,
     reply: Reply,
-    edition: &Edition,
-    packet: &AnyIp<'_>,
-    port: &Port,
-    second: u32,
     tally: &mut Tally,
-) -> Stage
-    requires fitted { edition.now.config.greatest_counter < length tally.old }
-    requires answered { AnswersOpenAsk (question_under edition.now packet.now port.now second)
-        paused reply }
-    ensures { (op : Op) (asks : List Op) (replies : List Reply) (start : List Count)
-        → StandsAt (question_under edition.now packet.now port.now second) asks replies start
-        (Asks op paused) tally.old
-        → StandsAt (question_under edition.now packet.now port.now second) (asks ++ op ∷ [])
-        (replies ++ reply ∷ []) start result tally.new }
+) -> Option<Judgement>
+    requires fitted { question.now.edition.config.greatest_counter < length tally.old }
+    requires answered { AnswersOpenAsk question.now paused.old reply }
+    ensures { (asks : List Op) (replies : List Reply) (start : List Count)
+        → StandsAt question.now asks replies start None paused.old tally.old
+        → StandsAt question.now (asks ++ asked_by paused.old ∷ []) (replies ++ reply ∷ []) start result
+        paused.new tally.new }
 {
-    let question = Question::new(edition, packet, port, second);
-    let searched = searched_after(&question, &paused, &reply);
-    let mut at = Position {
-        place: paused.place,
-        callers: paused.callers,
-        ask: None,
-    };
-    match answered(&question, &searched, reply, &mut at, tally) {
+    search_on(question, paused, &reply);
+    let searched = &paused.searched;
+    let at = &mut paused.position;
+    match answered(question, searched, reply, at, tally) {
         Step::On => {
             let key = key_of(question.packet);
-            walk(&question, &key, &searched, &mut at, tally)
+            walk(question, &key, searched, at, tally)
         }
-        Step::Decides(verdict, cause) => {
-            Stage::Judged(judgement_at(&question, at.place, verdict, cause))
-        }
-        Step::Waits => waiting(&searched, &at),
+        Step::Decides(verdict, cause) => Some(judgement_at(question, at.place, verdict, cause)),
+        Step::Waits => None,
     }
 }
 
-/// The names that were looked up, behind the reply.
-fn searched_after(question: &Question<'_, '_>, paused: &Paused, reply: &Reply) -> Searched
-    ensures { seen_by result
-        ≡ definition.seen_after question.now (seen_by paused.now.searched)
-        (drop paused.now.place (rules_of question.now)) reply.now }
+/// Notes what the reply tells of names that were looked up.
+fn search_on(question: &Question<'_, '_, '_>, paused: &mut Paused, reply: &Reply)
+    ensures seen { seen_by paused.new.searched
+        ≡ definition.seen_after question.now (seen_by paused.old.searched)
+        (drop paused.old.position.place (rules_of question.now)) reply.now }
+    ensures stays { paused.new.position ≡ paused.old.position }
 {
     match reply {
-        Reply::Found(..) => Searched::done(),
-        Reply::NotFound => with_name_at(question, paused),
-        Reply::Created | Reply::Exists | Reply::LimitReached(_) | Reply::TableFull(_) => {
-            paused.searched
-        }
+        Reply::Found(..) => paused.searched.end(),
+        Reply::NotFound => add_name_at(question, paused),
+        Reply::Created | Reply::Exists | Reply::LimitReached(_) | Reply::TableFull(_) => {}
     }
 }
 
 /// The name of the rule that asked joins.
-fn with_name_at(question: &Question<'_, '_>, paused: &Paused) -> Searched
-    ensures { seen_by result
-        ≡ definition.with_name_at question.now (seen_by paused.now.searched)
-        (drop paused.now.place (rules_of question.now)) }
+fn add_name_at(question: &Question<'_, '_, '_>, paused: &mut Paused)
+    ensures seen { seen_by paused.new.searched
+        ≡ definition.with_name_at question.now (seen_by paused.old.searched)
+        (drop paused.old.position.place (rules_of question.now)) }
+    ensures stays { paused.new.position ≡ paused.old.position }
 {
-    match rule_at(question, paused.place) {
-        Some(rule) => paused.searched.with(name_at(question, paused.place, rule)),
-        None => paused.searched,
+    let place = paused.position.place;
+    if let Some(rule) = rule_at(question, place) {
+        paused.searched.add(name_at(question, place, rule));
     }
 }
 
 /// The place of the rule that made the state.
-fn place_of(question: &Question<'_, '_>, id: u32) -> usize
+fn place_of(question: &Question<'_, '_, '_>, id: u32) -> usize
     ensures { drop result (rules_of question.now)
         ≡ definition.suffix_of id (rules_of question.now) }
 {
@@ -101,7 +85,7 @@ fn place_of(question: &Question<'_, '_>, id: u32) -> usize
 
 /// The first rule from that place on acts.
 fn act_at(
-    question: &Question<'_, '_>,
+    question: &Question<'_, '_, '_>,
     searched: &Searched,
     at: &mut Position,
     tally: &mut Tally,
@@ -119,7 +103,7 @@ fn act_at(
 
 /// The first rule from that place on, behind its lookup.
 fn test_at(
-    question: &Question<'_, '_>,
+    question: &Question<'_, '_, '_>,
     searched: &Searched,
     at: &mut Position,
     tally: &mut Tally,
@@ -137,7 +121,7 @@ fn test_at(
 
 /// Where the reply to the ask of the rule in that place leads.
 fn answered(
-    question: &Question<'_, '_>,
+    question: &Question<'_, '_, '_>,
     searched: &Searched,
     reply: Reply,
     at: &mut Position,

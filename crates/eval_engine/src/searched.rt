@@ -28,15 +28,11 @@ impl Searched {
         }
     }
 
-    /// A state was found.
-    pub(crate) fn done() -> Searched
-        ensures { seen_by result ≡ trace.Done }
+    /// A state is found.
+    pub(crate) fn end(&mut self)
+        ensures { seen_by self.new ≡ trace.Done }
     {
-        Searched {
-            named: 0,
-            any: false,
-            found: true,
-        }
+        self.found = true;
     }
 
     /// Whether the name is looked up: neither it nor `:any` was.
@@ -57,17 +53,14 @@ impl Searched {
         }
     }
 
-    /// With this name.
-    pub(crate) fn with(&self, name: FlowName) -> Searched
+    /// This name is looked up.
+    pub(crate) fn add(&mut self, name: FlowName)
         requires { IsNumbered name }
-        ensures { seen_by result ≡ trace.with_seen (seen_by self.now) name }
+        ensures { seen_by self.new ≡ trace.with_seen (seen_by self.old) name }
     {
         match name {
-            FlowName::Any => Searched { any: true, ..*self },
-            FlowName::Named(number) => Searched {
-                named: self.named | 1 << number,
-                ..*self
-            },
+            FlowName::Any => self.any = true,
+            FlowName::Named(number) => self.named |= 1 << number,
         }
     }
 }

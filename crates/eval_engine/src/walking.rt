@@ -1,11 +1,11 @@
-ghost use Rattle.std.specs.Prelude.{◌≡◌, true, ◌+◌, ◌<◌, false, Some, length, drop, IsSome, IsSomeAnd};
+ghost use Rattle.std.specs.Prelude.{◌≡◌, true, ◌+◌, ◌<◌, false, Some, length, drop};
 ghost use Rattle.fw_rule.specs.declared.rule.Rule.{Rule};
 ghost use Rattle.rule_gates.specs.Keys.{HasAddresses, IsKeyOf};
 ghost use Rattle.eval_engine.specs.Encounter as spec;
 ghost use Rattle.eval_engine.specs.Place.{IsRuleAt, IsTold};
 ghost use Rattle.eval_engine.specs.Question.{rules_of};
-ghost use Rattle.eval_engine.specs.Standing.{IsTallyFor, callers_of, kind_of, seen_by};
-ghost use Rattle.eval_engine.specs.Steps.{walk_at, waiting_at, judgement_from, IsStep, LeadsOn, Comes, PassesTo};
+ghost use Rattle.eval_engine.specs.Standing.{IsTallyFor, callers_of, seen_by};
+ghost use Rattle.eval_engine.specs.Steps.{walk_at, paused_at, judgement_from, IsStep, LeadsOn, Comes, PassesTo};
 ghost use Rattle.eval_engine.specs.Trace.{Seen};
 ghost use Rattle.eval_engine.specs.Walk as definition;
 ghost use Rattle.eval_engine.specs.declared.judgement.Cause.TheVariants as cause;
@@ -16,16 +16,14 @@ use crate::encounter::{
     first_behind, install_by, is_disabled, is_held, lookup_by, lookup_flow, rule_at, rule_ref,
     target,
 };
-use crate::paused::AskKind;
 use crate::position::{Position, Step};
-use crate::question::Question;
 use crate::searched::Searched;
-use crate::{Cause, Judgement, Paused, Stage, Verdict};
+use crate::{Cause, Judgement, Question, Verdict};
 use counter_book::Tally;
 use fw_rule::{Action, Rule, StateOpt};
 use packet_headers::Flow;
 use rule_gates::{GateKey, is_check_state, is_exact, next_admitted, state_of};
-use state_asks::{Op, RuleRef};
+use state_asks::RuleRef;
 
 /// The rule that each list ends with.
 const LAST: RuleRef = RuleRef {
@@ -34,7 +32,7 @@ const LAST: RuleRef = RuleRef {
 };
 
 /// Goes on behind the rule in that place.
-fn leave(question: &Question<'_, '_>, at: &mut Position)
+fn leave(question: &Question<'_, '_, '_>, at: &mut Position)
     requires { at.old.place < 65535 }
     ensures { (seen : Seen)
         → walk_at question.now seen at.new
@@ -45,7 +43,7 @@ fn leave(question: &Question<'_, '_>, at: &mut Position)
 }
 
 /// The rule in that place is passed over.
-fn pass_over(question: &Question<'_, '_>, at: &mut Position) -> Step
+fn pass_over(question: &Question<'_, '_, '_>, at: &mut Position) -> Step
     requires { at.old.place < 65535 }
     ensures on { result ≡ On }
     ensures next { (seen : Seen)
@@ -59,7 +57,7 @@ fn pass_over(question: &Question<'_, '_>, at: &mut Position) -> Step
 
 /// `call` goes on at the first rule of that number or a higher one; where no call more may be open it is passed over.
 #[inline(never)]
-fn call(question: &Question<'_, '_>, at: &mut Position, rule: &Rule)
+fn call(question: &Question<'_, '_, '_>, at: &mut Position, rule: &Rule)
     requires there { IsRuleAt question.now at.old.place rule.now }
     requires called { spec.IsCall rule.now.action }
     ensures { (seen : Seen)
@@ -77,7 +75,7 @@ fn call(question: &Question<'_, '_>, at: &mut Position, rule: &Rule)
 
 /// `return` goes on behind the last call; where there is none it is passed over.
 #[inline(never)]
-fn back(question: &Question<'_, '_>, at: &mut Position)
+fn back(question: &Question<'_, '_, '_>, at: &mut Position)
     requires { at.old.place < 65535 }
     ensures { (seen : Seen)
         → definition.return_before question.now seen (callers_of at.old.callers)
@@ -91,7 +89,7 @@ fn back(question: &Question<'_, '_>, at: &mut Position)
 }
 
 /// `count` goes on behind its place, `skipto` at a later rule.
-fn onward(question: &Question<'_, '_>, at: &mut Position, rule: &Rule)
+fn onward(question: &Question<'_, '_, '_>, at: &mut Position, rule: &Rule)
     requires there { IsRuleAt question.now at.old.place rule.now }
     requires onward { spec.IsOnward rule.now.action }
     ensures { (seen : Seen)
@@ -103,7 +101,7 @@ fn onward(question: &Question<'_, '_>, at: &mut Position, rule: &Rule)
 }
 
 /// The rule decides the packet, with a verdict that ends the search.
-fn decided(question: &Question<'_, '_>, at: &Position, rule: &Rule, verdict: Verdict) -> Step
+fn decided(question: &Question<'_, '_, '_>, at: &Position, rule: &Rule, verdict: Verdict) -> Step
     requires { IsRuleAt question.now at.now.place rule.now }
     ensures { (searched : Searched)
         → IsStep question.now searched
@@ -115,7 +113,7 @@ fn decided(question: &Question<'_, '_>, at: &Position, rule: &Rule, verdict: Ver
 
 /// What follows the rule's action.
 #[inline(always)]
-fn follow(question: &Question<'_, '_>, at: &mut Position, rule: &Rule) -> Step
+fn follow(question: &Question<'_, '_, '_>, at: &mut Position, rule: &Rule) -> Step
     requires { IsRuleAt question.now at.old.place rule.now }
     ensures { (searched : Searched)
         → IsStep question.now searched
@@ -145,7 +143,7 @@ fn follow(question: &Question<'_, '_>, at: &mut Position, rule: &Rule) -> Step
 /// The rule is counted, and its action runs.
 #[inline(always)]
 pub(crate) fn act(
-    question: &Question<'_, '_>,
+    question: &Question<'_, '_, '_>,
     at: &mut Position,
     rule: &Rule,
     tally: &mut Tally,
@@ -164,7 +162,7 @@ pub(crate) fn act(
 /// The rule behind its lookup: it is passed over, asks for a state or acts.
 #[inline(always)]
 pub(crate) fn test(
-    question: &Question<'_, '_>,
+    question: &Question<'_, '_, '_>,
     searched: &Searched,
     at: &mut Position,
     rule: &Rule,
@@ -190,7 +188,7 @@ pub(crate) fn test(
 /// The rule in that place asks for a state of this flow.
 #[inline(never)]
 fn ask_install(
-    question: &Question<'_, '_>,
+    question: &Question<'_, '_, '_>,
     at: &mut Position,
     rule: &Rule,
     state: &StateOpt,
@@ -200,16 +198,16 @@ fn ask_install(
     requires plain { spec.is_check_state rule.now.action ≡ false }
     requires made { spec.state_of rule.now ≡ Some state.now }
     ensures { at.new ≡ record at.old {
-      ask = Some (spec.install_by question.now rule.now state.now flow);
+      ask = spec.install_by question.now rule.now state.now flow;
     } }
 {
-    at.ask = Some(install_by(question, at.place, rule, state, flow));
+    at.ask = install_by(question, at.place, rule, state, flow);
 }
 
 /// A rule whose body holds asks for a state, if it makes one, or acts.
 #[inline(always)]
 fn install(
-    question: &Question<'_, '_>,
+    question: &Question<'_, '_, '_>,
     searched: &Searched,
     at: &mut Position,
     rule: &Rule,
@@ -237,18 +235,18 @@ fn install(
 
 /// The rule in that place looks this flow up.
 #[inline(never)]
-fn ask_lookup(question: &Question<'_, '_>, at: &mut Position, rule: &Rule, flow: Flow)
+fn ask_lookup(question: &Question<'_, '_, '_>, at: &mut Position, rule: &Rule, flow: Flow)
     requires { IsRuleAt question.now at.old.place rule.now }
     ensures { at.new ≡ record at.old {
-      ask = Some (spec.lookup_by question.now rule.now flow);
+      ask = spec.lookup_by question.now rule.now flow;
     } }
 {
-    at.ask = Some(lookup_by(question, at.place, rule, flow));
+    at.ask = lookup_by(question, at.place, rule, flow);
 }
 
 /// The rule in this place: it is passed over, looked up, or tested. Where its gate told all it acts at once.
 fn meet(
-    question: &Question<'_, '_>,
+    question: &Question<'_, '_, '_>,
     searched: &Searched,
     is_told: bool,
     at: &mut Position,
@@ -278,7 +276,7 @@ fn meet(
 
 /// Goes on behind the rules whose gates don't admit the packet's key: each of them is passed over. Whether
 /// the gate there tells all of its rule: it looks nothing up, and its body holds.
-fn pass_shut_gates(question: &Question<'_, '_>, key: &GateKey, at: &mut Position) -> bool
+fn pass_shut_gates(question: &Question<'_, '_, '_>, key: &GateKey, at: &mut Position) -> bool
     requires key { IsKeyOf question.now.packet key.now }
     requires addresses { HasAddresses question.now.packet }
     ensures passes { (seen : Seen)
@@ -295,7 +293,7 @@ fn pass_shut_gates(question: &Question<'_, '_>, key: &GateKey, at: &mut Position
 
 /// The next rule whose gate admits the packet's key, or the end of the rules.
 fn step(
-    question: &Question<'_, '_>,
+    question: &Question<'_, '_, '_>,
     key: &GateKey,
     searched: &Searched,
     at: &mut Position,
@@ -316,7 +314,7 @@ fn step(
 
 /// The judgement by the rule in that place; behind the last one rule 65535 denies.
 pub(crate) fn judgement_at(
-    question: &Question<'_, '_>,
+    question: &Question<'_, '_, '_>,
     place: usize,
     verdict: Verdict,
     cause: Cause,
@@ -336,54 +334,27 @@ pub(crate) fn judgement_at(
     }
 }
 
-/// Which ask it is.
-fn kind_of(op: &Op) -> AskKind
-    ensures { result ≡ kind_of op.now }
-{
-    match op {
-        Op::Lookup { .. } => AskKind::Lookup,
-        Op::Install { .. } => AskKind::Install,
-    }
-}
-
-/// The evaluation waits there for the reply to its ask.
-pub(crate) fn waiting(searched: &Searched, at: &Position) -> Stage
-    requires { IsSome at.now.ask }
-    ensures { IsSomeAnd at.now.ask (λ op. result ≡ waiting_at searched.now op at.now) }
-{
-    let Some(op) = at.ask else { unreachable!() };
-    Stage::Asks(
-        op,
-        Paused {
-            place: at.place,
-            callers: at.callers,
-            searched: *searched,
-            kind: kind_of(&op),
-        },
-    )
-}
-
 /// From there to the next ask or to the end. Of the packet gates ask its key.
 pub(crate) fn walk(
-    question: &Question<'_, '_>,
+    question: &Question<'_, '_, '_>,
     key: &GateKey,
     searched: &Searched,
     at: &mut Position,
     tally: &mut Tally,
-) -> Stage
+) -> Option<Judgement>
     requires key { IsKeyOf question.now.packet key.now }
     requires addresses { HasAddresses question.now.packet }
     requires fitted { IsTallyFor question.now tally.old }
     ensures { Comes question.now (walk_at question.now (seen_by searched.now) at.old) result
-        tally.old tally.new }
+        (paused_at searched.now at.new) tally.old tally.new }
 {
     loop {
         match step(question, key, searched, at, tally) {
             Step::On => {}
             Step::Decides(verdict, cause) => {
-                return Stage::Judged(judgement_at(question, at.place, verdict, cause));
+                return Some(judgement_at(question, at.place, verdict, cause));
             }
-            Step::Waits => return waiting(searched, at),
+            Step::Waits => return None,
         }
     }
 }

@@ -1,5 +1,5 @@
 -- Runs of asks that grow by one, and what a tally counts over them.
-use Rattle.std.proofs.Common.{◌≡◌, ◌≢◌, ℕ, suc, ◌<◌, ◌≤◌, Bool, true, false, List, [], ◌∷◌, ◌++◌, length, inl, inr, refl, sym, ap, ◌∙◌, subst, cond, arith, eq-eqb}
+use Rattle.std.proofs.Common.{◌≡◌, ◌≢◌, ℕ, suc, ◌<◌, ◌≤◌, Bool, true, false, Option, Some, None, List, [], ◌∷◌, ◌++◌, length, inl, inr, refl, sym, ap, ◌∙◌, subst, cond, arith, eq-eqb}
 use Rattle.std.proofs.lemmas.List.{length-set, get_or-set_same, get_or-set_other, append-nil}
 use Rattle.std.proofs.lemmas.List.Elements.{All-weaker}
 use Rattle.std.proofs.lemmas.Option.{unwrap_or-slice_get}
@@ -15,11 +15,9 @@ use Rattle.ip6_headers.specs.Either.{total_of}
 use Rattle.eval_engine.proofs.Hits.{hits_are_given_out}
 use Rattle.eval_engine.specs.Evaluation.{evaluate}
 use Rattle.eval_engine.specs.Question.{Question}
-use Rattle.eval_engine.specs.Standing.{StandsAt, asks_at, counts_after}
+use Rattle.eval_engine.specs.Standing.{StandsAt, asked_by, asks_at, counts_after}
 use Rattle.eval_engine.specs.declared.judgement.Judgement.{Judgement}
 use Rattle.eval_engine.specs.declared.paused.Paused.{Paused}
-use Rattle.eval_engine.specs.declared.stage.Stage.{Stage}
-use Rattle.eval_engine.specs.declared.stage.Stage.TheVariants.{Judged, Asks}
 use Rattle.fw_world.specs.AskRuns.{EntersEach, RisesBy, Evaluates, AsksFront, raised_by}
 
 -- one ask more behind others
@@ -37,11 +35,12 @@ EntersEach-length enters old [] (told ∷ replies) new each = absurd each
 EntersEach-length enters old (asked ∷ ops) [] new each = absurd each
 EntersEach-length enters old (asked ∷ ops) (told ∷ replies) new each = omega (arith, EntersEach-length enters each.0 ops replies new each.2)
 
--- How far a loop over asks has come: the replies so far, the stage they lead to, and the asks entered.
-pub record IsReached {B : Type 0} (enters : B → Op → Reply → B → Type 0) (old now : B) (q : Question) (counts tally : List Count) (stage : Stage) : Type 0 where
+-- How far a loop over asks has come: the replies so far, the judgement or the pause that they lead to, and the asks
+-- entered.
+pub record IsReached {B : Type 0} (enters : B → Op → Reply → B → Type 0) (old now : B) (q : Question) (counts tally : List Count) (judged : Option Judgement) (paused : Paused) : Type 0 where
   pub asks : List Op
   pub replies : List Reply
-  pub stands : StandsAt q asks replies counts stage tally
+  pub stands : StandsAt q asks replies counts judged paused tally
   pub entered : EntersEach enters old asks replies now
 
 -- the count under a number after one hit
@@ -69,22 +68,22 @@ RisesBy-after bytes (counter ∷ hits) counts within = λ id.
     RisesBy-after bytes hits (slice_set counts counter raise) rest id ∙ ap (raised_by bytes hits id) (count_of-hit counts counter id bytes first)
 
 -- one ask more, answered
-pub IsReached-answered : {B : Type 0} (enters : B → Op → Reply → B → Type 0) (old now next : B) (q : Question) (counts tally after : List Count) (op : Op) (paused : Paused) (reply : Reply) (stage : Stage)
-    → IsReached enters old now q counts tally (Asks op paused) → enters now op reply next
-    → ((op : Op) (asks : List Op) (replies : List Reply) (start : List Count) → StandsAt q asks replies start (Asks op paused) tally → StandsAt q (asks ++ op ∷ []) (replies ++ reply ∷ []) start stage after)
-    → IsReached enters old next q counts after stage
-IsReached-answered enters old now next q counts tally after op paused reply stage reached one goes = record {
-  asks = reached.asks ++ op ∷ [];
+pub IsReached-answered : {B : Type 0} (enters : B → Op → Reply → B → Type 0) (old now next : B) (q : Question) (counts tally after : List Count) (waits : Paused) (reply : Reply) (judged : Option Judgement) (paused : Paused)
+    → IsReached enters old now q counts tally None waits → enters now (asked_by waits) reply next
+    → ((asks : List Op) (replies : List Reply) (start : List Count) → StandsAt q asks replies start None waits tally
+    → StandsAt q (asks ++ asked_by waits ∷ []) (replies ++ reply ∷ []) start judged paused after) → IsReached enters old next q counts after judged paused
+IsReached-answered enters old now next q counts tally after waits reply judged paused reached one goes = record {
+  asks = reached.asks ++ asked_by waits ∷ [];
   replies = reached.replies ++ reply ∷ [];
-  stands = goes op reached.asks reached.replies counts reached.stands;
-  entered = EntersEach-append enters old reached.asks reached.replies now op reply next reached.entered one;
+  stands = goes reached.asks reached.replies counts reached.stands;
+  entered = EntersEach-append enters old reached.asks reached.replies now (asked_by waits) reply next reached.entered one;
 }
 
 -- the evaluation of a run that ended
-pub IsReached-ended : {B : Type 0} (enters : B → Op → Reply → B → Type 0) (old now : B) (q : Question) (counts tally : List Count) (judgement : Judgement)
+pub IsReached-ended : {B : Type 0} (enters : B → Op → Reply → B → Type 0) (old now : B) (q : Question) (counts tally : List Count) (judgement : Judgement) (paused : Paused)
     → IsConfiguration q.edition.config → q.edition.config.greatest_counter < length counts
-    → IsReached enters old now q counts tally (Judged judgement) → Evaluates enters old now q counts tally judgement
-IsReached-ended enters old now q counts tally judgement lawful fitted reached = record {
+    → IsReached enters old now q counts tally (Some judgement) paused → Evaluates enters old now q counts tally judgement
+IsReached-ended enters old now q counts tally judgement paused lawful fitted reached = record {
   replies = reached.replies;
   outcome = reached.stands.outcome;
   entered = subst (λ ops. EntersEach enters old ops reached.replies now) (sym (append-nil reached.asks) ∙ sym reached.stands.asked) reached.entered;
@@ -93,16 +92,16 @@ IsReached-ended enters old now q counts tally judgement lawful fitted reached = 
 }
 
 -- the asks so far are a beginning of the evaluation's
-pub AsksFront-reached : {B : Type 0} (enters : B → Op → Reply → B → Type 0) (misses : B → B → Type 0) (old now : B) (q : Question) (counts tally : List Count) (stage : Stage)
-    → IsReached enters old now q counts tally stage → AsksFront enters misses old now q
-AsksFront-reached enters misses old now q counts tally stage reached =
-    record { ops = reached.asks; replies = reached.replies; between = now; entered = reached.entered; begins = (asks_at stage, reached.stands.asked); missed = inl refl }
+pub AsksFront-reached : {B : Type 0} (enters : B → Op → Reply → B → Type 0) (misses : B → B → Type 0) (old now : B) (q : Question) (counts tally : List Count) (judged : Option Judgement) (paused : Paused)
+    → IsReached enters old now q counts tally judged paused → AsksFront enters misses old now q
+AsksFront-reached enters misses old now q counts tally judged paused reached =
+    record { ops = reached.asks; replies = reached.replies; between = now; entered = reached.entered; begins = (asks_at judged paused, reached.stands.asked); missed = inl refl }
 
 -- and stay one where the next wanted memory
-pub AsksFront-missed : {B : Type 0} (enters : B → Op → Reply → B → Type 0) (misses : B → B → Type 0) (old now new : B) (q : Question) (counts tally : List Count) (stage : Stage)
-    → IsReached enters old now q counts tally stage → misses now new → AsksFront enters misses old new q
-AsksFront-missed enters misses old now new q counts tally stage reached missed =
-    record { ops = reached.asks; replies = reached.replies; between = now; entered = reached.entered; begins = (asks_at stage, reached.stands.asked); missed = inr missed }
+pub AsksFront-missed : {B : Type 0} (enters : B → Op → Reply → B → Type 0) (misses : B → B → Type 0) (old now new : B) (q : Question) (counts tally : List Count) (judged : Option Judgement) (paused : Paused)
+    → IsReached enters old now q counts tally judged paused → misses now new → AsksFront enters misses old new q
+AsksFront-missed enters misses old now new q counts tally judged paused reached missed =
+    record { ops = reached.asks; replies = reached.replies; between = now; entered = reached.entered; begins = (asks_at judged paused, reached.stands.asked); missed = inr missed }
 
 -- a tally that was fitted counts as before
 pub Evaluates-fitted : {B : Type 0} (enters : B → Op → Reply → B → Type 0) (old new : B) (q : Question) (counts fitted tally : List Count) (judgement : Judgement)

@@ -32,14 +32,14 @@ pub trait AsksBook {
         ensures { result ≡ entered self.now };
 
     /// Asks for a record of the lane, and enters the ask with its reply.
-    fn ask(&mut self, lane: u32, at: u64, op: Op) -> Result<Reply, OutOfMemory>
+    fn ask(&mut self, lane: u32, at: u64, op: &Op) -> Result<Reply, OutOfMemory>
         requires lane { serves self.old lane }
-        requires rule { InstallsRuleOf (edition self.old).config.rules op }
-        requires flags { HasKeptFlags op }
-        ensures entered { IfOk result (λ reply. enters self.old lane at op reply self.new) }
+        requires rule { InstallsRuleOf (edition self.old).config.rules op.now }
+        requires flags { HasKeptFlags op.now }
+        ensures entered { IfOk result (λ reply. enters self.old lane at op.now reply self.new) }
         ensures counted { OnOk result (entered self.new ≡ entered self.old + 1) }
         ensures fits { IfOk result (λ reply.
-            is_reply_to (edition self.old).config.rules op reply ≡ true) }
+            is_reply_to (edition self.old).config.rules op.now reply ≡ true) }
         ensures same { OnOk result (edition self.new ≡ edition self.old) }
         ensures lanes { OnOk result ((k : ℕ) → serves self.old k → serves self.new k) }
         ensures missed { OnErr result (misses self.old self.new) };

@@ -8,45 +8,40 @@ ghost use Rattle.fw_world.specs.Caches.{IsPortFor, IsTrueFor, IsCacheBehind, IsC
 use crate::asks_book::AsksBook;
 use cached_verdicts::LaneCache;
 use counter_book::Tally;
-use eval_engine::{Judgement, Stage, begin, resume};
+use eval_engine::{Judgement, Paused, Question, begin, resume};
 use fw_base::{OutOfMemory, Port};
-use generation_store::Edition;
 use ip6_headers::AnyIp;
 
 /// Begins the evaluation of a packet, by a look into the lane's cache where it has one.
 #[inline(always)]
 fn begin_beside(
     cache: &mut Option<LaneCache>,
-    edition: &Edition,
-    packet: &AnyIp<'_>,
-    port: &Port,
-    second: u32,
+    question: &Question<'_, '_, '_>,
+    paused: &mut Paused,
     tally: &mut Tally,
-) -> Result<Stage, OutOfMemory>
-    requires fitted { edition.now.config.greatest_counter < length tally.old }
-    requires port { IsPortFor cache.old port.now }
-    requires kept { IsTrueFor edition.now cache.old }
-    ensures stands { IfOk result (λ stage.
-        StandsAt (question_under edition.now packet.now port.now second) [] [] tally.old stage
-        tally.new) }
-    ensures cache { IsCacheBehind edition.now port.now cache.old cache.new }
-    ensures seen { OnOk result
-        (IsCacheAfter (question_under edition.now packet.now port.now second) cache.old cache.new) }
+) -> Result<Option<Judgement>, OutOfMemory>
+    requires fitted { question.now.edition.config.greatest_counter < length tally.old }
+    requires port { IsPortFor cache.old question.now.port }
+    requires kept { IsTrueFor question.now.edition cache.old }
+    ensures stands { IfOk result (λ judged.
+        StandsAt question.now [] [] tally.old judged paused.new tally.new) }
+    ensures cache { IsCacheBehind question.now.edition question.now.port cache.old cache.new }
+    ensures seen { OnOk result (IsCacheAfter question.now cache.old cache.new) }
 {
     match cache {
-        Some(cache) => cache.begin(edition, packet, port, second, tally),
-        None => Ok(begin(edition, packet, port, second, tally)),
+        Some(cache) => cache.begin(question, paused, tally),
+        None => Ok(begin(question, paused, tally)),
     }
 }
 
 /// Evaluates a packet for a record of a lane, by a look into the lane's cache where it has one, and asks the
 /// states as often as the evaluation does. Where memory is wanted the asks that were made stay.
-pub fn evaluate_packet<B: AsksBook>(
+pub fn evaluate_packet<'x, B: AsksBook>(
     book: &mut B,
     lane: u32,
     at: u64,
-    packet: &AnyIp<'_>,
-    port: &Port,
+    packet: &'x AnyIp<'_>,
+    port: &'x Port,
     second: u32,
     tally: &mut Tally,
     cache: &mut Option<LaneCache>,
@@ -66,14 +61,17 @@ pub fn evaluate_packet<B: AsksBook>(
     ensures seen { OnOk result (IsCacheAfter
         (question_under (B.edition book.old) packet.now port.now second) cache.old cache.new) }
 {
-    let mut stage = begin_beside(cache, book.edition(), packet, port, second, tally)?;
+    let mut paused = Paused::new();
+    let question = Question::new(book.edition(), packet, port, second);
+    let mut judged = begin_beside(cache, &question, &mut paused, tally)?;
     loop {
-        match stage {
-            Stage::Judged(judgement) => return Ok(judgement),
-            Stage::Asks(op, paused) => {
+        match judged {
+            Some(judgement) => return Ok(judgement),
+            None => {
                 entered_fits(book);
-                let reply = book.ask(lane, at, op)?;
-                stage = resume(paused, reply, book.edition(), packet, port, second, tally);
+                let reply = book.ask(lane, at, paused.ask())?;
+                let question = Question::new(book.edition(), packet, port, second);
+                judged = resume(&question, &mut paused, reply, tally);
             }
         }
     }

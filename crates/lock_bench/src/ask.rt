@@ -32,7 +32,7 @@ pub fn look_up(book: &mut Book, lane: u32, record: u32) -> Result<(), OutOfMemor
     ensures { IsAskedBy lane book.old book.new }
 {
     if 1 <= lane && lane <= book.lanes() {
-        book.ask(lane, u64::from(record), lookup(record))?;
+        book.ask(lane, u64::from(record), &lookup(record))?;
     }
     Ok(())
 }

@@ -71,7 +71,7 @@ fn lookup(record: u32) -> Op
 /// Enters an ask of the first lane, if there is one.
 fn enter(book: &mut Book, record: u32) -> Result<(), OutOfMemory> {
     if 1 <= book.lanes() {
-        book.ask(1, u64::from(record) + 1, lookup(record))?;
+        book.ask(1, u64::from(record) + 1, &lookup(record))?;
     }
     Ok(())
 }

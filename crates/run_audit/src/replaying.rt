@@ -33,7 +33,7 @@ pub fn replay_ask(
 {
     match op_under(edition, &told.op, told.name) {
         Some(op) => {
-            let reply = book.ask(told.lane as u32, told.at, op)?;
+            let reply = book.ask(told.lane as u32, told.at, &op)?;
             Ok(are_told_alike(&reply, &told.reply))
         }
         None => Ok(false),

@@ -6,7 +6,7 @@ ghost use Rattle.ip6_headers.specs.Either.{total_of};
 ghost use Rattle.run_audit.specs.ToldEvaluations as spec;
 
 use counter_book::Tally;
-use eval_engine::{Judgement, Stage, begin, is_reply_to, resume};
+use eval_engine::{Judgement, Paused, Question, begin, is_reply_to, resume};
 use fw_base::Port;
 use generation_store::Edition;
 use ip6_headers::AnyIp;
@@ -41,23 +41,20 @@ pub fn evaluate_told(
         → spec.ComesTo (question_under edition.now packet.now port.now second) told.now judgement
         → result ≡ Some judgement }
 {
-    let mut stage = begin(edition, packet, port, second, tally);
+    let question = Question::new(edition, packet, port, second);
+    let mut paused = Paused::new();
+    let mut judged = begin(&question, &mut paused, tally);
     for ask in told {
-        match stage {
-            Stage::Judged(_) => return None,
-            Stage::Asks(op, paused) => {
-                if !is_same(&op, &ask.0) {
-                    return None;
-                }
-                if !is_reply_to(edition, &op, &ask.1) {
-                    return None;
-                }
-                stage = resume(paused, ask.1, edition, packet, port, second, tally);
-            }
+        if judged.is_some() {
+            return None;
         }
+        if !is_same(paused.ask(), &ask.0) {
+            return None;
+        }
+        if !is_reply_to(edition, paused.ask(), &ask.1) {
+            return None;
+        }
+        judged = resume(&question, &mut paused, ask.1, tally);
     }
-    match stage {
-        Stage::Judged(judgement) => Some(judgement),
-        Stage::Asks(..) => None,
-    }
+    judged
 }

@@ -135,7 +135,7 @@ impl AsksBook for SerialBook {
         self.book.entries().len() as u64
     }
 
-    fn ask(&mut self, lane: u32, at: u64, op: Op) -> Result<Reply, OutOfMemory> {
+    fn ask(&mut self, lane: u32, at: u64, op: &Op) -> Result<Reply, OutOfMemory> {
         self.book.ask(lane, at, op)
     }
 }

@@ -38,7 +38,7 @@ fn ask_once<R: Wait>(
     reading: Reading<Arc<Edition>, SharedBook>,
     lane: u32,
     at: u64,
-    op: Op,
+    op: &Op,
 ) -> (
     Reading<Arc<Edition>, SharedBook>,
     Result<Reply, OutOfMemory>,
@@ -47,13 +47,13 @@ fn ask_once<R: Wait>(
     requires reads { ReadsSeen reading.view }
     requires of_book { IsOfBook reading.view }
     requires lane { lane ≡ reading.view.place }
-    requires rule { InstallsRuleOf (edition_of reading.view).config.rules op }
-    requires flags { HasKeptFlags op }
+    requires rule { InstallsRuleOf (edition_of reading.view).config.rules op.now }
+    requires flags { HasKeptFlags op.now }
     ensures lock { result.0.table_id ≡ lock.now }
-    ensures asked { IfOk result.1 (λ reply. AsksOnce reading.view at op reply result.0.view) }
+    ensures asked { IfOk result.1 (λ reply. AsksOnce reading.view at op.now reply result.0.view) }
     ensures missed { OnErr result.1 (MissesOnce reading.view result.0.view) }
     ensures fits { IfOk result.1 (λ reply.
-        is_reply_to (edition_of reading.view).config.rules op reply ≡ true) }
+        is_reply_to (edition_of reading.view).config.rules op.now reply ≡ true) }
     ensures counted { length result.0.view.part.own < 2 ^ 64 }
 {
     let mut holding = lock.take_book(rt, reading);
@@ -125,7 +125,7 @@ impl<'a, R: Wait> AsksBook for Asking<'a, R> {
         self.asks
     }
 
-    fn ask(&mut self, lane: u32, at: u64, op: Op) -> Result<Reply, OutOfMemory> {
+    fn ask(&mut self, lane: u32, at: u64, op: &Op) -> Result<Reply, OutOfMemory> {
         match self.reading.take() {
             Some(reading) => {
                 let (reading, outcome) = ask_once(self.rt, self.lock, reading, lane, at, op);

@@ -52,12 +52,12 @@ impl SharedBook {
 
     /// Asks the states for a record of the lane, and enters the ask with its answer. Where memory is wanted
     /// nothing has changed.
-    pub(crate) fn ask(&mut self, lane: u32, at: u64, op: Op) -> Result<Reply, OutOfMemory>
+    pub(crate) fn ask(&mut self, lane: u32, at: u64, op: &Op) -> Result<Reply, OutOfMemory>
         requires lane { (1 ≤ lane) × (lane ≤ self.old.lanes) }
-        requires rule { NamesRuleOf (last_facts self.old.facts).rules op }
-        requires flags { HasKeptFlags op }
-        ensures reply { IfOk result (λ reply. reply ≡ reply_of self.old.object op) }
-        ensures entered { IfOk result (λ reply. self.new ≡ with_ask self.old lane at op reply) }
+        requires rule { NamesRuleOf (last_facts self.old.facts).rules op.now }
+        requires flags { HasKeptFlags op.now }
+        ensures reply { IfOk result (λ reply. reply ≡ reply_of self.old.object op.now) }
+        ensures entered { IfOk result (λ reply. self.new ≡ with_ask self.old lane at op.now reply) }
         ensures found { IfOk result (IsFoundOf (last_facts self.old.facts).rules) }
         ensures unchanged { OnErr result (self.new ≡ self.old) }
         ensures journal { IsJournal self.old }

@@ -116,20 +116,20 @@ impl Book {
 
     /// Asks the states, of TCP's flags with FIN, SYN and RST alone, and enters the ask with its answer.
     /// Where memory is wanted nothing has changed; the room that was made for a publication stays.
-    pub fn ask(&mut self, lane: u32, at: u64, op: Op) -> Result<Reply, OutOfMemory>
+    pub fn ask(&mut self, lane: u32, at: u64, op: &Op) -> Result<Reply, OutOfMemory>
         requires lane { (1 ≤ lane) × (lane ≤ self.old.lanes) }
-        requires rule { NamesRuleOf (last_rules self.old.facts) op }
-        requires flags { HasKeptFlags op }
-        ensures reply { IfOk result (λ reply. reply ≡ reply_of self.old.object op) }
-        ensures entered { IfOk result (λ reply. self.new ≡ with_ask self.old lane at op reply) }
+        requires rule { NamesRuleOf (last_rules self.old.facts) op.now }
+        requires flags { HasKeptFlags op.now }
+        ensures reply { IfOk result (λ reply. reply ≡ reply_of self.old.object op.now) }
+        ensures entered { IfOk result (λ reply. self.new ≡ with_ask self.old lane at op.now reply) }
         ensures found { IfOk result (IsFoundOf (last_rules self.old.facts)) }
         ensures unchanged { OnErr result (self.new ≡ self.old) }
     {
         self.entries.reserve(2)?;
-        let reply = self.states.step(&op);
+        let reply = self.states.step(op);
         self.entries.push_reserved(Entry::Ask {
             lane: lane as u16,
-            op,
+            op: *op,
             reply,
             at,
         });

@@ -12,7 +12,7 @@ use std::time::{Clock, Instant};
 /// Enters an ask of the first lane, if there is one.
 fn enter(book: &mut Book, record: u32) -> Result<(), OutOfMemory> {
     if 1 <= book.lanes() {
-        book.ask(1, u64::from(record), lookup(record % 1000, record))?;
+        book.ask(1, u64::from(record), &lookup(record % 1000, record))?;
     }
     Ok(())
 }

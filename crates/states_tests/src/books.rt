@@ -88,17 +88,17 @@ fn publication_drops_states(rt: HostRuntime) -> Result<(), Fail> {
     assert_eq!(rt; book.lanes(), 2);
     assert!(rt; !book.is_ready());
     assert!(rt; book.has_rule(2));
-    assert_eq!(rt; book.ask(1, 1, lookup(100))?, Reply::NotFound);
-    assert_eq!(rt; book.ask(1, 1, install(100))?, Reply::Created);
+    assert_eq!(rt; book.ask(1, 1, &lookup(100))?, Reply::NotFound);
+    assert_eq!(rt; book.ask(1, 1, &install(100))?, Reply::Created);
     book.ready()?;
     let found = Reply::Found(Way::Forward, RULE);
-    assert_eq!(rt; book.ask(2, 1, lookup(101))?, found);
+    assert_eq!(rt; book.ask(2, 1, &lookup(101))?, found);
     assert_eq!(rt; book.states().count(), 1);
     let two = Identities::new(rt.alloc(), vec![in rt.alloc(); 0, 1]?)?;
     publish(&rt, &mut book, 2, facts(&rt, 2, two));
     assert!(rt; book.lanes() == 2);
     assert!(rt; !book.has_rule(2));
-    assert_eq!(rt; book.ask(1, 2, lookup(101))?, Reply::NotFound);
+    assert_eq!(rt; book.ask(1, 2, &lookup(101))?, Reply::NotFound);
     assert_eq!(rt; book.states().clock(), 101);
     assert_eq!(rt; size_of::<Entry>(), 64);
     let ask = |lane, at, op, reply| Entry::Ask {

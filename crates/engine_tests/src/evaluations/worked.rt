@@ -8,7 +8,7 @@ use crate::frames::{
 };
 use counter_book::Tally;
 use dyn_states::States;
-use eval_engine::{Cause, Judgement, Stage, Verdict, begin, is_reply_to, resume};
+use eval_engine::{Cause, Judgement, Paused, Question, Verdict, begin, is_reply_to, resume};
 use fw_base::Port;
 use generation_store::Edition;
 use ip6_headers::AnyIp;
@@ -98,21 +98,20 @@ fn judged_over(
 ) -> Option<Judgement>
     requires { edition.now.config.greatest_counter < length tally.old }
 {
-    let mut stage = begin(edition, packet, port, second, tally);
+    let question = Question::new(edition, packet, port, second);
+    let mut paused = Paused::new();
+    let mut judgement = begin(&question, &mut paused, tally);
     for _turn in 0..9 {
-        let Stage::Asks(op, paused) = stage else {
+        if judgement.is_some() {
             break;
-        };
-        let reply = states.step(&op);
-        if !is_reply_to(edition, &op, &reply) {
+        }
+        let reply = states.step(paused.ask());
+        if !is_reply_to(edition, paused.ask(), &reply) {
             return None;
         }
-        stage = resume(paused, reply, edition, packet, port, second, tally);
+        judgement = resume(&question, &mut paused, reply, tally);
     }
-    match stage {
-        Stage::Judged(judgement) => Some(judgement),
-        Stage::Asks(..) => None,
-    }
+    judgement
 }
 
 /// A packet of the row comes to its judgement.

@@ -65,7 +65,7 @@ fn ask_lookup(
 ) -> Result<(), Fail> {
     assert!(rt; book.lanes() == 2);
     assert!(rt; at < 100 && flags < 8);
-    book.ask(1, at, lookup(flow, flags, at as u32 + 99))?;
+    book.ask(1, at, &lookup(flow, flags, at as u32 + 99))?;
     Ok(())
 }
 
@@ -73,7 +73,7 @@ fn ask_lookup(
 fn ask_all(rt: &impl Abort, book: &mut Book) -> Result<(), Fail> {
     ask_lookup(rt, book, 1, FORTH, 2)?;
     assert!(rt; book.lanes() == 2 && book.has_rule(2));
-    book.ask(1, 1, install())?;
+    book.ask(1, 1, &install())?;
     for (at, flow, flags) in [(2, BACK, 2), (3, FORTH, 1), (4, BACK, 1), (5, FORTH, 0)] {
         ask_lookup(rt, book, at, flow, flags)?;
     }

@@ -11,7 +11,7 @@ use Rattle.eval_engine.proofs.resuming.test_at.Goals as goal
 pub returns-in-None : goal.returns-in-None
 returns-in-None c =
     let q = c.args.question.now in
-    let denied = denied_there q c.args.at.now verdicts.Deny causes.Rule c.in-None.ensures in
-    let comes = comes_at_once q _ (judged_at q verdicts.Deny causes.Rule c.args.at.now) c.args.tally.now denied in
+    let denied = denied_there q c.args.searched.now c.args.at.now verdicts.Deny causes.Rule c.in-None.ensures in
+    let comes = comes_at_once q _ (judged_at q verdicts.Deny causes.Rule c.args.at.now) _ c.args.tally.now denied in
     let ended = ap (λ (suffix : List Rule). tests_from q (seen_by c.args.searched.now) (callers_of c.args.at.now.callers) suffix) c.in-None.ensures in
     rw ended comes

@@ -21,7 +21,7 @@ returns-in-Some-flow c =
     let seen = seen_by c.args.searched.now in
     let flow = sym c.flow.ensures ∙ c.in-Some-flow.is in
     let asks = install_asks q seen (callers_of c.args.at.now.callers) c.args.rule.now (drop (c.args.at.now.place + 1) q.edition.config.rules) (drop c.args.at.now.place q.edition.config.rules) c.requires.there.there c.in-Some.state.now c.in-Some-flow.flow (sym c.in-Some.ensures) flow in
-    rw c.ask_install.ensures (comes_at_once q _ _ c.args.tally.now (record { stop = asks; asked = (search rules, c.requires.there.listed, few_flags (unwrap_or (any_tcp_flags_of q.packet) 0)) }))
+    rw c.ask_install.ensures (comes_at_once q _ _ _ c.args.tally.now (record { stop = asks; asked = (c.requires.there.listed, few_flags (unwrap_or (any_tcp_flags_of q.packet) 0)) }))
 
 pub returns-in-None : goal.returns-in-None
 returns-in-None c =

@@ -27,7 +27,7 @@ returns-in-Some c =
     let q = c.args.question.now in
     let seen = seen_by c.args.searched.now in
     let asks = looked_asks q seen (callers_of c.args.at.now.callers) c.args.rule.now (drop (c.args.at.now.place + 1) q.edition.config.rules) (drop c.args.at.now.place q.edition.config.rules) c.requires.there.there (sym c.if-is_disabled.ensures) c.in-Some.flow (sym c.in-Some.ensures) in
-    rw c.ask_lookup.ensures (comes_at_once q _ _ c.args.tally.now (record { stop = asks; asked = (search rules, search rules, few_flags (unwrap_or (any_tcp_flags_of q.packet) 0)) }))
+    rw c.ask_lookup.ensures (comes_at_once q _ _ _ c.args.tally.now (record { stop = asks; asked = (search rules, few_flags (unwrap_or (any_tcp_flags_of q.packet) 0)) }))
 
 pub returns-in-None : goal.returns-in-None
 returns-in-None c =

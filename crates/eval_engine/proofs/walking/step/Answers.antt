@@ -24,4 +24,4 @@ returns-in-None c =
     let ended = ap (λ (suffix : List Rule). walk_from q seen callers suffix 0) c.in-None.ensures ∙ walk_ends q seen callers in
     let passes : PassesTo (walk_at q seen c.args.at.now) (walk_at q seen next) = c.pass_shut_gates-is_told.ensures.passes seen in
     leads_passed q c.args.searched.now _ _ (Decides verdicts.Deny causes.Rule) next c.args.tally.now c.args.tally.now passes
-    (rw ended (comes_at_once q _ (judged_at q verdicts.Deny causes.Rule next) c.args.tally.now (denied_there q next verdicts.Deny causes.Rule c.in-None.ensures)))
+    (rw ended (comes_at_once q _ (judged_at q verdicts.Deny causes.Rule next) _ c.args.tally.now (denied_there q c.args.searched.now next verdicts.Deny causes.Rule c.in-None.ensures)))

@@ -3,14 +3,14 @@ use Rattle.eval_engine.specs.Question.{question_under}
 use Rattle.fw_world.proofs.Running.{IsReached}
 use Rattle.fw_world.proofs.evaluating.evaluate_packet.Given as goal
 
-abbrev pub invariant-loop-stage : goal.invariant-loop-stage
-invariant-loop-stage g l = record {
+abbrev pub invariant-loop-judged : goal.invariant-loop-judged
+invariant-loop-judged g l = record {
   serves : g.B.AsksBook.serves l.book l.lane;
   same : g.B.AsksBook.edition l.book ≡ g.B.AsksBook.edition l.fn.book;
   fitted : (g.B.AsksBook.edition l.fn.book).config.greatest_counter < length l.tally;
   reached : IsReached (λ old op reply new. g.B.AsksBook.enters old l.lane l.at op reply new) l.fn.book l.book
-      (question_under (g.B.AsksBook.edition l.fn.book) l.packet l.port l.second) l.fn.tally l.tally l.stage;
+      (question_under (g.B.AsksBook.edition l.fn.book) l.packet l.port l.second) l.fn.tally l.tally l.judged l.paused;
 }
 
-abbrev pub decreases-loop-stage : goal.decreases-loop-stage
-decreases-loop-stage g l = 2 ^ 64 - g.B.AsksBook.entered l.book
+abbrev pub decreases-loop-judged : goal.decreases-loop-judged
+decreases-loop-judged g l = 2 ^ 64 - g.B.AsksBook.entered l.book

@@ -10,9 +10,9 @@ invariant_of-self-2 c =
     let facts : c.args.self.now.facts ≡ c.self.inside.facts.items = sym (ap (λ (j : Journal). j.facts) c.self.view_is) in
     let lanes : c.args.self.now.lanes ≡ c.self.inside.lanes = sym (ap (λ (j : Journal). j.lanes) c.self.view_is) in
     let within = subst (λ (n : ℕ). c.args.lane ≤ n) lanes c.requires.lane.1 in
-    let names = subst (λ (all : List Facts). NamesRuleOf (last_rules all) c.args.op) facts c.requires.rule in (
+    let names = subst (λ (all : List Facts). NamesRuleOf (last_rules all) c.args.op.now) facts c.requires.rule in (
       rw (c.push_reserved.ensures.items, c.in_ok-reserve.ensures.items, c.step-reply.ensures.after, c.step-reply.ensures.reply)
-          (IsJournal-ask _ c.args.lane c.args.at c.args.op c.self.invariant.0 names c.requires.lane.0 within c.requires.flags),
+          (IsJournal-ask _ c.args.lane c.args.at c.args.op.now c.self.invariant.0 names c.requires.lane.0 within c.requires.flags),
       omega (arith, c.step-reply.ensures.room, c.self.invariant.1),
       λ ready. (
         (c.self.invariant.2 ready).0,
@@ -25,4 +25,4 @@ pub returns-clause-found : goal.returns-clause-found
 returns-clause-found c =
     let facts : c.self.inside.facts.items ≡ c.args.self.now.facts = ap (λ (j : Journal). j.facts) c.self.view_is in
     rw c.step-reply.ensures.reply
-    (subst (λ (all : List Facts). IsFoundOf (last_rules all) (reply_of c.self.inside.states.object c.args.op)) facts (IsFoundOf-ask _ c.args.op c.self.invariant.0))
+    (subst (λ (all : List Facts). IsFoundOf (last_rules all) (reply_of c.self.inside.states.object c.args.op.now)) facts (IsFoundOf-ask _ c.args.op.now c.self.invariant.0))

@@ -2,7 +2,7 @@ use Rattle.std.proofs.Common.{subst}
 use Rattle.state_asks.specs.declared.op.FlowName.{FlowName}
 use Rattle.eval_engine.specs.Place.{IsNumbered}
 use Rattle.eval_engine.proofs.Names.{with_name}
-use Rattle.eval_engine.proofs.searched.Searched.with.Goals as goal
+use Rattle.eval_engine.proofs.searched.Searched.add.Goals as goal
 
 pub returns-in-Named : goal.returns-in-Named
 returns-in-Named c =
