@@ -18,7 +18,7 @@ const HEADER_SIZE: usize = 40;
 
 /// Reads the frame of a capture with that link type. What it answers is lent from the bytes.
 #[tactic(auto, unfolding(crate::specs::Reading::read_any))]
-#[inline(always)]
+#[inline(never)]
 pub fn read_any(link: Link, bytes: &[u8]) -> AnyPacket<'_>
     requires { length bytes.now < 2 ^ 32 }
     ensures { result ≡ spec.read_any link bytes.now }

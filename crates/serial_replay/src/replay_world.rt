@@ -94,13 +94,13 @@ impl ReplayWorld {
             self.new) }
     {
         let lane = &mut self.lanes[capture];
-        match read_any(link, taken.bytes) {
+        match &read_any(link, taken.bytes) {
             AnyPacket::Ip(packet) => {
-                let _judgement = self.world.judge(lane, &packet, port, taken.second)?;
+                let _judgement = self.world.judge(lane, packet, port, taken.second)?;
                 Ok(())
             }
             AnyPacket::Other => self.world.pass_over(lane, Skipped::Other),
-            AnyPacket::Malformed(kind) => self.world.pass_over(lane, Skipped::Malformed(kind)),
+            AnyPacket::Malformed(kind) => self.world.pass_over(lane, Skipped::Malformed(*kind)),
         }
     }
 }
