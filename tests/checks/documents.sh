@@ -89,6 +89,16 @@ awk 'NR == FNR { wanted[++count] = $0; next }
      !is_gap { print "not in the README: " $0; exit }' "$work/wanted" report >"$work/got"
 same first_example_of_README
 
+# Its way to try an edit, pasted as it stands, says that both replays are good, and then what stands below it.
+ln -sf "$(dirname "$program")/report_view" bin/report_view
+awk '/^[*][*]To try an edit/ { behind = 1 } behind && /^```/ { if (inside) exit; inside = 1; next } inside' "$top/README.md" >script_of_readme
+{
+    printf 'status 0\nstatus 0\n'
+    awk '/^[*][*]To try an edit/ { behind = 1 } /^Then come the moves/ { exit } behind && sub(/^    /, "")' "$top/README.md"
+} >"$work/wanted"
+timeout 100 bash script_of_readme </dev/null 2>&1 | grep -E '^(status|moved|stayed) ' | head -5 >"$work/got"
+same edit_of_README
+
 # Each wrong body, those that the gate tries and those that it leaves to wrong-bodies/run, can be put into its crate.
 : >"$work/wanted"
 python3 "$tests/edits.py" "$top" >"$work/got" 2>&1
