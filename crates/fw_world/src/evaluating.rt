@@ -1,4 +1,4 @@
-ghost use Rattle.std.specs.Prelude.{◌<◌, ◌^◌, [], length, IfOk, OnOk};
+ghost use Rattle.std.specs.Prelude.{◌≡◌, ◌+◌, ◌<◌, ◌^◌, [], length, IfOk, OnOk};
 ghost use Rattle.rule_chain.specs.Chain.{IsConfiguration};
 ghost use Rattle.eval_engine.specs.Question.{question_under};
 ghost use Rattle.eval_engine.specs.Standing.{StandsAt};
@@ -6,6 +6,7 @@ ghost use Rattle.fw_world.specs.AskRuns.{Evaluates, AsksFront};
 ghost use Rattle.fw_world.specs.Caches.{IsPortFor, IsTrueFor, IsCacheBehind, IsCacheAfter};
 
 use crate::asks_book::AsksBook;
+use crate::lane_work::LaneWork;
 use cached_verdicts::LaneCache;
 use counter_book::Tally;
 use eval_engine::{Judgement, Paused, Question, begin, resume};
@@ -34,44 +35,54 @@ fn begin_beside(
     }
 }
 
-/// Evaluates a packet for a record of a lane, by a look into the lane's cache where it has one, and asks the
-/// states as often as the evaluation does. Where memory is wanted the asks that were made stay.
-pub fn evaluate_packet<'x, B: AsksBook>(
-    book: &mut B,
-    lane: u32,
-    at: u64,
-    packet: &'x AnyIp<'_>,
-    port: &'x Port,
-    second: u32,
-    tally: &mut Tally,
-    cache: &mut Option<LaneCache>,
-) -> Result<Judgement, OutOfMemory>
-    requires lane { B.serves book.old lane }
-    requires lawful { IsConfiguration (B.edition book.old).config }
-    requires fitted { (B.edition book.old).config.greatest_counter < length tally.old }
-    requires port { IsPortFor cache.old port.now }
-    requires kept { IsTrueFor (B.edition book.old) cache.old }
-    ensures judged { IfOk result
-        (Evaluates (λ old op reply new. B.enters old lane at op reply new) book.old book.new
-        (question_under (B.edition book.old) packet.now port.now second) tally.old tally.new) }
-    ensures asked { AsksFront (λ old op reply new. B.enters old lane at op reply new)
-        (λ old new. B.misses old new) book.old book.new
-        (question_under (B.edition book.old) packet.now port.now second) }
-    ensures cache { IsCacheBehind (B.edition book.old) port.now cache.old cache.new }
-    ensures seen { OnOk result (IsCacheAfter
-        (question_under (B.edition book.old) packet.now port.now second) cache.old cache.new) }
-{
-    let mut paused = Paused::new();
-    let question = Question::new(book.edition(), packet, port, second);
-    let mut judged = begin_beside(cache, &question, &mut paused, tally)?;
-    loop {
-        match judged {
-            Some(judgement) => return Ok(judgement),
-            None => {
-                entered_fits(book);
-                let reply = book.ask(lane, at, paused.ask())?;
-                let question = Question::new(book.edition(), packet, port, second);
-                judged = resume(&question, &mut paused, reply, tally);
+impl LaneWork {
+    /// Evaluates a packet for the lane's next record, by a look into its cache where it has one, and asks the
+    /// states as often as the evaluation does. Where memory is wanted the asks that were made stay.
+    pub(crate) fn evaluate<'x, B: AsksBook>(
+        &mut self,
+        book: &mut B,
+        lane: u32,
+        packet: &'x AnyIp<'_>,
+        port: &'x Port,
+        second: u32,
+    ) -> Result<Judgement, OutOfMemory>
+        requires lane { B.serves book.old lane }
+        requires lawful { IsConfiguration (B.edition book.old).config }
+        requires fitted { (B.edition book.old).config.greatest_counter < length self.old.tally }
+        requires port { IsPortFor self.old.cache port.now }
+        requires kept { IsTrueFor (B.edition book.old) self.old.cache }
+        ensures judged { IfOk result
+            (Evaluates (λ old op reply new.
+            B.enters old lane (length self.old.docket.entries + 1) op reply new) book.old book.new
+            (question_under (B.edition book.old) packet.now port.now second) self.old.tally
+            self.new.tally) }
+        ensures asked { AsksFront (λ old op reply new.
+            B.enters old lane (length self.old.docket.entries + 1) op reply new)
+            (λ old new. B.misses old new) book.old book.new
+            (question_under (B.edition book.old) packet.now port.now second) }
+        ensures cache { IsCacheBehind (B.edition book.old) port.now self.old.cache self.new.cache }
+        ensures seen { OnOk result (IsCacheAfter
+            (question_under (B.edition book.old) packet.now port.now second) self.old.cache
+            self.new.cache) }
+        ensures unentered { self.new ≡ record self.old {
+          tally = self.new.tally;
+          cache = self.new.cache;
+        } }
+    {
+        let at = self.docket.entries().len() as u64 + 1;
+        let tally = &mut self.tally;
+        let mut paused = Paused::new();
+        let question = Question::new(book.edition(), packet, port, second);
+        let mut judged = begin_beside(&mut self.cache, &question, &mut paused, tally)?;
+        loop {
+            match judged {
+                Some(judgement) => return Ok(judgement),
+                None => {
+                    entered_fits(book);
+                    let reply = book.ask(lane, at, paused.ask())?;
+                    let question = Question::new(book.edition(), packet, port, second);
+                    judged = resume(&question, &mut paused, reply, tally);
+                }
             }
         }
     }

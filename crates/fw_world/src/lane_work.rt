@@ -6,7 +6,6 @@ ghost use Rattle.fw_world.specs.Caches.{IsPortFor, IsTrueFor, IsCacheBehind, IsC
 ghost use Rattle.fw_world.specs.Lane.{one_looser};
 
 use crate::asks_book::AsksBook;
-use crate::evaluating::evaluate_packet;
 use cached_verdicts::LaneCache;
 use counter_book::Tally;
 use eval_engine::{Docket, DocketEntry, Judgement};
@@ -161,13 +160,10 @@ impl LaneWork {
           cache = self.new.cache;
         }) }
     {
-        let at = self.docket.entries().len() as u64 + 1;
         let config = book.edition().config();
         is_configuration(config);
         self.tally.fit(config.counters())?;
-        let tally = &mut self.tally;
-        let cache = &mut self.cache;
-        let judgement = evaluate_packet(book, lane, at, packet, port, second, tally, cache)?;
+        let judgement = self.evaluate(book, lane, packet, port, second)?;
         self.docket.push(DocketEntry::judged(judgement))?;
         Ok(judgement)
     }

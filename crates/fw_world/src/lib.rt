@@ -7,7 +7,6 @@ pub use asks_book::AsksBook;
 pub use columns::Columns;
 pub use commit_fault::CommitFault;
 pub use editions::{last_edition, next_edition, share_edition, store_of};
-pub use evaluating::evaluate_packet;
 pub use lane_work::LaneWork;
 pub use opening::open_cache;
 pub use record::Record;

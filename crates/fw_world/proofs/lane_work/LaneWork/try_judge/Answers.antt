@@ -4,16 +4,6 @@ use Rattle.fw_world.proofs.lane_work.LaneWork.try_judge.Goals as goal
 pub returns-in_err-fit-clause-asked : goal.returns-in_err-fit-clause-asked
 returns-in_err-fit-clause-asked g c = AsksFront-none _ _ _ _
 
-pub returns-in_err-judgement-clause-asked : goal.returns-in_err-judgement-clause-asked
-returns-in_err-judgement-clause-asked g c = rw c.entries.ensures at c.evaluate_packet.ensures.asked
-
-pub returns-in_err-push-clause-asked : goal.returns-in_err-push-clause-asked
-returns-in_err-push-clause-asked g c = rw c.entries.ensures at c.evaluate_packet.ensures.asked
-
-pub returns-clause-asked : goal.returns-clause-asked
-returns-clause-asked g c = rw c.entries.ensures at c.evaluate_packet.ensures.asked
-
 pub returns-clause-judged : goal.returns-clause-judged
 returns-clause-judged g c =
-    let ran = rw c.entries.ensures at c.in_ok-judgement.ensures.judged in
-    Evaluates-fitted _ _ _ _ _ _ _ c.in_ok-judgement.judgement c.in_ok-fit.ensures.counts ran
+    Evaluates-fitted _ _ _ _ _ _ _ c.in_ok-judgement.judgement c.in_ok-fit.ensures.counts c.in_ok-judgement.ensures.judged
