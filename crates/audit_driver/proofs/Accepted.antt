@@ -30,6 +30,7 @@ use Rattle.replay_driver.specs.Served.{pace_of}
 use Rattle.replay_driver.specs.declared.first_edition.FirstEdition.{FirstEdition}
 use Rattle.replay_driver.specs.declared.outcome.Outcome.{Outcome}
 use Rattle.replay_driver.specs.declared.script_error.ScriptError.{ScriptError}
+use Rattle.replay_driver.proofs.Complete.{took_from}
 use Rattle.replay_driver.proofs.Promised.{IfSome-both}
 use Rattle.run_audit.specs.Audit.{IsFirstWrong, IsRebuilt, rebuilt_record}
 use Rattle.run_audit.specs.Comparison.{line_behind, line_of_first_other}
@@ -42,19 +43,11 @@ use Rattle.audit_driver.specs.declared.audit_result.AuditResult.{AuditResult}
 use Rattle.audit_driver.specs.declared.audit_result.AuditResult.TheVariants.{TooLong, No}
 use Rattle.audit_driver.proofs.CaptureCounts.{few_captures}
 use Rattle.audit_driver.proofs.EditionForms.{edition_from_script}
-use Rattle.audit_driver.proofs.Promised.{audit_no, audit_quiet, took_from}
+use Rattle.audit_driver.proofs.Promised.{audit_no, audit_quiet}
 use Rattle.audit_driver.proofs.SameReadings.{AreSameFiles, given_so_far, same_count, same_readings}
+use Rattle.run_audit.proofs.SameTexts.{no_other}
 
 -- ---- texts
-
--- a text differs from itself nowhere
-no_other : (line : ℕ) (text : List ℕ) → line_of_first_other line text text ≡ None
-unfolding line_of_first_other
-no_other line [] = refl
-no_other line (byte ∷ text) =
-    let rest = no_other (line_behind byte line) text in
-    let same : (byte == byte) ≡ true = grind arith in
-    ap (λ (b : Bool). let o : Option ℕ = if b then line_of_first_other (line_behind byte line) text text else Some line in o) same ∙ rest
 
 -- all of a file that isn't too long was read
 all_read : (most : ℕ) (file bytes : List ℕ) (after : Option (List ℕ)) (before now : ℕ) → ReadsAll (Some file) after before now most bytes → length file < most → bytes ≡ file

@@ -33,20 +33,6 @@ use Rattle.audit_driver.specs.declared.audit_result.AuditResult.{AuditResult}
 use Rattle.audit_driver.specs.declared.audit_result.AuditResult.TheVariants.{Unread, Unready, TooLong, No, Yes}
 use Rattle.audit_driver.specs.declared.examined.Examined.{Examined}
 
--- where no line is other, both texts are one
-pub same_text : (line : ℕ) (written text : List ℕ) → line_of_first_other line written text ≡ None → written ≡ text
-unfolding line_of_first_other
-same_text line [] [] none = refl
-same_text line [] (byte ∷ bytes) none = absurd (cc)
-same_text line (byte ∷ bytes) [] none = absurd (cc)
-same_text line (byte ∷ bytes) (other ∷ others) none = elim (eqb_tells byte other) [
-  | inl h ↦
-      let later : line_of_first_other (line_behind byte line) bytes others ≡ None =
-      sym (ap (λ t. let o : Option ℕ = if t then line_of_first_other (line_behind byte line) bytes others else Some line in o) h.0) ∙ none in
-      (λ i. h.1 i ∷ same_text (line_behind byte line) bytes others later i)
-  | inr h ↦ absurd (let never : Some line ≡ None = sym (ap (λ t. let o : Option ℕ = if t then line_of_first_other (line_behind byte line) bytes others else Some line in o) h.0) ∙ none in cc)
-]
-
 -- the text of what was rebuilt is that of its record with the script's answers
 pub rebuilt_is : (edition : FirstEdition) (bytes : List ℕ) (inputs : List (List Input)) (ends : List CaptureEnd) (r : Rebuilt) → IsRebuilt edition.config edition.live bytes inputs r
     → report_text (report_record (rebuilt_record r)) ends (edition.answers ++ r.answers.items) true ≡ text_of edition (rebuilt_record r) ends

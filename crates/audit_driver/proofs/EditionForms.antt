@@ -27,9 +27,7 @@ use Rattle.rule_edits.specs.Answers.{Answer}
 use Rattle.rule_edits.specs.Apply.{apply}
 use Rattle.rule_edits.specs.Changing.{is_changing}
 use Rattle.rule_edits.specs.declared.apply_fault.ApplyFault.TheVariants.{NoSuchTable}
-
-ok_same : {X E : Type 0} (x y : X) → ◌≡◌ {A = Result X E} (Ok x) (Ok y) → x ≡ y
-ok_same x y e = cc
+use Rattle.replay_driver.proofs.Complete.{ok_same}
 
 -- ---- the configuration
 

@@ -21,8 +21,9 @@ use Rattle.replay_driver.specs.Outside.{Files, Output}
 use Rattle.replay_driver.specs.Served.{ReplayNames, pace_of}
 use Rattle.replay_driver.specs.declared.outcome.Outcome.{Outcome}
 use Rattle.replay_driver.specs.declared.script_error.ScriptError.{ScriptError}
+use Rattle.replay_driver.proofs.Complete.{took_from, all_bytes, not_risen}
 use Rattle.replay_driver.proofs.Statuses.{failed_read}
-use Rattle.replay_driver.proofs.Told.{all_fresh, all_named, names_steady, script_refused, script_failed, capture_refused}
+use Rattle.replay_driver.proofs.Told.{all_fresh, all_named, names_steady, one_out, script_refused, script_failed, capture_refused}
 use Rattle.audit_driver.specs.AuditNames.{AuditNames}
 use Rattle.audit_driver.specs.AuditTexts.{result_status}
 use Rattle.audit_driver.specs.Found.{FindsAudit, ConcludesAudit, IsAudited, IsBehindReport}
@@ -30,40 +31,6 @@ use Rattle.audit_driver.specs.Promises.{IsQuietAudit, TellsAudit, SaysYes, SaysN
 use Rattle.audit_driver.specs.Run.{IsAuditRun}
 use Rattle.audit_driver.specs.declared.audit_result.AuditResult.{AuditResult}
 use Rattle.audit_driver.specs.declared.audit_result.AuditResult.TheVariants.{Unread, Unready, TooLong, No, Yes}
-
--- the list behind one opening
-one_out : (a b : Option (List Pair)) (name : List ℕ) (names : List (List ℕ)) (left : Option (List ℕ)) (told : List Pair) (last : Option (List Pair)) → TakesOut a b name left → a ≡ Some told
-    → ((rest : List Pair) → b ≡ Some rest → last ≡ pairs_without names rest) → last ≡ pairs_without (name ∷ names) told
-one_out None b name names left told last took is behind = absurd (cc)
-one_out (Some pairs) b name names left told last took is behind =
-    let same : pairs ≡ told = cc in
-    subst (λ (l : List Pair). last ≡ pairs_without (name ∷ names) l) same (by_place (take_named name pairs) took)
-  where
-    by_place : (found : Option (Pair × List Pair)) → MatchOption found ⊥ (λ f. (left ≡ Some f.0.1) × (b ≡ Some f.1)) → last ≡ option_and_then (λ f. pairs_without names f.1) found
-    by_place None took = absurd took
-    by_place (Some f) took = behind f.1 took.1
-
--- what an opening takes out of a told list
-pub took_from : (a b : Option (List Pair)) (name : List ℕ) (left : Option (List ℕ)) (ps : List Pair) (p : Pair) (rest : List Pair) → TakesOut a b name left
-    → a ≡ Some ps → take_named name ps ≡ Some (p, rest) → (left ≡ Some p.1) × (b ≡ Some rest)
-took_from None b name left ps p rest took is stands = absurd (cc)
-took_from (Some qs) b name left ps p rest took is stands =
-    let same : qs ≡ ps = cc in
-    let found : take_named name qs ≡ Some (p, rest) = ap (take_named name) same ∙ stands in
-    subst (λ (r : Option (Pair × List Pair)). MatchOption r ⊥ (λ f. (left ≡ Some f.0.1) × (b ≡ Some f.1))) found took
-
--- all of a script that isn't too long was read
-all_bytes : (script bytes : List ℕ) (left : Option (List ℕ)) (before now : ℕ) → ReadsAll (Some script) left before now 1048577 bytes → length script ≤ 1048576 → bytes ≡ script
-all_bytes script bytes None before now reads short = absurd reads.taken
-all_bytes script bytes (Some ys) before now reads short =
-    let split : script ≡ bytes ++ ys = reads.taken in
-    let size : length script ≡ length bytes + length ys = ap length split ∙ length-append bytes ys in
-    let none : ys ≡ [] = reads.end (omega arith) in
-    sym (split ∙ ap (λ l. bytes ++ l) none ∙ append-nil bytes)
-
--- no count of faults rises from 0 to 0
-not_risen : (before now : ℕ) → before ≡ 0 → now ≡ 0 → Rose before now → ⊥
-not_risen before now zero still rose = omega arith
 
 -- what holds of all of a list holds of one between others
 one_of_all : {X : Type 0} (P : X → Type 0) (before : List X) (one : X) (behind all : List X) → all ≡ before ++ one ∷ behind → AllByRecursion P all → P one

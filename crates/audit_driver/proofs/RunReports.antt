@@ -59,7 +59,7 @@ use Rattle.rule_edits.proofs.FlowNames.{name_same}
 use Rattle.audit_driver.specs.Found.{text_of}
 use Rattle.audit_driver.specs.Printed.{AreUnder}
 use Rattle.audit_driver.specs.RunReports.{RunsTakeReports, TakesReport}
-use Rattle.audit_driver.proofs.SameReadings.{AreSameFiles, same_count, told_alone}
+use Rattle.audit_driver.proofs.SameReadings.{AreSameFiles, first_of, same_count, told_alone}
 
 -- ---- the script
 
@@ -255,9 +255,6 @@ record IsReadAgain (limit : ℕ) (captures : List (OpenedCapture (List ℕ))) (t
   whole : list_any is_unread (map printed_end ends) ≡ false
   alike : map printed_end ends ≡ map printed_end (map printed_end ends)
 
-one_head : {X : Type 0} (x y : X) → x ∷ [] ≡ y ∷ [] → x ≡ y
-one_head x y is = cc
-
 module _ {S : Type 0} (left : S → Option (List ℕ)) (faults : S → ℕ) where
   record IsOneAgain (limit : ℕ) (capture : OpenedCapture (List ℕ)) (track : reading.Track) (end : CaptureEnd) : Type 0 where
     read : IsRead known_left no_failures limit capture.source [] (with_bytes track capture.source) (printed_end end)
@@ -269,7 +266,7 @@ module _ {S : Type 0} (left : S → Option (List ℕ)) (faults : S → ℕ) wher
       let alone = told_alone left faults limit opened after track end capture.source port read whole told in
       let ended = alone.ended.0 in
       let fine : ended.stop ≢ Some ReadFault = λ fails. let unread = ended_of_stop end track.records _ ended.stop ended.count ended.told fails in let no : false ≡ true = sym whole ∙ unread in absurd (cc) in
-      let origin : origin_of (with_bytes track capture.source) ≡ origin_of track = sym (one_head _ _ alone.same.origins) in
+      let origin : origin_of (with_bytes track capture.source) ≡ origin_of track = sym (first_of _ _ alone.same.origins) in
       record {
         read = record {
           number = _;

@@ -49,7 +49,8 @@ same_count left [] (c ∷ captures) same = absurd same
 same_count left (o ∷ opened) [] same = absurd same
 same_count left (o ∷ opened) (c ∷ captures) same = ap (λ (n : ℕ). suc n) (same_count left opened captures same.2)
 
-first_of : {X : Type 0} (x y : X) → x ∷ [] ≡ y ∷ [] → x ≡ y
+-- the one of a list of one
+pub first_of : {X : Type 0} (x y : X) → x ∷ [] ≡ y ∷ [] → x ≡ y
 first_of x y is = cc
 
 -- a capture alone, told

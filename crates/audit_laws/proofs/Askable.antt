@@ -48,9 +48,11 @@ use Rattle.run_audit.specs.Replaying.{AreNumbered}
 use Rattle.audit_laws.proofs.AskedNames.{IsAskedBelow, IsAskedSo, asked_names}
 use Rattle.audit_laws.proofs.HeldStates.{IsAnswered, IsAskedInRange, IsObjectInRange, IsOpInRange, IsStateInRange, answers_in_range, object_in_range}
 use Rattle.audit_laws.proofs.KnownAsks.{ask_again}
-use Rattle.audit_laws.proofs.Lists.{in_place, same_number}
+use Rattle.audit_laws.proofs.Lists.{in_place}
 use Rattle.audit_laws.proofs.NameFronts.{AreFronts, IsFront, editions_front}
 use Rattle.audit_laws.specs.Printable.{IsFlowNameText, IsPrintableInput, last_names}
+use Rattle.report_reading.proofs.Words.{same_number}
+use Rattle.run_audit.proofs.ReplayAgain.{seam}
 
 -- ---- one ask
 
@@ -192,10 +194,6 @@ module _ (names : List (List ℕ)) (editions : List Published) (lawful : AllByRe
                 }
 
 -- ---- the journal
-
-seam : (done rest : List Published) (next : Published) → slice_get (done ++ next ∷ rest) (length done) ≡ Some next
-seam [] rest next = refl
-seam (one ∷ done) rest next = seam done rest next
 
 module _ (names : List (List ℕ)) (editions : List Published) (numbered : AreNumbered editions) (factual : AllByRecursion (λ edition. edition.facts.number ≡ edition.number) editions) (lanes : ℕ) where
   -- the asks of each lane from this publication on are told by their lines

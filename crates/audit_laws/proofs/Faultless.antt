@@ -26,6 +26,7 @@ use Rattle.audit_laws.proofs.Opening.{reports_open}
 use Rattle.audit_laws.proofs.Records.{reports_tell_records}
 use Rattle.audit_laws.specs.Completeness.{AreSoFar, IsFaultless, IsReported, IsToldAgain, ReportsAreFaultless}
 use Rattle.audit_laws.specs.Printable.{report_of}
+use Rattle.run_audit.proofs.PublishedFacts.{same_lawful}
 
 -- ---- a record in its place
 
@@ -90,15 +91,6 @@ all_met (own ∷ inputs) = (([], sym (append_none own)), all_met inputs)
     append_none [] = refl
     append_none (x ∷ xs) = ap (λ (ys : List Input). x ∷ ys) (append_none xs)
 
--- the journal that a text tells, where it is lawful
-journal_in : ToldJournal → Journal
-journal_in (Lawful journal) = journal
-journal_in (WrongAt line) = no_journal
-
-one_journal : (a b : Journal) → Lawful a ≡ Lawful b → a ≡ b
-unfolding journal_in
-one_journal a b is = ap journal_in is
-
 module _ (config : Configuration) (steps : List Step) (inputs : List (List Input)) (r : RecordValue) (ends : List CaptureEnd) (answers : List LineAnswer)
     (is : IsReported config steps inputs r ends answers)
   where
@@ -113,7 +105,7 @@ module _ (config : Configuration) (steps : List Step) (inputs : List (List Input
         let same : editions ≡ r.editions = own_editions editions opened.made in
         let replayed : replay r.editions 1 (lines_told (report_of r ends answers)) no_journal ≡ Lawful journal =
         ap (λ (es : List Published). replay es 1 (lines_told (report_of r ends answers)) no_journal) (sym same) ∙ opened.replayed in
-        let one : journal ≡ own = one_journal journal own (sym replayed ∙ again.replayed) in
+        let one : journal ≡ own = same_lawful journal own (sym replayed ∙ again.replayed) in
         record {
           replayed = replayed;
           entries = ap (λ (j : Journal). j.entries) one ∙ again.entries;

@@ -21,10 +21,6 @@ all_behind P zero xs all = all
 all_behind P (suc place) [] all = tt
 all_behind P (suc place) (x ∷ xs) all = all_behind P place xs all.1
 
--- a number is itself
-pub same_number : (n : ℕ) → (n == n) ≡ true
-same_number n = grind (arith)
-
 -- and no other
 pub other_number : (m n : ℕ) → m ≢ n → (m == n) ≡ false
 other_number m n other = elim (cases_Bool (m == n)) [

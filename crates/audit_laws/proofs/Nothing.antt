@@ -33,7 +33,7 @@ use Rattle.run_audit.specs.PrintedJournals.{entry_value}
 use Rattle.run_audit.specs.ToldReport.{lines_told}
 use Rattle.audit_laws.proofs.CaptureLines.{captures_values, end_lines, end_value}
 use Rattle.audit_laws.proofs.Lanes.{same_lanes}
-use Rattle.audit_laws.proofs.Lists.{in_place, both, same_number}
+use Rattle.audit_laws.proofs.Lists.{in_place, both}
 use Rattle.audit_laws.proofs.Naming.{first_lane, lane_found}
 use Rattle.audit_laws.proofs.Opening.{IsRead, report_read}
 use Rattle.audit_laws.proofs.OwnLines.{lane_in_report, lane_line_of}
@@ -41,6 +41,7 @@ use Rattle.audit_laws.proofs.ReportLines.{journal_values, report_values}
 use Rattle.audit_laws.proofs.ToldNothing.{others}
 use Rattle.audit_laws.specs.Completeness.{ReportsLeaveNothing}
 use Rattle.audit_laws.specs.Printable.{last_names, report_of}
+use Rattle.report_reading.proofs.Words.{same_number}
 
 -- ---- what a line tells is there
 

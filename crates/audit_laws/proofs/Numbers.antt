@@ -8,41 +8,9 @@ use Rattle.std.proofs.lemmas.Bool.{cases_Bool, and_parts}
 use Rattle.std.proofs.lemmas.Bool.Decides.{nat_tests}
 use Rattle.std.proofs.lemmas.Fmt.{digits_decimal, digits_value-decimal, decimal_nonempty, first_decimal, decimal_digit}
 use Rattle.report_reading.specs.Parts.{behind, positive_at, number_at}
-use Rattle.audit_laws.proofs.RuleNumbers.{IsStop, high_on, no_word, on_again, own, value_after}
-
-not_zero : (byte : ℕ) → 48 < byte → (byte == 48) ≡ false
-not_zero byte above = grind (arith, nat_tests)
-
-digits_again : (most : ℕ) (digits rest : List ℕ) → list_all is_ascii_digit digits ≡ true → 0 < length digits → 48 < get_or digits 0 0
-    → value_after 0 digits ≤ most → IsStop rest → positive_at most (digits ++ rest) ≡ Some (value_after 0 digits, rest)
-unfolding positive_at
-digits_again most [] rest all some above low stop = absurd (omega arith)
-digits_again most (digit ∷ digits) rest all some above low stop =
-    let (here, more) = and_parts (is_ascii_digit digit) (list_all is_ascii_digit digits) all in
-    rw (not_zero digit above, here) (on_again most 0 (digit ∷ digits) rest all low stop)
-
--- a number from 1 on is read again
-pub positive_again : (most n : ℕ) (rest : List ℕ) → 1 ≤ n → n ≤ most → n < 2 ^ 64 → IsStop rest → positive_at most (decimal n ++ rest) ≡ Some (n, rest)
-positive_again most n rest first last fits stop =
-    let value : value_after 0 (decimal n) ≡ n = digits_value-decimal own n fits in
-    let low : value_after 0 (decimal n) ≤ most = omega (arith, value, last) in
-    digits_again most (decimal n) rest (digits_decimal own n fits) (decimal_nonempty n fits) (first_decimal n first fits) low stop ∙ ap (λ v. Some (v, rest)) value
-
-plain_again : (most : ℕ) (digits rest : List ℕ) → 0 < length digits → 48 < get_or digits 0 0 → number_at most (digits ++ rest) ≡ positive_at most (digits ++ rest)
-unfolding number_at
-plain_again most [] rest some above = absurd (omega arith)
-plain_again most (digit ∷ digits) rest some above = rw (not_zero digit above) refl
-
-zero_again : (most : ℕ) (text rest : List ℕ) → text ≡ 48 ∷ [] → number_at most (text ++ rest) ≡ Some (0, rest)
-unfolding number_at
-zero_again most text rest is = rw is refl
-
--- a number is read again
-pub number_again : (most n : ℕ) (rest : List ℕ) → n ≤ most → n < 2 ^ 64 → IsStop rest → number_at most (decimal n ++ rest) ≡ Some (n, rest)
-number_again most zero rest last fits stop = zero_again most (decimal 0) rest (decimal_digit 0 (lit< tt))
-number_again most (suc n) rest last fits stop =
-    plain_again most (decimal (suc n)) rest (decimal_nonempty (suc n) fits) (first_decimal (suc n) (omega arith) fits)
-    ∙ positive_again most (suc n) rest (omega arith) last fits stop
+use Rattle.report_reading.proofs.Digits.{value_after, own, IsStop}
+use Rattle.report_reading.proofs.Numbers.{not_zero, positive_again}
+use Rattle.audit_laws.proofs.RuleNumbers.{high_on, no_word}
 
 zero_none : (most : ℕ) (text rest : List ℕ) → text ≡ 48 ∷ [] → positive_at most (text ++ rest) ≡ None
 unfolding positive_at

@@ -18,7 +18,7 @@ use Rattle.ip6_headers.specs.declared.any_ip.AnyIp.{AnyIp}
 use Rattle.report_reading.specs.RecordLines.{printed}
 use Rattle.rule_chain.specs.Configuration.{Configuration}
 use Rattle.rule_edits.specs.Apply.{apply}
-use Rattle.run_audit.proofs.ToldEntries.{judged_again}
+use Rattle.run_audit.proofs.ToldEntries.{if_some, judged_again}
 use Rattle.run_audit.specs.Judging.{ToldValue, AreToldSo, IsToldSo, asks_told, line_naming}
 
 -- ---- editions
@@ -93,9 +93,6 @@ same_line : {X : Type 0} (entry_of : X → DocketEntry) (o : Option X) (a b : Do
 same_line entry_of None a b one other = absurd one
 same_line entry_of (Some line) a b one other = sym one ∙ other
 
-of_some : {X : Type 0} (P : X → Type 0) (o : Option X) (x : X) → o ≡ Some x → IfSome o P → P x
-of_some {X = X} P o x is each = subst (λ (other : Option X). IfSome other P) is each
-
 one_entry : (told : ToldValue) (lane at : ℕ) (input : Input) (a b : DocketEntry) → IsToldSo told lane at input a → IsToldSo told lane at input b → a ≡ b
 one_entry told lane at Other a b one other = one.entered ∙ sym other.entered
 one_entry told lane at (Malformed kind) a b one other = one.entered ∙ sym other.entered
@@ -107,8 +104,8 @@ one_entry told lane at (Packet packet port second) a b one other =
     sym (judged_edition a first is) ∙ sym (printed_edition a) ∙ ap edition_in lines ∙ printed_edition b ∙ judged_edition b next also in
     let asks : List LaneAsk = asks_of_record at (asks_told told lane) in
     let same : first ≡ next = one_judgement told.editions packet port second asks first next edition
-    (of_some (IsEvaluatedTo told.editions packet port second asks) (judgement_in a) first is one.evaluated)
-    (of_some (IsEvaluatedTo told.editions packet port second asks) (judgement_in b) next also other.evaluated) in
+    (if_some (IsEvaluatedTo told.editions packet port second asks) (judgement_in a) first is one.evaluated)
+    (if_some (IsEvaluatedTo told.editions packet port second asks) (judgement_in b) next also other.evaluated) in
     sym (judged_again a first is) ∙ ap judged_entry same ∙ judged_again b next also
 
 same_entries : (told : ToldValue) (lane at : ℕ) (inputs : List Input) (a b : List DocketEntry) → EachRecord (IsToldSo told lane) at inputs a → EachRecord (IsToldSo told lane) at inputs b → a ≡ b

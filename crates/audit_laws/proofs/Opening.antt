@@ -21,7 +21,7 @@ use Rattle.rule_chain.specs.Chain.{IsConfiguration}
 use Rattle.rule_chain.specs.Configuration.{Configuration}
 use Rattle.state_journal.specs.Journal.{Journal, no_states}
 use Rattle.run_audit.proofs.JournalLines.{lane_values}
-use Rattle.run_audit.proofs.PrintedJournals.{formed, journal_replayed, told}
+use Rattle.run_audit.proofs.PrintedJournals.{formed, lanes_apart, journal_replayed, told}
 use Rattle.run_audit.proofs.Publishing.{are_numbered}
 use Rattle.run_audit.proofs.RecordTexts.{record_values}
 use Rattle.run_audit.specs.JournalTold.{ToldJournal, Lawful, no_journal, replay, wrong_line}
@@ -62,11 +62,6 @@ captures_apart capture (docket ∷ dockets) (end ∷ ends) =
     both_apart (record_values capture 1 docket.entries ++ end_value capture end) (captures_values (capture + 1) dockets ends)
     (both_apart (record_values capture 1 docket.entries) (end_value capture end) (records_apart capture 1 docket.entries) (others_apart (end_lines capture end)))
     (captures_apart (capture + 1) dockets ends)
-
-lanes_apart : (lane : ℕ) (dockets : List DocketValue) (trackers : List ℕ) → AreApart (lane_values lane dockets trackers)
-lanes_apart lane [] trackers = tt
-lanes_apart lane (docket ∷ dockets) [] = tt
-lanes_apart lane (docket ∷ dockets) (tracker ∷ trackers) = (tt, lanes_apart (lane + 1) dockets trackers)
 
 -- ---- the report
 

@@ -15,11 +15,12 @@ use Rattle.run_audit.proofs.JournalLines.{lane_values}
 use Rattle.run_audit.proofs.RecordTexts.{record_values}
 use Rattle.run_audit.specs.PrintedJournals.{entry_value}
 use Rattle.audit_laws.proofs.CaptureLines.{captures_values, end_lines, end_value}
-use Rattle.audit_laws.proofs.Lists.{same_number, other_number}
+use Rattle.audit_laws.proofs.Lists.{other_number}
 use Rattle.audit_laws.proofs.Naming.{first_lane, first_record, is_named, lane_behind, record_before, record_behind}
 use Rattle.audit_laws.proofs.ReportLines.{journal_values, report_values}
 use Rattle.audit_laws.proofs.ToldNothing.{others}
 use Rattle.audit_laws.specs.Printable.{last_names}
+use Rattle.report_reading.proofs.Words.{same_number}
 
 -- ---- records
 

@@ -18,19 +18,13 @@ use Rattle.report_reading.specs.LightLines.{has_end, has_head, behind_rule_numbe
 use Rattle.report_reading.specs.Parts.{behind}
 use Rattle.report_reading.specs.RecordLines.{record_in}
 use Rattle.rule_text.specs.Canonical.{WordTexts, action_words, five_digits, log_words, optional_body, rest_text, rest_words, rule_text, spaced_text}
-use Rattle.run_audit.proofs.LightTexts.{Ends, IsNoOther, ends_behind, newline_ends}
+use Rattle.run_audit.proofs.LightTexts.{Ends, IsNoOther, end_found, ends_behind, newline_ends}
 use Rattle.run_audit.proofs.ToldTexts.{IsLine, newline, silent_before, silent_both}
-use Rattle.audit_laws.proofs.RuleNumbers.{no_capture_at, no_word_at, rule_number_again}
+use Rattle.report_reading.proofs.RuleNumbers.{rule_number_again}
+use Rattle.audit_laws.proofs.RuleNumbers.{no_capture_at, no_word_at}
 use Rattle.audit_laws.proofs.ToldNothing.{TellsNothing, nothing_of_line}
 
 -- ---- the number and a space
-
-some_end : (n : ℕ) → 1 ≤ n → nat_le 1 n ≡ true
-some_end n some = grind (arith)
-
-whole_line : (text : List ℕ) → Ends text → has_end text ≡ true
-unfolding has_end
-whole_line text ends = rw (some_end (length text) ends.some, ends.last) refl
 
 number_found : (n : ℕ) (rest : List ℕ) → n ≤ 65535 → has_rule_number (five_digits n ++ (codes " " ++ rest)) ≡ true
 unfolding has_rule_number behind_rule_number behind
@@ -62,7 +56,7 @@ nothing_of_number n rest low line ends =
     let ended : Ends text = ends_behind (five_digits n) (codes " " ++ rest) (ends_behind (codes " ") rest ends) in
     nothing_of_line text
     (silent_before (five_digits n) (codes " " ++ rest) (five_digits_are_silent n) (silent_before (codes " ") rest gap_is_silent line))
-    (light_by_number text (has_head text) refl (whole_line text ended) (number_found n rest low))
+    (light_by_number text (has_head text) refl (end_found text ended) (number_found n rest low))
     (no_other_number n (codes " " ++ rest) low)
 
 -- ---- rules

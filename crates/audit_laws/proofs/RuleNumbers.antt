@@ -11,38 +11,11 @@ use Rattle.std.proofs.lemmas.List.{append-nil}
 use Rattle.std.proofs.lemmas.Str.Parse.{IsNumeralModel, numerals_by_fold}
 use Rattle.report_reading.specs.Parts.{behind, number_on, positive_at, rule_number_at}
 use Rattle.rule_text.specs.Canonical.{five_digits}
+use Rattle.report_reading.proofs.Digits.{value_after, own, grows}
+use Rattle.report_reading.proofs.Numbers.{above_zero}
+use Rattle.report_reading.proofs.RuleNumbers.{zeros_length, zeros_digits, zeros_value}
 
 -- ---- digits
-
--- the number that digits write behind those of n
-abbrev pub value_after : ℕ → List ℕ → ℕ
-value_after n [] = n
-value_after n (digit ∷ digits) = value_after (10 * n + (digit - 48)) digits
-
--- digits have this value, as std reads them
-pub own : IsNumeralModel (λ ds. list_all is_ascii_digit ds ≡ true) (value_after 0)
-own = numerals_by_fold _ (search rules) value_after (search rules)
-
--- more digits write no smaller number
-pub grows : (n : ℕ) (digits : List ℕ) → n ≤ value_after n digits
-grows n [] = omega arith
-grows n (digit ∷ digits) = omega (arith, grows (10 * n + (digit - 48)) digits)
-
--- a text doesn't go on with a digit
-abbrev pub IsStop : List ℕ → Type 0
-IsStop [] = Unit {0}
-IsStop (byte ∷ bytes) = is_ascii_digit byte ≡ false
-
--- digits are read again
-pub on_again : (most n : ℕ) (digits rest : List ℕ) → list_all is_ascii_digit digits ≡ true → value_after n digits ≤ most → IsStop rest
-    → number_on most n (digits ++ rest) ≡ Some (value_after n digits, rest)
-unfolding number_on
-on_again most n [] [] all low stop = refl
-on_again most n [] (byte ∷ rest) all low stop = rw stop refl
-on_again most n (digit ∷ digits) rest all low stop =
-    let (here, more) = and_parts (is_ascii_digit digit) (list_all is_ascii_digit digits) all in
-    let small : 10 * n + (digit - 48) ≤ most = omega (arith, grows (10 * n + (digit - 48)) digits) in
-    rw (here, le-leb (10 * n + (digit - 48)) most small) (on_again most (10 * n + (digit - 48)) digits rest more low stop)
 
 -- digits that write a greater number aren't
 pub high_on : (most n : ℕ) (digits rest : List ℕ) → list_all is_ascii_digit digits ≡ true → n ≤ most → most < value_after n digits → number_on most n (digits ++ rest) ≡ None
@@ -58,18 +31,6 @@ high_on most n (digit ∷ digits) rest all low high =
     ]
 
 -- ---- five digits
-
-zeros_length : (k : ℕ) → length {A = ℕ} (replicate k 48) ≡ k
-zeros_length zero = refl
-zeros_length (suc k) = ap suc (zeros_length k)
-
-zeros_digits : (k : ℕ) (text : List ℕ) → list_all is_ascii_digit (replicate k 48 ++ text) ≡ list_all is_ascii_digit text
-zeros_digits zero text = refl
-zeros_digits (suc k) text = zeros_digits k text
-
-zeros_value : (k : ℕ) (text : List ℕ) → value_after 0 (replicate k 48 ++ text) ≡ value_after 0 text
-zeros_value zero text = refl
-zeros_value (suc k) text = zeros_value k text
 
 -- What is known of the five digits of a rule's number.
 record AreFive (digits : List ℕ) (n : ℕ) : Type 0 where
@@ -90,27 +51,7 @@ are_five n low =
       value = zeros_value k (decimal n) ∙ digits_value-decimal own n fits;
     }
 
-five_again : (digits rest : List ℕ) (n : ℕ) → AreFive digits n → n ≤ 65535 → rule_number_at (digits ++ rest) ≡ Some (n, rest)
-unfolding rule_number_at
-five_again digits rest n are low =
-    let long = are.long in
-    let value = are.value in
-    let enough : nat_le 5 (length (digits ++ rest)) ≡ true = le-leb 5 (length (digits ++ rest)) (omega (arith, length-append digits rest, long)) in
-    let front : take 5 (digits ++ rest) ≡ digits = rw (← long) (take-append_seam digits rest) in
-    let end : drop 5 (digits ++ rest) ≡ rest = rw (← long) (drop-append_seam digits rest) in
-    let read : number_on 65535 0 digits ≡ Some (n, []) =
-    ap (number_on 65535 0) (sym (append-nil digits)) ∙ on_again 65535 0 digits [] are.all (omega (arith, value, low)) tt ∙ ap (λ k. Some (k, [])) value in
-    rw (enough, front, end, read) refl
-
--- a rule's number is read again
-pub rule_number_again : (n : ℕ) (rest : List ℕ) → n ≤ 65535 → rule_number_at (five_digits n ++ rest) ≡ Some (n, rest)
-rule_number_again n rest low = five_again (five_digits n) rest n (are_five n low) low
-
 -- ---- no record's number
-
--- a digit that is not 0
-pub above_zero : (byte : ℕ) → (byte == 48) ≡ false → is_ascii_digit byte ≡ true → 48 < byte
-above_zero byte other digit = grind (arith, nat_tests)
 
 high_at : (a b c : ℕ) (digits rest : List ℕ) → list_all is_ascii_digit (a ∷ b ∷ c ∷ digits) ≡ true → positive_at 16 ((a ∷ b ∷ c ∷ digits) ++ rest) ≡ None
 unfolding positive_at

@@ -36,10 +36,11 @@ use Rattle.fw_rule.specs.declared.test.Test.{Test}
 use Rattle.fw_rule.specs.declared.test.Test.TheVariants.{Inward, Outward, Established, Setup, Frag, Recv, Xmit, Via, TcpFlags, IcmpTypes, Icmp6Types, IpOptions, Lookup}
 use Rattle.rule_text.specs.Address6Text.{address6_text, groups_joined, groups_of, groups_text, hexadecimal, longest_run, network6_text, place_of_run}
 use Rattle.rule_text.specs.Canonical.{WordTexts, action_words, family_word, field_word, flow_words, iface_text, item_text, list_words, log_words, looked_up_words, mask_word, negation_words, network_text, numbers_where, option_words, optional_body, placed_words, port_words, range_text, rest_text, rest_words, set_words, sign_of, signed_name, signed_names, state_words, test_words}
-use Rattle.run_audit.proofs.SilentParts.{address_is_silent, name_is_silent, protocol_is_silent, spaced_is_silent}
+use Rattle.run_audit.proofs.SilentParts.{address_is_silent, byte_before, name_is_silent, protocol_is_silent, spaced_is_silent}
 use Rattle.run_audit.proofs.ToldTexts.{silent_both}
 use Rattle.audit_laws.proofs.Lists.{both, all_behind}
 use Rattle.audit_laws.specs.RuleNames.{HasNameBytes, names_in_action, names_in_body, names_in_iface, names_in_item, names_in_rule, names_in_state, names_in_test, optional_name}
+use Rattle.rule_round_trip.proofs.Lists.Each.{all_take}
 
 -- a text ends no line
 abbrev IsSilent : List ℕ → Type 0
@@ -58,11 +59,6 @@ first_of_both P (x ∷ xs) ys all = (all.0, first_of_both P xs ys all.1)
 second_of_both : {X : Type 0} (P : X → Type 0) (xs ys : List X) → AllByRecursion P (xs ++ ys) → AllByRecursion P ys
 second_of_both P [] ys all = all
 second_of_both P (x ∷ xs) ys all = second_of_both P xs ys all.1
-
-front_of : {X : Type 0} (P : X → Type 0) (n : ℕ) (xs : List X) → AllByRecursion P xs → AllByRecursion P (take n xs)
-front_of P zero xs all = tt
-front_of P (suc n) [] all = tt
-front_of P (suc n) (x ∷ xs) all = (all.0, front_of P n xs all.1)
 
 -- the words of each are silent where their names are such
 each_silent : {X : Type 0} (words : X → WordTexts) (xs : List X) → AllByRecursion (λ x. AreSilent (words x)) xs → AreSilent (flat_map words xs)
@@ -86,10 +82,6 @@ always P (x ∷ xs) each = (each x, always P xs each)
 images : {X : Type 0} (f : X → List ℕ) (xs : List X) → AllByRecursion (λ x. IsSilent (f x)) xs → AreSilent (map f xs)
 images f [] all = tt
 images f (x ∷ xs) all = (all.0, images f xs all.1)
-
-byte_before : (byte : ℕ) (bytes : List ℕ) → (byte == 10) ≡ false → IsSilent bytes → IsSilent (byte ∷ bytes)
-unfolding lines_in
-byte_before byte bytes other silent = rw other silent
 
 no_text : lines_in [] ≡ 0
 unfolding lines_in
@@ -378,7 +370,7 @@ family_silent Six protocol = fixed.six
 placed_silent : (options : List Opt) (state : Option StateOpt) (at : ℕ) → AllByRecursion (λ option. AreSilent (option_words option)) options → AreSilent (state_words state) → AreSilent (placed_words options state at)
 placed_silent options state at all made =
     both IsSilent (flat_map option_words (take at options)) (state_words state ++ flat_map option_words (drop at options))
-    (each_silent option_words (take at options) (front_of (λ option. AreSilent (option_words option)) at options all))
+    (each_silent option_words (take at options) (all_take (λ option. AreSilent (option_words option)) at options all))
     (both IsSilent (state_words state) (flat_map option_words (drop at options)) made
     (each_silent option_words (drop at options) (all_behind (λ option. AreSilent (option_words option)) at options all)))
 

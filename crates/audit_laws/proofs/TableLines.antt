@@ -23,9 +23,10 @@ use Rattle.run_audit.proofs.LightTexts.{IsNoOther}
 use Rattle.run_audit.proofs.SilentParts.{address_is_silent}
 use Rattle.run_audit.proofs.ToldTexts.{IsLine, newline, silent_before, silent_both}
 use Rattle.audit_laws.proofs.HeadLines.{IsTail, nothing_of_tail, origin_tail, table_head, tail_behind}
-use Rattle.audit_laws.proofs.Numbers.{no_word_of_number, number_again, read_or_none}
+use Rattle.report_reading.proofs.Numbers.{number_again}
+use Rattle.report_reading.proofs.FlowsAgain.{dotted, octets_again, byte_small}
+use Rattle.audit_laws.proofs.Numbers.{no_word_of_number, read_or_none}
 use Rattle.audit_laws.proofs.RuleLines.{gap_is_silent}
-use Rattle.audit_laws.proofs.RuleNumbers.{IsStop}
 use Rattle.audit_laws.proofs.ToldNothing.{TellsNothing, nothing_of_both, nothing_of_each, nothing_of_line, nothing_of_none}
 use Rattle.audit_laws.specs.Printable.{IsPrintableNetwork, IsPrintableNumber, IsPrintableTable}
 
@@ -79,39 +80,6 @@ nothing_of_number (n, value) is =
     (no_other_number n rest (omega (arith, low)))
 
 -- ---- an entry of a table of addresses
-
-octet_again : (octet : ℕ) (rest : List ℕ) → octet ≤ 255 → IsStop rest → number_at 255 (decimal octet ++ rest) ≡ Some (octet, rest)
-octet_again octet rest low stop = number_again 255 octet rest low (omega (arith, low)) stop
-
--- four texts with dots between them, and a rest
-dotted : (a b c d rest : List ℕ) → join_with_byte 46 (a ∷ b ∷ c ∷ d ∷ []) ++ rest
-    ≡ a ++ (codes "." ++ (b ++ (codes "." ++ (c ++ (codes "." ++ (d ++ rest))))))
-dotted a b c d rest =
-    append_assoc a (46 ∷ (b ++ (46 ∷ (c ++ (46 ∷ d))))) rest
-    ∙ ap (λ t. a ++ (46 ∷ t)) (append_assoc b (46 ∷ (c ++ (46 ∷ d))) rest ∙ ap (λ t. b ++ (46 ∷ t)) (append_assoc c (46 ∷ d) rest))
-
-octets_again : (a b c d : ℕ) (rest : List ℕ) → a ≤ 255 → b ≤ 255 → c ≤ 255 → d ≤ 255 → IsStop rest
-    → octets_at (decimal a ++ (codes "." ++ (decimal b ++ (codes "." ++ (decimal c ++ (codes "." ++ (decimal d ++ rest)))))))
-    ≡ Some (a ∷ b ∷ c ∷ d ∷ [], rest)
-unfolding octets_at behind
-octets_again a b c d rest first second third fourth stop =
-    let after_c : List ℕ = codes "." ++ (decimal d ++ rest) in
-    let after_b : List ℕ = codes "." ++ (decimal c ++ after_c) in
-    rw (
-      octet_again a (codes "." ++ (decimal b ++ after_b)) first refl,
-      octet_again b after_b second refl,
-      octet_again c after_c third refl,
-      octet_again d rest fourth stop,
-    ) refl
-
-below_256 : (n : ℕ) → n % 256 ≤ 255
-below_256 n =
-    let low : n % 256 < 256 = mod-lt n (omega arith) in
-    omega (arith, low)
-
-byte_small : (k n : ℕ) → byte_at k n ≤ 255
-byte_small zero n = below_256 n
-byte_small (suc k) n = below_256 (n / 256 ^ suc k)
 
 -- the four bytes of an address, and a rest
 address_spread : (address : ℕ) (rest : List ℕ) → address_text address ++ rest

@@ -58,7 +58,7 @@ use Rattle.replay_driver.proofs.Told.{names_steady}
 use Rattle.replay_driver.specs.Outside.{Files, Output}
 
 -- what an opening takes out of a told list
-took_from : (a b : Option (List Pair)) (name : List ℕ) (left : Option (List ℕ)) (ps : List Pair) (p : Pair) (rest : List Pair) → TakesOut a b name left
+pub took_from : (a b : Option (List Pair)) (name : List ℕ) (left : Option (List ℕ)) (ps : List Pair) (p : Pair) (rest : List Pair) → TakesOut a b name left
     → a ≡ Some ps → take_named name ps ≡ Some (p, rest) → (left ≡ Some p.1) × (b ≡ Some rest)
 took_from None b name left ps p rest took is stands = absurd (cc)
 took_from (Some qs) b name left ps p rest took is stands =
@@ -67,7 +67,7 @@ took_from (Some qs) b name left ps p rest took is stands =
     subst (λ (r : Option (Pair × List Pair)). MatchOption r ⊥ (λ f. (left ≡ Some f.0.1) × (b ≡ Some f.1))) found took
 
 -- all of a script that isn't too long was read
-all_bytes : (script bytes : List ℕ) (left : Option (List ℕ)) (before now : ℕ) → ReadsAll (Some script) left before now 1048577 bytes → length script ≤ 1048576 → bytes ≡ script
+pub all_bytes : (script bytes : List ℕ) (left : Option (List ℕ)) (before now : ℕ) → ReadsAll (Some script) left before now 1048577 bytes → length script ≤ 1048576 → bytes ≡ script
 all_bytes script bytes None before now reads short = absurd reads.taken
 all_bytes script bytes (Some ys) before now reads short =
     let split : script ≡ bytes ++ ys = reads.taken in
@@ -76,7 +76,7 @@ all_bytes script bytes (Some ys) before now reads short =
     sym (split ∙ ap (λ l. bytes ++ l) none ∙ append-nil bytes)
 
 -- no count of faults rises from 0 to 0
-not_risen : (before now : ℕ) → before ≡ 0 → now ≡ 0 → Rose before now → ⊥
+pub not_risen : (before now : ℕ) → before ≡ 0 → now ≡ 0 → Rose before now → ⊥
 not_risen before now zero still rose = omega arith
 
 -- a capture that ends behind a whole record was read to its end
@@ -109,7 +109,8 @@ none_of_both test (x ∷ xs) ys p q = by_first (test x) refl p (λ more. none_of
 
 -- ---- the answers before `live`
 
-ok_same : {X E : Type 0} (x y : X) → ◌≡◌ {A = Result X E} (Ok x) (Ok y) → x ≡ y
+-- one value is Ok
+pub ok_same : {X E : Type 0} (x y : X) → ◌≡◌ {A = Result X E} (Ok x) (Ok y) → x ≡ y
 ok_same x y e = cc
 
 -- none of them is a refusal

@@ -14,7 +14,7 @@ use Rattle.capture_tracks.specs.declared.opened.OpenedCapture.{OpenedCapture}
 use Rattle.replay_driver.specs.Outside.{Files}
 
 -- the list behind one opening
-one_out : (a b : Option (List Pair)) (name : List ℕ) (names : List (List ℕ)) (left : Option (List ℕ)) (told : List Pair) (last : Option (List Pair)) → TakesOut a b name left → a ≡ Some told
+pub one_out : (a b : Option (List Pair)) (name : List ℕ) (names : List (List ℕ)) (left : Option (List ℕ)) (told : List Pair) (last : Option (List Pair)) → TakesOut a b name left → a ≡ Some told
     → ((rest : List Pair) → b ≡ Some rest → last ≡ pairs_without names rest) → last ≡ pairs_without (name ∷ names) told
 one_out None b name names left told last took is behind = absurd (cc)
 one_out (Some pairs) b name names left told last took is behind =

@@ -30,7 +30,8 @@ dotted a b c d rest =
     append_assoc a (46 ∷ (b ++ (46 ∷ (c ++ (46 ∷ d))))) rest
     ∙ ap (λ t. a ++ (46 ∷ t)) (append_assoc b (46 ∷ (c ++ (46 ∷ d))) rest ∙ ap (λ t. b ++ (46 ∷ t)) (append_assoc c (46 ∷ d) rest))
 
-octets_again : (a b c d : ℕ) (rest : List ℕ) → a ≤ 255 → b ≤ 255 → c ≤ 255 → d ≤ 255 → IsStop rest
+-- four numbers with dots between them are read again
+pub octets_again : (a b c d : ℕ) (rest : List ℕ) → a ≤ 255 → b ≤ 255 → c ≤ 255 → d ≤ 255 → IsStop rest
     → octets_at (decimal a ++ (codes "." ++ (decimal b ++ (codes "." ++ (decimal c ++ (codes "." ++ (decimal d ++ rest)))))))
     ≡ Some (a ∷ b ∷ c ∷ d ∷ [], rest)
 unfolding octets_at behind

@@ -1,13 +1,13 @@
 -- the lines of a text
 mod LineEnds
 -- words, and one step after another
-mod Words
+pub mod Words
 mod WordSteps
 -- numbers
-mod Digits
+pub mod Digits
 mod DigitSteps
-mod Numbers
-mod RuleNumbers
+pub mod Numbers
+pub mod RuleNumbers
 -- the lines of records
 mod NameSteps
 mod RecordsAgain
@@ -16,7 +16,7 @@ mod RecordsTold
 mod LaneLaws
 -- names and flows
 mod NameLaws
-mod FlowsAgain
+pub mod FlowsAgain
 mod FlowsTold
 -- the lines of asks
 mod AsksAgain

@@ -50,7 +50,8 @@ lines_at bytes at found =
     let next : suc at ≡ at + 1 = omega arith in
     rw next at here
 
-none_within : (b : Bool) (n : ℕ) → None ≡ cond b (Some n) None → b ≡ false
+-- where nothing is found, nothing stands there
+pub none_within : (b : Bool) (n : ℕ) → None ≡ cond b (Some n) None → b ≡ false
 none_within true n none = absurd (none-some n none)
 none_within false n none = refl
 

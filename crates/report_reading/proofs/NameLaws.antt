@@ -1,5 +1,5 @@
 -- Names at the front of a text.
-use Rattle.std.proofs.Common.{◌≡◌, ℕ, suc, ◌+◌, ◌≤◌, ◌&&◌, Bool, true, false, not, cond, Some, None, List, [], ◌∷◌, ◌++◌, length, take, drop, refl, sym, ap, ◌∙◌, inl, inr, arith, nat_lt, nat_le}
+use Rattle.std.proofs.Common.{◌≡◌, ℕ, suc, ◌+◌, ◌≤◌, ◌&&◌, Bool, true, false, not, Some, None, List, [], ◌∷◌, ◌++◌, length, take, drop, refl, sym, ap, ◌∙◌, inl, inr, arith, nat_lt, nat_le}
 use Rattle.std.specs.Prelude.{position}
 use Rattle.std.specs.List.{list_all, prefix_len, position_or_len}
 use Rattle.std.proofs.Math.Seq.{take-append_seam, drop-append_seam}
@@ -10,6 +10,7 @@ use Rattle.std.proofs.lemmas.List.Folds.{length-prefix_len}
 use Rattle.std.proofs.lemmas.Option.{cond_some, none-some, some_pair_parts}
 use Rattle.fw_base.specs.Name.{is_name_byte}
 use Rattle.report_reading.specs.FlowTexts.{IsNameText, name_at}
+use Rattle.report_reading.proofs.LineEnds.{none_within}
 
 -- ---- how many bytes a name has
 
@@ -30,10 +31,6 @@ pub length_to : (bytes : List ℕ) (at : ℕ) → Some at ≡ position (λ byte.
 length_to bytes at found =
     let (within, is) = cond_some (nat_lt (first_other bytes) (length bytes)) (first_other bytes) at (sym found) in
     sym is ∙ same_length bytes
-
-none_within : (b : Bool) (n : ℕ) → None ≡ cond b (Some n) None → b ≡ false
-none_within true n none = absurd (none-some n none)
-none_within false n none = refl
 
 -- where no such byte stands, all bytes are a name's
 pub length_of_all : (bytes : List ℕ) → None ≡ position (λ byte. not (is_name_byte byte)) bytes → length bytes ≡ prefix_len is_name_byte bytes

@@ -16,7 +16,8 @@ pub record IsNumber (bytes : List ℕ) (least most n : ℕ) (rest : List ℕ) : 
   pub first : least ≤ n
   pub last : n ≤ most
 
-not_zero : (byte : ℕ) → 48 < byte → (byte == 48) ≡ false
+-- a digit above 0 isn't 0
+pub not_zero : (byte : ℕ) → 48 < byte → (byte == 48) ≡ false
 not_zero byte above = grind (arith, nat_tests)
 
 -- a digit that is not 0

@@ -28,7 +28,8 @@ plain_padded digit digits above all small =
     own_text (decimal (value_after 0 (digit ∷ digits))) (digit ∷ digits)
     (decimal-digits_value own (digit ∷ digits) all (omega arith) (λ null. absurd (omega (arith, null, above))) small)
 
-zeros_length : (k : ℕ) → length {A = ℕ} (replicate k 48) ≡ k
+-- so many zeros
+pub zeros_length : (k : ℕ) → length {A = ℕ} (replicate k 48) ≡ k
 zeros_length zero = refl
 zeros_length (suc k) = ap suc (zeros_length k)
 
@@ -97,11 +98,13 @@ rule_number_told bytes n rest is = elim (cases_Bool (nat_le 5 (length bytes))) [
   | inr few ↦ let no = rw few at is in absurd (none-some (n, rest) no)
 ]
 
-zeros_digits : (k : ℕ) (text : List ℕ) → list_all is_ascii_digit (replicate k 48 ++ text) ≡ list_all is_ascii_digit text
+-- zeros before a text are digits before it
+pub zeros_digits : (k : ℕ) (text : List ℕ) → list_all is_ascii_digit (replicate k 48 ++ text) ≡ list_all is_ascii_digit text
 zeros_digits zero text = refl
 zeros_digits (suc k) text = zeros_digits k text
 
-zeros_value : (k : ℕ) (text : List ℕ) → value_after 0 (replicate k 48 ++ text) ≡ value_after 0 text
+-- and they write no more than it
+pub zeros_value : (k : ℕ) (text : List ℕ) → value_after 0 (replicate k 48 ++ text) ≡ value_after 0 text
 zeros_value zero text = refl
 zeros_value (suc k) text = zeros_value k text
 

@@ -9,14 +9,15 @@ use Rattle.std.proofs.lemmas.Slice.Eq.{bytes_eq-Decides}
 use Rattle.report_reading.specs.Steps.{◌>>=◌, or_else}
 use Rattle.report_reading.specs.Parts.{behind, told_by, told_where}
 
-same_byte : (byte : ℕ) → (byte == byte) ≡ true
-same_byte byte = grind (arith)
+-- a number is itself
+pub same_number : (n : ℕ) → (n == n) ≡ true
+same_number n = grind (arith)
 
 -- what stands behind a word is read again
 pub behind_again : (word rest : List ℕ) → behind word (word ++ rest) ≡ Some rest
 unfolding behind
 behind_again [] rest = refl
-behind_again (letter ∷ word) rest = rw (same_byte letter) (behind_again word rest)
+behind_again (letter ∷ word) rest = rw (same_number letter) (behind_again word rest)
 
 -- a text with something behind a word is the word and that
 pub behind_told : (word bytes rest : List ℕ) → behind word bytes ≡ Some rest → bytes ≡ word ++ rest

@@ -21,7 +21,8 @@ names-append [] back = refl
 names-append (Publish number ∷ front) back = names-append front back
 names-append (Ask lane op reply at ∷ front) back = ap (λ (names : List AskName). record { lane = lane; at = at } ∷ names) (names-append front back)
 
-same_journal : (a b : Journal) → Some a ≡ Some b → a ≡ b
+-- one journal is there
+pub same_journal : (a b : Journal) → Some a ≡ Some b → a ≡ b
 same_journal a b is = cc
 
 -- this journal has one name more, or none

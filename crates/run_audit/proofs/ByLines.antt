@@ -4,6 +4,7 @@ use Rattle.std.specs.List.{onto_first}
 use Rattle.std.proofs.lemmas.Bool.{cases_Bool, eqb-true}
 use Rattle.report_reading.specs.Lines.{lines_with_ends}
 use Rattle.run_audit.specs.Comparison.{line_of_first_other, first_other_line}
+use Rattle.report_reading.proofs.Words.{same_number}
 
 -- the first line of a list has a byte
 abbrev HasFirst : List (List ℕ) → Type 0
@@ -23,20 +24,17 @@ lines_have_first (byte ∷ bytes) = elim (cases_Bool (byte == 10)) [
   | inr other ↦ rw other (onto_has_first byte (lines_with_ends bytes))
 ]
 
-same_byte : (byte : ℕ) → (byte == byte) ≡ true
-same_byte byte = grind (arith)
-
 -- a byte more in front of both first lines changes nothing
 same_onto : (number byte : ℕ) (lines others : List (List ℕ)) → HasFirst lines → HasFirst others
     → first_other_line number (onto_first byte lines) (onto_first byte others) ≡ first_other_line number lines others
 unfolding first_other_line
-same_onto number byte [] [] some more = rw (same_byte byte) refl
+same_onto number byte [] [] some more = rw (same_number byte) refl
 same_onto number byte [] ([] ∷ others) some more = absurd more
-same_onto number byte [] ((other ∷ others) ∷ rest) some more = rw (same_byte byte) refl
+same_onto number byte [] ((other ∷ others) ∷ rest) some more = rw (same_number byte) refl
 same_onto number byte ([] ∷ lines) others some more = absurd some
-same_onto number byte ((first ∷ line) ∷ lines) [] some more = rw (same_byte byte) refl
+same_onto number byte ((first ∷ line) ∷ lines) [] some more = rw (same_number byte) refl
 same_onto number byte ((first ∷ line) ∷ lines) ([] ∷ others) some more = absurd more
-same_onto number byte ((first ∷ line) ∷ lines) ((other ∷ others) ∷ rest) some more = rw (same_byte byte) refl
+same_onto number byte ((first ∷ line) ∷ lines) ((other ∷ others) ∷ rest) some more = rw (same_number byte) refl
 
 -- the first lines begin with these bytes
 abbrev BeginsWith : ℕ → List (List ℕ) → Type 0
@@ -80,7 +78,7 @@ same_start : (number byte : ℕ) (bytes others : List ℕ)
     ≡ first_other_line number (lines_with_ends (byte ∷ bytes)) (lines_with_ends (byte ∷ others))
 unfolding lines_with_ends first_other_line
 same_start number byte bytes others law = elim (cases_Bool (byte == 10)) [
-  | inl is ↦ rw (is, same_byte byte) (law (number + 1))
+  | inl is ↦ rw (is, same_number byte) (law (number + 1))
   | inr other ↦
       rw other (law number ∙ sym (same_onto number byte (lines_with_ends bytes) (lines_with_ends others) (lines_have_first bytes) (lines_have_first others)))
 ]

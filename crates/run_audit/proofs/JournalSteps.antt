@@ -15,9 +15,7 @@ use Rattle.run_audit.specs.JournalTold.{Lawful, at_the_end, edition_in_force, no
 use Rattle.run_audit.specs.Replaying.{IsEntered, IsPublishedLast, IsReplayed}
 use Rattle.run_audit.specs.Telling.{IsBegunUnder}
 use Rattle.run_audit.specs.ToldAsks.{op_under, are_told_alike}
-
-same_number : (n : ℕ) → (n == n) ≡ true
-same_number n = grind (arith)
+use Rattle.report_reading.proofs.Words.{same_number}
 
 -- ---- a step is the definition's
 

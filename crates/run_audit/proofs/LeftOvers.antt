@@ -14,6 +14,7 @@ use Rattle.run_audit.specs.Judging.{ToldValue}
 use Rattle.run_audit.specs.LeftOver.{rises_from, has_sections, is_first, differs, is_left_over, first_left_over, has_each_lane, lacking_line, first_behind}
 use Rattle.run_audit.specs.OtherLines.{entry_at, judgement_at, lane_naming, HasSections, IsLeftOver, LacksLane, IsWrongBehind, LeftOver, Lacks, IsFirstBehind}
 use Rattle.run_audit.specs.declared.told_report.ToldLane.{ToldLane}
+use Rattle.report_reading.proofs.Words.{same_number}
 
 -- ---- sections
 
@@ -70,7 +71,8 @@ none_of : {X : Type 0} (o : Option X) → not (is_some o) ≡ true → o ≡ Non
 none_of None is = refl
 none_of (Some x) is = absurd (cc)
 
-not_true : (b : Bool) → not b ≡ true → b ≡ false
+-- what is not true is false
+pub not_true : (b : Bool) → not b ≡ true → b ≡ false
 not_true true is = absurd (cc)
 not_true false is = refl
 
@@ -96,11 +98,8 @@ first_named : (o : Option ToldLane) (number : ℕ) (told : LaneLine) → is_firs
 first_named None number told is = absurd (cc)
 first_named (Some one) number told is = ap Some (one_lane one number told is)
 
-itself_number : (n : ℕ) → (n == n) ≡ true
-itself_number n = grind (arith)
-
 named_first : (number : ℕ) (told : LaneLine) → is_first (Some (record { line = number; told = told })) number told ≡ true
-named_first number told = rw (itself_number number, itself_number told.lane, itself_number told.refused) (itself_number told.tracker)
+named_first number told = rw (same_number number, same_number told.lane, same_number told.refused) (same_number told.tracker)
 
 module _ (told : ToldValue) (dockets : List (List DocketEntry)) where
   differs_so : (o : Option (List DocketEntry)) (number : ℕ) (one : LaneLine) → differs (length told.editions) o one ≡ true

@@ -23,7 +23,7 @@ pub mod SilentParts
 pub mod JournalLines
 pub mod RecordTexts
 pub mod LightTexts
-mod ReplayAgain
+pub mod ReplayAgain
 pub mod PrintedJournals
 mod Replicated
 -- what is found by the number of its record
@@ -48,5 +48,5 @@ mod BehindSteps
 -- what is rebuilt
 mod AsksJudged
 mod LaneSections
-mod PublishedFacts
+pub mod PublishedFacts
 mod Rebuilding

@@ -42,7 +42,8 @@ newline_ends = record { some = omega arith; last = refl }
 low : (n : ℕ) → 1 ≤ n → nat_le 1 n ≡ true
 low n some = grind (arith)
 
-end_found : (text : List ℕ) → Ends text → has_end text ≡ true
+-- a text that ends a line is seen to
+pub end_found : (text : List ℕ) → Ends text → has_end text ≡ true
 unfolding has_end
 end_found text ends = rw (low (length text) ends.some, ends.last) refl
 

@@ -6,6 +6,7 @@ use Rattle.state_asks.specs.declared.reply.Reply.TheVariants.{Found, NotFound, C
 use Rattle.state_asks.specs.declared.reply.Way.TheVariants.{Forward, Reverse}
 use Rattle.report_reading.specs.AskLines.{printed_reply}
 use Rattle.run_audit.specs.ToldAsks.{reply_mark, are_told_alike}
+use Rattle.report_reading.proofs.Words.{same_number}
 
 -- the reply of this mark
 reply_marked : ℕ → ℕ → Reply
@@ -35,9 +36,6 @@ mark_kept Created = refl
 mark_kept Exists = refl
 mark_kept (LimitReached count) = refl
 mark_kept (TableFull count) = refl
-
-same_number : (n : ℕ) → (n == n) ≡ true
-same_number n = grind (arith)
 
 -- two replies of one mark print alike
 pub alike_told : (reply told : Reply) → are_told_alike reply told ≡ true → printed_reply reply ≡ printed_reply told

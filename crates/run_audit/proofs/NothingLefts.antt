@@ -15,6 +15,7 @@ use Rattle.run_audit.specs.OtherLines.{entry_at}
 use Rattle.run_audit.specs.ToldReport.{records_from, lanes_from}
 use Rattle.run_audit.specs.declared.told_report.ToldLane.{ToldLane}
 use Rattle.run_audit.specs.declared.told_report.ToldRecord.{ToldRecord}
+use Rattle.run_audit.proofs.LeftOvers.{not_true}
 
 -- a record of that name was judged
 abbrev is_name_judged : List (List DocketEntry) → AskName → Bool
@@ -25,10 +26,6 @@ entries_by_names : (dockets : List (List DocketEntry)) (entries : List Entry) �
 entries_by_names dockets [] = refl
 entries_by_names dockets (Publish number ∷ entries) = entries_by_names dockets entries
 entries_by_names dockets (Ask lane op reply at ∷ entries) = ap (λ (b : Bool). is_judged dockets lane at && b) (entries_by_names dockets entries)
-
-not_so : (b : Bool) → not b ≡ true → b ≡ false
-not_so true is = absurd (cc)
-not_so false is = refl
 
 none_over : (told : ToldValue) (dockets : List (List DocketEntry)) (number : ℕ) (values : List LineValue) → list_all (is_given dockets) (records_from number values) ≡ true
     → list_all (is_name_judged dockets) (names_told values) ≡ true → list_all (is_right_lane told dockets) (lanes_from number values) ≡ true
@@ -44,7 +41,7 @@ none_over told dockets number (OfAsk one ∷ values) given judged right =
     rw here (none_over told dockets (number + 1) values given others right)
 none_over told dockets number (OfLane one ∷ values) given judged right =
     let (here, others) = and_parts (not (is_wrong_lane told dockets number one)) (list_all (is_right_lane told dockets) (lanes_from (number + 1) values)) right in
-    let so : is_wrong_lane told dockets number one ≡ false = not_so (is_wrong_lane told dockets number one) here in
+    let so : is_wrong_lane told dockets number one ≡ false = not_true (is_wrong_lane told dockets number one) here in
     rw so (none_over told dockets (number + 1) values given judged others)
 none_over told dockets number (OfOther ∷ values) given judged right = none_over told dockets (number + 1) values given judged right
 

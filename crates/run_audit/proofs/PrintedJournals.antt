@@ -107,7 +107,8 @@ journal_replayed names editions entries front back lawful askable before behind 
     ∙ ended editions (last + length back) journal
     ∙ complete editions (last + length back) journal (same_number (length journal.facts) (length editions) published)
 
-lanes_apart : (lane : ℕ) (dockets : List DocketValue) (trackers : List ℕ) → AreApart (lane_values lane dockets trackers)
+-- the lines of lanes stand apart
+pub lanes_apart : (lane : ℕ) (dockets : List DocketValue) (trackers : List ℕ) → AreApart (lane_values lane dockets trackers)
 lanes_apart lane [] trackers = tt
 lanes_apart lane (docket ∷ dockets) [] = tt
 lanes_apart lane (docket ∷ dockets) (tracker ∷ trackers) = (tt, lanes_apart (lane + 1) dockets trackers)

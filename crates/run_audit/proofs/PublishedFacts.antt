@@ -18,15 +18,13 @@ use Rattle.state_journal.specs.Journal.{Journal, IsJournal, with_ask, with_publi
 use Rattle.run_audit.specs.JournalTold.{Lawful, WrongAt, answered_as, edition_in_force, no_journal, or_wrong, published_under, replay, with_line}
 use Rattle.run_audit.specs.ToldAsks.{op_under, are_told_alike}
 use Rattle.run_audit.proofs.JournalSteps.{front_more}
+use Rattle.run_audit.proofs.AskPlaces.{same_journal}
 
 -- ---- facts
 
 -- the facts of a journal are the first of these editions
 abbrev AreFront : List Published → Journal → Type 0
 AreFront editions journal = journal.facts ≡ take (length journal.facts) (facts_of editions)
-
-same_journal : (a b : Journal) → Some a ≡ Some b → a ≡ b
-same_journal a b is = cc
 
 stays : (editions : List Published) (old new : Journal) → AreFront editions old → Some old ≡ Some new → AreFront editions new
 stays editions old new front is = subst (AreFront editions) (same_journal old new is) front
@@ -60,7 +58,8 @@ front_kept editions (OfAsk told) old new front is = asked_under editions (editio
 front_kept editions (OfLane told) old new front is = stays editions old new front is
 front_kept editions OfOther old new front is = stays editions old new front is
 
-same_lawful : (a b : Journal) → Lawful a ≡ Lawful b → a ≡ b
+-- one journal is lawful
+pub same_lawful : (a b : Journal) → Lawful a ≡ Lawful b → a ≡ b
 same_lawful a b is = cc
 
 ended : (editions : List Published) (b : Bool) (line : ℕ) (old new : Journal) → AreFront editions old → (length old.facts == length editions) ≡ b → (if b then Lawful old else WrongAt line) ≡ Lawful new

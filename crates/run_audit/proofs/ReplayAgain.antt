@@ -20,6 +20,7 @@ use Rattle.run_audit.specs.PrintedJournals.{IsApart, AreApart, IsAskable, AreAsk
 use Rattle.run_audit.proofs.Marks.{told_alike}
 use Rattle.run_audit.specs.JournalTold.{answered_as, edition_in_force, or_wrong, published_under, replay, with_line}
 use Rattle.run_audit.specs.ToldAsks.{op_under, are_told_alike}
+use Rattle.report_reading.proofs.Words.{same_number}
 
 -- ---- lines that the journal has nothing of
 
@@ -48,9 +49,6 @@ apart_passed editions number (value ∷ values) more journal are =
     ∙ apart_passed editions (number + 1) values more journal are.1 ∙ ap (λ n. replay editions n more journal) same
 
 -- ---- the journal's own lines
-
-same_number : (n : ℕ) → (n == n) ≡ true
-same_number n = grind (arith)
 
 published_next : (editions : List Published) (number : ℕ) (journal : Journal) (next : Published) → slice_get editions (length journal.facts) ≡ Some next → number ≡ next.number
     → with_line editions (OfPublication number) journal ≡ Some (with_publication journal next.facts)
@@ -87,7 +85,8 @@ last_pushed [] next = refl
 last_pushed (one ∷ []) next = refl
 last_pushed (one ∷ two ∷ done) next = last_pushed (two ∷ done) next
 
-seam : (done rest : List Published) (next : Published) → slice_get (done ++ next ∷ rest) (length done) ≡ Some next
+-- what stands behind the first ones
+pub seam : (done rest : List Published) (next : Published) → slice_get (done ++ next ∷ rest) (length done) ≡ Some next
 seam [] rest next = refl
 seam (one ∷ done) rest next = seam done rest next
 

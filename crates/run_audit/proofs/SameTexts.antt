@@ -2,6 +2,7 @@
 use Rattle.std.proofs.Common.{◌≡◌, ℕ, ◌==◌, true, Some, None, List, [], ◌∷◌, refl, ap, ◌∙◌, inl, inr, arith}
 use Rattle.std.proofs.lemmas.Bool.{cases_Bool, eqb-true}
 use Rattle.run_audit.specs.Comparison.{line_behind, line_of_first_other}
+use Rattle.report_reading.proofs.Words.{same_number}
 
 -- where none is the first line that two texts don't share, they are the same
 pub same_text : (line : ℕ) (written text : List ℕ) → line_of_first_other line written text ≡ None → written ≡ text
@@ -18,11 +19,8 @@ same_text line (byte ∷ written) (other ∷ text) is = elim (cases_Bool (byte =
       absurd (cc)
 ]
 
-same_byte : (byte : ℕ) → (byte == byte) ≡ true
-same_byte byte = grind (arith)
-
 -- a text differs in no line from itself
 pub no_other : (line : ℕ) (text : List ℕ) → line_of_first_other line text text ≡ None
 unfolding line_of_first_other
 no_other line [] = refl
-no_other line (byte ∷ text) = rw (same_byte byte) (no_other (line_behind byte line) text)
+no_other line (byte ∷ text) = rw (same_number byte) (no_other (line_behind byte line) text)

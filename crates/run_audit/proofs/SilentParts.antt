@@ -18,7 +18,7 @@ abbrev IsSilent : List ℕ → Type 0
 IsSilent text = lines_in text ≡ 0
 
 -- a byte more that ends none
-byte_before : (byte : ℕ) (bytes : List ℕ) → (byte == 10) ≡ false → IsSilent bytes → IsSilent (byte ∷ bytes)
+pub byte_before : (byte : ℕ) (bytes : List ℕ) → (byte == 10) ≡ false → IsSilent bytes → IsSilent (byte ∷ bytes)
 unfolding lines_in
 byte_before byte bytes other silent = rw other silent
 

@@ -1,6 +1,6 @@
 use Rattle.std.proofs.Common.{◌∙◌, sym}
 use Rattle.audit_driver.specs.Concluding.{rebuilt_text}
-use Rattle.audit_driver.proofs.Conclusions.{same_text}
+use Rattle.run_audit.proofs.SameTexts.{same_text}
 use Rattle.audit_driver.proofs.SameText.{other_line, when_ok}
 use Rattle.audit_driver.proofs.concluding.compare.Goals as goal
 
