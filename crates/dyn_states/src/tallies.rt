@@ -173,6 +173,7 @@ impl Tallies {
             self.new }
         ensures memory { HasTallyRoom self.old → HasTallyRoom self.new }
         ensures live { self.new.live ≡ self.old.live }
+        ensures counting { self.new.is_counting ≡ self.old.is_counting }
         ensures room { self.new.room ≡ self.old.room }
         ensures counted { self.new.counted ≡ self.old.counted }
     {
@@ -195,6 +196,7 @@ impl Tallies {
         ensures tallied { IsTallied (slice_set slots.now place (given_up (slot slots.now place)))
             self.new }
         ensures memory { HasTallyRoom self.old → HasTallyRoom self.new }
+        ensures counting { self.new.is_counting ≡ self.old.is_counting }
         ensures room { self.new.room ≡ self.old.room }
         ensures counted { self.new.counted ≡ self.old.counted }
     {
