@@ -124,8 +124,17 @@ module _ {S : Type 0} (left : S → Option (List ℕ)) (faults : S → ℕ) wher
 
   -- a track that holds a record goes on, and that record was replayed
   pub further-open : (old new : OpenTrack S) → StepsOnOrEnded left faults old new → GoesFurther left faults (Open old) (Open new)
-  further-open old new steps = record { goes = λ limit opened done origin r held is. cases limit opened done origin r held is old.end refl }
+  further-open old new steps = record {
+    goes = λ limit opened done origin r held is. cases limit opened done origin r held is old.end refl;
+    stays = λ none. ap (λ (track : OpenTrack S). Open track) (ended none old.end refl);
+  }
     where
+      ended : steps_left old ≡ 0 → (end : Option CaptureEnd) → old.end ≡ end → new ≡ old
+      ended none None running =
+          let never : suc (limit_of old.capture - given_of old.capture) ≡ 0 = subst (λ (e : Option CaptureEnd). while_open e (suc (limit_of old.capture - given_of old.capture)) ≡ 0) running none in
+          absurd (omega (arith, never))
+      ended none (Some end) over = subst (λ (e : Option CaptureEnd). MatchOption e (StepsOn left faults old new) (λ end. new ≡ old)) over steps
+
       cases : (limit : ℕ) (opened : OpenedCapture S) (done : List Captured) (origin : Origin) (r : Captured) → held_in old ≡ Some r → IsOpenTrack left faults limit opened old done origin → (end : Option CaptureEnd) → old.end ≡ end
           → IsOpenTrack left faults limit opened new (done ++ r ∷ []) origin × IsSettled left faults (Open new) × (steps_left new < steps_left old)
       cases limit opened done origin r held is None running =
@@ -137,4 +146,4 @@ module _ {S : Type 0} (left : S → Option (List ℕ)) (faults : S → ℕ) wher
           absurd (cc)
 
   pub further-refused : (source : S) (end : CaptureEnd) → GoesFurther left faults (Refused source end) (Refused source end)
-  further-refused source end = record { goes = λ limit opened done origin r held is. absurd (cc) }
+  further-refused source end = record { goes = λ limit opened done origin r held is. absurd (cc); stays = λ none. refl }

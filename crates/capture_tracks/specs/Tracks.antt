@@ -99,7 +99,8 @@ module _ {S : Type 0} where
     abbrev pub BeginsRefused : OpenFault S → Track S → Type 0
     BeginsRefused refused track = (limit : ℕ) (opened : OpenedCapture S) → IsRefused left faults limit opened.source refused → Begins limit opened track
 
-    -- A track that holds a record went on: that record was replayed.
+    -- A track that holds a record went on: that record was replayed. One that has ended stays as it is.
     pub record GoesFurther (old new : Track S) : Type 0 where
       pub goes : (limit : ℕ) (opened : OpenedCapture S) (done : List Captured) (origin : Origin) (r : Captured) → held_record_of old ≡ Some r → IsTrack limit opened old done origin
           → IsTrack limit opened new (done ++ r ∷ []) origin × IsSettled new × (room_of new < room_of old)
+      pub stays : room_of old ≡ 0 → new ≡ old

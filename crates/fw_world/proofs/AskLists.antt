@@ -12,13 +12,7 @@ use Rattle.state_journal.specs.declared.entry.Entry.TheVariants.{Publish, Ask}
 use Rattle.state_journal.specs.declared.entry.Item.{Item}
 use Rattle.state_journal.specs.declared.entry.Item.TheVariants.{Lanes, Published, Asked}
 use Rattle.fw_world.specs.AskRuns.{EntersEach}
-use Rattle.fw_world.specs.Asks.{LaneAsk, asks_in, ops_of, replies_of, lane_asks, with_asks}
-
--- the asks of one record, all behind the same publication
-abbrev pub record_asks : ℕ → ℕ → List Op → List Reply → List LaneAsk
-record_asks after at [] replies = []
-record_asks after at (op ∷ ops) [] = []
-record_asks after at (op ∷ ops) (reply ∷ replies) = record { after = after; at = at; op = op; reply = reply } ∷ record_asks after at ops replies
+use Rattle.fw_world.specs.Asks.{LaneAsk, asks_in, ops_of, replies_of, lane_asks, record_asks, with_asks}
 
 -- the asks of a record ask what was asked for it, in order
 pub ops-record_asks : (after at : ℕ) (ops : List Op) (replies : List Reply) → length ops ≡ length replies → ops_of (record_asks after at ops replies) ≡ ops

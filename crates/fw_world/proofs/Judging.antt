@@ -20,13 +20,13 @@ use Rattle.eval_engine.specs.Question.{question_under}
 use Rattle.eval_engine.specs.declared.docket_entry.DocketEntry.{DocketEntry}
 use Rattle.eval_engine.specs.declared.judgement.Judgement.{Judgement}
 use Rattle.fw_world.specs.AskRuns.{RisesBy, raised_by}
-use Rattle.fw_world.specs.Asks.{LaneAsk, asks_of_record, replies_of, ops_of, AreAsksOf, IsJudgedUnder}
+use Rattle.fw_world.specs.Asks.{LaneAsk, asks_of_record, replies_of, ops_of, AreAsksOf, IsJudgedUnder, record_asks}
 use Rattle.fw_world.specs.Editions.{edition_numbered, judging_edition}
 use Rattle.fw_world.specs.Entries.{EachRecord, IsEntryFor, IsEvaluated, IsEvaluatedTo, IsEvaluation}
 use Rattle.fw_world.specs.Inputs.{Input, Other, Malformed, Packet}
 use Rattle.fw_world.specs.Standing.{StandFor}
 use Rattle.fw_world.specs.Tallies.{Hit, hits_under, packet_hits, record_hits, lane_hits, count_in, IsTallyOf}
-use Rattle.fw_world.proofs.AskLists.{record_asks, ops-record_asks, replies-record_asks}
+use Rattle.fw_world.proofs.AskLists.{ops-record_asks, replies-record_asks}
 use Rattle.fw_world.proofs.Records.{EachRecord-append, EachRecord-weaker, IsEvaluated-asks, asks_of_record-earlier, asks_of_record-next, asks_are_within, AreAsksOf-record, AreAsksOf-entries, slice_get-last}
 
 -- the hits of one record more

@@ -16,10 +16,9 @@ use Rattle.state_asks.specs.declared.reply.Reply.{Reply}
 use Rattle.generation_store.specs.Published.{Published}
 use Rattle.eval_engine.specs.Dockets.{judgement_in}
 use Rattle.eval_engine.specs.declared.docket_entry.DocketEntry.{DocketEntry}
-use Rattle.fw_world.specs.Asks.{LaneAsk, asks_of_record, AreAsksOf, IsAskOfEntry, IsJudgedUnder}
+use Rattle.fw_world.specs.Asks.{LaneAsk, asks_of_record, AreAsksOf, IsAskOfEntry, IsJudgedUnder, record_asks}
 use Rattle.fw_world.specs.Entries.{EachRecord, IsEvaluated, IsEvaluatedTo}
 use Rattle.fw_world.specs.Inputs.{Input, Other, Malformed, Packet}
-use Rattle.fw_world.proofs.AskLists.{record_asks}
 
 -- one record more
 pub EachRecord-append : (P : ℕ → Input → DocketEntry → Type 0) (at : ℕ) (inputs : List Input) (entries : List DocketEntry) (input : Input) (entered : DocketEntry)

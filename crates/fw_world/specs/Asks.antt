@@ -32,7 +32,13 @@ asks_in (Asked after (Ask lane op reply at) ∷ items) = record { after = after;
 abbrev pub lane_asks : ℕ → List Entry → List LaneAsk
 lane_asks lane entries = asks_in (asks_of lane 0 entries)
 
--- the asks of one record
+-- the asks that a record made and their replies, all behind the same publication
+abbrev pub record_asks : ℕ → ℕ → List Op → List Reply → List LaneAsk
+record_asks after at [] replies = []
+record_asks after at (op ∷ ops) [] = []
+record_asks after at (op ∷ ops) (reply ∷ replies) = record { after = after; at = at; op = op; reply = reply } ∷ record_asks after at ops replies
+
+-- the asks of one record among a lane's
 abbrev pub asks_of_record : ℕ → List LaneAsk → List LaneAsk
 asks_of_record at asks = filter (λ ask. ask.at == at) asks
 

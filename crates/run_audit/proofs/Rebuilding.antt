@@ -22,7 +22,7 @@ use Rattle.run_audit.specs.Closing.{IsMadeOf}
 use Rattle.run_audit.specs.Composition.{HaveSections, IsOfJudgedRecord, entries_of_each}
 use Rattle.run_audit.specs.Judging.{ToldValue, AreToldSo}
 use Rattle.run_audit.specs.LeftOver.{first_behind}
-use Rattle.run_audit.specs.OtherLines.{IsLeftOver, LeftOver}
+use Rattle.run_audit.specs.OtherLines.{IsLeftOver, IsWrongBehind, LeftOver}
 use Rattle.run_audit.specs.ToldReport.{lines_told, told_by}
 use Rattle.run_audit.specs.declared.audit_fault.AuditFault.{AuditFault}
 use Rattle.run_audit.specs.declared.audit_fault.AuditFault.TheVariants.{Wrong, OutOfMemory}
@@ -110,6 +110,10 @@ module _ (config : Configuration) (steps : List Step) (report : List ℕ) (input
             (subst (λ (es : List Published). IsOpened config steps audit.report es audit.journal) (sym made.editions) is.opened));
         told = subst (λ (t : ToldValue). AreToldSo t 1 inputs (entries_rebuilt rebuilt)) same_told told;
         sections = subst (λ (t : ToldValue). AreSectionsTold t 1 rebuilt.dockets.items rebuilt.trackers.items) same_told made.sections;
+        nothing_left = λ number wrong. none_behind (told_of audit) audit.dockets (lines_told audit.report) made.none number
+            (subst (λ (t : ToldValue). IsWrongBehind t (lines_told audit.report) audit.dockets number) (sym same_told)
+            (subst (λ (es : List (List DocketEntry)). IsWrongBehind (told_by_rebuilt report rebuilt) (lines_told audit.report) es number) made.entries
+            (subst (λ (r : List ℕ). IsWrongBehind (told_by_rebuilt report rebuilt) (lines_told r) (entries_rebuilt rebuilt) number) (sym is.reported) wrong)));
       }
 
 -- a fault that came before names the first line that is wrong, whatever the audit is of

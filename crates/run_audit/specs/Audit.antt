@@ -19,7 +19,7 @@ use Rattle.capture_tracks.specs.Commands.{lines_outcome}
 use Rattle.run_audit.specs.JournalTold.{Lawful, no_journal, replay}
 use Rattle.run_audit.specs.Judging.{ToldValue, AreToldSo, FailsAtRecord, asks_told}
 use Rattle.run_audit.specs.Opening.{opening_fault}
-use Rattle.run_audit.specs.OtherLines.{IsFirstBehind, lane_naming}
+use Rattle.run_audit.specs.OtherLines.{IsFirstBehind, IsWrongBehind, lane_naming}
 use Rattle.run_audit.specs.ToldReport.{lines_told, records_from, lanes_from, ask_lines_from}
 use Rattle.run_audit.specs.declared.audit_fault.AuditFault.{AuditFault}
 use Rattle.run_audit.specs.declared.rebuilt.Rebuilt.{Rebuilt}
@@ -166,3 +166,5 @@ pub record IsRebuilt (config : Configuration) (steps : List Step) (report : List
   pub opened : IsOpened config steps report (map arc_value rebuilt.editions.items) rebuilt.book
   pub told : AreToldSo (told_by_rebuilt report rebuilt) 1 inputs (entries_rebuilt rebuilt)
   pub sections : AreSectionsTold (told_by_rebuilt report rebuilt) 1 rebuilt.dockets.items rebuilt.trackers.items
+  -- no line of it is left over behind the records, and no lane lacks its line
+  pub nothing_left : (number : ℕ) → IsWrongBehind (told_by_rebuilt report rebuilt) (lines_told report) (entries_rebuilt rebuilt) number → ⊥

@@ -20,7 +20,7 @@ use Rattle.eval_engine.specs.Evaluation.{evaluate}
 use Rattle.eval_engine.specs.Question.{Question, question_under}
 use Rattle.eval_engine.specs.declared.judgement.Judgement.{Judgement}
 use Rattle.fw_world.specs.AskRuns.{EntersEach, Evaluates, AsksFront}
-use Rattle.fw_world.specs.Asks.{LaneAsk, lane_asks, with_asks}
+use Rattle.fw_world.specs.Asks.{LaneAsk, lane_asks, with_asks, record_asks}
 use Rattle.fw_world.specs.Editions.{IsNextEdition, edition_numbered}
 use Rattle.fw_world.specs.Inputs.{Input, Packet}
 use Rattle.fw_world.specs.Lane.{LaneValue}
@@ -28,7 +28,7 @@ use Rattle.fw_world.specs.Caches.{IsCacheAfter}
 use Rattle.fw_world.specs.Sections.{judged_editions}
 use Rattle.fw_world.specs.Standing.{StandWithCache}
 use Rattle.fw_world.specs.World.{WorldValue, LaneStandsFor}
-use Rattle.fw_world.proofs.AskLists.{record_asks, lane_asks-record, asks_of-others, KeepsAround-asks}
+use Rattle.fw_world.proofs.AskLists.{lane_asks-record, asks_of-others, KeepsAround-asks}
 use Rattle.fw_world.proofs.Caching.{AreBelow, CacheStandsFor-judged}
 use Rattle.fw_world.proofs.Judging.{StandFor-judged}
 use Rattle.fw_world.proofs.Numbering.{last_is_numbered, last_number_of, AreNumbered-append, all_found_below}

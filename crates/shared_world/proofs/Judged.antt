@@ -18,12 +18,12 @@ use Rattle.fw_base.proofs.Lists.{all_push}
 use Rattle.fw_world.proofs.Caching.{CacheStandsFor-judged, IsCacheSeen-behind, IsPortFor-behind, IsTrueFor-seen, capacity-behind}
 use Rattle.fw_world.specs.Caches.{IsPortFor, IsTrueFor, IsCacheBehind, IsCacheAfter, IsCacheSeen}
 use Rattle.shared_world.proofs.SeenCaches.{seen-below}
-use Rattle.fw_world.proofs.AskLists.{record_asks, asks_in-append}
+use Rattle.fw_world.proofs.AskLists.{asks_in-append}
 use Rattle.fw_world.proofs.Judging.{StandFor-judged}
 use Rattle.fw_world.proofs.LaneSteps.{IsLane-judged, IsLane-failed, judged_editions-judged}
 use Rattle.fw_world.proofs.Running.{EntersEach-length}
 use Rattle.fw_world.specs.AskRuns.{EntersEach, Evaluates, AsksFront}
-use Rattle.fw_world.specs.Asks.{LaneAsk, asks_in}
+use Rattle.fw_world.specs.Asks.{LaneAsk, asks_in, record_asks}
 use Rattle.fw_world.specs.Editions.{edition_numbered}
 use Rattle.fw_world.specs.Inputs.{Input, Packet}
 use Rattle.fw_world.specs.Lane.{LaneValue, with_docket_entry}

@@ -9,7 +9,7 @@ use Rattle.eval_engine.specs.Question.{question_under}
 use Rattle.eval_engine.specs.declared.judgement.Judgement.{Judgement}
 use Rattle.fw_base.specs.declared.failure.OutOfMemory.{OutOfMemory}
 use Rattle.fw_base.specs.declared.port.Port.{Port}
-use Rattle.fw_world.proofs.AskLists.{record_asks}
+use Rattle.fw_world.specs.Asks.{record_asks}
 use Rattle.fw_world.specs.AskRuns.{RisesBy, IsFrontOf}
 use Rattle.fw_world.specs.Caches.{capacity_of, IsPortFor}
 use Rattle.fw_world.specs.Inputs.{Input, Packet}
