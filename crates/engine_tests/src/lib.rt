@@ -1,7 +1,9 @@
-//! Tests of editions, gates, evaluations and counts by the public calls of generation_store, rule_gates, eval_engine,
-//! evaluation_laws and counter_book.
+//! Tests of editions, gates, evaluations, counts and cached verdicts by the public calls of generation_store,
+//! rule_gates, eval_engine, evaluation_laws, counter_book and verdict_cache.
 #![tactic(auto)]
 
+#[cfg(test)]
+mod caches;
 #[cfg(test)]
 mod counts;
 #[cfg(test)]

@@ -15,6 +15,3 @@ pub mod OneReport
 pub mod SameEnds
 pub mod ReadCaptures
 pub mod OneReplay
--- what the tests go through
-pub mod OneLane
-pub mod TwoLanes

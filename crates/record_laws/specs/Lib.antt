@@ -11,6 +11,3 @@ pub mod CaptureOrder
 -- one record and one report of a script and captures
 pub mod SameCaptures
 pub mod OneReplay
--- what the tests go through
-pub mod OneLane
-pub mod TwoLanes

@@ -1,7 +1,7 @@
 //! A cache of verdicts for one packet thread: the most recent answers of one edition, by what a rule set
 //! can tell of an IPv4 packet.
 //!
-//! Tests: its own, src/tests.
+//! Tests: `engine_tests`, src/caches.
 #![tactic(auto)]
 
 pub use cache::{MOST_VERDICTS, VerdictCache};
@@ -12,5 +12,3 @@ mod cache;
 mod key;
 pub mod laws;
 mod present_options;
-#[cfg(test)]
-mod tests;

@@ -1,5 +1,5 @@
-use Rattle.record_laws.specs.OneLane.{IsOneLane}
-use Rattle.record_laws.proofs.tests.run_steps.Given as goal
+use Rattle.record_tests.specs.OneLane.{IsOneLane}
+use Rattle.record_tests.proofs.records.run_steps.Given as goal
 
 abbrev pub invariant-loop-step : goal.invariant-loop-step
 invariant-loop-step g l = IsOneLane l.live.world l.live.desk l.live.lane

@@ -11,7 +11,7 @@ use Rattle.fw_world.specs.World.{WorldValue, IsLaneOf}
 use Rattle.fw_world.specs.declared.commit_fault.CommitFault.{CommitFault}
 use Rattle.serial_world.proofs.Keeping.{is_lane_behind}
 use Rattle.generation_store.specs.Published.{Published}
-use Rattle.record_laws.specs.OneLane.{IsOneLane}
+use Rattle.record_tests.specs.OneLane.{IsOneLane}
 
 -- its desk published an edition, or a command was refused
 pub committed : (old new : WorldValue) (desk shown : List Published) (lane : LaneValue) (command : Command) (outcome : Result ℕ CommitFault) → IsOneLane old desk lane

@@ -1,7 +1,7 @@
 ghost use Rattle.std.specs.Prelude.{IfOk};
 ghost use Rattle.std.specs.List.{AllByRecursion};
 ghost use Rattle.fw_command.specs.WellFormed.{IsLine};
-ghost use Rattle.record_laws.specs.TwoLanes.{AreTwoLanes};
+ghost use Rattle.record_tests.specs.TwoLanes.{AreTwoLanes};
 
 use super::packets::{End, Packet};
 use super::{configured, judge, printed};

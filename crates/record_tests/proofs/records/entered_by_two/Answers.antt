@@ -7,8 +7,8 @@ use Rattle.fw_world.specs.World.{WorldValue, published_count}
 use Rattle.serial_world.specs.WorldKept.{IsNewWorld}
 use Rattle.fw_world.proofs.Arranging.{by_place-moved}
 use Rattle.rule_chain.specs.Configuration.{Configuration}
-use Rattle.record_laws.proofs.tests.entered_by_two.Goals as goal
-use Rattle.record_laws.proofs.tests.entered_by_two.Goals.{then-turned, else-turned}
+use Rattle.record_tests.proofs.records.entered_by_two.Goals as goal
+use Rattle.record_tests.proofs.records.entered_by_two.Goals.{then-turned, else-turned}
 
 -- two new lanes, of which the second passed a record over
 abbrev pair : List LaneValue

@@ -6,7 +6,7 @@ use Rattle.serial_world.specs.Steps.{ChangesAsksOf}
 use Rattle.fw_world.specs.World.{WorldValue, IsLaneOf}
 use Rattle.serial_world.proofs.Keeping.{is_lane_beside}
 use Rattle.generation_store.specs.Published.{Published}
-use Rattle.record_laws.specs.TwoLanes.{AreTwoLanes}
+use Rattle.record_tests.specs.TwoLanes.{AreTwoLanes}
 
 -- its first lane judged
 pub first_judged : (old new : WorldValue) (desk : List Published) (first second after : LaneValue) → AreTwoLanes old desk first second

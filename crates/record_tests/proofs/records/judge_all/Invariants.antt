@@ -1,5 +1,5 @@
-use Rattle.record_laws.specs.OneLane.{IsOneLane}
-use Rattle.record_laws.proofs.tests.judge_all.Given as goal
+use Rattle.record_tests.specs.OneLane.{IsOneLane}
+use Rattle.record_tests.proofs.records.judge_all.Given as goal
 
 abbrev pub invariant-loop-second : goal.invariant-loop-second
 invariant-loop-second g l = IsOneLane l.live.world l.live.desk l.live.lane

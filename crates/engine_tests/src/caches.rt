@@ -1,13 +1,13 @@
 mod changes;
 mod visits;
 
-use crate::{Key, MOST_VERDICTS, VerdictCache};
 use changes::{CHANGES, Change};
 use fw_base::{Link, OutOfMemory};
 use packet_headers::{Packet, read_packet};
 use std::alloc::{AllocError, Global};
 use std::process::Abort;
 use std::test::Fail;
+use verdict_cache::{Key, MOST_VERDICTS, VerdictCache};
 use visits::{ROWS, Row};
 
 /// The key of a packet without a link header.

@@ -4,9 +4,9 @@ ghost use Rattle.fw_command.specs.WellFormed.{IsLine, IsStepInRange};
 ghost use Rattle.serial_world.specs.Steps.{ChangesAsksOf};
 ghost use Rattle.fw_world.specs.Caches.{capacity_of};
 ghost use Rattle.fw_world.specs.World.{IsLaneOf};
-ghost use Rattle.record_laws.specs.OneLane.{IsOneLane};
+ghost use Rattle.record_tests.specs.OneLane.{IsOneLane};
 
-use crate::laws::{
+use record_laws::laws::{
     contents_determine_reports, listings_name_published_editions, replays_are_determined,
     replays_print_each_record,
 };

@@ -1,0 +1,3 @@
+-- what the tests go through
+mod OneLane
+mod TwoLanes

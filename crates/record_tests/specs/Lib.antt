@@ -1,0 +1,3 @@
+-- what the tests go through
+pub mod OneLane
+pub mod TwoLanes
