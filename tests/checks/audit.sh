@@ -48,3 +48,18 @@ for number in {1..60}; do
     )
 done
 same audits_find_what_was_changed
+
+# A report with lines of caches isn't audited: the first of them has none of the forms, whatever hits it tells.
+: >"$work/wanted"
+: >"$work/got"
+for hits in 0 1 99; do
+    (
+        cd "$top" || exit
+        words=(examples/first/rules out:em0:examples/first/session.pcap)
+        timeout 100 "$program" serial --journal --cache 8 "${words[@]}" | sed -E "s/^(cache 1 hits) .*/\1 $hits/" >"$work/report"
+        line=$(awk '/^cache 1 hits / { print NR }' "$work/report")
+        printf '%s\naudit no line %s\naudit no line %s\n' "$hits" "$line" "$line" >>"$work/wanted"
+        { echo "$hits"; "$program" audit "$work/report" "${words[@]}"; "$tests/audit.py" "$work/report" "${words[@]}"; } >>"$work/got"
+    )
+done
+same audit_refuses_lines_of_caches

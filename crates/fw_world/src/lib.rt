@@ -1,6 +1,6 @@
 //! What a lane does in whichever world: inputs, entries, asks, counts and sections, and the record of a run.
 //!
-//! Tests: rows through `serial_world`: `record_laws`, src/tests.
+//! Tests: rows through `serial_world`: `record_tests`, src/records.
 #![tactic(auto)]
 
 pub use asks_book::AsksBook;

@@ -73,7 +73,7 @@ pub record JudgesNext (old new : WorldValue) (before after : LaneValue) (packet 
   pub judged : IfOk result (λ judgement. Judges old new before.place (length before.docket.entries + 1) packet port second before.tally after.tally judgement)
   -- its entry stands last in the docket
   pub lane : IfOk result (λ judgement. after ≡ record (with_docket_entry (judged_entry judgement) before) { tally = after.tally; cache = after.cache })
-  -- its cache, where it has one, has as much room, and shows the port of this packet
+  -- its cache, where it has one, has as much room, and saw packets of this port alone, if any
   pub room : capacity_of after.cache ≡ capacity_of before.cache
   pub at_port : IsPortFor after.cache port
   -- the lane stands for one packet more

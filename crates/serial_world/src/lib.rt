@@ -1,7 +1,7 @@
 //! The world for one thread: editions, the one book of the states, and lanes whose numbers, refusals and
 //! trackers are plain fields.
 //!
-//! Tests: rows through its calls: `record_laws`, src/tests.
+//! Tests: rows through its calls: `record_tests`, src/records.
 #![tactic(auto)]
 
 pub use open_serial::OpenSerial;

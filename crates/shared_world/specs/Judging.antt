@@ -52,7 +52,7 @@ pub record JudgesNext (before after : SharedInside) (packet : AnyIp) (port : Por
   -- take the lock behind
   pub entered : IfOk result (λ judgement. after.lane.docket ≡ (with_entry (judged_entry judgement) before.lane).docket)
   pub same : after.lane ≡ record before.lane { docket = after.lane.docket; tally = after.lane.tally; cache = after.lane.cache; asks = after.lane.asks; book_taken = after.lane.book_taken; failed = after.lane.failed }
-  -- its cache, where it has one, has as much room, and shows the port of this packet
+  -- its cache, where it has one, has as much room, and saw packets of this port alone, if any
   pub room : capacity_of after.lane.cache ≡ capacity_of before.lane.cache
   pub at_port : IsPortFor after.lane.cache port
   -- the lane stands for one packet more
