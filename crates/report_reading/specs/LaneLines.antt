@@ -31,7 +31,7 @@ pub record IsPublication (number : ℕ) : Type 0 where
   pub first : 1 ≤ number
   pub last : number < 2 ^ 64
 
--- the line of a publication
+-- the line of a publication: the edition that it publishes
 unfoldable pub publication_in : List ℕ → Option ℕ
 publication_in line = do
   front ← behind (codes "publish ") line

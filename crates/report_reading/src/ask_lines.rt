@@ -1,8 +1,7 @@
-ghost use Rattle.std.specs.Prelude.{◌≡◌, ℕ, ◌∷◌, [], List, Some, IfSome, codes, nat_eq};
+ghost use Rattle.std.specs.Prelude.{◌≡◌, codes, nat_eq};
 ghost use Rattle.std.specs.Cmp.Lexicographic.{pointwise};
 ghost use Rattle.std.specs.Option.{option_map};
 ghost use Rattle.report_reading.specs.AskLines as spec;
-ghost use Rattle.fw_report.specs.JournalText.{ask_line};
 
 use crate::ask_parts::{Question, asked_question, flags, reply};
 use crate::flow_texts::{flow, name};
@@ -100,17 +99,4 @@ pub(crate) fn ask_in(line: &[u8]) -> Option<AskLine<'_>>
     let (at, rest) = positive(behind(b".", rest)?, u64::MAX)?;
     let (second, rest) = number(behind(b" ", rest)?, u64::from(u32::MAX))?;
     asked_in(lane, at, second as u32, rest)
-}
-
-/// What the line of an ask tells; `None` where the line is none.
-pub fn read_ask(line: &[u8]) -> Option<AskLine<'_>>
-    ensures found { IfSome result (λ told. line.now
-        ≡ ask_line (told.name.now ∷ []) told.lane told.at told.op told.reply) }
-    ensures within { IfSome result (λ told.
-        spec.IsAsk (told.name.now ∷ []) told.lane told.at told.op told.reply) }
-    ensures only { (names : List (List ℕ)) (lane at : ℕ) (op : Op) (reply : Reply)
-        → spec.IsAsk names lane at op reply → line.now ≡ ask_line names lane at op reply
-        → option_map spec.value_of_ask result ≡ Some (spec.printed_ask names lane at op reply) }
-{
-    ask_in(line)
 }

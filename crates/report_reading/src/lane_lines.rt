@@ -1,6 +1,5 @@
-ghost use Rattle.std.specs.Prelude.{◌≡◌, ℕ, Some, IfSome};
+ghost use Rattle.std.specs.Prelude.{◌≡◌};
 ghost use Rattle.report_reading.specs.LaneLines as spec;
-ghost use Rattle.fw_report.specs.JournalText.{lane_line, publish_line};
 
 use crate::parts::{behind, is_end, number, positive};
 
@@ -15,6 +14,7 @@ pub struct LaneLine {
     pub tracker: u64,
 }
 
+/// What the line of a lane tells; `None` where the line is none.
 #[tactic(auto, unfolding(crate::specs::LaneLines::lane_in))]
 pub(crate) fn lane_in(line: &[u8]) -> Option<LaneLine>
     ensures { result ≡ spec.lane_in line.now }
@@ -40,30 +40,11 @@ fn lane_of(lane: u64, refused: u64, tracker: u64, rest: &[u8]) -> Option<LaneLin
     }
 }
 
-/// What the line of a lane tells; `None` where the line is none.
-pub fn read_lane(line: &[u8]) -> Option<LaneLine>
-    ensures found { IfSome result (λ told. line.now ≡ lane_line told.lane told.refused told.tracker) }
-    ensures within { IfSome result (λ told. spec.IsLane told.lane told.refused told.tracker) }
-    ensures only { (lane refused tracker : ℕ) → spec.IsLane lane refused tracker
-        → line.now ≡ lane_line lane refused tracker
-        → result ≡ Some (record { lane = lane; refused = refused; tracker = tracker }) }
-{
-    lane_in(line)
-}
-
+/// The edition whose publication the line tells; `None` where the line is none.
 #[tactic(auto, unfolding(crate::specs::LaneLines::publication_in))]
 pub(crate) fn publication_in(line: &[u8]) -> Option<u64>
     ensures { result ≡ spec.publication_in line.now }
 {
     let (number, rest) = positive(behind(b"publish ", line)?, u64::MAX)?;
     if is_end(rest) { Some(number) } else { None }
-}
-
-/// The edition whose publication the line tells; `None` where the line is none.
-pub fn read_publication(line: &[u8]) -> Option<u64>
-    ensures found { IfSome result (λ number. line.now ≡ publish_line number) }
-    ensures within { IfSome result spec.IsPublication }
-    ensures only { (number : ℕ) → spec.IsPublication number → line.now ≡ publish_line number → result ≡ Some number }
-{
-    publication_in(line)
 }

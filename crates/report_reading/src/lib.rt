@@ -3,8 +3,8 @@
 //! Tests: none of its own.
 #![tactic(auto)]
 
-pub use ask_lines::{AskLine, read_ask};
-pub use lane_lines::{LaneLine, read_lane, read_publication};
+pub use ask_lines::AskLine;
+pub use lane_lines::LaneLine;
 pub use lines::next_line;
 pub use readings::{Reading, read_line};
 pub use record_lines::{RecordLine, read_record};
