@@ -1,5 +1,5 @@
 -- The first byte that two texts don't share stands in the first line that they don't share.
-use Rattle.std.proofs.Common.{◌≡◌, ℕ, ◌+◌, ◌==◌, true, false, Some, None, List, [], ◌∷◌, refl, sym, ◌∙◌, inl, inr, arith, if◌then◌else◌}
+use Rattle.std.proofs.Common.{◌≡◌, ℕ, ◌+◌, ◌==◌, false, Some, None, List, [], ◌∷◌, refl, sym, ◌∙◌, inl, inr, if◌then◌else◌}
 use Rattle.std.specs.List.{onto_first}
 use Rattle.std.proofs.lemmas.Bool.{cases_Bool, eqb-true}
 use Rattle.report_reading.specs.Lines.{lines_with_ends}

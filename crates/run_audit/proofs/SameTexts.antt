@@ -1,5 +1,5 @@
 -- Two texts that differ in no line are one.
-use Rattle.std.proofs.Common.{◌≡◌, ℕ, ◌==◌, true, Some, None, List, [], ◌∷◌, refl, ap, ◌∙◌, inl, inr, arith}
+use Rattle.std.proofs.Common.{◌≡◌, ℕ, ◌==◌, Some, None, List, [], ◌∷◌, refl, ap, ◌∙◌, inl, inr}
 use Rattle.std.proofs.lemmas.Bool.{cases_Bool, eqb-true}
 use Rattle.run_audit.specs.Comparison.{line_behind, line_of_first_other}
 use Rattle.report_reading.proofs.Words.{same_number}
