@@ -14,7 +14,7 @@ fn is_formed(line: &[u8]) -> bool
 
 /// The number of the first line of a report that has the form of none; `None` where all have one.
 #[tactic(auto, unfolding(crate::specs::Forms::first_unformed))]
-pub fn first_unformed(report: &[u8]) -> Option<u64>
+pub(crate) fn first_unformed(report: &[u8]) -> Option<u64>
     ensures { result ≡ spec.first_unformed 1 (lines_with_ends report.now) }
 {
     let mut rest = report;

@@ -6,16 +6,12 @@
 pub use audit::{Audit, MOST_CAPTURES};
 pub use audit_fault::AuditFault;
 pub use comparer::Comparer;
-pub use forms::first_unformed;
 pub use laws::{
     differences_are_by_lines, printed_journals_pass, tests_find_all, tests_find_the_first,
     told_records_are_legal,
 };
 pub use opening::open_journal;
 pub use rebuilt::Rebuilt;
-pub use replaying::{replay_ask, replay_asked, replay_line, replay_publication, replay_published};
-pub use told_asks::{are_told_alike, op_under};
-pub use told_evaluations::evaluate_told;
 
 mod ask_index;
 mod ask_stands;

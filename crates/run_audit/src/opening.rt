@@ -9,10 +9,11 @@ ghost use Rattle.run_audit.specs.AuditFaults.{IfWrong, NamesLine};
 ghost use Rattle.run_audit.specs.Opening.{opening_fault, unformed_line, unlawful_line};
 ghost use Rattle.run_audit.specs.ToldReport.{IsTold};
 
+use crate::AuditFault;
+use crate::forms::first_unformed;
 use crate::publisher::Publisher;
 use crate::reading_told::told_report;
 use crate::told_report::ToldReport;
-use crate::{AuditFault, first_unformed};
 use fw_command::Step;
 use fw_report::LineAnswer;
 use rule_chain::Config;

@@ -17,7 +17,7 @@ use std::sync::Arc;
 /// Asks the states what a line tells, under the edition that was published last, and enters it with
 /// their answer. Whether that is the ask and the answer that the line tells; where it isn't,
 /// nothing is said of the book.
-pub fn replay_ask(
+pub(crate) fn replay_ask(
     book: &mut Book,
     edition: &Edition,
     told: &AskLine<'_>,
@@ -41,7 +41,7 @@ pub fn replay_ask(
 }
 
 /// Publishes the edition that is next, and enters its publication.
-pub fn replay_publication(book: &mut Book, edition: &Edition) -> Result<(), OutOfMemory>
+pub(crate) fn replay_publication(book: &mut Book, edition: &Edition) -> Result<(), OutOfMemory>
     requires next { edition.now.number ≡ length book.old.facts + 1 }
     ensures { OnOk result (book.new ≡ with_publication book.old edition.now.facts) }
 {
@@ -63,7 +63,7 @@ pub(crate) fn edition_at(editions: &[Arc<Edition>], place: usize) -> Option<&Edi
 }
 
 /// Publishes the edition that is next, where it has this number, and says whether it has.
-pub fn replay_published(
+pub(crate) fn replay_published(
     book: &mut Book,
     editions: &[Arc<Edition>],
     number: u64,
@@ -87,7 +87,7 @@ pub fn replay_published(
 }
 
 /// Asks the states what a line tells, under the edition that was published last.
-pub fn replay_asked(
+pub(crate) fn replay_asked(
     book: &mut Book,
     editions: &[Arc<Edition>],
     told: &AskLine<'_>,
@@ -106,7 +106,7 @@ pub fn replay_asked(
 
 /// Takes in what a line tells: the states meet its publication or its ask. Whether the line tells
 /// the next publication, or an ask and an answer that are so.
-pub fn replay_line(
+pub(crate) fn replay_line(
     book: &mut Book,
     editions: &[Arc<Edition>],
     told: &Reading<'_>,

@@ -53,7 +53,7 @@ fn flow_name_under(edition: &Edition, asked: FlowName, name: &[u8]) -> Option<Fl
 /// What is asked by an ask that is told, with the rule and the flow name of the edition; `None`
 /// exactly where it has no rule of that identity, or no such name.
 #[tactic(auto, unfolding(crate::specs::ToldAsks::op_under))]
-pub fn op_under(edition: &Edition, told: &Op, name: &[u8]) -> Option<Op>
+pub(crate) fn op_under(edition: &Edition, told: &Op, name: &[u8]) -> Option<Op>
     ensures value { result ≡ spec.op_under edition.now told.now name.now }
     ensures ruled { IfSome result (NamesRuleOf edition.now.facts.rules) }
     ensures flagged { IfSome result (λ op. asked_flags op ≡ asked_flags told.now) }
@@ -121,7 +121,7 @@ fn are_marked_alike(reply: &Reply, told: &Reply) -> bool
 
 /// Whether a line that tells the one reply tells the other: they are one but for the number of a
 /// rule.
-pub fn are_told_alike(reply: &Reply, told: &Reply) -> bool
+pub(crate) fn are_told_alike(reply: &Reply, told: &Reply) -> bool
     ensures value { result ≡ spec.are_told_alike reply.now told.now }
     ensures alike { result ≡ true → printed_reply reply.now ≡ printed_reply told.now }
     ensures all { printed_reply reply.now ≡ printed_reply told.now → result ≡ true }

@@ -8,7 +8,7 @@ ghost use Rattle.ip6_headers.specs.Either.{total_of};
 ghost use Rattle.report_reading.specs.RecordLines.{printed_rule, printed};
 ghost use Rattle.run_audit.specs.ToldEvaluations.{ComesTo, replies_told};
 
-use crate::evaluate_told;
+use crate::told_evaluations::evaluate_told;
 use counter_book::Tally;
 use eval_engine::{DocketEntry, Judgement};
 use fw_base::{OutOfMemory, Port};

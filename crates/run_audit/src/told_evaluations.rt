@@ -23,7 +23,7 @@ fn is_same(asked: &Op, told: &Op) -> bool
 /// The judgement to which the evaluation of a packet comes with the replies that are told, where it
 /// makes exactly the asks that are told; `None` where it doesn't, and then some of its hits may be
 /// counted.
-pub fn evaluate_told(
+pub(crate) fn evaluate_told(
     edition: &Edition,
     packet: &AnyIp<'_>,
     port: &Port,
