@@ -2,7 +2,7 @@ ghost use Rattle.std.specs.Prelude.{◌≡◌, ◌<◌, ◌≤◌, IfOk, length}
 ghost use Rattle.std.specs.List.{list_all};
 ghost use Rattle.run_audit.specs.AskStands as spec;
 
-use crate::sweep::{LANES, Sweep};
+use crate::sweep::{NAMED_LANES, Sweep};
 use fw_base::OutOfMemory;
 use state_asks::{Op, Reply};
 use state_journal::Entry;
@@ -42,7 +42,7 @@ fn stands_with(alloc: Global, lanes: usize, entries: &[Entry]) -> Result<Vec<Ask
 pub(crate) fn ask_stands(alloc: Global, entries: &[Entry]) -> Result<Vec<AskStand>, OutOfMemory>
     ensures { IfOk result (λ stands. stands.items ≡ spec.stands_of entries.now) }
 {
-    stands_with(alloc, LANES, entries)
+    stands_with(alloc, NAMED_LANES, entries)
 }
 
 /// What an entry asks, and what is answered, where it is an ask.

@@ -6,6 +6,7 @@ ghost use Rattle.run_audit.specs.Replaying.{AreNumbered, IsAskInRange};
 ghost use Rattle.run_audit.specs.Telling.{IsBegunUnder, IsUnder, journal_of};
 ghost use Rattle.state_journal.specs.Journal.{with_publication};
 
+use crate::MOST_CAPTURES;
 use crate::replaying::{edition_at, replay_line};
 use fw_base::OutOfMemory;
 use generation_store::Edition;
@@ -14,16 +15,13 @@ use state_journal::Book;
 use std::alloc::Global;
 use std::sync::Arc;
 
-/// How many lanes the journal of a report may have asks of.
-const LANES: u32 = 16;
-
 /// The book that begins with the publication of this edition.
 fn book_of(alloc: Global, edition: &Edition) -> Result<Book, OutOfMemory>
     requires { edition.now.number ≡ 1 }
     ensures { IfOk result (λ book. book ≡ with_publication no_journal edition.now.facts) }
 {
     let facts = edition.facts().share()?;
-    Book::open(alloc, LANES, facts)
+    Book::open(alloc, MOST_CAPTURES, facts)
 }
 
 /// The book that begins with the first edition, where that has this number; `None` exactly where it

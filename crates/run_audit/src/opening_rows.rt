@@ -2,11 +2,11 @@ use crate::{Audit, AuditFault};
 use rule_chain::Config;
 use std::test::Fail;
 
-/// A report of one capture without records, and the first line that is wrong before a record is
-/// looked at.
+/// A report of one capture without records, and the first line that is wrong.
 type Row<'a> = (&'a str, Option<u64>);
 
-const ROWS: [Row<'static>; 9] = [
+/// Reports, and the first line that is wrong before a record is looked at.
+const OPENINGS: [Row<'static>; 9] = [
     (
         "end 1 records 0\neditions 1\nrules 1\n65535 0 0 deny ip from any to any\nclock 0\n\
          states 0\njournal 2 1\npublish 1\nlane 1 refused 0 tracker 0\n",
@@ -99,8 +99,8 @@ fn wrong_line_behind(rt: &HostRuntime, report: &str) -> Result<Option<u64>, Fail
 
 #[test]
 fn first_wrong_line_of_an_opening(rt: HostRuntime) -> Result<(), Fail> {
-    for (report, wanted) in &ROWS {
-        assert_eq!(&rt; wrong_line(&rt, report)?, *wanted);
+    for (report, wanted) in &OPENINGS {
+        assert_eq!(&rt; wrong_line(&rt, report)?, *wanted, "report {report:?}");
     }
     Ok(())
 }
@@ -108,7 +108,11 @@ fn first_wrong_line_of_an_opening(rt: HostRuntime) -> Result<(), Fail> {
 #[test]
 fn first_wrong_line_of_a_closing(rt: HostRuntime) -> Result<(), Fail> {
     for (report, wanted) in &CLOSINGS {
-        assert_eq!(&rt; wrong_line_behind(&rt, report)?, *wanted);
+        assert_eq!(&rt;
+            wrong_line_behind(&rt, report)?,
+            *wanted,
+            "report {report:?}"
+        );
     }
     Ok(())
 }

@@ -8,7 +8,7 @@ use std::alloc::Global;
 use std::marker::Model;
 
 /// So many lanes an entry of a journal can name.
-pub(crate) const LANES: usize = 65_536;
+pub(crate) const NAMED_LANES: usize = 65_536;
 
 /// How far a journal was read.
 #[derive(Drop)]
