@@ -1,4 +1,5 @@
-//! Tests of whole runs over memory by the public calls of replay_driver: the worked rows.
+//! Tests of whole runs over memory by the public calls of replay_driver, audit_driver and run_laws:
+//! the worked rows.
 #![tactic(auto)]
 
 #[cfg(test)]

@@ -97,7 +97,8 @@ fn check_command<R: Threads + Wait + Sync + Abort>(
     let mut library = library_of(alloc, b"", &capture, &[], None)?;
     let seen = run_over(rt, alloc, words, &mut library, ROOM)?;
     let text = with_lines(alloc, DENIED, "cache 1 hits 0\n")?;
-    assert_seen(rt, &seen, "a cache", 0, &text);
+    let row = format!(in alloc; "a cache: {words:?}")?;
+    assert_seen(rt, &seen, &row, 0, &text);
     Ok(())
 }
 

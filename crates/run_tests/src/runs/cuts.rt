@@ -75,7 +75,8 @@ fn check_truncated<R: Threads + Wait + Sync + Abort>(
     let front = &capture[..bytes.min(capture.len())];
     let mut library = library_of(alloc, b"", front, &[], None)?;
     let seen = run_over(rt, alloc, words, &mut library, ROOM)?;
-    assert_seen(rt, &seen, "a truncated capture", status, &text);
+    let row = format!(in alloc; "a capture truncated after {bytes} bytes: {words:?}")?;
+    assert_seen(rt, &seen, &row, status, &text);
     Ok(())
 }
 
@@ -112,7 +113,8 @@ fn check_failing_source<R: Threads + Wait + Sync + Abort>(
     let text = report_of(alloc, bytes, failed_end(bytes))?;
     let mut library = library_of(alloc, b"", capture, &[], Some(bytes as u64))?;
     let seen = run_over(rt, alloc, words, &mut library, ROOM)?;
-    assert_seen(rt, &seen, "a source that fails", 4, &text);
+    let row = format!(in alloc; "a source that fails behind {bytes} bytes: {words:?}")?;
+    assert_seen(rt, &seen, &row, 4, &text);
     Ok(())
 }
 
@@ -151,7 +153,8 @@ fn check_room<R: Threads + Wait + Sync + Abort>(
     let front = &text[..room.min(text.len())];
     let mut library = library_of(alloc, b"", capture, &[], None)?;
     let seen = run_over(rt, alloc, words, &mut library, room as u64)?;
-    assert_seen(rt, &seen, "a sink of little room", status, front);
+    let row = format!(in alloc; "a sink of room {room}: {words:?}")?;
+    assert_seen(rt, &seen, &row, status, front);
     Ok(())
 }
 

@@ -37,7 +37,17 @@ const ROWS: [Row; 8] = [
         script: "add 100 check-state\nadd 200 allow tcp from any to any setup keep-state\n",
         captures: &[CONNECTION],
         status: 0,
-        text: "1.1 allow 00200 at 1\n1.2 allow 00200 at 1\n1.3 allow 00200 at 1\n1.4 allow 00200 at 1\n1.5 deny 65535 at 1\nend 1 records 5\neditions 1\nrules 3\n00100 0 0 check-state\n00200 4 160 allow tcp from any to any setup keep-state\n65535 1 40 set 31 deny ip from any to any\nclock 104\nstates 0\njournal 2 7\npublish 1\nask 1.1 100 lookup :default tcp 10.0.0.1 1025 192.0.2.1 80 S notfound\nask 1.1 100 install 2 keep :default tcp 10.0.0.1 1025 192.0.2.1 80 S created\nask 1.2 101 lookup :default tcp 192.0.2.1 80 10.0.0.1 1025 S found 2 reverse\nask 1.3 102 lookup :default tcp 10.0.0.1 1025 192.0.2.1 80 F found 2 forward\nask 1.4 103 lookup :default tcp 192.0.2.1 80 10.0.0.1 1025 F found 2 reverse\nask 1.5 104 lookup :default tcp 10.0.0.1 1025 192.0.2.1 80 - notfound\nlane 1 refused 0 tracker 10\n",
+        text: "1.1 allow 00200 at 1\n1.2 allow 00200 at 1\n1.3 allow 00200 at 1\n\
+            1.4 allow 00200 at 1\n1.5 deny 65535 at 1\nend 1 records 5\neditions 1\nrules 3\n\
+            00100 0 0 check-state\n00200 4 160 allow tcp from any to any setup keep-state\n\
+            65535 1 40 set 31 deny ip from any to any\nclock 104\nstates 0\njournal 2 7\n\
+            publish 1\nask 1.1 100 lookup :default tcp 10.0.0.1 1025 192.0.2.1 80 S notfound\n\
+            ask 1.1 100 install 2 keep :default tcp 10.0.0.1 1025 192.0.2.1 80 S created\n\
+            ask 1.2 101 lookup :default tcp 192.0.2.1 80 10.0.0.1 1025 S found 2 reverse\n\
+            ask 1.3 102 lookup :default tcp 10.0.0.1 1025 192.0.2.1 80 F found 2 forward\n\
+            ask 1.4 103 lookup :default tcp 192.0.2.1 80 10.0.0.1 1025 F found 2 reverse\n\
+            ask 1.5 104 lookup :default tcp 10.0.0.1 1025 192.0.2.1 80 - notfound\n\
+            lane 1 refused 0 tracker 10\n",
     },
     Row {
         name: "limit_by_source_address",
@@ -145,7 +155,23 @@ pub(super) const WORKSTATION: Row = Row {
     script: "# workstation\nlocal 10.0.0.2\nadd 100 allow ip from any to any via lo0\nadd 200 deny ip from any to 127.0.0.0/8\nadd 300 deny ip from 127.0.0.0/8 to any\nadd 400 check-state\nadd 500 deny tcp from any to any established\nadd 600 allow tcp from me to any setup keep-state\nadd 700 allow udp from me to any 53 keep-state\nadd 800 allow icmp from any to any icmptypes 0,3,8,11\nadd 900 allow tcp from any to me 22 setup limit src-addr 2\nadd 1000 count ip from any to any frag\nadd 1100 unreach port udp from any to me\nadd 65000 deny log ip from any to any\n",
     captures: &[SENT, RECEIVED],
     status: 0,
-    text: "1.1 allow 00700 at 1\n1.2 allow 00600 at 1\n1.3 allow 00600 at 1\n1.4 allow 00800 at 1\n1.5 allow 00600 at 1\n1.6 deny 00500 at 1\nend 1 records 6\n2.1 allow 00700 at 1\n2.2 allow 00600 at 1\n2.3 deny 00500 at 1\n2.4 allow 00900 at 1\n2.5 allow 00900 at 1\n2.6 deny 00900 at 1 limit 2\n2.7 allow 00800 at 1\n2.8 unreach port 01100 at 1\n2.9 unreach port 01100 at 1\n2.10 deny 65000 at 1\n2.11 deny 00300 at 1\n2.12 allow 00600 at 1\n2.13 allow 00900 at 1\n2.14 allow 00900 at 1\nend 2 records 14\neditions 1\nrules 13\n00100 0 0 allow ip from any to any via lo0\n00200 0 0 deny ip from any to 127.0.0.0/8\n00300 1 40 deny ip from 127.0.0.0/8 to any\n00400 0 0 check-state\n00500 2 80 deny tcp from any to any established\n00600 5 200 allow tcp from me to any setup keep-state\n00700 2 56 allow udp from me to any 53 keep-state\n00800 2 56 allow icmp from any to any icmptypes 0,3,8,11\n00900 4 160 allow tcp from any to me 22 setup limit src-addr 2\n01000 1 28 count ip from any to any frag\n01100 2 56 unreach port udp from any to me\n65000 1 40 deny log ip from any to any\n65535 0 0 set 31 deny ip from any to any\nclock 1019\nstates 2\n00900 tcp 198.51.100.7 4001 10.0.0.2 22 expires 1027\n00900 tcp 198.51.100.7 4003 10.0.0.2 22 expires 1039\n",
+    text: "1.1 allow 00700 at 1\n1.2 allow 00600 at 1\n1.3 allow 00600 at 1\n1.4 allow 00800 at 1\n\
+        1.5 allow 00600 at 1\n1.6 deny 00500 at 1\nend 1 records 6\n2.1 allow 00700 at 1\n\
+        2.2 allow 00600 at 1\n2.3 deny 00500 at 1\n2.4 allow 00900 at 1\n2.5 allow 00900 at 1\n\
+        2.6 deny 00900 at 1 limit 2\n2.7 allow 00800 at 1\n2.8 unreach port 01100 at 1\n\
+        2.9 unreach port 01100 at 1\n2.10 deny 65000 at 1\n2.11 deny 00300 at 1\n\
+        2.12 allow 00600 at 1\n2.13 allow 00900 at 1\n2.14 allow 00900 at 1\nend 2 records 14\n\
+        editions 1\nrules 13\n00100 0 0 allow ip from any to any via lo0\n\
+        00200 0 0 deny ip from any to 127.0.0.0/8\n00300 1 40 deny ip from 127.0.0.0/8 to any\n\
+        00400 0 0 check-state\n00500 2 80 deny tcp from any to any established\n\
+        00600 5 200 allow tcp from me to any setup keep-state\n\
+        00700 2 56 allow udp from me to any 53 keep-state\n\
+        00800 2 56 allow icmp from any to any icmptypes 0,3,8,11\n\
+        00900 4 160 allow tcp from any to me 22 setup limit src-addr 2\n\
+        01000 1 28 count ip from any to any frag\n01100 2 56 unreach port udp from any to me\n\
+        65000 1 40 deny log ip from any to any\n65535 0 0 set 31 deny ip from any to any\n\
+        clock 1019\nstates 2\n00900 tcp 198.51.100.7 4001 10.0.0.2 22 expires 1027\n\
+        00900 tcp 198.51.100.7 4003 10.0.0.2 22 expires 1039\n",
 };
 
 #[test]

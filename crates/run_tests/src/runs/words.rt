@@ -49,8 +49,9 @@ fn check_usage<R: Threads + Wait + Sync + Abort>(
 ) -> Result<(), Fail> {
     let mut library = MemoryLibrary::new(alloc);
     let seen = run_over(rt, alloc, words, &mut library, ROOM)?;
-    assert_seen(rt, &seen, "no command", 1, USAGE);
-    assert_eq!(rt; seen.sources, 0);
+    let row = format!(in alloc; "no command: {words:?}")?;
+    assert_seen(rt, &seen, &row, 1, USAGE);
+    assert_eq!(rt; seen.sources, 0, "{row}");
     Ok(())
 }
 
@@ -93,7 +94,8 @@ fn check_command<R: Threads + Wait + Sync + Abort>(
 ) -> Result<(), Fail> {
     let mut library = library_of_names(alloc)?;
     let seen = run_over(rt, alloc, words, &mut library, ROOM)?;
-    assert_seen(rt, &seen, "a command", 0, DENIED.as_bytes());
+    let row = format!(in alloc; "a command: {words:?}")?;
+    assert_seen(rt, &seen, &row, 0, DENIED.as_bytes());
     Ok(())
 }
 
@@ -158,8 +160,9 @@ fn check_refusal<R: Threads + Wait + Sync + Abort>(
 ) -> Result<(), Fail> {
     let mut library = library_without(alloc, name)?;
     let seen = run_over(rt, alloc, &TWO_CAPTURES, &mut library, ROOM)?;
-    assert_seen(rt, &seen, "refused_names", 4, text);
-    assert_eq!(rt; seen.sources, sources);
+    let row = format!(in alloc; "a refused name: {name:?}")?;
+    assert_seen(rt, &seen, &row, 4, text);
+    assert_eq!(rt; seen.sources, sources, "{row}");
     Ok(())
 }
 
@@ -174,8 +177,9 @@ fn check_broken_script<R: Threads + Wait + Sync + Abort>(
     add(alloc, &mut library, b"s", script, &[7], Some(cut))?;
     add(alloc, &mut library, b"c", &syns(alloc, 1)?, &[], None)?;
     let seen = run_over(rt, alloc, &TWO_CAPTURES, &mut library, ROOM)?;
-    assert_seen(rt, &seen, "a script that fails", 4, b"cannot read s\n");
-    assert_eq!(rt; seen.sources, 1);
+    let row = format!(in alloc; "a script that fails behind {cut} bytes")?;
+    assert_seen(rt, &seen, &row, 4, b"cannot read s\n");
+    assert_eq!(rt; seen.sources, 1, "{row}");
     Ok(())
 }
 
