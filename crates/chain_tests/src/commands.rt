@@ -57,8 +57,8 @@ fn assert_faults(
     config: &Config,
     rows: &[(Step, Option<ApplyFault>)],
 ) -> Result<(), Fail> {
-    for (step, fault) in rows {
-        assert_eq!(rt; fault_of(alloc, config, *step)?, *fault);
+    for (place, (step, fault)) in rows.iter().enumerate() {
+        assert_eq!(rt; fault_of(alloc, config, *step)?, *fault, "row {place}");
     }
     Ok(())
 }
