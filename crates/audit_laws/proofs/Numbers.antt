@@ -1,5 +1,5 @@
 -- Numbers without leading zeros, read again.
-use Rattle.std.proofs.Common.{◌≡◌, ℕ, zero, suc, ◌^◌, ◌<◌, ◌≤◌, ◌==◌, true, false, Some, None, List, [], ◌∷◌, ◌++◌, length, get_or, refl, ap, ◌∙◌, inl, inr, arith, nat_le, lit<}
+use Rattle.std.proofs.Common.{◌≡◌, ℕ, zero, suc, ◌^◌, ◌<◌, ◌≤◌, true, false, Some, None, List, [], ◌∷◌, ◌++◌, length, get_or, refl, inl, inr, arith, nat_le, lit<}
 use Rattle.std.specs.Char.{is_ascii_digit}
 use Rattle.std.specs.Fmt.{decimal}
 use Rattle.std.specs.List.{list_all}
@@ -7,7 +7,7 @@ use Rattle.std.specs.Prelude.{◌⊎◌}
 use Rattle.std.proofs.lemmas.Bool.{cases_Bool, and_parts}
 use Rattle.std.proofs.lemmas.Bool.Decides.{nat_tests}
 use Rattle.std.proofs.lemmas.Fmt.{digits_decimal, digits_value-decimal, decimal_nonempty, first_decimal, decimal_digit}
-use Rattle.report_reading.specs.Parts.{behind, positive_at, number_at}
+use Rattle.report_reading.specs.Parts.{behind, positive_at}
 use Rattle.report_reading.proofs.Digits.{value_after, own, IsStop}
 use Rattle.report_reading.proofs.Numbers.{not_zero, positive_again}
 use Rattle.audit_laws.proofs.RuleNumbers.{high_on, no_word}

@@ -1,6 +1,6 @@
 -- A report tells one record: the editions, the journal, and what was entered for each lane.
 use Rattle.std.proofs.Common.{◌≡◌, ℕ, ◌+◌, Option, Some, None, Ok, List, [], ◌∷◌, refl, sym, ap, subst, ◌∙◌}
-use Rattle.std.specs.Prelude.{IfSome, IsSome, IsSomeAnd, Result}
+use Rattle.std.specs.Prelude.{IsSome, IsSomeAnd, Result}
 use Rattle.eval_engine.specs.Dockets.{judged_entry, judgement_in}
 use Rattle.eval_engine.specs.Evaluated.{Whole}
 use Rattle.eval_engine.specs.declared.docket_entry.DocketEntry.{DocketEntry}

@@ -1,10 +1,9 @@
 -- The entries of a table tell nothing.
-use Rattle.std.proofs.Common.{◌≡◌, ℕ, zero, suc, ◌/◌, ◌%◌, ◌^◌, ◌<◌, ◌≤◌, ◌||◌, Bool, true, false, Option, Some, None, List, [], ◌∷◌, ◌++◌, length, codes, refl, sym, ap, subst, ◌∙◌, inl, inr, arith, append_assoc}
+use Rattle.std.proofs.Common.{◌≡◌, ℕ, ◌^◌, ◌<◌, ◌≤◌, ◌||◌, Bool, true, false, Option, Some, None, List, [], ◌∷◌, ◌++◌, length, codes, refl, sym, ap, subst, ◌∙◌, inl, inr, arith, append_assoc}
 use Rattle.std.specs.Fmt.{decimal}
 use Rattle.std.specs.Int.{byte_at}
-use Rattle.std.specs.List.{join_with_byte, AllByRecursion}
+use Rattle.std.specs.List.{AllByRecursion}
 use Rattle.std.specs.Prelude.{IfSome, is_some}
-use Rattle.std.proofs.Math.Nat.{mod-lt}
 use Rattle.fw_base.specs.Addr.{address_text}
 use Rattle.fw_base.specs.Prefix.{Network}
 use Rattle.fw_report.proofs.SilentWords.{number_is_silent}
@@ -14,10 +13,9 @@ use Rattle.lookup_tables.specs.Tables.{NamedTables, table_named}
 use Rattle.lookup_tables.specs.declared.table.Table.{Table}
 use Rattle.lookup_tables.specs.declared.table.Table.TheVariants.{Addresses, Numbers}
 use Rattle.report_reading.specs.AskLines.{ask_in}
-use Rattle.report_reading.specs.FlowTexts.{octets_at}
 use Rattle.report_reading.specs.LaneLines.{lane_in, publication_in}
 use Rattle.report_reading.specs.LightLines.{address_entry_in, is_light, number_entry_in}
-use Rattle.report_reading.specs.Parts.{behind, number_at, positive_at}
+use Rattle.report_reading.specs.Parts.{behind, positive_at}
 use Rattle.report_reading.specs.RecordLines.{entry_in, judged_in, malformed_in, record_in, verdict_at}
 use Rattle.run_audit.proofs.LightTexts.{IsNoOther}
 use Rattle.run_audit.proofs.SilentParts.{address_is_silent}
