@@ -1,5 +1,5 @@
 -- Of a report that a replay prints an audit says yes.
-use Rattle.std.proofs.Common.{◌≡◌, ℕ, ◌+◌, ◌<◌, ◌≤◌, Bool, true, if◌then◌else◌, ◌==◌, List, [], ◌∷◌, ◌++◌, Option, None, Some, Result, Ok, length, map, refl, ap, ◌∙◌, sym, subst, arith, inl, inr, ◌⊎◌, suc, append-nil, length-append}
+use Rattle.std.proofs.Common.{◌≡◌, ℕ, ◌+◌, ◌<◌, ◌≤◌, true, List, [], ◌∷◌, ◌++◌, Option, None, Some, Result, Ok, length, map, refl, ap, ◌∙◌, sym, subst, arith, inl, inr, ◌⊎◌, suc, append-nil, length-append}
 use Rattle.std.specs.Prelude.{IfSome}
 use Rattle.std.proofs.lemmas.List.{length-map}
 use Rattle.audit_laws.specs.Captures.{HaveToldBytes, IsFromScript}
@@ -33,7 +33,7 @@ use Rattle.replay_driver.specs.declared.script_error.ScriptError.{ScriptError}
 use Rattle.replay_driver.proofs.Complete.{took_from}
 use Rattle.replay_driver.proofs.Promised.{IfSome-both}
 use Rattle.run_audit.specs.Audit.{IsFirstWrong, IsRebuilt, rebuilt_record}
-use Rattle.run_audit.specs.Comparison.{line_behind, line_of_first_other}
+use Rattle.run_audit.specs.Comparison.{line_of_first_other}
 use Rattle.audit_driver.specs.AuditNames.{AuditNames, names_of}
 use Rattle.audit_driver.specs.Found.{IsAudited, IsOtherText, IsWrongAtEnd, IsWrongReport, text_of}
 use Rattle.audit_driver.specs.Printed.{AreUnder, IsPrinted, IsPrintedAudit}

@@ -1,7 +1,6 @@
 -- What an audit concludes.
-use Rattle.std.proofs.Common.{replicate, ◌≡◌, ℕ, ◌+◌, ◌<◌, ◌≤◌, true, false, if◌then◌else◌, Option, Some, None, List, [], ◌∷◌, ◌++◌, length, map, refl, sym, ap, subst, ◌∙◌, inl, inr, arith, zero, suc, ◌-◌, get_or}
+use Rattle.std.proofs.Common.{replicate, ◌≡◌, ℕ, ◌+◌, ◌<◌, ◌≤◌, true, false, Option, Some, None, List, [], ◌∷◌, ◌++◌, length, map, refl, sym, ap, subst, ◌∙◌, inl, inr, arith, zero, suc, ◌-◌, get_or}
 use Rattle.std.specs.Prelude.{slice_get}
-use Rattle.std.proofs.lemmas.Bool.Decides.{eqb_tells}
 use Rattle.std.proofs.lemmas.List.{append-nil, length-append}
 use Rattle.capture_tracks.specs.Commands.{lines_outcome}
 use Rattle.capture_tracks.specs.Reading.{track_inputs}
@@ -20,7 +19,7 @@ use Rattle.fw_world.specs.RecordValue.{RecordValue}
 use Rattle.replay_driver.specs.RunResult.{report_record}
 use Rattle.replay_driver.specs.declared.first_edition.FirstEdition.{FirstEdition}
 use Rattle.run_audit.specs.Audit.{AuditValue, IsAuditOf, IsFirstWrong, IsRebuilt, FailsAtInput, StandsFor, rebuilt_record}
-use Rattle.run_audit.specs.Comparison.{line_behind, line_of_first_other}
+use Rattle.run_audit.specs.Comparison.{line_of_first_other}
 use Rattle.run_audit.specs.declared.audit_fault.AuditFault.TheVariants.{Wrong}
 use Rattle.audit_driver.proofs.Examining.{read_counts}
 use Rattle.fw_command.specs.declared.script.Step.{Step}

@@ -1,6 +1,5 @@
 -- What an audit promises follows from what it does exactly.
-use Rattle.std.proofs.Common.{◌≡◌, ◌≢◌, ℕ, ◌+◌, ◌≤◌, false, ◌||◌, List, [], ◌∷◌, ◌++◌, Option, None, Some, Ok, Err, refl, ap, ◌∙◌, sym, subst, arith, inl, inr, ◌⊎◌, take, length, suc, append-nil, length-append}
-use Rattle.std.specs.Prelude.{MatchOption, option_and_then}
+use Rattle.std.proofs.Common.{◌≡◌, ◌≢◌, ℕ, false, ◌||◌, List, [], ◌∷◌, ◌++◌, Option, None, Some, Ok, Err, refl, ap, ◌∙◌, sym, subst, arith, inl, inr, ◌⊎◌, take, length, suc}
 use Rattle.std.specs.List.{AllByRecursion}
 use Rattle.std.proofs.lemmas.List.{length-map}
 use Rattle.buffered_io.specs.WholeSource.{ReadsAll}
@@ -9,7 +8,7 @@ use Rattle.capture_tracks.specs.Replay.{limit_for}
 use Rattle.capture_tracks.specs.declared.opened.OpenedCapture.{OpenedCapture}
 use Rattle.command_words.specs.declared.invocation.Mode.TheVariants.{Serial}
 use Rattle.fw_base.specs.Faults.{Rose}
-use Rattle.fw_base.specs.Pairs.{Pair, TakesOut, take_named}
+use Rattle.fw_base.specs.Pairs.{Pair}
 use Rattle.replay_driver.specs.Openings.{Opens, file_names, pairs_without, sources_of}
 use Rattle.fw_report.specs.declared.capture_end.CaptureEnd.{CaptureEnd}
 use Rattle.pcap_read.specs.Reading.{Captured}
