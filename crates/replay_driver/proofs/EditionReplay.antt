@@ -1,5 +1,5 @@
 -- What a replay of either mode leaves, with the answers of the listings before `live` before those behind it.
-use Rattle.std.proofs.Common.{◌≡◌, ℕ, ◌<◌, List, ◌++◌, Option, length, refl, ap, sym, subst}
+use Rattle.std.proofs.Common.{◌≡◌, ℕ, ◌<◌, List, ◌++◌, Option, length, refl, subst}
 use Rattle.std.specs.Prelude.{IfOk, Result}
 use Rattle.command_words.specs.declared.invocation.Mode.{Mode}
 use Rattle.capture_tracks.specs.Replay.{IsReplay}

@@ -1,5 +1,5 @@
 -- What the names of a replay come to, with the script before the captures.
-use Rattle.std.proofs.Common.{◌≡◌, ◌∙◌, ℕ, ◌<◌, Bool, List, ◌∷◌, Option, length, refl, ap, sym, subst, inl, inr}
+use Rattle.std.proofs.Common.{◌≡◌, ◌∙◌, ℕ, ◌<◌, Bool, List, ◌∷◌, Option, length, refl, ap, sym, subst, inr}
 use Rattle.command_words.specs.Words.{CaptureNames}
 use Rattle.command_words.specs.declared.invocation.Mode.{Mode}
 use Rattle.capture_tracks.specs.declared.replayed.Replayed.{Replayed}

@@ -1,5 +1,5 @@
 -- What the openings of captures come to.
-use Rattle.std.specs.Prelude.{◌≡◌, ℕ, List, ◌∷◌, ◌++◌, Option}
+use Rattle.std.specs.Prelude.{◌≡◌, ℕ, List, ◌∷◌, ◌++◌}
 use Rattle.command_words.specs.Words.{CaptureNames}
 use Rattle.replay_driver.specs.Openings.{Opens, RefusesToOpen, OpensAll, port_of}
 use Rattle.replay_driver.specs.declared.capture_openings.CaptureOpening.{CaptureOpening}

@@ -1,5 +1,5 @@
 -- What the opening and reading of a named file comes to.
-use Rattle.std.specs.Prelude.{ℕ, List, Option}
+use Rattle.std.specs.Prelude.{ℕ, List}
 use Rattle.replay_driver.specs.Found.{ReadsNamed, FailsEarly}
 use Rattle.replay_driver.specs.Openings.{Opens, RefusesToOpen}
 use Rattle.replay_driver.specs.declared.named_source.NamedSource.{NamedSource}

@@ -1,5 +1,5 @@
 -- What the names of a replay come to before a capture is read.
-use Rattle.std.specs.Prelude.{◌≡◌, ℕ, List, ◌∷◌, length, Option, Ok, Err}
+use Rattle.std.specs.Prelude.{◌≡◌, ℕ, List, ◌∷◌, length, Ok, Err}
 use Rattle.std.specs.List.{AllByRecursion}
 use Rattle.command_words.specs.Words.{CaptureNames}
 use Rattle.command_words.specs.declared.invocation.Mode.{Mode}
@@ -12,7 +12,6 @@ use Rattle.replay_driver.specs.Served.{pace_of}
 use Rattle.replay_driver.specs.declared.ready.Ready.{Ready}
 use Rattle.replay_driver.specs.declared.ready.Readiness.{Readiness}
 use Rattle.replay_driver.specs.declared.ready.Readiness.TheVariants as came
-use Rattle.replay_driver.specs.declared.script_error.ScriptError.{ScriptError}
 use Rattle.capture_tracks.specs.declared.opened.OpenedCapture.{OpenedCapture}
 use Rattle.replay_driver.specs.Outside.{Files}
 

@@ -1,5 +1,5 @@
 -- What a run leaves: what was found, written with its status.
-use Rattle.std.specs.Prelude.{◌≡◌, ℕ, List, [], Option, None, Result, Ok, Err, ◌⊎◌}
+use Rattle.std.specs.Prelude.{◌≡◌, ℕ, List, [], None, Result, Ok, Err, ◌⊎◌}
 use Rattle.std.specs.Io.KnownBytes.{Appends}
 use Rattle.fw_base.specs.Faults.{Rose}
 use Rattle.fw_base.specs.Texts.{AppendsPart}

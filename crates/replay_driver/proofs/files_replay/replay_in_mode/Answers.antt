@@ -1,4 +1,3 @@
-use Rattle.std.proofs.Common.{◌≡◌}
 use Rattle.command_words.specs.declared.invocation.Mode.TheVariants.{Serial, Live}
 use Rattle.replay_driver.proofs.EditionReplay.{same_cache}
 use Rattle.replay_driver.proofs.files_replay.replay_in_mode.Goals as goal

@@ -1,4 +1,3 @@
-use Rattle.std.proofs.Common.{◌≡◌}
 use Rattle.std.proofs.lemmas.Result.{IfOk-weaker}
 use Rattle.replay_driver.proofs.MadeReady.{reports_ready, is_writable}
 use Rattle.replay_driver.proofs.files_replay.replay_ready.Goals as goal

@@ -1,7 +1,6 @@
 use Rattle.std.proofs.Common.{◌≡◌, None, ◌∙◌, ap, subst, List, [], ◌∷◌, ◌++◌, ℕ, Ok}
 use Rattle.command_words.specs.declared.invocation.Mode.TheVariants.{Serial}
 use Rattle.fw_command.specs.declared.script.Pace.TheVariants as pace
-use Rattle.load_maker.specs.Load.{load_capture, load_script}
 use Rattle.replay_driver.specs.FirstEdition.{first_edition}
 use Rattle.replay_driver.specs.Found.{IsReplayBeside, made_capture, known_left, no_failures}
 use Rattle.capture_tracks.specs.declared.opened.OpenedCapture.{OpenedCapture}
