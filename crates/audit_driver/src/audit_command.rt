@@ -6,7 +6,6 @@ ghost use Rattle.fw_base.specs.Faults.{Rose};
 ghost use Rattle.fw_base.specs.Pairs.{Pair};
 ghost use Rattle.fw_command.specs.WellFormed.{IsStepInRange};
 ghost use Rattle.replay_driver.specs.Openings.{pairs_without, sources_of};
-ghost use Rattle.replay_driver.specs.Run.{status_of};
 ghost use Rattle.audit_driver.specs.AuditNames.{words_named};
 ghost use Rattle.audit_driver.specs.Concluding.{ComparesWith, Concludes, IsStoppedSo};
 ghost use Rattle.audit_driver.specs.Found.{ConcludesAudit, FindsAudit, FindsBehindReport};
@@ -21,12 +20,10 @@ use crate::concluding::{conclude, stop};
 use crate::examined::{Examined, examine};
 use capture_tracks::OpenedCapture;
 use command_words::{CaptureWord, MOST_CAPTURES, Mode};
-use fw_base::{Failed, Library, Name, OutOfMemory, Sink, Source};
-use fw_report::Ends;
-use fw_rule::Items;
+use fw_base::{Library, Name, OutOfMemory, Sink, Source};
 use replay_driver::{
     FirstEdition, LibraryView, NamedSource, Outcome, Readiness, Ready, SinkView, make_ready,
-    read_named,
+    no_ends, read_named, status_written,
 };
 use run_audit::{Audit, AuditFault};
 use std::alloc::Global;
@@ -202,43 +199,6 @@ fn find<L: Library>(
     }
 }
 
-/// No capture ended, and no line has an answer.
-fn no_ends(alloc: Global) -> Ends
-    ensures captures { result.captures ≡ [] }
-    ensures answers { result.answers ≡ [] }
-{
-    Ends {
-        captures: Items::from_vec(Vec::new(alloc)),
-        answers: Items::from_vec(Vec::new(alloc)),
-    }
-}
-
-/// The answer where memory ran out.
-pub(crate) fn without_memory<S>(alloc: Global) -> Outcome<S>
-    ensures status { result.status ≡ 6 }
-    ensures ends { result.ends.captures ≡ [] }
-    ensures answers { result.ends.answers ≡ [] }
-    ensures kept { result.kept ≡ None }
-    ensures nothing { result.sources.items ≡ [] }
-{
-    Outcome {
-        status: 6,
-        ends: no_ends(alloc),
-        kept: None,
-        sources: Vec::new(alloc),
-    }
-}
-
-/// The status of a text that was to be written with this one: 5 where the sink failed.
-fn status_written(wanted: u8, written: Result<(), Failed>) -> u8
-    ensures { result ≡ status_of wanted written }
-{
-    match written {
-        Ok(()) => wanted,
-        Err(Failed) => 5,
-    }
-}
-
 /// Writes what was found.
 fn report<S: Drop, K: Sink>(alloc: Global, found: Found<S>, out: &mut K) -> Outcome<S>
     ensures { IsFoundAudit ⟦<K as SinkView>⟧.output found out.old out.new result }
@@ -266,7 +226,7 @@ fn audit_words<L: Library, K: Sink>(
         (words_named words.entry) library.old library.new out.old out.new result }
 {
     match find(alloc, words, library) {
-        Err(OutOfMemory) => without_memory(alloc),
+        Err(OutOfMemory) => Outcome::out_of_memory(alloc),
         Ok(found) => report(alloc, found, out),
     }
 }

@@ -6,7 +6,7 @@ use crate::capture_audit::{CaptureAudit, audit_capture};
 use capture_tracks::{MOST_RECORDS, OpenedCapture, limit_for};
 use fw_base::{OutOfMemory, Source};
 use fw_report::CaptureEnd;
-use pcap_read::CaptureFault;
+use replay_driver::is_unread;
 use run_audit::{Audit, MOST_CAPTURES};
 use std::alloc::Global;
 
@@ -21,19 +21,6 @@ pub(crate) struct Examined<S> {
     pub(crate) ends: Vec<CaptureEnd>,
     /// Whether the audit was stopped: by a record, for want of memory, or by a source that failed.
     pub(crate) stopped: bool,
-}
-
-/// Whether the capture ended because its source failed.
-fn is_unread(end: &CaptureEnd) -> bool
-    ensures { result ≡ ends_spec.is_unread end.now }
-{
-    match end {
-        CaptureEnd::Stopped {
-            fault: CaptureFault::ReadFault,
-            ..
-        } => true,
-        CaptureEnd::Stopped { .. } | CaptureEnd::Read { .. } => false,
-    }
 }
 
 /// Whether the audit ends behind a capture that ended so.

@@ -7,7 +7,7 @@ ghost use Rattle.audit_driver.specs.Printed.{IsPrintedAudit};
 ghost use Rattle.audit_driver.specs.Run.{IsAuditRun};
 ghost use Rattle.audit_driver.specs.RunPromises.{KeepsPromises};
 
-use crate::audit_command::{AuditWords, audit, without_memory};
+use crate::audit_command::{AuditWords, audit};
 use command_words::{Invocation, read_words};
 use fw_base::{Gate, Library, OutOfMemory, Sink};
 use replay_driver::{LibraryView, Outcome, SinkView};
@@ -36,7 +36,7 @@ where
         names library.old library.new out.old out.new result) }
 {
     match read_words(alloc, words) {
-        Err(OutOfMemory) => without_memory(alloc),
+        Err(OutOfMemory) => Outcome::out_of_memory(alloc),
         Ok(
             Some(
                 Invocation::Audit {

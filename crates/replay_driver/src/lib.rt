@@ -5,10 +5,11 @@
 
 pub use first_edition::{FirstEdition, read_first_edition};
 pub use named_source::{NamedSource, read_named};
-pub use outcome::Outcome;
+pub use outcome::{Outcome, status_written};
 pub use outside::{LibraryView, SinkView};
 pub use ready::{Readiness, Ready, make_ready};
 pub use run_command::run;
+pub use run_result::{is_unread, no_ends};
 pub use script_error::{RefusedLine, ScriptError};
 
 mod capture_openings;

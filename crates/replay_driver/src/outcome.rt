@@ -1,5 +1,11 @@
+ghost use Rattle.std.specs.Prelude.{◌≡◌, [], None};
+ghost use Rattle.replay_driver.specs.Run.{status_of};
+
+use crate::run_result::no_ends;
+use fw_base::Failed;
 use fw_report::Ends;
 use fw_world::Record;
+use std::alloc::Global;
 
 /// What a run answers.
 #[derive(Drop)]
@@ -13,4 +19,32 @@ pub struct Outcome<S> {
     /// The script's source and then the captures' sources in the order of the words, as far as they were
     /// opened; none of a load.
     pub sources: Vec<S>,
+}
+
+impl<S> Outcome<S> {
+    /// The answer where memory ran out.
+    pub fn out_of_memory(alloc: Global) -> Outcome<S>
+        ensures status { result.status ≡ 6 }
+        ensures ends { result.ends.captures ≡ [] }
+        ensures answers { result.ends.answers ≡ [] }
+        ensures kept { result.kept ≡ None }
+        ensures nothing { result.sources.items ≡ [] }
+    {
+        Outcome {
+            status: 6,
+            ends: no_ends(alloc),
+            kept: None,
+            sources: Vec::new(alloc),
+        }
+    }
+}
+
+/// The status of a text that was to be written with this one: 5 where the sink failed.
+pub fn status_written(wanted: u8, written: Result<(), Failed>) -> u8
+    ensures { result ≡ status_of wanted written }
+{
+    match written {
+        Ok(()) => wanted,
+        Err(Failed) => 5,
+    }
 }

@@ -5,50 +5,25 @@ ghost use Rattle.fw_base.specs.Texts.{WritesText};
 ghost use Rattle.replay_driver.specs.Found.{FindsWords};
 ghost use Rattle.replay_driver.specs.Openings.{pairs_without};
 ghost use Rattle.replay_driver.specs.Promises.{IsKept, IsUnreadJob, IsUnreadyJob, IsQuiet, HasRefusedCommand, IsFaulty, FailedRead, HasFailedRead, IsCompleteJob, opening_order};
-ghost use Rattle.replay_driver.specs.Run.{IsNoCommand, IsRunOf, IsFoundRun, status_of};
+ghost use Rattle.replay_driver.specs.Run.{IsNoCommand, IsRunOf, IsFoundRun};
 ghost use Rattle.replay_driver.specs.RunResult as results;
 ghost use Rattle.replay_driver.specs.Served.{job_of};
 
 use crate::files_replay::replay_files;
 use crate::manner::Manner;
+use crate::outcome::status_written;
 use crate::pieced_text::write_pieced;
 use crate::replay_load::replay_load;
-use crate::run_result::{Found, RunResult, no_ends, without_sources};
+use crate::run_result::{Found, RunResult, without_sources};
 use crate::{LibraryView, Outcome, SinkView};
 use buffered_io::PIECE_BYTES;
 use command_words::{Invocation, read_words};
 use core::mem::replace_with;
-use fw_base::{Failed, Gate, Library, OutOfMemory, Sink};
+use fw_base::{Gate, Library, OutOfMemory, Sink};
 use live_replay::Runner;
 use std::alloc::{AllocError, Global};
 use std::sync::Wait;
 use std::thread::Threads;
-
-/// The status of a text that was to be written with this one: 5 where the sink failed.
-fn status_written(wanted: u8, written: Result<(), Failed>) -> u8
-    ensures { result ≡ status_of wanted written }
-{
-    match written {
-        Ok(()) => wanted,
-        Err(Failed) => 5,
-    }
-}
-
-/// The answer where memory ran out.
-fn without_memory<S>(alloc: Global) -> Outcome<S>
-    ensures status { result.status ≡ 6 }
-    ensures ends { result.ends.captures ≡ [] }
-    ensures answers { result.ends.answers ≡ [] }
-    ensures kept { result.kept ≡ None }
-    ensures nothing { result.sources.items ≡ [] }
-{
-    Outcome {
-        status: 6,
-        ends: no_ends(alloc),
-        kept: None,
-        sources: Vec::new(alloc),
-    }
-}
 
 /// An empty buffer for a piece of text.
 fn piece_buffer(alloc: Global) -> Result<Vec<u8>, AllocError>
@@ -63,7 +38,7 @@ fn report<S: Drop, K: Sink>(alloc: Global, found: Found<S>, out: &mut K) -> Outc
     ensures { IsFoundRun ⟦<K as SinkView>⟧.output found out.old out.new result }
 {
     let Ok(buffer) = piece_buffer(alloc) else {
-        return without_memory(alloc);
+        return Outcome::out_of_memory(alloc);
     };
     let Found { result, sources } = found;
     let written = replace_with(out, (buffer, &result), write_pieced);
@@ -136,7 +111,7 @@ where
         job library.old library.new out.old out.new result) }
 {
     match find(rt, alloc, words, library, gate) {
-        Err(OutOfMemory) => without_memory(alloc),
+        Err(OutOfMemory) => Outcome::out_of_memory(alloc),
         Ok(found) => report(alloc, found, out),
     }
 }

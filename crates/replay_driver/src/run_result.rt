@@ -36,7 +36,7 @@ pub(crate) enum RunResult {
 }
 
 /// Whether the capture ended because its source failed.
-fn is_unread(end: &CaptureEnd) -> bool
+pub fn is_unread(end: &CaptureEnd) -> bool
     ensures { result ≡ end_spec.is_unread end.now }
 {
     match end {
@@ -101,7 +101,7 @@ fn report_status(ends: &Ends) -> u8
 }
 
 /// No capture ended, and no line has an answer.
-pub(crate) fn no_ends(alloc: Global) -> Ends
+pub fn no_ends(alloc: Global) -> Ends
     ensures captures { result.captures ≡ [] }
     ensures answers { result.answers ≡ [] }
 {
