@@ -60,6 +60,8 @@ where
 }
 
 /// Carries out the command that the words are, an audit among them, or writes the usage line.
+///
+/// The status is `replay_driver::run`'s or, of an audit, `audit`'s.
 pub fn run<R: Threads + Wait + Sync, L: Library, K: Sink, G: Gate + Sync>(
     rt: &R,
     alloc: Global,

@@ -1,4 +1,4 @@
-//! The words of a command line, and what they name: a script and captures to replay, or a load.
+//! The words of a command line, and what they name: a script and captures to replay, or to audit a report of, or a load.
 //!
 //! `specs/Words.antt` says which lists of words are a command. `read_words` reads them by `clap`.
 //!
