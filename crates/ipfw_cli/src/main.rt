@@ -1,36 +1,17 @@
-//! `ipfw_replay`: replays captures beside an operator's script of rules.
+//! `ipfw_replay`: replays captures beside an operator's script of rules, and audits reports of that.
 //!
 //! Tests: the built program: `tests/run`.
 #![tactic(auto)]
 
 use audit_driver::run;
 use fw_base::FreeGate;
+use std::io;
 use std::process::ExitCode;
-use std::rt::Env;
-use std::{env, io};
-use system_files::{FaultCounter, FileLibrary};
-
-/// The status of want of memory.
-const OUT_OF_MEMORY: u8 = 6;
-
-/// The words behind the program's name; none where one of them is no text.
-fn words<R: Env + AllocGlobal>(rt: &R) -> io::Result<Vec<String>> {
-    let mut words = Vec::new(rt.alloc());
-    match env::args(rt) {
-        Ok(arguments) => {
-            for word in arguments.skip(1) {
-                words.push(word)?;
-            }
-            Ok(words)
-        }
-        Err(error) if error.kind() == io::ErrorKind::InvalidData => Ok(words),
-        Err(error) => Err(error),
-    }
-}
+use system_files::{FaultCounter, FileLibrary, OUT_OF_MEMORY, words_given};
 
 fn main(rt: HostRuntime) -> ExitCode {
     let alloc = rt.alloc();
-    let Ok(words) = words(&rt) else {
+    let Ok(words) = words_given(&rt) else {
         return ExitCode::from(OUT_OF_MEMORY);
     };
     let mut out = FaultCounter::new(io::writer(&rt));
