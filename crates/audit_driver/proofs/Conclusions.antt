@@ -136,6 +136,7 @@ module _ {S : Type 0} (left : S → Option (List ℕ)) (failures : S → ℕ) wh
           record_of = rebuilt_record compares.rebuilt;
           ends = e.ends.items;
           has = has_legal edition bytes opened e _ goes refl compares.rebuilt compares.is;
+          uncached = refl;
           text = sym compares.is.reported ∙ compares.compares ∙ rebuilt_is edition bytes _ e.ends.items compares.rebuilt compares.is;
         },
       )

@@ -48,11 +48,14 @@ module _ {S : Type 0} (left : S → Option (List ℕ)) (failures : S → ℕ) wh
     pub whole : list_any is_unread ends ≡ false
     pub legal : IsLegal edition.config (lines_outcome edition.config edition.live).accepted (map track_inputs tracks) kept
 
-  -- The report is the text of a legal record of the script and the captures, and of their ends and answers.
+  -- The report is the text of a legal record of the script and the captures, made without a cache, and of their ends and
+  -- answers.
   pub record IsOfLegalRecord (edition : FirstEdition) (bytes : List ℕ) (opened : List (OpenedCapture S)) (sources : List S) : Type 0 where
     pub record_of : RecordValue
     pub ends : List CaptureEnd
     pub has : HasLegalRecord edition opened sources record_of ends
+    -- the run had no cache: a report with lines of caches isn't audited
+    pub uncached : record_of.hits ≡ []
     pub text : bytes ≡ text_of edition record_of ends
 
   -- The report tells a record that is legal for the script and for the captures' records, and that record has another

@@ -28,7 +28,8 @@ module _ {K S L : Type 0} (output : Output K) (files : Files L S) where
     pub finds : FindsAudit files names library libraryAfter result outcome.sources.items
     pub text : Appends (output.written sink) (output.written sinkAfter) (result_text result)
 
-  -- The report is the text of a legal record of the script and the captures, and of their ends and answers.
+  -- The report is the text of a legal record of the script and the captures, made without a cache, and of their ends and
+  -- answers.
   abbrev pub SaysYes : AuditNames → L → L → K → K → Outcome S → Type 0
   SaysYes names library libraryAfter sink sinkAfter outcome = TellsAudit names library libraryAfter sink sinkAfter outcome Yes
 
