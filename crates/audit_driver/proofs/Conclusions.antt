@@ -27,7 +27,8 @@ use Rattle.rule_chain.specs.Configuration.{Configuration}
 use Rattle.run_audit.specs.declared.rebuilt.Rebuilt.{Rebuilt}
 use Rattle.audit_driver.specs.Concluding.{ComparesWith, ConcludesFor, Concludes, IsAnAudit, IsStoppedSo, rebuilt_text}
 use Rattle.audit_driver.specs.Examined.{IsStopped, IsStoppedByRead, IsStoppedByFault, GoesOn, HasExamined, ExaminesAll}
-use Rattle.audit_driver.specs.Found.{HasLegalRecord, ConcludesAudit, text_of}
+use Rattle.audit_driver.specs.CaptureAudit.{inputs_at}
+use Rattle.audit_driver.specs.Found.{HasLegalRecord, ConcludesAudit, TellsSoFar, text_of}
 use Rattle.audit_driver.specs.declared.audit_result.AuditResult.{AuditResult}
 use Rattle.audit_driver.specs.declared.audit_result.AuditResult.TheVariants.{Unread, Unready, TooLong, No, Yes}
 use Rattle.audit_driver.specs.declared.examined.Examined.{Examined}
@@ -42,6 +43,14 @@ pub fails_there : (config : Configuration) (steps : List Step) (bytes : List ℕ
     → FailsAtInput config steps bytes inputs line
 fails_there config steps bytes inputs audit line is fault =
     subst (λ (report : List ℕ). FailsAtInput config steps report inputs line) is.reported (subst (StandsFor config steps audit inputs) fault is.stands)
+
+-- an audit that came to no fault
+pub tells_so_far : (edition : FirstEdition) (bytes : List ℕ) (inputs : List (List Input)) (audit : AuditValue) → IsAuditOf edition.config edition.live bytes inputs audit → audit.fault ≡ None
+    → TellsSoFar edition bytes inputs
+tells_so_far edition bytes inputs audit is clear =
+    let stands : StandsFor edition.config edition.live audit inputs None = subst (StandsFor edition.config edition.live audit inputs) clear is.stands in
+    subst (λ (report : List ℕ). TellsSoFar edition report inputs) is.reported
+    (record { editions = audit.editions; journal = audit.journal; opened = is.opened; dockets = audit.dockets; told = stands.0 })
 
 -- what was rebuilt and compared is what the audit comes to
 pub concludes_so : (first : List LineAnswer) (audit : AuditValue) (ends : List CaptureEnd) (old new : Rebuilt) (all : Ends) (result : AuditResult)
@@ -147,9 +156,22 @@ module _ {S : Type 0} (left : S → Option (List ℕ)) (failures : S → ℕ) wh
       → IsStoppedSo e.audit (length e.ends.items) names result
       → ConcludesAudit left failures edition bytes names opened result e.sources.items
   stopped_so edition bytes names opened e (Unread name) short stopped (none, capture, stands, named) =
-      let by : IsStoppedByRead left failures (limit_for (length opened)) opened e = subst (IsStopped left failures (record { config = edition.config; steps = edition.live; report = bytes }) (limit_for (length opened)) 0 opened e) none stopped in
+      let by : IsStoppedByRead left failures (record { config = edition.config; steps = edition.live; report = bytes }) (limit_for (length opened)) 0 opened e = subst (IsStopped left failures (record { config = edition.config; steps = edition.live; report = bytes }) (limit_for (length opened)) 0 opened e) none stopped in
       let place : length e.ends.items - 1 ≡ by.place = omega (arith, by.read) in
-      (by.fails.all, (by.place, capture, ap (slice_get names) (sym place) ∙ stands, named, by.fails))
+      let met = inputs_at (map track_inputs by.fails.tracks) (track_inputs by.fails.told) in
+      let count : length by.fails.behind + 0 ≡ length by.fails.behind = omega arith in
+      let right : TellsSoFar edition bytes (met (length by.fails.behind)) = subst (λ (n : ℕ). TellsSoFar edition bytes (met n)) count (tells_so_far edition bytes (met (length by.fails.behind + 0)) e.audit by.stands none) in (
+        by.fails.all,
+        short,
+        record {
+          place = by.place;
+          capture = capture;
+          stands = ap (slice_get names) (sym place) ∙ stands;
+          named = named;
+          fails = by.fails;
+          right = right;
+        },
+      )
   stopped_so edition bytes names opened e (Unready error) short stopped none = absurd none
   stopped_so edition bytes names opened e TooLong short stopped none = absurd none
   stopped_so edition bytes names opened e (No line) short stopped fault =
@@ -180,7 +202,7 @@ module _ {S : Type 0} (left : S → Option (List ℕ)) (failures : S → ℕ) wh
   read_some edition bytes opened e stopped has none =
       let whole : IsStopped left failures (record { config = edition.config; steps = edition.live; report = bytes }) (limit_for (length opened)) 0 opened e e.audit.fault =
       subst (HasExamined left failures (record { config = edition.config; steps = edition.live; report = bytes }) (limit_for (length opened)) 0 opened e) stopped has in
-      let by : IsStoppedByRead left failures (limit_for (length opened)) opened e = subst (IsStopped left failures (record { config = edition.config; steps = edition.live; report = bytes }) (limit_for (length opened)) 0 opened e) none whole in
+      let by : IsStoppedByRead left failures (record { config = edition.config; steps = edition.live; report = bytes }) (limit_for (length opened)) 0 opened e = subst (IsStopped left failures (record { config = edition.config; steps = edition.live; report = bytes }) (limit_for (length opened)) 0 opened e) none whole in
       let split : length opened ≡ length by.fails.before + suc (length by.fails.behind) = ap length by.fails.split ∙ length-append by.fails.before (by.fails.one ∷ by.fails.behind) in
       (omega (arith, by.read), omega (arith, by.read, by.fails.stands, split))
 

@@ -60,7 +60,7 @@ module _ {S : Type 0} (left : S → Option (List ℕ)) (faults : S → ℕ) wher
   -- ---- one capture more
 
   -- one more is passed by behind a capture whose source failed
-  fails_more : (limit : ℕ) (opened : List (OpenedCapture S)) (one : OpenedCapture S) (sources after : List S) (place : ℕ) → after ≡ sources ++ one.source ∷ [] → FailsAtOne left faults limit opened sources place
+  abbrev fails_more : (limit : ℕ) (opened : List (OpenedCapture S)) (one : OpenedCapture S) (sources after : List S) (place : ℕ) → after ≡ sources ++ one.source ∷ [] → FailsAtOne left faults limit opened sources place
       → FailsAtOne left faults limit (opened ++ one ∷ []) after place
   fails_more limit opened one sources after place is fails = record {
     before = fails.before;
@@ -69,6 +69,10 @@ module _ {S : Type 0} (left : S → Option (List ℕ)) (faults : S → ℕ) wher
     split = ap (λ (l : List (OpenedCapture S)). l ++ one ∷ []) fails.split ∙ append_assoc fails.before (fails.one ∷ fails.behind) (one ∷ []);
     stands = fails.stands;
     sources_before = fails.sources_before;
+    tracks = fails.tracks;
+    ends = fails.ends;
+    read_before = fails.read_before;
+    quiet = fails.quiet;
     source = fails.source;
     sources_behind = fails.sources_behind ++ one.source ∷ [];
     given_back = is ∙ ap (λ (l : List S). l ++ one.source ∷ []) fails.given_back ∙ append_assoc fails.sources_before (fails.source ∷ fails.sources_behind) (one.source ∷ []);
@@ -122,10 +126,15 @@ module _ {S : Type 0} (left : S → Option (List ℕ)) (faults : S → ℕ) wher
       by_fault : (subject : Subject) (behind : ℕ) (opened : List (OpenedCapture S)) (fault : Option AuditFault) → new.audit.fault ≡ fault
           → IsStopped left faults subject limit (suc behind) opened old fault → IsStopped left faults subject limit behind (opened ++ one ∷ []) new new.audit.fault
       by_fault subject behind opened None same stopped =
-          let by : IsStoppedByRead left faults limit (opened ++ one ∷ []) new = record {
+          let fails = stopped.fails in
+          let count : length fails.behind + suc behind ≡ length (fails.behind ++ one ∷ []) + behind = omega (arith, length-append fails.behind (one ∷ [])) in
+          let met = inputs_at (map track_inputs fails.tracks) (track_inputs fails.told) in
+          let by : IsStoppedByRead left faults subject limit behind (opened ++ one ∷ []) new = record {
             place = stopped.place;
-            fails = fails_more limit opened one old.sources.items new.sources.items stopped.place sources stopped.fails;
+            fails = fails_more limit opened one old.sources.items new.sources.items stopped.place sources fails;
             read = ap length ends ∙ stopped.read;
+            stands = subst (λ (a : AuditValue). IsOf subject (met (length (fails.behind ++ one ∷ []) + behind)) a) (sym audit)
+                (subst (λ (n : ℕ). IsOf subject (met n) old.audit) count stopped.stands);
           } in
           subst (IsStopped left faults subject limit behind (opened ++ one ∷ []) new) (sym same) by
       by_fault subject behind opened (Some fault) same stopped =
@@ -210,7 +219,10 @@ module _ {S : Type 0} (left : S → Option (List ℕ)) (faults : S → ℕ) wher
           let met : MeetsCapture left faults subject limit one (map track_inputs goes.met.tracks) behind came = subst (ComesThrough left faults subject limit one (map track_inputs goes.met.tracks) behind came) is through in
           let counts = read_counts limit opened old.sources.items goes.met.tracks old.ends.items goes.met.read in
           let stop : new.stopped ≡ true = stops ∙ ap (λ (f : Option AuditFault). is_some f || is_unread came.end) is ∙ end in
-          let by : IsStoppedByRead left faults limit (opened ++ one ∷ []) new = record {
+          let met_here = inputs_at (map track_inputs goes.met.tracks) (track_inputs met.told) in
+          let none : List (OpenedCapture S) = [] in
+          let count : behind ≡ length none + behind = omega arith in
+          let by : IsStoppedByRead left faults subject limit behind (opened ++ one ∷ []) new = record {
             place = length opened;
             fails = record {
               before = opened;
@@ -219,6 +231,10 @@ module _ {S : Type 0} (left : S → Option (List ℕ)) (faults : S → ℕ) wher
               split = refl;
               stands = refl;
               sources_before = old.sources.items;
+              tracks = goes.met.tracks;
+              ends = old.ends.items;
+              read_before = goes.met.read;
+              quiet = goes.quiet;
               source = came.source;
               sources_behind = [];
               given_back = sources;
@@ -231,6 +247,8 @@ module _ {S : Type 0} (left : S → Option (List ℕ)) (faults : S → ℕ) wher
               all = ap length sources ∙ length-append old.sources.items (came.source ∷ []) ∙ ap (λ n. n + 1) counts.2 ∙ sym (length-append opened (one ∷ []));
             };
             read = ap length ends ∙ length-append old.ends.items (came.end ∷ []) ∙ ap (λ n. n + 1) counts.0;
+            stands = subst (λ (a : AuditValue). IsOf subject (met_here (length none + behind)) a) (sym audit)
+                (subst (λ (n : ℕ). IsOf subject (met_here n) came.audit) count met.stands);
           } in
           subst (HasExamined left faults subject limit behind (opened ++ one ∷ []) new) (sym stop)
           (subst (IsStopped left faults subject limit behind (opened ++ one ∷ []) new) (sym (ap (λ (a : AuditValue). a.fault) audit ∙ is)) by)

@@ -235,7 +235,7 @@ module _ {K S L : Type 0} (output : Output K) (files : Files L S) (names : Audit
 
       unread_one : (name : List ℕ) → IsAudited files names library libraryAfter (Unread name) outcome.sources.items → ⊥
       unread_one name au =
-          let (place, capture, stands, named, fails) = au.concludes.1 in
+          let fails = au.concludes.2.fails in
           let captures = (subst (AllByRecursion (λ (source : S). files.failures source ≡ 0)) au.given_back quiet.sources_quiet).1.1 in
           let quiet_one = one_of_all (λ (source : S). files.failures source ≡ 0) fails.sources_before fails.source fails.sources_behind au.captures fails.given_back captures in
           let fresh = one_of_all (λ (o : OpenedCapture S). files.failures o.source ≡ 0) fails.before fails.one fails.behind au.opened fails.split (all_fresh files au.reads.between libraryAfter names.captures au.opened au.reads.captures_opened) in

@@ -64,8 +64,8 @@ module _ {S : Type 0} (left : S → Option (List ℕ)) (faults : S → ℕ) wher
     pub given : HasGiven limit more opened e.sources.items inputs
     pub stands : IsOf subject inputs e.audit
 
-  -- The captures before one were read to their ends or faults, and the source of that one failed. Those behind it weren't
-  -- read.
+  -- The captures before one were read to their ends or faults, and none of their sources failed; the source of that one
+  -- failed. Those behind it weren't read.
   pub record FailsAtOne (limit : ℕ) (opened : List (OpenedCapture S)) (sources : List S) (place : ℕ) : Type 0 where
     pub before : List (OpenedCapture S)
     pub one : OpenedCapture S
@@ -73,6 +73,10 @@ module _ {S : Type 0} (left : S → Option (List ℕ)) (faults : S → ℕ) wher
     pub split : opened ≡ before ++ one ∷ behind
     pub stands : length before ≡ place
     pub sources_before : List S
+    pub tracks : List reading.Track
+    pub ends : List CaptureEnd
+    pub read_before : AllRead left faults limit before sources_before tracks ends
+    pub quiet : list_any is_unread ends ≡ false
     pub source : S
     pub sources_behind : List S
     pub given_back : sources ≡ sources_before ++ source ∷ sources_behind
@@ -84,15 +88,17 @@ module _ {S : Type 0} (left : S → Option (List ℕ)) (faults : S → ℕ) wher
     pub unread : is_unread end ≡ true
     pub all : length sources ≡ length opened
 
-  -- The source of the capture that was read last failed.
-  pub record IsStoppedByRead (limit : ℕ) (opened : List (OpenedCapture S)) (e : Examined S) : Type 0 where
+  -- The source of the capture that was read last failed. The audit met the records that it gave, behind those of the
+  -- captures before; so many captures stand behind the opened ones.
+  pub record IsStoppedByRead (subject : Subject) (limit more : ℕ) (opened : List (OpenedCapture S)) (e : Examined S) : Type 0 where
     pub place : ℕ
     pub fails : FailsAtOne limit opened e.sources.items place
     pub read : length e.ends.items ≡ place + 1
+    pub stands : IsOf subject (inputs_at (map track_inputs fails.tracks) (track_inputs fails.told) (length fails.behind + more)) e.audit
 
   -- what stopped it, by the fault that the audit came to, if it did
   abbrev pub IsStopped : Subject → ℕ → ℕ → List (OpenedCapture S) → Examined S → Option AuditFault → Type 0
-  IsStopped subject limit more opened e None = IsStoppedByRead limit opened e
+  IsStopped subject limit more opened e None = IsStoppedByRead subject limit more opened e
   IsStopped subject limit more opened e (Some fault) = IsStoppedByFault subject limit more opened e
 
   -- no source of these captures failed, and the audit goes on

@@ -8,12 +8,14 @@ use Rattle.capture_tracks.specs.Replay.{limit_for}
 use Rattle.capture_tracks.specs.declared.opened.OpenedCapture.{OpenedCapture}
 use Rattle.command_words.specs.Words.{CaptureNames}
 use Rattle.command_words.specs.declared.invocation.Mode.TheVariants.{Serial}
+use Rattle.eval_engine.specs.declared.docket_entry.DocketEntry.{DocketEntry}
 use Rattle.fw_report.specs.CaptureEnds.{is_unread}
 use Rattle.fw_report.specs.Report.{report_text}
 use Rattle.fw_report.specs.declared.capture_end.CaptureEnd.{CaptureEnd}
 use Rattle.fw_world.specs.Inputs.{Input}
 use Rattle.fw_world.specs.Legal.{IsLegal}
 use Rattle.fw_world.specs.RecordValue.{RecordValue}
+use Rattle.generation_store.specs.Published.{Published}
 use Rattle.replay_driver.specs.FirstEdition.{first_edition}
 use Rattle.replay_driver.specs.Found.{FailsEarly, ReadsNamed, ReadsNames, IsUnreadable, HasNoEdition}
 use Rattle.replay_driver.specs.Openings.{Opens, RefusesToOpen}
@@ -21,10 +23,13 @@ use Rattle.replay_driver.specs.Outside.{Files}
 use Rattle.replay_driver.specs.RunResult.{report_record}
 use Rattle.replay_driver.specs.Served.{pace_of}
 use Rattle.replay_driver.specs.declared.first_edition.FirstEdition.{FirstEdition}
-use Rattle.run_audit.specs.Audit.{FailsAtInput, FailsAtOpening, IsFirstWrong, IsRebuilt, rebuilt_record}
+use Rattle.run_audit.specs.Audit.{FailsAtInput, FailsAtOpening, IsFirstWrong, IsOpened, IsRebuilt, rebuilt_record, told_value}
 use Rattle.run_audit.specs.Comparison.{line_of_first_other}
+use Rattle.run_audit.specs.Judging.{AreToldSo}
 use Rattle.run_audit.specs.declared.rebuilt.Rebuilt.{Rebuilt}
+use Rattle.state_journal.specs.Journal.{Journal}
 use Rattle.audit_driver.specs.AuditNames.{AuditNames}
+use Rattle.audit_driver.specs.CaptureAudit.{inputs_at}
 use Rattle.audit_driver.specs.Examined.{FailsAtOne, HasGiven}
 use Rattle.audit_driver.specs.declared.audit_result.AuditResult.{AuditResult}
 use Rattle.audit_driver.specs.declared.audit_result.AuditResult.TheVariants.{Unread, Unready, TooLong, No, Yes}
@@ -38,6 +43,14 @@ MOST_TAKEN = 1073741825
 -- the text of a record with these ends, and with the answers of the script
 abbrev pub text_of : FirstEdition → RecordValue → List CaptureEnd → List ℕ
 text_of edition kept ends = report_text (report_record kept) ends (edition.answers ++ (lines_outcome edition.config edition.live).answers) true
+
+-- The report has its form and its journal beside the script, and these records of the captures are as it tells them.
+pub record TellsSoFar (edition : FirstEdition) (bytes : List ℕ) (inputs : List (List Input)) : Type 0 where
+  pub editions : List Published
+  pub journal : Journal
+  pub opened : IsOpened edition.config edition.live bytes editions journal
+  pub dockets : List (List DocketEntry)
+  pub told : AreToldSo (told_value editions journal bytes) 1 inputs dockets
 
 module _ {S : Type 0} (left : S → Option (List ℕ)) (failures : S → ℕ) where
   -- The captures were read to their ends or faults, and no source failed; this record is legal for the script and for
@@ -92,10 +105,20 @@ module _ {S : Type 0} (left : S → Option (List ℕ)) (failures : S → ℕ) wh
       ⊎ (IsWrongAtEnd edition bytes opened sources line
       ⊎ IsOtherText edition bytes opened sources line))
 
+  -- The source of the capture with this name failed, and no line was wrong before: the report has its form and its journal,
+  -- and tells all records that were read so far.
+  pub record IsUnreadCapture (edition : FirstEdition) (bytes : List ℕ) (captures : List CaptureNames) (opened : List (OpenedCapture S)) (sources : List S) (name : List ℕ) : Type 0 where
+    pub place : ℕ
+    pub capture : CaptureNames
+    pub stands : slice_get captures place ≡ Some capture
+    pub named : name ≡ capture.name
+    pub fails : FailsAtOne left failures (limit_for (length opened)) opened sources place
+    pub right : TellsSoFar edition bytes (inputs_at (map track_inputs fails.tracks) (track_inputs fails.told) (length fails.behind))
+
   -- What the audit of a report beside opened captures comes to, and the captures' sources.
   abbrev pub ConcludesAudit : FirstEdition → List ℕ → List CaptureNames → List (OpenedCapture S) → AuditResult → List S → Type 0
   ConcludesAudit edition bytes captures opened (Unread name) sources = (length sources ≡ length opened)
-      × ((place : ℕ) × (capture : CaptureNames) × (slice_get captures place ≡ Some capture) × (name ≡ capture.name) × FailsAtOne left failures (limit_for (length opened)) opened sources place)
+      × (length bytes ≤ 1073741824) × IsUnreadCapture edition bytes captures opened sources name
   ConcludesAudit edition bytes captures opened (Unready error) sources = ⊥
   ConcludesAudit edition bytes captures opened TooLong sources = (length sources ≡ length opened) × (1073741824 < length bytes)
   ConcludesAudit edition bytes captures opened (No line) sources = (length sources ≡ length opened)
