@@ -133,7 +133,7 @@ module _ {S : Type 0} (left : S → Option (List ℕ)) (failures : S → ℕ) (e
 
     -- no line of it is the first that is wrong
     none_wrong : IsWrongReport left failures edition report opened sources line → ⊥
-    none_wrong (inl opening) = faultless.opening line opening
+    none_wrong (inl opening) = faultless.opening line opening.wrong
     none_wrong (inr (inl wrong)) =
         faultless.record_of wrong.inputs line (given_so_far left failures limit opened captures sources printed.rests made_tracks printed.ends wrong.inputs same wrong.given made_read printed.has.whole) wrong.wrong
     none_wrong (inr (inr (inl wrong))) = not_at_end wrong

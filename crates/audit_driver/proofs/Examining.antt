@@ -10,6 +10,7 @@ use Rattle.capture_tracks.specs.declared.opened.OpenedCapture.{OpenedCapture}
 use Rattle.fw_report.specs.CaptureEnds.{is_unread}
 use Rattle.fw_report.specs.declared.capture_end.CaptureEnd.{CaptureEnd}
 use Rattle.fw_world.specs.Inputs.{Input}
+use Rattle.replay_driver.specs.Openings.{sources_of}
 use Rattle.run_audit.specs.Audit.{AuditValue}
 use Rattle.run_audit.specs.declared.audit_fault.AuditFault.{AuditFault}
 use Rattle.audit_driver.specs.CaptureAudit.{Subject, IsOf, MeetsCapture, StopsAtCapture, ComesThrough, AuditsCapture, inputs_at}
@@ -59,6 +60,10 @@ module _ {S : Type 0} (left : S → Option (List ℕ)) (faults : S → ℕ) wher
 
   -- ---- one capture more
 
+  -- of one capture more that is passed by nothing was read either
+  passed_more : (behind : List (OpenedCapture S)) (one : OpenedCapture S) (sources : List S) → sources ≡ sources_of behind → sources ++ one.source ∷ [] ≡ sources_of (behind ++ one ∷ [])
+  passed_more behind one sources untouched = ap (λ (l : List S). l ++ one.source ∷ []) untouched ∙ sym (map-append (λ (o : OpenedCapture S). o.source) behind (one ∷ []))
+
   -- one more is passed by behind a capture whose source failed
   abbrev fails_more : (limit : ℕ) (opened : List (OpenedCapture S)) (one : OpenedCapture S) (sources after : List S) (place : ℕ) → after ≡ sources ++ one.source ∷ [] → FailsAtOne left faults limit opened sources place
       → FailsAtOne left faults limit (opened ++ one ∷ []) after place
@@ -75,6 +80,7 @@ module _ {S : Type 0} (left : S → Option (List ℕ)) (faults : S → ℕ) wher
     quiet = fails.quiet;
     source = fails.source;
     sources_behind = fails.sources_behind ++ one.source ∷ [];
+    untouched = passed_more fails.behind one fails.sources_behind fails.untouched;
     given_back = is ∙ ap (λ (l : List S). l ++ one.source ∷ []) fails.given_back ∙ append_assoc fails.sources_before (fails.source ∷ fails.sources_behind) (one.source ∷ []);
     same_place = fails.same_place;
     told = fails.told;
@@ -107,6 +113,7 @@ module _ {S : Type 0} (left : S → Option (List ℕ)) (faults : S → ℕ) wher
         tracked = has.tracked;
         held = has.held;
         sources_behind = has.sources_behind ++ one.source ∷ [];
+        untouched = passed_more has.behind one has.sources_behind has.untouched;
         given_back = is ∙ ap (λ (l : List S). l ++ one.source ∷ []) has.given_back ∙ append_assoc has.sources_before (source_at has.track ∷ has.sources_behind) (one.source ∷ []);
         all = ap length is ∙ length-append sources (one.source ∷ []) ∙ ap (λ n. n + 1) has.all ∙ sym (length-append opened (one ∷ []));
         given = has.given ∙ ap (inputs_at (map track_inputs has.tracks) (map (input_of has.origin.link has.origin.port) (has.done ++ has.last ∷ []))) count;
@@ -207,6 +214,7 @@ module _ {S : Type 0} (left : S → Option (List ℕ)) (faults : S → ℕ) wher
               tracked = stopped.tracked;
               held = stopped.held;
               sources_behind = [];
+              untouched = refl;
               given_back = sources ∙ ap (λ (s : S). old.sources.items ++ s ∷ []) stopped.source;
               all = ap length sources ∙ length-append old.sources.items (came.source ∷ []) ∙ ap (λ n. n + 1) counts.2 ∙ sym (length-append opened (one ∷ []));
               given = ap (inputs_at (map track_inputs goes.met.tracks) (map (input_of stopped.origin.link stopped.origin.port) (stopped.done ++ stopped.last ∷ []))) count;
@@ -237,6 +245,7 @@ module _ {S : Type 0} (left : S → Option (List ℕ)) (faults : S → ℕ) wher
               quiet = goes.quiet;
               source = came.source;
               sources_behind = [];
+              untouched = refl;
               given_back = sources;
               same_place = counts.2;
               told = met.told;

@@ -52,7 +52,7 @@ all_sources : {S : Type 0} (left : S → Option (List ℕ)) (failures : S → �
     → ConcludesAudit left failures edition bytes captures opened result sources → length sources ≡ length opened
 all_sources left failures edition bytes captures opened (Unread name) sources concludes = concludes.0
 all_sources left failures edition bytes captures opened (Unready error) sources concludes = absurd concludes
-all_sources left failures edition bytes captures opened TooLong sources concludes = concludes.0
+all_sources left failures edition bytes captures opened TooLong sources concludes = ap length concludes.0 ∙ length-map opened (λ o. o.source)
 all_sources left failures edition bytes captures opened (No line) sources concludes = concludes.0
 all_sources left failures edition bytes captures opened Yes sources concludes = concludes.0
 

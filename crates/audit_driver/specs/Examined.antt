@@ -11,6 +11,7 @@ use Rattle.fw_report.specs.CaptureEnds.{is_unread}
 use Rattle.fw_report.specs.declared.capture_end.CaptureEnd.{CaptureEnd}
 use Rattle.fw_world.specs.Inputs.{Input}
 use Rattle.pcap_read.specs.Reading.{Captured}
+use Rattle.replay_driver.specs.Openings.{sources_of}
 use Rattle.run_audit.specs.Audit.{AuditValue}
 use Rattle.run_audit.specs.declared.audit_fault.AuditFault.{AuditFault}
 use Rattle.audit_driver.specs.CaptureAudit.{Subject, IsOf, inputs_at}
@@ -54,6 +55,7 @@ module _ {S : Type 0} (left : S → Option (List ℕ)) (faults : S → ℕ) wher
     pub tracked : IsTrack left faults limit one track done origin
     pub held : held_record_of track ≡ Some last
     pub sources_behind : List S
+    pub untouched : sources_behind ≡ sources_of behind
     pub given_back : sources ≡ sources_before ++ source_at track ∷ sources_behind
     pub all : length sources ≡ length opened
     pub given : inputs ≡ inputs_at (map track_inputs tracks) (map (input_of origin.link origin.port) (done ++ last ∷ [])) (length behind + more)
@@ -79,6 +81,7 @@ module _ {S : Type 0} (left : S → Option (List ℕ)) (faults : S → ℕ) wher
     pub quiet : list_any is_unread ends ≡ false
     pub source : S
     pub sources_behind : List S
+    pub untouched : sources_behind ≡ sources_of behind
     pub given_back : sources ≡ sources_before ++ source ∷ sources_behind
     pub same_place : length sources_before ≡ place
     pub told : reading.Track

@@ -18,7 +18,7 @@ use Rattle.fw_world.specs.RecordValue.{RecordValue}
 use Rattle.generation_store.specs.Published.{Published}
 use Rattle.replay_driver.specs.FirstEdition.{first_edition}
 use Rattle.replay_driver.specs.Found.{FailsEarly, ReadsNamed, ReadsNames, IsUnreadable, HasNoEdition}
-use Rattle.replay_driver.specs.Openings.{Opens, RefusesToOpen}
+use Rattle.replay_driver.specs.Openings.{Opens, RefusesToOpen, sources_of}
 use Rattle.replay_driver.specs.Outside.{Files}
 use Rattle.replay_driver.specs.RunResult.{report_record}
 use Rattle.replay_driver.specs.Served.{pace_of}
@@ -96,11 +96,16 @@ module _ {S : Type 0} (left : S → Option (List ℕ)) (failures : S → ℕ) wh
     pub whole : list_any is_unread ends ≡ false
     pub wrong : IsFirstWrong edition.config edition.live bytes (map track_inputs tracks) line
 
+  -- This line is the first that is wrong before a record is looked at, and no capture was read.
+  pub record IsWrongAtOpening (edition : FirstEdition) (bytes : List ℕ) (opened : List (OpenedCapture S)) (sources : List S) (line : ℕ) : Type 0 where
+    pub untouched : sources ≡ sources_of opened
+    pub wrong : FailsAtOpening edition.config edition.live bytes line
+
   -- This line of the report is the first that is wrong: before a record is looked at, at a record, beside all records, or
   -- in the whole text.
   abbrev pub IsWrongReport : FirstEdition → List ℕ → List (OpenedCapture S) → List S → ℕ → Type 0
   IsWrongReport edition bytes opened sources line =
-      FailsAtOpening edition.config edition.live bytes line
+      IsWrongAtOpening edition bytes opened sources line
       ⊎ (IsWrongAtRecord edition bytes opened sources line
       ⊎ (IsWrongAtEnd edition bytes opened sources line
       ⊎ IsOtherText edition bytes opened sources line))
@@ -120,7 +125,7 @@ module _ {S : Type 0} (left : S → Option (List ℕ)) (failures : S → ℕ) wh
   ConcludesAudit edition bytes captures opened (Unread name) sources = (length sources ≡ length opened)
       × (length bytes ≤ 1073741824) × IsUnreadCapture edition bytes captures opened sources name
   ConcludesAudit edition bytes captures opened (Unready error) sources = ⊥
-  ConcludesAudit edition bytes captures opened TooLong sources = (length sources ≡ length opened) × (1073741824 < length bytes)
+  ConcludesAudit edition bytes captures opened TooLong sources = (sources ≡ sources_of opened) × (1073741824 < length bytes)
   ConcludesAudit edition bytes captures opened (No line) sources = (length sources ≡ length opened)
       × (length bytes ≤ 1073741824) × IsWrongReport edition bytes opened sources line
   ConcludesAudit edition bytes captures opened Yes sources = (length sources ≡ length opened)
