@@ -2,6 +2,7 @@
 mod RecordPlaces
 -- the lines of records and of captures
 mod CaptureLines
+mod CaptureEnds
 -- the texts of outcomes, and their numbers
 mod OutcomeParts
 mod OutcomeNumbers

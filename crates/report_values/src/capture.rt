@@ -1,4 +1,4 @@
-ghost use Rattle.std.specs.Prelude.{◌≡◌, ◌++◌, [], ◌∷◌, IfOk, IfSome};
+ghost use Rattle.std.specs.Prelude.{◌≡◌, ◌++◌, [], ◌∷◌, IfOk, IfSome, length};
 ghost use Rattle.fw_report.specs.DocketText.{record_lines};
 ghost use Rattle.report_values.specs.Captures as spec;
 
@@ -37,8 +37,10 @@ fn read_capture<'a>(
     lines: &mut Lines<'a>,
     number: u64,
 ) -> Result<Option<Capture<'a>>, OutOfMemory>
-    ensures { IfOk result (λ found. IfSome found (λ capture.
+    ensures lines { IfOk result (λ found. IfSome found (λ capture.
         lines.old.rest.now ≡ spec.capture_lines number capture ++ lines.new.rest.now)) }
+    ensures end { IfOk result (λ found. IfSome found (λ capture.
+        spec.IsEnd number (length capture.records) capture.end)) }
 {
     let records = read_records(alloc, lines, number)?;
     match lines.capture_end(number, records.len() as u64) {
@@ -52,8 +54,9 @@ pub fn read_captures<'a>(
     alloc: Global,
     lines: &mut Lines<'a>,
 ) -> Result<Vec<Capture<'a>>, OutOfMemory>
-    ensures { IfOk result (λ captures.
+    ensures lines { IfOk result (λ captures.
         lines.old.rest.now ≡ spec.captures_lines 1 captures.items ++ lines.new.rest.now) }
+    ensures ends { IfOk result (λ captures. spec.HaveEnds 1 captures.items) }
 {
     let mut captures = Vec::new(alloc);
     for number in 1..=MOST_CAPTURES {

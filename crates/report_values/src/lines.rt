@@ -1,19 +1,23 @@
-ghost use Rattle.std.specs.Prelude.{◌≡◌, ◌++◌, ◌<◌, ◌==◌, IfSome, MatchOption, length, position};
+ghost use Rattle.std.specs.Prelude.{◌≡◌, ◌++◌, ◌<◌, ◌==◌, true, IfSome, MatchOption, codes, decimal, length, position};
+ghost use Rattle.std.specs.Option.{option_map};
 ghost use Rattle.fw_report.specs.DocketText.{record_line};
+ghost use Rattle.report_values.specs.Captures as spec;
 
-use crate::fields::{number_before, whole_number};
 use eval_engine::DocketEntry;
+use itoa::Buffer;
 use report_reading::read_record;
 
 fn line_end(text: &[u8]) -> Option<usize>
-    ensures { IfSome result (λ at. at < length text.now) }
+    ensures found { result ≡ position (λ byte. byte == 10) text.now }
+    ensures within { IfSome result (λ at. at < length text.now) }
 {
     text.iter().position(|byte| *byte == b'\n')
 }
 
 /// The first line of a text with the byte 10 that ends it, and the text behind it; `None` where no such byte is there.
 fn first_line(text: &[u8]) -> Option<(&[u8], &[u8])>
-    ensures { IfSome result (λ found. text.now ≡ found.0.now ++ found.1.now) }
+    ensures whole { IfSome result (λ found. text.now ≡ found.0.now ++ found.1.now) }
+    ensures one { IfSome result (λ found. spec.is_line found.0.now ≡ true) }
 {
     let at = line_end(text)?;
     Some((&text[..at + 1], &text[at + 1..]))
@@ -27,23 +31,60 @@ fn without_end(line: &[u8]) -> &[u8] {
     }
 }
 
-/// What the line tells of a fault that ended the capture; `None` where it doesn't tell how that capture ended.
-fn fault_told(line: &[u8], capture: u64, records: u64) -> Option<Option<&[u8]>> {
-    let told = without_end(line);
-    if let Some(rest) = told.strip_prefix(b"end ") {
-        let (number, rest) = number_before(rest, b" records ")?;
-        let count = whole_number(rest)?;
-        return if number == capture && count == records {
-            Some(None)
-        } else {
-            None
-        };
+/// The text behind this word, which stands at its front.
+fn behind_word<'a>(text: &'a [u8], word: &[u8]) -> Option<&'a [u8]>
+    ensures { IfSome result (λ rest. text.now ≡ word.now ++ rest.now) }
+{
+    text.strip_prefix(word)
+}
+
+/// The text behind this number, which stands at its front as a report writes it.
+fn behind_number(text: &[u8], number: u64) -> Option<&[u8]>
+    ensures { IfSome result (λ rest. text.now ≡ decimal number ++ rest.now) }
+{
+    let mut digits = Buffer::new();
+    behind_word(text, digits.format(number).as_bytes())
+}
+
+/// The text before the byte 10 that ends it.
+fn before_end(text: &[u8]) -> Option<&[u8]>
+    ensures { IfSome result (λ front. text.now ≡ front.now ++ codes "\n") }
+{
+    match text {
+        [front @ .., b'\n'] => Some(front),
+        _ => None,
     }
-    let (number, rest) = number_before(told.strip_prefix(b"fault ")?, b" ")?;
-    if number == capture {
-        Some(Some(rest))
-    } else {
-        None
+}
+
+/// What stands behind this capture's number and the number of its records, which stand behind `end `.
+fn behind_count(text: &[u8], capture: u64, records: u64) -> Option<&[u8]>
+    ensures { IfSome result (λ rest. text.now
+        ≡ decimal capture ++ (codes " records " ++ (decimal records ++ rest.now))) }
+{
+    let rest = behind_word(behind_number(text, capture)?, b" records ")?;
+    behind_number(rest, records)
+}
+
+/// What stands behind `fault ` and this capture's number.
+fn fault_in(text: &[u8], capture: u64) -> Option<&[u8]>
+    ensures { IfSome result (λ fault. text.now
+        ≡ decimal capture ++ (codes " " ++ (fault.now ++ codes "\n"))) }
+{
+    before_end(behind_word(behind_number(text, capture)?, b" ")?)
+}
+
+/// What the line tells of a fault that ended the capture; `None` where it doesn't tell how that capture ended.
+#[tactic(auto, unfolding(crate::specs::Captures::end_text, fw_report::specs::DocketText::end_line))]
+fn fault_told(line: &[u8], capture: u64, records: u64) -> Option<Option<&[u8]>>
+    ensures { IfSome result (λ fault. line.now
+        ≡ spec.end_text capture records (option_map (λ text. text.now) fault)) }
+{
+    match behind_word(line, b"end ") {
+        Some(rest) => match behind_count(rest, capture, records)? {
+            [b'\n'] => Some(None),
+            _ => None,
+        },
+        None => Some(Some(fault_in(behind_word(line, b"fault ")?, capture)?)),
     }
 }
 
@@ -98,8 +139,9 @@ impl<'a> Lines<'a> {
     /// Reads the line that tells how this capture ended, where it is the next line: the line with the byte 10, and
     /// what it tells of a fault.
     pub fn capture_end(&mut self, capture: u64, records: u64) -> Option<EndLine<'a>>
-        ensures { MatchOption result (self.new.rest.now ≡ self.old.rest.now) (λ end.
+        ensures line { MatchOption result (self.new.rest.now ≡ self.old.rest.now) (λ end.
             self.old.rest.now ≡ end.line.now ++ self.new.rest.now) }
+        ensures told { IfSome result (λ end. spec.IsEnd capture records end) }
     {
         let (line, rest) = first_line(self.rest)?;
         let fault = fault_told(line, capture, records)?;

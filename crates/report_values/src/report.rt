@@ -1,5 +1,5 @@
 ghost use Rattle.std.specs.Prelude.{◌≡◌, ◌++◌, IfOk};
-ghost use Rattle.report_values.specs.Captures.{captures_lines};
+ghost use Rattle.report_values.specs.Captures.{HaveEnds, captures_lines};
 
 use crate::sections::{Sections, read_sections};
 use crate::{Capture, Lines, read_captures};
@@ -46,8 +46,9 @@ pub struct Report<'a> {
 
 /// Reads a whole report. Each section stands there with as many lines as it says, and nothing stands behind the last.
 pub fn read_report<'a>(alloc: Global, text: &'a [u8]) -> Result<Report<'a>, ReportError>
-    ensures { IfOk result (λ report.
+    ensures lines { IfOk result (λ report.
         text.now ≡ captures_lines 1 report.captures.items ++ report.behind.now) }
+    ensures ends { IfOk result (λ report. HaveEnds 1 report.captures.items) }
 {
     let mut lines = Lines::new(text);
     let captures = read_captures(alloc, &mut lines)?;
