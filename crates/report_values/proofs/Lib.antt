@@ -3,6 +3,7 @@ mod RecordPlaces
 -- the lines of records and of captures
 mod CaptureLines
 mod CaptureEnds
+mod BehindCaptures
 -- the texts of outcomes, and their numbers
 mod OutcomeParts
 mod OutcomeNumbers

@@ -1,7 +1,9 @@
 -- The lines of captures, by what was read of them.
-use Rattle.std.specs.Prelude.{ℕ, ◌≡◌, ◌==◌, ◌+◌, if◌then◌else◌, Bool, true, false, Option, Some, None, List, [], ◌∷◌, ◌++◌, codes, decimal, length}
+use Rattle.std.specs.Prelude.{ℕ, ◌≡◌, ◌≢◌, ◌<◌, ◌^◌, ◌==◌, ◌+◌, if◌then◌else◌, Bool, true, false, Option, Some, None, List, [], ◌∷◌, ◌++◌, codes, decimal, length}
+use Rattle.std.specs.Char.{is_ascii_digit}
 use Rattle.std.specs.Option.{option_map}
-use Rattle.fw_report.specs.DocketText.{record_lines, end_line}
+use Rattle.fw_report.specs.DocketText.{record_line, record_lines, end_line}
+use Rattle.eval_engine.specs.declared.docket_entry.DocketEntry.{DocketEntry}
 use Rattle.fw_report.specs.declared.capture_end.CaptureEnd.TheVariants.{Read}
 use Rattle.report_values.specs.declared.capture.Capture.{Capture}
 use Rattle.report_values.specs.declared.lines.EndLine.{EndLine}
@@ -35,3 +37,15 @@ pub record IsEnd (number records : ℕ) (end : EndLine) : Type 0 where
 abbrev pub HaveEnds : ℕ → List Capture → Type 0
 HaveEnds number [] = Unit {0}
 HaveEnds number (capture ∷ captures) = IsEnd number (length capture.records) capture.end × HaveEnds (number + 1) captures
+
+-- a text begins with a digit
+unfoldable pub begins_with_digit : List ℕ → Bool
+begins_with_digit [] = false
+begins_with_digit (byte ∷ bytes) = is_ascii_digit byte
+
+-- behind the lines of the captures: no line of a record stands at the front, of whatever capture, nor one that tells
+-- how a capture ended
+pub record IsBehindCaptures (bytes : List ℕ) : Type 0 where
+  pub records : (capture at : ℕ) (entry : DocketEntry) (rest : List ℕ) → capture < 2 ^ 64 → bytes ≢ record_line capture at entry ++ rest
+  pub ends : (rest : List ℕ) → bytes ≢ codes "end " ++ rest
+  pub faults : (rest : List ℕ) → bytes ≢ codes "fault " ++ rest

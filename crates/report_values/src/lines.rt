@@ -1,4 +1,4 @@
-ghost use Rattle.std.specs.Prelude.{◌≡◌, ◌++◌, ◌<◌, ◌==◌, true, IfSome, MatchOption, codes, decimal, length, position};
+ghost use Rattle.std.specs.Prelude.{◌≡◌, ◌++◌, ◌<◌, ◌==◌, ℕ, List, true, IfOk, IfSome, MatchOption, codes, decimal, length, position};
 ghost use Rattle.std.specs.Option.{option_map};
 ghost use Rattle.fw_report.specs.DocketText.{record_line};
 ghost use Rattle.report_values.specs.Captures as spec;
@@ -44,6 +44,36 @@ fn behind_number(text: &[u8], number: u64) -> Option<&[u8]>
 {
     let mut digits = Buffer::new();
     behind_word(text, digits.format(number).as_bytes())
+}
+
+/// Whether a text begins with this word.
+fn begins_with(text: &[u8], word: &[u8]) -> bool
+    ensures { (rest : List ℕ) → text.now ≡ word.now ++ rest → result ≡ true }
+{
+    text.starts_with(word)
+}
+
+#[tactic(auto, unfolding(crate::specs::Captures::begins_with_digit))]
+fn begins_with_digit(text: &[u8]) -> bool
+    ensures { result ≡ spec.begins_with_digit text.now }
+{
+    match text {
+        [first, ..] => first.is_ascii_digit(),
+        [] => false,
+    }
+}
+
+/// Whether neither a line of a record stands at the front nor one that tells how a capture ended.
+fn is_behind_captures(text: &[u8]) -> bool
+    ensures { result ≡ true → spec.IsBehindCaptures text.now }
+{
+    if begins_with_digit(text) {
+        return false;
+    }
+    if begins_with(text, b"end ") {
+        return false;
+    }
+    !begins_with(text, b"fault ")
 }
 
 /// The text before the byte 10 that ends it.
@@ -148,6 +178,18 @@ impl<'a> Lines<'a> {
         self.rest = rest;
         self.read = self.read.saturating_add(1);
         Some(EndLine { line, fault })
+    }
+
+    /// What wasn't read yet, where the lines of the captures end here; else the number of the first line that they lack.
+    pub fn behind_captures(&self) -> Result<&'a [u8], u64>
+        ensures rest { IfOk result (λ rest. rest.now ≡ self.now.rest.now) }
+        ensures behind { IfOk result (λ rest. spec.IsBehindCaptures rest.now) }
+    {
+        if is_behind_captures(self.rest) {
+            Ok(self.rest)
+        } else {
+            Err(self.read.max(self.ahead).saturating_add(1))
+        }
     }
 
     /// Reads the next line, where it begins with this word, and tells what stands behind the word.

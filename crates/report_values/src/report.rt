@@ -1,5 +1,5 @@
 ghost use Rattle.std.specs.Prelude.{◌≡◌, ◌++◌, IfOk};
-ghost use Rattle.report_values.specs.Captures.{HaveEnds, captures_lines};
+ghost use Rattle.report_values.specs.Captures.{HaveEnds, IsBehindCaptures, captures_lines};
 
 use crate::sections::{Sections, read_sections};
 use crate::{Capture, Lines, read_captures};
@@ -49,10 +49,14 @@ pub fn read_report<'a>(alloc: Global, text: &'a [u8]) -> Result<Report<'a>, Repo
     ensures lines { IfOk result (λ report.
         text.now ≡ captures_lines 1 report.captures.items ++ report.behind.now) }
     ensures ends { IfOk result (λ report. HaveEnds 1 report.captures.items) }
+    ensures behind { IfOk result (λ report. IsBehindCaptures report.behind.now) }
 {
     let mut lines = Lines::new(text);
     let captures = read_captures(alloc, &mut lines)?;
-    let behind = lines.rest;
+    let behind = match lines.behind_captures() {
+        Ok(behind) => behind,
+        Err(line) => return Err(ReportError::Line(line)),
+    };
     let sections = read_sections(alloc, &mut lines)?;
     Ok(Report {
         captures,
