@@ -1,6 +1,6 @@
 //! Says whether a report is that of a legal record.
 //!
-//! Tests: its own, src/opening_rows; `run_tests`, src/runs/audits.
+//! Tests: `run_tests`, src/openings and src/runs/audits.
 #![tactic(auto)]
 
 pub use audit::{Audit, MOST_CAPTURES};
@@ -29,8 +29,6 @@ mod lengths;
 mod meeting;
 mod numbered;
 mod opening;
-#[cfg(test)]
-mod opening_rows;
 mod publisher;
 mod reading_told;
 mod rebuilt;

@@ -1,5 +1,5 @@
-use crate::{Audit, AuditFault};
 use rule_chain::Config;
+use run_audit::{Audit, AuditFault};
 use std::test::Fail;
 
 /// A report of one capture without records, and the first line that is wrong.
@@ -33,7 +33,7 @@ const OPENINGS: [Row<'static>; 9] = [
 
 /// Reports that pass at the opening, and the first line that is wrong behind the records, of which
 /// there are none.
-const CLOSINGS: [Row<'static>; 9] = [
+const CLOSINGS: [Row<'static>; 10] = [
     ("publish 1\nlane 1 refused 0 tracker 0\n", None),
     // Each lane has its line.
     ("publish 1\n", Some(2)),
@@ -49,6 +49,10 @@ const CLOSINGS: [Row<'static>; 9] = [
     // No record is told that its capture doesn't give, and no ask of one.
     (
         "1.1 deny 65535 at 1\npublish 1\nlane 1 refused 0 tracker 2\n",
+        Some(1),
+    ),
+    (
+        "1.1 deny 65535 at 1\npublish 1\nlane 1 refused 0 tracker 0\n",
         Some(1),
     ),
     (
