@@ -90,6 +90,33 @@ WORDS
     } >"$work/wanted"
     same view_captures_that_do_not_fit
 
+    # A verdict that was given at a limit is that verdict: the same packets denied by a rule move to another rule alone.
+    raw_packets "$(packet 17 10.0.0.1 192.0.2.1)" "$(packet 17 10.0.0.1 192.0.2.2)" "$(packet 17 10.0.0.1 192.0.2.3)" >"$work/limited.pcap"
+    printf '%s\n' 'add 100 allow udp from any to any limit src-addr 1' >"$work/limit"
+    printf '%s\n' 'add 50 deny udp from any to 192.0.2.2' 'add 60 deny udp from any to 192.0.2.3' \
+        'add 100 allow udp from any to any limit src-addr 1' >"$work/denied"
+    for script in limit denied; do
+        "$program" serial --journal "$work/$script" "in:em0:$work/limited.pcap" >"$work/$script.report"
+    done
+    {
+        "$view" moves "$work/limit.report" "$work/denied.report"
+        "$view" page "$work/limit.report" "$work/denied.report" | grep -o 'id="verdicts">[0-9]*'
+    } >"$work/got"
+    cat >"$work/wanted" <<'END'
+moved 2
+moved to another verdict 0
+stayed 1
+
+  records  capture    first     last  then                                                            now
+        1        1        2        2  deny at a limit, by allow udp from any to any limit src-addr 1  deny, by deny udp from any to 192.0.2.2
+        1        1        3        3  deny at a limit, by allow udp from any to any limit src-addr 1  deny, by deny udp from any to 192.0.2.3
+
+  records  capture    first     last  then and now
+        1        1        1        1  allow, by allow udp from any to any limit src-addr 1
+id="verdicts">0
+END
+    same view_denied_at_a_limit_is_denied
+
     # Each figure of the pages beside counts over their reports.
     {
         "$view" page "$edit/before.report" "$edit/after.report" >"$work/page" && python3 "$tests/page.py" "$work/page" "$edit/before.report" 95 13 75

@@ -7,7 +7,7 @@ pub use capture::{Capture, read_captures};
 pub use journal_columns::JournalColumns;
 pub use known_rules::KnownRules;
 pub use lines::{EndLine, Lines};
-pub use outcome_parts::outcome_text;
+pub use outcome_parts::{outcome_text, verdict_words};
 pub use outcome_texts::OutcomeTexts;
 pub use outcomes::outcome_numbers;
 pub use records::Records;

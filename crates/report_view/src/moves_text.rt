@@ -9,7 +9,7 @@ use fw_rule::Items;
 use itoa::Buffer;
 use report_flows::FlowSpan;
 use report_moves::{Move, Moves, have_same_lengths, moves_between};
-use report_values::{KnownRules, OutcomeTexts, Report, outcome_numbers};
+use report_values::{KnownRules, OutcomeTexts, Report, outcome_numbers, verdict_words};
 use std::alloc::Global;
 
 /// The outcomes of two reports, and what moved between them.
@@ -122,14 +122,6 @@ pub(crate) fn text_of(texts: &[Items<u8>], number: u32) -> &[u8]
     match texts.get(number as usize) {
         Some(text) => text.as_slice(),
         None => b"",
-    }
-}
-
-/// The words of an outcome that tell its verdict.
-fn verdict_words(text: &[u8]) -> &[u8] {
-    match text.iter().position(|byte| *byte == b',') {
-        Some(at) => text.get(..at).unwrap_or(text),
-        None => text,
     }
 }
 
