@@ -117,6 +117,29 @@ id="verdicts">0
 END
     same view_denied_at_a_limit_is_denied
 
+    # A report lacks the last lane of its journal, or the line of a cache: of such a text nothing is shown.
+    cp "$work/limited.pcap" "$work/second.pcap"
+    two=("in:em0:$work/limited.pcap" "in:em0:$work/second.pcap")
+    "$program" serial --journal --cache 8 "$work/denied" "${two[@]}" >"$work/whole"
+    sed '/^lane 2 /d' "$work/whole" >"$work/without_lane"
+    sed '/^lane /d' "$work/whole" >"$work/without_lanes"
+    sed 's/^lane 2 /lane 3 /' "$work/whole" >"$work/other_lane"
+    sed '/^cache 1 /d' "$work/whole" >"$work/without_first"
+    sed '/^cache 2 /d' "$work/whole" >"$work/without_second"
+    sed '/^cache /d' "$work/whole" >"$work/without_caches"
+    lanes=$(grep -n '^lane 2 ' "$work/whole" | cut -d: -f1)
+    caches=$(grep -n '^cache 1 ' "$work/whole" | cut -d: -f1)
+    for report in without_lane without_lanes other_lane without_first without_second without_caches whole; do
+        "$view" moves "$work/whole" "$work/$report" | sed '1!d; s#^.*/##'
+        echo "status ${PIPESTATUS[0]}"
+    done >"$work/got"
+    for line in "without_lane: line $lanes" "without_lanes: line $((lanes - 1))" "other_lane: line $lanes" \
+        "without_first: line $caches" "without_second: line $((caches + 1))"; do
+        printf '%s is none that a report has there\nstatus 2\n' "$line"
+    done >"$work/wanted"
+    printf 'moved 0\nstatus 0\nmoved 0\nstatus 0\n' >>"$work/wanted"
+    same view_lanes_and_caches_are_whole
+
     # Each figure of the pages beside counts over their reports.
     {
         "$view" page "$edit/before.report" "$edit/after.report" >"$work/page" && python3 "$tests/page.py" "$work/page" "$edit/before.report" 95 13 75

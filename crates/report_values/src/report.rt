@@ -44,7 +44,8 @@ pub struct Report<'a> {
     pub sections: Sections<'a>,
 }
 
-/// Reads a whole report. Each section stands there with as many lines as it says, and nothing stands behind the last.
+/// Reads a whole report. Each section stands there with as many lines as it says, those of caches and of a journal's
+/// lanes with one for each capture, and nothing stands behind the last.
 pub fn read_report<'a>(alloc: Global, text: &'a [u8]) -> Result<Report<'a>, ReportError>
     ensures lines { IfOk result (λ report.
         text.now ≡ captures_lines 1 report.captures.items ++ report.behind.now) }
@@ -57,7 +58,7 @@ pub fn read_report<'a>(alloc: Global, text: &'a [u8]) -> Result<Report<'a>, Repo
         Ok(behind) => behind,
         Err(line) => return Err(ReportError::Line(line)),
     };
-    let sections = read_sections(alloc, &mut lines)?;
+    let sections = read_sections(alloc, &mut lines, captures.len() as u64)?;
     Ok(Report {
         captures,
         behind,

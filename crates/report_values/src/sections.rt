@@ -16,8 +16,6 @@ pub struct Sections<'a> {
     pub disabled: &'a [u8],
     /// The rules of the last edition with what they counted.
     pub rules: Vec<CountedRule<'a>>,
-    /// The greatest second that the states were asked at.
-    pub clock: u64,
     /// The live states, each as `RULE FLOW expires S`, with its name.
     pub states: Vec<&'a [u8]>,
     /// How often each capture's cache had the verdict; empty where no cache was asked for.
@@ -35,8 +33,6 @@ pub struct Journal<'a> {
     pub line: u64,
     /// Their lines.
     pub lines: &'a [u8],
-    /// What is told of each lane, as `C refused N tracker W`.
-    pub lanes: Vec<&'a [u8]>,
 }
 
 /// That the next line is none that a report has here.
@@ -203,15 +199,22 @@ fn know_last<'a>(
     Ok(())
 }
 
-/// The hits of the caches.
-fn read_hits(alloc: Global, lines: &mut Lines<'_>) -> Result<Vec<u64>, ReportError> {
+/// The hits of this capture's cache, from `C hits N`.
+fn hits_told(told: &[u8], capture: u64) -> Option<u64> {
+    let (number, rest) = number_before(told, b" hits ")?;
+    let hits = whole_number(rest)?;
+    if number == capture { Some(hits) } else { None }
+}
+
+/// The hits of the caches of so many captures, in their order; none where no cache was asked for.
+fn read_hits(alloc: Global, lines: &mut Lines<'_>, captures: u64) -> Result<Vec<u64>, ReportError> {
     let mut hits = Vec::new(alloc);
-    for _ in 0..u64::MAX {
+    if !lines.rest.starts_with(b"cache ") {
+        return Ok(hits);
+    }
+    for place in 0..captures {
         let line = *lines;
-        let Some(told) = lines.behind(b"cache ") else {
-            break;
-        };
-        match number_before(told, b" hits ").and_then(|(_, rest)| whole_number(rest)) {
+        match hits_told(wanted(lines, b"cache ")?, place.saturating_add(1)) {
             Some(count) => hits.push(count)?,
             None => return Err(unfit(&line)),
         }
@@ -219,10 +222,32 @@ fn read_hits(alloc: Global, lines: &mut Lines<'_>) -> Result<Vec<u64>, ReportErr
     Ok(hits)
 }
 
-/// The journal and its lanes, where they are asked for.
+/// Whether this is what a journal tells of the lane of this capture: `C refused N tracker W`.
+fn tells_lane(told: &[u8], capture: u64) -> bool {
+    let Some((number, rest)) = number_before(told, b" refused ") else {
+        return false;
+    };
+    let Some((_, rest)) = number_before(rest, b" tracker ") else {
+        return false;
+    };
+    number == capture && whole_number(rest).is_some()
+}
+
+/// Reads what a journal tells of the lanes of so many captures, in their order.
+fn read_lanes(lines: &mut Lines<'_>, captures: u64) -> Result<(), ReportError> {
+    for place in 0..captures {
+        let line = *lines;
+        if !tells_lane(wanted(lines, b"lane ")?, place.saturating_add(1)) {
+            return Err(unfit(&line));
+        }
+    }
+    Ok(())
+}
+
+/// The journal with the lanes of so many captures, where it is asked for.
 fn read_journal<'a>(
-    alloc: Global,
     lines: &mut Lines<'a>,
+    captures: u64,
 ) -> Result<Option<Journal<'a>>, ReportError> {
     let line = *lines;
     let Some(told) = lines.behind(b"journal 2 ") else {
@@ -237,25 +262,19 @@ fn read_journal<'a>(
         let _entry = wanted(lines, b"")?;
     }
     let length = begun.len().saturating_sub(lines.rest.len());
-    let mut lanes = Vec::new(alloc);
-    for _ in 0..u64::MAX {
-        match lines.behind(b"lane ") {
-            Some(lane) => lanes.push(lane)?,
-            None => break,
-        }
-    }
+    read_lanes(lines, captures)?;
     Ok(Some(Journal {
         entries,
         line: first,
         lines: begun.get(..length).unwrap_or(begun),
-        lanes,
     }))
 }
 
-/// Reads all that stands behind the captures, to the text's end.
+/// Reads all that stands behind so many captures, to the text's end.
 pub(crate) fn read_sections<'a>(
     alloc: Global,
     lines: &mut Lines<'a>,
+    captures: u64,
 ) -> Result<Sections<'a>, ReportError> {
     let mut listed = Listed {
         rules: Vec::new(alloc),
@@ -266,11 +285,11 @@ pub(crate) fn read_sections<'a>(
     let disabled = lines.behind(b"disabled ").unwrap_or(b"");
     let rules = read_rules(alloc, lines)?;
     know_last(&mut listed, editions, &rules)?;
-    let clock = wanted_number(lines, b"clock ")?;
+    let _clock = wanted_number(lines, b"clock ")?;
     let count = wanted_number(lines, b"states ")?;
     let states = read_lines(alloc, lines, count)?;
-    let hits = read_hits(alloc, lines)?;
-    let journal = read_journal(alloc, lines)?;
+    let hits = read_hits(alloc, lines, captures)?;
+    let journal = read_journal(lines, captures)?;
     if !lines.is_empty() {
         return Err(unfit(lines));
     }
@@ -280,7 +299,6 @@ pub(crate) fn read_sections<'a>(
         editions,
         disabled,
         rules,
-        clock,
         states,
         hits,
         journal,
