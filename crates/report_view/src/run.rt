@@ -169,12 +169,10 @@ fn show_page_with_moves<'a, L: Library, K: Sink>(
 ) -> Result<u8, Trouble<'a>> {
     let old_text = read_text(alloc, library, old)?;
     let new_text = read_text(alloc, library, new)?;
-    let compared = compared_texts(alloc, (old, new), &old_text, &new_text)?;
-    let report = match read_report(alloc, &old_text) {
-        Ok(report) => report,
-        Err(error) => return Err(unfit(old, error)),
-    };
-    let live = counts_if(alloc, library, old, &report, script)?;
+    let old_report = report_in(alloc, old, &old_text)?;
+    let new_report = report_in(alloc, new, &new_text)?;
+    let compared = compare(alloc, &old_report, &new_report)?;
+    let live = counts_if(alloc, library, old, &old_report, script)?;
     let counts = live.as_deref();
     let moves = MovesShown {
         texts: &compared.texts,
@@ -185,7 +183,7 @@ fn show_page_with_moves<'a, L: Library, K: Sink>(
         verdict_records: other_verdicts(&compared.texts, &compared.moves.moved),
         stayed_records: records_of(&compared.moves.stayed),
     };
-    let pieces = page_of(alloc, &report, Some(&moves), counts)?;
+    let pieces = page_of(alloc, &old_report, Some(&moves), counts)?;
     Ok(show(alloc, out, &Shown::Page(&pieces)))
 }
 
