@@ -18,6 +18,13 @@ use report_values::{JournalColumns, Report, read_report};
 use script_review::{findings_in, line_faults};
 use std::alloc::Global;
 
+/// The columns of a journal in which the states are asked nothing.
+const NO_COLUMNS: JournalColumns = JournalColumns {
+    first: 0,
+    seconds: 1,
+    count: 0,
+};
+
 /// What is shown, which stands whole before a byte is written.
 #[derive(Clone, Copy)]
 enum Shown<'a> {
@@ -52,7 +59,8 @@ fn flows_between<'a, L: Library>(
     }
 }
 
-/// Shows what moved from the report of one name to that of another, and its flows where captures are named.
+/// Shows what moved from the report of one name to that of another, and its flows where captures
+/// are named.
 fn show_moves<'a, L: Library, K: Sink>(
     alloc: Global,
     library: &mut L,
@@ -122,14 +130,8 @@ fn counts_by<'a, L: Library>(
     }
 }
 
-/// The columns of a journal in which the states are asked nothing.
-const NO_COLUMNS: JournalColumns = JournalColumns {
-    first: 0,
-    seconds: 1,
-    count: 0,
-};
-
-/// The same where a script is named.
+/// How many states lived in each column of the journal of that report, where a script is named
+/// that counts them.
 fn counts_if<'a, L: Library>(
     alloc: Global,
     library: &mut L,
@@ -255,8 +257,8 @@ fn show_request<'a, L: Library, K: Sink>(
     }
 }
 
-/// Carries out what the words ask for, which `replay` has as `ipfw_replay` reads them, and answers the status of what
-/// was shown.
+/// Carries out what the words ask for, which `replay` has as `ipfw_replay` reads them, and answers
+/// the status of what was shown.
 fn show_asked<'a, L: Library, K: Sink>(
     alloc: Global,
     words: &'a [String],
@@ -437,9 +439,9 @@ fn show<K: Sink>(alloc: Global, out: &mut K, shown: &Shown<'_>) -> u8 {
 
 /// Shows what the words ask for, and answers the status: 0; 1 where the words are no command; 2
 /// where a text is no report or a script has a fault; 3 where two reports don't have the same
-/// captures, captures that are named aren't those of the reports, or one of them has a fault, and where the journal of a
-/// report lacks or isn't that of the script; 4 where a name could not be opened or read; 5 where the sink failed; 6 where
-/// memory ran out.
+/// captures, captures that are named aren't those of the reports, or one of them has a fault, and
+/// where the journal of a report lacks or isn't that of the script; 4 where a name could not be
+/// opened or read; 5 where the sink failed; 6 where memory ran out.
 pub(crate) fn run<L: Library, K: Sink>(
     alloc: Global,
     words: &[String],

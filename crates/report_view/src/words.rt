@@ -27,14 +27,33 @@ pub(crate) enum Request<'a> {
     },
 }
 
-/// The word by which `ipfw_replay` reads a command of as many names before its captures.
-fn word_of_replay(command: &[u8]) -> Option<&'static str> {
-    if command == b"moves".as_slice() {
-        Some("audit")
-    } else if command == b"script".as_slice() {
-        Some("serial")
+/// What the first word asks for.
+#[derive(Clone, Copy)]
+enum FirstWord {
+    Moves,
+    Page,
+    Script,
+}
+
+/// The first word, where it is one that begins a command.
+fn first_word(word: &[u8]) -> Option<FirstWord> {
+    if word == b"moves".as_slice() {
+        Some(FirstWord::Moves)
+    } else if word == b"page".as_slice() {
+        Some(FirstWord::Page)
+    } else if word == b"script".as_slice() {
+        Some(FirstWord::Script)
     } else {
         None
+    }
+}
+
+/// The word by which `ipfw_replay` reads a command of as many names before its captures.
+fn word_of_replay(command: &[u8]) -> Option<&'static str> {
+    match first_word(command)? {
+        FirstWord::Moves => Some("audit"),
+        FirstWord::Script => Some("serial"),
+        FirstWord::Page => None,
     }
 }
 
@@ -112,19 +131,41 @@ fn page_request<'a>(words: &[&'a str], script: Option<&'a [u8]>) -> Option<Reque
     }
 }
 
-/// What these words behind a command ask for, which are no captures and no option.
-fn request_of<'a>(alloc: Global, command: &[u8], words: &[&'a str]) -> Option<Request<'a>> {
+/// What moved between the reports that these words name.
+fn moves_request<'a>(alloc: Global, words: &[&'a str]) -> Option<Request<'a>> {
     match words {
-        [old, new] if command == b"moves".as_slice() => Some(Request::Moves {
+        [old, new] => Some(Request::Moves {
             old: old.as_bytes(),
             new: new.as_bytes(),
             captures: Vec::new(alloc),
         }),
-        [script] if command == b"script".as_slice() => Some(Request::Script {
+        _ => None,
+    }
+}
+
+/// What is wrong or odd with the script that these words name.
+fn script_request<'a>(alloc: Global, words: &[&'a str]) -> Option<Request<'a>> {
+    match words {
+        [script] => Some(Request::Script {
             script: script.as_bytes(),
             captures: Vec::new(alloc),
         }),
         _ => None,
+    }
+}
+
+/// What these words behind a command ask for, which are no captures, with the script of the option.
+fn request_of<'a>(
+    alloc: Global,
+    command: &[u8],
+    words: &[&'a str],
+    script: Option<&'a [u8]>,
+) -> Option<Request<'a>> {
+    match (first_word(command)?, script) {
+        (FirstWord::Page, _) => page_request(words, script),
+        (FirstWord::Moves, None) => moves_request(alloc, words),
+        (FirstWord::Script, None) => script_request(alloc, words),
+        (FirstWord::Moves | FirstWord::Script, Some(_)) => None,
     }
 }
 
@@ -146,13 +187,8 @@ fn request_without_captures(
     let Some(positional) = matches.get_strs("positional") else {
         return Ok(None);
     };
-    match matches.get_str("script") {
-        script if command.as_bytes() == b"page".as_slice() => {
-            Ok(page_request(positional, script.map(|name| name.as_bytes())))
-        }
-        Some(_) => Ok(None),
-        None => Ok(request_of(alloc, command.as_bytes(), positional)),
-    }
+    let script = matches.get_str("script").map(|name| name.as_bytes());
+    Ok(request_of(alloc, command.as_bytes(), positional, script))
 }
 
 /// What the words ask for, which `replay` has as `ipfw_replay` reads them; `None` where they are no command. Behind
