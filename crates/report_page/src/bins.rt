@@ -89,7 +89,7 @@ fn count_unread(shades: &[Shade]) -> usize
 }
 
 /// How many records of each shade there are.
-pub fn bin_of(shades: &[Shade]) -> Bin
+fn bin_of(shades: &[Shade]) -> Bin
     ensures { result ≡ spec.bin_of shades.now }
 {
     Bin {

@@ -1,4 +1,3 @@
-use crate::bins::bin_of;
 use crate::shares::share;
 use crate::strip::{BIN_WIDTH, Kinds, StripWords, bin_size, put_bins, put_key};
 use crate::{Bin, Piece, Shade, put};
@@ -101,18 +100,41 @@ fn put_borders(pieces: &mut Vec<Piece<'_>>, capture: &Capture<'_>) -> Result<(),
     Ok(())
 }
 
+/// How the record is shown whose entry has this place among the kinds.
+fn shade_at(kinds: &[DocketEntry], place: u32) -> Shade {
+    kinds.get(place as usize).map_or(Shade::Unread, shade_of)
+}
+
 /// How each record of a capture is shown.
 fn shades_of(alloc: Global, capture: &Capture<'_>) -> Result<Vec<Shade>, OutOfMemory> {
     let (kinds, places) = capture.records.parts();
     let mut shades = Vec::with_capacity(alloc, places.len())?;
     for place in places {
-        shades.push(kinds.get(*place as usize).map_or(Shade::Unread, shade_of))?;
+        shades.push(shade_at(kinds, *place))?;
     }
     Ok(shades)
 }
 
+/// Counts a record of this shade.
+fn count_shade(total: &mut Bin, shade: Shade) {
+    match shade {
+        Shade::Allow => total.allow = total.allow.saturating_add(1),
+        Shade::Deny => total.deny = total.deny.saturating_add(1),
+        Shade::Answered => total.answered = total.answered.saturating_add(1),
+        Shade::Unread => total.unread = total.unread.saturating_add(1),
+    }
+}
+
+/// Counts the records of a capture.
+fn count_capture(total: &mut Bin, capture: &Capture<'_>) {
+    let (kinds, places) = capture.records.parts();
+    for place in places {
+        count_shade(total, shade_at(kinds, *place));
+    }
+}
+
 /// How many records of each shade all captures have.
-pub(crate) fn totals_of(alloc: Global, report: &Report<'_>) -> Result<Bin, OutOfMemory> {
+pub(crate) fn totals_of(report: &Report<'_>) -> Bin {
     let mut total = Bin {
         allow: 0,
         deny: 0,
@@ -120,13 +142,9 @@ pub(crate) fn totals_of(alloc: Global, report: &Report<'_>) -> Result<Bin, OutOf
         unread: 0,
     };
     for capture in &report.captures {
-        let bin = bin_of(&shades_of(alloc, capture)?);
-        total.allow = total.allow.saturating_add(bin.allow);
-        total.deny = total.deny.saturating_add(bin.deny);
-        total.answered = total.answered.saturating_add(bin.answered);
-        total.unread = total.unread.saturating_add(bin.unread);
+        count_capture(&mut total, capture);
     }
-    Ok(total)
+    total
 }
 
 /// Puts the strip of a capture.

@@ -84,12 +84,8 @@ fn records_in(report: &Report<'_>) -> u64 {
 }
 
 /// Puts how many records there are of each verdict.
-fn put_verdicts(
-    alloc: Global,
-    pieces: &mut Vec<Piece<'_>>,
-    report: &Report<'_>,
-) -> Result<(), OutOfMemory> {
-    let total = totals_of(alloc, report)?;
+fn put_verdicts(pieces: &mut Vec<Piece<'_>>, report: &Report<'_>) -> Result<(), OutOfMemory> {
+    let total = totals_of(report);
     put_figure(pieces, b"allowed", total.allow as u64, b"allowed")?;
     put_figure(pieces, b"denied", total.deny as u64, b"denied")?;
     put_figure(
@@ -102,15 +98,11 @@ fn put_verdicts(
 }
 
 /// Puts the figures of the whole report.
-fn put_figures<'a>(
-    alloc: Global,
-    pieces: &mut Vec<Piece<'a>>,
-    report: &Report<'a>,
-) -> Result<(), OutOfMemory> {
+fn put_figures<'a>(pieces: &mut Vec<Piece<'a>>, report: &Report<'a>) -> Result<(), OutOfMemory> {
     let sections = &report.sections;
     put(pieces, &[Piece::Markup(b"<dl class=\"figures\">\n")])?;
     put_figure(pieces, b"records", records_in(report), b"records")?;
-    put_verdicts(alloc, pieces, report)?;
+    put_verdicts(pieces, report)?;
     put_figure(
         pieces,
         b"captures",
@@ -210,7 +202,7 @@ pub fn page_of<'a>(
         ],
     )?;
     put_troubles(&mut pieces, report)?;
-    put_figures(alloc, &mut pieces, report)?;
+    put_figures(&mut pieces, report)?;
     if let Some(moves) = moves {
         put_moves(alloc, &mut pieces, moves)?;
     }
