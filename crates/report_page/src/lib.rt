@@ -9,6 +9,7 @@ pub use journal_chart::columns_of;
 pub use moves_table::MovesShown;
 pub use page::page_of;
 pub use pieces::{Piece, put, write_page};
+pub use plain_words::refusal_words;
 pub use shares::{last_packets, never_met, packets_of, share};
 
 mod bins;

@@ -3,6 +3,7 @@ use crate::{Piece, Shade, put};
 use fw_base::OutOfMemory;
 use fw_rule::Items;
 use report_moves::Move;
+use report_values::text_at;
 use std::alloc::Global;
 
 /// How many moves are shown at most; of more the page tells how many there are.
@@ -38,14 +39,6 @@ const MOVES: StripWords = StripWords {
 
 /// The key of a strip of moves.
 const KEY: [(&[u8], &[u8]); 2] = [(b"moved", b"moved"), (b"stayed", b"stayed")];
-
-/// The text of an outcome.
-fn text_at<'a>(texts: &'a [Items<u8>], number: u32) -> &'a [u8] {
-    match texts.get(number as usize) {
-        Some(text) => text.as_slice(),
-        None => b"",
-    }
-}
 
 /// Which records of a capture moved.
 fn shades_of(alloc: Global, old: &[u32], new: &[u32]) -> Result<Vec<Shade>, OutOfMemory> {

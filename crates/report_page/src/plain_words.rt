@@ -21,7 +21,7 @@ const FAULTS: [(&[u8], &[u8]); 9] = [
 ];
 
 /// Why a command is refused: the word of the report, and plain words for it.
-const REFUSALS: [(&[u8], &[u8]); 11] = [
+const REFUSALS: [(&[u8], &[u8]); 12] = [
     (b"NoSuchRule", b"no rule has that number"),
     (b"ReservedRule", b"rule 65535 can't be changed"),
     (b"ReservedSet", b"set 31 can't be changed"),
@@ -33,6 +33,7 @@ const REFUSALS: [(&[u8], &[u8]); 11] = [
     (b"TooManyRules", b"there are 65,535 rules already"),
     (b"TooManyCounters", b"there are 16,777,216 counters already"),
     (b"TooManyNames", b"there are 64 flow names already"),
+    (b"OutOfMemory", b"memory ran out"),
 ];
 
 /// Whether the last word of a text is this one.
@@ -58,7 +59,8 @@ pub(crate) fn fault_words(told: &[u8]) -> &'static [u8] {
     words_for(&FAULTS, told)
 }
 
-/// Why a command was refused, by the text that tells it.
-pub(crate) fn refusal_words(told: &[u8]) -> &'static [u8] {
+/// Why a command was refused, in plain words, by the text that tells it: its last word is the
+/// report's own for the cause.
+pub fn refusal_words(told: &[u8]) -> &'static [u8] {
     words_for(&REFUSALS, told)
 }

@@ -8,7 +8,7 @@ pub use journal_columns::JournalColumns;
 pub use known_rules::KnownRules;
 pub use lines::{EndLine, Lines};
 pub use outcome_parts::{outcome_text, verdict_words};
-pub use outcome_texts::OutcomeTexts;
+pub use outcome_texts::{OutcomeTexts, text_at};
 pub use outcomes::outcome_numbers;
 pub use records::Records;
 pub use report::{Report, ReportError, read_report};

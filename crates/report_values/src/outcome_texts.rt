@@ -1,4 +1,4 @@
-ghost use Rattle.std.specs.Prelude.{◌≡◌, [], IfOk, false, nat_eq};
+ghost use Rattle.std.specs.Prelude.{◌≡◌, [], IfOk, false, nat_eq, slice_index_or};
 ghost use Rattle.std.specs.Cmp.Lexicographic.{pointwise};
 ghost use Rattle.std.specs.List.{IsDistinct, list_any};
 ghost use Rattle.report_values.specs.TextNumbers as spec;
@@ -86,5 +86,15 @@ impl OutcomeTexts {
             Some(number) => Ok(number),
             None => self.add(alloc, text),
         }
+    }
+}
+
+/// The text of an outcome, by its number; empty where there is none of that number.
+pub fn text_at(texts: &[Items<u8>], number: u32) -> &[u8]
+    ensures { result.now ≡ slice_index_or texts.now number [] }
+{
+    match texts.get(number as usize) {
+        Some(text) => text.as_slice(),
+        None => b"",
     }
 }

@@ -12,27 +12,8 @@ mod words;
 
 use crate::run::run;
 use std::process::ExitCode;
-use std::rt::Env;
-use std::{env, io};
-use system_files::{FaultCounter, FileLibrary};
-
-/// The status of want of memory.
-const OUT_OF_MEMORY: u8 = 6;
-
-/// The words behind the program's name; none where one of them is no text.
-fn words_given<R: Env + AllocGlobal>(rt: &R) -> io::Result<Vec<String>> {
-    let mut words = Vec::new(rt.alloc());
-    match env::args(rt) {
-        Ok(arguments) => {
-            for word in arguments.skip(1) {
-                words.push(word)?;
-            }
-            Ok(words)
-        }
-        Err(error) if error.kind() == io::ErrorKind::InvalidData => Ok(words),
-        Err(error) => Err(error),
-    }
-}
+use std::io;
+use system_files::{FaultCounter, FileLibrary, OUT_OF_MEMORY, words_given};
 
 fn main(rt: HostRuntime) -> ExitCode {
     let alloc = rt.alloc();

@@ -1,4 +1,4 @@
-ghost use Rattle.std.specs.Prelude.{◌≡◌, IfErr, IfOk, MatchOption, [], length, map, min, slice_index_or};
+ghost use Rattle.std.specs.Prelude.{◌≡◌, IfErr, IfOk, MatchOption, length, map, min};
 ghost use Rattle.report_moves.specs.Moves.{HaveSameLengths};
 ghost use Rattle.report_view.specs.MovesTold as spec;
 
@@ -9,7 +9,7 @@ use fw_rule::Items;
 use itoa::Buffer;
 use report_flows::FlowSpan;
 use report_moves::{Move, Moves, have_same_lengths, moves_between};
-use report_values::{KnownRules, OutcomeTexts, Report, outcome_numbers, verdict_words};
+use report_values::{KnownRules, OutcomeTexts, Report, outcome_numbers, text_at, verdict_words};
 use std::alloc::Global;
 
 /// The outcomes of two reports, and what moved between them.
@@ -115,22 +115,12 @@ pub(crate) fn records_of(moves: &[Move]) -> u64
     records
 }
 
-/// The text of an outcome.
-pub(crate) fn text_of(texts: &[Items<u8>], number: u32) -> &[u8]
-    ensures { result.now ≡ slice_index_or texts.now number [] }
-{
-    match texts.get(number as usize) {
-        Some(text) => text.as_slice(),
-        None => b"",
-    }
-}
-
 /// How many records came to another verdict; the others that moved came to another rule alone.
 pub(crate) fn other_verdicts(texts: &[Items<u8>], moves: &[Move]) -> u64 {
     let mut records: u64 = 0;
     for told in moves {
-        let was = verdict_words(text_of(texts, told.was));
-        if was != verdict_words(text_of(texts, told.is)) {
+        let was = verdict_words(text_at(texts, told.was));
+        if was != verdict_words(text_at(texts, told.is)) {
             records = records.saturating_add(told.span.records);
         }
     }
@@ -169,7 +159,7 @@ fn write_numbers<K: Sink>(out: &mut K, told: &Move) -> Result<(), Failed> {
 fn width_of(texts: &[Items<u8>], moves: &[Move]) -> usize {
     let mut width = b"then".len();
     for told in moves {
-        width = width.max(text_of(texts, told.was).len());
+        width = width.max(text_at(texts, told.was).len());
     }
     width
 }
@@ -193,11 +183,11 @@ fn write_moved<K: Sink>(out: &mut K, compared: &Compared) -> Result<(), Failed> 
     write_spaces(out, width.saturating_sub(b"then".len()))?;
     write_text(out, b"  now\n")?;
     for (at, told) in compared.moves.moved.iter().enumerate() {
-        let was = text_of(texts, told.was);
+        let was = text_at(texts, told.was);
         write_numbers(out, told)?;
         write_text(out, was)?;
         write_spaces(out, width.saturating_sub(was.len()))?;
-        write_pieces(out, &[b"  ", text_of(texts, told.is), b"\n"])?;
+        write_pieces(out, &[b"  ", text_at(texts, told.is), b"\n"])?;
         write_flows(out, flows_at(compared, at))?;
     }
     Ok(())
@@ -211,7 +201,7 @@ fn write_stayed<K: Sink>(out: &mut K, compared: &Compared) -> Result<(), Failed>
     )?;
     for told in &compared.moves.stayed {
         write_numbers(out, told)?;
-        write_pieces(out, &[text_of(&compared.texts, told.was), b"\n"])?;
+        write_pieces(out, &[text_at(&compared.texts, told.was), b"\n"])?;
     }
     Ok(())
 }

@@ -1,7 +1,7 @@
 use fw_base::{Failed, Sink, write_pieces, write_text};
 use ipfw_parser::Kind;
 use itoa::Buffer;
-use rule_edits::ApplyFault;
+use report_page::refusal_words;
 use script_review::{Finding, LineFault, Size};
 
 /// What is wrong with a script, and what is odd in one without a fault.
@@ -75,24 +75,6 @@ fn words_of(kind: Kind) -> &'static [u8] {
             b"a rule makes one state, and this is its second `keep-state` or `limit`",
         Kind::Misplaced => b"this can't stand here",
         Kind::BadByte => b"this byte can't stand in a script",
-    }
-}
-
-/// Why a command is refused, in plain words.
-fn refusal_words(fault: ApplyFault) -> &'static [u8] {
-    match fault {
-        ApplyFault::NoSuchRule => b"no rule has that number",
-        ApplyFault::ReservedRule => b"rule 65535 can't be changed",
-        ApplyFault::ReservedSet => b"set 31 can't be changed",
-        ApplyFault::NoSuchTable => b"no table has that name",
-        ApplyFault::EntryExists => b"it is there already",
-        ApplyFault::NoSuchEntry => b"the table has no such key",
-        ApplyFault::TableInUse => b"a rule names the table",
-        ApplyFault::WrongType => b"the table is of the other type",
-        ApplyFault::TooManyRules => b"there are 65,535 rules already",
-        ApplyFault::TooManyCounters => b"there are 16,777,216 counters already",
-        ApplyFault::TooManyNames => b"there are 64 flow names already",
-        ApplyFault::OutOfMemory => b"memory ran out",
     }
 }
 
@@ -175,7 +157,11 @@ fn write_disabled<K: Sink>(out: &mut K, set: u8, rules: u64) -> Result<(), Faile
 fn write_finding<K: Sink>(out: &mut K, finding: &Finding) -> Result<(), Failed> {
     match finding {
         Finding::Refused { line, fault } => {
-            write_told(out, *line, &[b"refused: ", refusal_words(*fault)])
+            write_told(
+                out,
+                *line,
+                &[b"refused: ", refusal_words(fault.word().as_bytes())],
+            )
         }
         Finding::MeWithoutLocal { line } => {
             write_told(
