@@ -11,8 +11,8 @@ mod script_text;
 mod words;
 
 use crate::run::run;
-use std::process::ExitCode;
 use std::io;
+use std::process::ExitCode;
 use system_files::{FaultCounter, FileLibrary, OUT_OF_MEMORY, words_given};
 
 fn main(rt: HostRuntime) -> ExitCode {
