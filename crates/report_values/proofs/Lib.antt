@@ -1,5 +1,6 @@
 -- the entries of records by the kinds that differ
 mod RecordPlaces
+mod KindHints
 -- the lines of records and of captures
 mod CaptureLines
 mod CaptureEnds

@@ -1,4 +1,4 @@
-ghost use Rattle.std.specs.Prelude.{◌≡◌, ◌∷◌, ◌++◌, ◌<◌, [], All, IfOk, IfSome, OnErr, OnOk, length};
+ghost use Rattle.std.specs.Prelude.{◌≡◌, ◌∷◌, ◌++◌, ◌<◌, [], All, IfOk, IfSome, None, OnErr, OnOk, length};
 ghost use Rattle.eval_engine.specs.declared.docket_entry.DocketEntry.TheVariants.{Other};
 ghost use Rattle.report_values.specs.Records as spec;
 
@@ -22,13 +22,14 @@ pub struct Records {
 impl Model for Records {
     ghost use Rattle.std.specs.Prelude.{List, All, ◌<◌, length};
     ghost use Rattle.eval_engine.specs.declared.docket_entry.DocketEntry.{DocketEntry};
-    ghost use Rattle.report_values.specs.Records.{entries_at};
+    ghost use Rattle.report_values.specs.Records.{AreHinted, entries_at};
 
     ghost Value = { List DocketEntry };
 
     ghost view = { λ r. entries_at r.kinds.items r.places.items };
 
-    ghost invariant = { λ r. All (λ place. place < length r.kinds.items) r.places.items };
+    ghost invariant = { λ r. All (λ place. place < length r.kinds.items) r.places.items
+        × AreHinted r.kinds.items r.hints };
 }
 
 /// The place that is hinted at, where this entry stands there.
@@ -37,7 +38,8 @@ fn hinted(
     hints: &HashMap<DocketEntry, u32>,
     entry: &DocketEntry,
 ) -> Option<u32>
-    ensures { IfSome result (λ place. spec.StandsAt kinds.now place entry.now) }
+    ensures there { IfSome result (λ place. spec.StandsAt kinds.now place entry.now) }
+    ensures new { result ≡ None → spec.AreHinted kinds.now hints.now → spec.IsNew kinds.now entry.now }
 {
     let place = *hints.get(entry)?;
     let kind = kinds.get(place as usize)?;
@@ -53,6 +55,8 @@ fn add_kind(
     ensures behind { IfOk result (λ place. (kinds.new.items ≡ kinds.old.items ++ entry ∷ [])
         × (place ≡ length kinds.old.items)) }
     ensures kept { OnErr result (kinds.new.items ≡ kinds.old.items) }
+    ensures hints { spec.AreHinted kinds.old.items hints.old → spec.IsNew kinds.old.items entry
+        → spec.AreHinted kinds.new.items hints.new }
 {
     let Ok(place) = u32::try_from(kinds.len()) else {
         return Err(OutOfMemory);
@@ -99,6 +103,7 @@ impl Records {
         ensures entries { spec.entries_at result.0.now result.1.now ≡ self.now }
         ensures within { All (λ place. place < length result.0.now) result.1.now }
         ensures count { length result.1.now ≡ length self.now }
+        ensures distinct { spec.AreDistinct result.0.now }
     {
         (&self.kinds, &self.places)
     }
