@@ -15,12 +15,14 @@ same crates_of_MAP
 : >"$work/got"
 while IFS='|' read -r _ crate _ _ tests_of _; do
     crate=$(tr -d '` ' <<<"$crate")
-    while read -r place; do
-        # A place alone is the crate's own.
-        room=$(sed -n 's/^ *`\([a-z0-9_]*\)`, .*/\1/p' <<<"${place:-none}")
-        file=$top/crates/${room:-$crate}/src/${place##*src/}
-        [[ -e $file.rt || -d $file ]] || echo "$crate: there is no $file" >>"$work/got"
-    done < <(grep -oE '(`[a-z0-9_]+`, )?src/[a-z0-9_/]+' <<<"$tests_of")
+    while read -r places; do
+        # Places alone are the crate's own.
+        room=$(sed -n 's/^ *`\([a-z0-9_]*\)`, .*/\1/p' <<<"$places")
+        while read -r place; do
+            file=$top/crates/${room:-$crate}/$place
+            [[ -e $file.rt || -d $file ]] || echo "$crate: there is no $file" >>"$work/got"
+        done < <(grep -oE 'src/[a-z0-9_/]+' <<<"$places")
+    done < <(grep -oE '(`[a-z0-9_]+`, )?src/[a-z0-9_/]+( and src/[a-z0-9_/]+)*' <<<"$tests_of")
 done < <(grep '^| `' table)
 same tests_of_MAP
 
