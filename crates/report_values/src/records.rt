@@ -39,7 +39,8 @@ fn hinted(
     entry: &DocketEntry,
 ) -> Option<u32>
     ensures there { IfSome result (λ place. spec.StandsAt kinds.now place entry.now) }
-    ensures new { result ≡ None → spec.AreHinted kinds.now hints.now → spec.IsNew kinds.now entry.now }
+    ensures new { result ≡ None → spec.AreHinted kinds.now hints.now
+        → spec.IsNew kinds.now entry.now }
 {
     let place = *hints.get(entry)?;
     let kind = kinds.get(place as usize)?;
