@@ -111,6 +111,17 @@ fn report_in<'a, 't>(
     }
 }
 
+/// What moved from this report to that in the text of that name.
+fn compared_with<'a>(
+    alloc: Global,
+    old: &Report<'_>,
+    name: &'a [u8],
+    text: &[u8],
+) -> Result<Compared, Trouble<'a>> {
+    let new = report_in(alloc, name, text)?;
+    compare(alloc, old, &new)
+}
+
 /// How many states lived in each column of the journal of that report, by the script of that name.
 fn counts_by<'a, L: Library>(
     alloc: Global,
@@ -171,10 +182,9 @@ fn show_page_with_moves<'a, L: Library, K: Sink>(
 ) -> Result<u8, Trouble<'a>> {
     let old_text = read_text(alloc, library, old)?;
     let new_text = read_text(alloc, library, new)?;
-    let old_report = report_in(alloc, old, &old_text)?;
-    let new_report = report_in(alloc, new, &new_text)?;
-    let compared = compare(alloc, &old_report, &new_report)?;
-    let live = counts_if(alloc, library, old, &old_report, script)?;
+    let report = report_in(alloc, old, &old_text)?;
+    let compared = compared_with(alloc, &report, new, &new_text)?;
+    let live = counts_if(alloc, library, old, &report, script)?;
     let counts = live.as_deref();
     let moves = MovesShown {
         texts: &compared.texts,
@@ -185,7 +195,7 @@ fn show_page_with_moves<'a, L: Library, K: Sink>(
         verdict_records: other_verdicts(&compared.texts, &compared.moves.moved),
         stayed_records: records_of(&compared.moves.stayed),
     };
-    let pieces = page_of(alloc, &old_report, Some(&moves), counts)?;
+    let pieces = page_of(alloc, &report, Some(&moves), counts)?;
     Ok(show(alloc, out, &Shown::Page(&pieces)))
 }
 
