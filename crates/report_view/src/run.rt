@@ -111,17 +111,6 @@ fn report_in<'a, 't>(
     }
 }
 
-/// What moved from this report to that in the text of that name.
-fn compared_with<'a>(
-    alloc: Global,
-    old: &Report<'_>,
-    name: &'a [u8],
-    text: &[u8],
-) -> Result<Compared, Trouble<'a>> {
-    let new = report_in(alloc, name, text)?;
-    compare(alloc, old, &new)
-}
-
 /// How many states lived in each column of the journal of that report, by the script of that name.
 fn counts_by<'a, L: Library>(
     alloc: Global,
@@ -182,8 +171,8 @@ fn show_page_with_moves<'a, L: Library, K: Sink>(
 ) -> Result<u8, Trouble<'a>> {
     let old_text = read_text(alloc, library, old)?;
     let new_text = read_text(alloc, library, new)?;
+    let compared = compared_texts(alloc, (old, new), &old_text, &new_text)?;
     let report = report_in(alloc, old, &old_text)?;
-    let compared = compared_with(alloc, &report, new, &new_text)?;
     let live = counts_if(alloc, library, old, &report, script)?;
     let counts = live.as_deref();
     let moves = MovesShown {
