@@ -1,5 +1,6 @@
+use crate::rect::COLUMN_WIDTH;
 use crate::shares::share;
-use crate::strip::{BIN_WIDTH, Kinds, StripWords, bin_size, put_bins, put_key};
+use crate::strip::{Kinds, StripWords, bin_size, put_bins, put_key};
 use crate::{Bin, Piece, Shade, put};
 use eval_engine::{DocketEntry, Verdict};
 use fw_base::OutOfMemory;
@@ -66,6 +67,29 @@ fn edition_of(entry: &DocketEntry) -> u64 {
     }
 }
 
+/// Puts the border before a record, from 1, at which an edition begins.
+fn put_border(
+    pieces: &mut Vec<Piece<'_>>,
+    x: u64,
+    edition: u64,
+    record: u64,
+) -> Result<(), OutOfMemory> {
+    put(
+        pieces,
+        &[
+            Piece::Markup(b"<line x1=\""),
+            Piece::Figure(x),
+            Piece::Markup(b"\" x2=\""),
+            Piece::Figure(x),
+            Piece::Markup(b"\" y1=\"0\" y2=\"100\"><title>edition "),
+            Piece::Figure(edition),
+            Piece::Markup(b" from record "),
+            Piece::Figure(record),
+            Piece::Markup(b" on</title></line>\n"),
+        ],
+    )
+}
+
 /// Puts the borders of editions over a strip.
 fn put_borders(pieces: &mut Vec<Piece<'_>>, capture: &Capture<'_>) -> Result<(), OutOfMemory> {
     let (kinds, places) = capture.records.parts();
@@ -79,20 +103,12 @@ fn put_borders(pieces: &mut Vec<Piece<'_>>, capture: &Capture<'_>) -> Result<(),
         }
         if edition > 0 && borders < MOST_BORDERS {
             borders = borders.saturating_add(1);
-            let x = share(at as u64, size, BIN_WIDTH);
-            put(
+            let at = at as u64;
+            put_border(
                 pieces,
-                &[
-                    Piece::Markup(b"<line x1=\""),
-                    Piece::Figure(x),
-                    Piece::Markup(b"\" x2=\""),
-                    Piece::Figure(x),
-                    Piece::Markup(b"\" y1=\"0\" y2=\"100\"><title>edition "),
-                    Piece::Figure(found),
-                    Piece::Markup(b" from record "),
-                    Piece::Figure((at as u64).saturating_add(1)),
-                    Piece::Markup(b" on</title></line>\n"),
-                ],
+                share(at, size, COLUMN_WIDTH),
+                found,
+                at.saturating_add(1),
             )?;
         }
         edition = found;

@@ -1,119 +1,61 @@
+use crate::axis::Axis;
+use crate::column::Column;
+use crate::journal_columns::{asks_in, columns_of};
+use crate::live_states::LiveStates;
+use crate::rect::{COLUMN_WIDTH, PICTURE_HEIGHT, Rect, put_rect};
 use crate::shares::share;
 use crate::strip::put_key;
 use crate::{Piece, put};
 use fw_base::OutOfMemory;
-use report_reading::{Reading, next_line, read_line};
-use report_values::{Journal, JournalColumns, Report};
-use state_asks::{Op, Reply};
+use report_values::Report;
 use std::alloc::Global;
 
-/// How many columns the chart has at most.
-const MOST_COLUMNS: u64 = 200;
+/// The key of the chart.
+const KEY: [(&[u8], &[u8]); 2] = [(b"fill", b"asks"), (b"allow", b"those that made a state")];
 
-/// What the states were asked in a column's seconds.
+/// What a chart of a count for each column tells: its title, and that of a column before the second,
+/// before the count and behind it.
 #[derive(Clone, Copy)]
-struct Column {
-    asks: u64,
-    /// How many of the asks made a state.
-    made: u64,
+struct CountWords {
+    title: &'static [u8],
+    before: &'static [u8],
+    middle: &'static [u8],
+    behind: &'static [u8],
 }
 
-/// The columns of a chart: the first second, and how many seconds each stands for.
-#[derive(Clone, Copy)]
-struct Axis<'a> {
-    first: u64,
-    seconds: u64,
-    columns: &'a [Column],
-}
+/// States made so far.
+const MADE: CountWords = CountWords {
+    title: b"States made so far along the seconds, from ",
+    before: b"up to the column of second ",
+    middle: b": ",
+    behind: b" states made",
+};
 
-impl Axis<'_> {
-    /// The first second of the column in this place.
-    fn second_at(&self, place: u64) -> u64 {
-        self.first
-            .saturating_add(place.saturating_mul(self.seconds))
-    }
-}
+/// Live states.
+const LIVE: CountWords = CountWords {
+    title: b"Live states along the seconds, from ",
+    before: b"in the column of second ",
+    middle: b": at most ",
+    behind: b" live states",
+};
 
-/// The second of an ask.
-fn second_of(op: &Op) -> u32 {
-    match op {
-        Op::Lookup { second, .. } | Op::Install { second, .. } => *second,
-    }
-}
-
-/// Whether an ask made a state.
-fn is_made(reply: &Reply) -> bool {
-    match reply {
-        Reply::Created => true,
-        Reply::Found(_, _)
-        | Reply::NotFound
-        | Reply::Exists
-        | Reply::LimitReached(_)
-        | Reply::TableFull(_) => false,
-    }
-}
-
-/// The first and the last second of the asks, where there is one.
-fn seconds_in(lines: &[u8]) -> Option<(u32, u32)> {
-    let mut rest = lines;
-    let mut found = None;
-    for _ in 0..u64::MAX {
-        let Some((line, behind)) = next_line(rest) else {
-            break;
-        };
-        rest = behind;
-        if let Some(Reading::Ask(told)) = read_line(line) {
-            let second = second_of(&told.op);
-            found = match found {
-                None => Some((second, second)),
-                Some((first, last)) => Some((second.min(first), second.max(last))),
-            };
-        }
-    }
-    found
-}
-
-/// The columns in which a journal is shown; none where the states were asked nothing.
-pub fn columns_of(journal: &Journal<'_>) -> Option<JournalColumns> {
-    let (first, last) = seconds_in(journal.lines)?;
-    let all = u64::from(last.saturating_sub(first)).saturating_add(1);
-    let seconds = (all / MOST_COLUMNS).saturating_add(1);
-    let count = all.saturating_add(seconds).saturating_sub(1) / seconds.max(1);
-    Some(JournalColumns {
-        first,
-        seconds: seconds as u32,
-        count: count.min(MOST_COLUMNS) as u32,
-    })
-}
-
-/// What was asked in each column.
-fn asks_in(
-    alloc: Global,
-    lines: &[u8],
-    shown: &JournalColumns,
-) -> Result<Vec<Column>, OutOfMemory> {
-    let mut columns = Vec::new(alloc);
-    for _ in 0..shown.count {
-        columns.push(Column { asks: 0, made: 0 })?;
-    }
-    let mut rest = lines;
-    for _ in 0..u64::MAX {
-        let Some((line, behind)) = next_line(rest) else {
-            break;
-        };
-        rest = behind;
-        if let Some(Reading::Ask(told)) = read_line(line) {
-            let behind_first = second_of(&told.op).saturating_sub(shown.first);
-            let place = behind_first / shown.seconds.max(1);
-            if let Some(column) = columns.get_mut(place as usize) {
-                column.asks = column.asks.saturating_add(1);
-                if is_made(&told.reply) {
-                    column.made = column.made.saturating_add(1);
-                }
-            }
-        }
-    }
-    Ok(columns)
+/// Puts the bar of a count in the column of this place, beside the greatest one, which is as high as the
+/// chart. Between two bars is a gap.
+fn put_bar(
+    pieces: &mut Vec<Piece<'_>>,
+    class: &'static [u8],
+    place: u64,
+    count: u64,
+    most: u64,
+) -> Result<(), OutOfMemory> {
+    let height = share(count, most, PICTURE_HEIGHT);
+    let bar = Rect {
+        x: place.saturating_mul(COLUMN_WIDTH),
+        y: PICTURE_HEIGHT.saturating_sub(height),
+        width: COLUMN_WIDTH - 1,
+        height,
+    };
+    put_rect(pieces, class, &bar)
 }
 
 /// Puts a column: what was asked, and how many states were made.
@@ -124,9 +66,6 @@ fn put_column(
     second: u64,
     most: u64,
 ) -> Result<(), OutOfMemory> {
-    let asks = share(column.asks, most, 100);
-    let made = share(column.made, most, 100);
-    let x = place.saturating_mul(10);
     put(
         pieces,
         &[
@@ -136,21 +75,12 @@ fn put_column(
             Piece::Figure(column.asks),
             Piece::Markup(b" asks, "),
             Piece::Figure(column.made),
-            Piece::Markup(b" states made</title><rect class=\"fill\" x=\""),
-            Piece::Figure(x),
-            Piece::Markup(b"\" y=\""),
-            Piece::Figure(100u64.saturating_sub(asks)),
-            Piece::Markup(b"\" width=\"9\" height=\""),
-            Piece::Figure(asks),
-            Piece::Markup(b"\"/><rect class=\"allow\" x=\""),
-            Piece::Figure(x),
-            Piece::Markup(b"\" y=\""),
-            Piece::Figure(100u64.saturating_sub(made)),
-            Piece::Markup(b"\" width=\"9\" height=\""),
-            Piece::Figure(made),
-            Piece::Markup(b"\"/></g>\n"),
+            Piece::Markup(b" states made</title>"),
         ],
-    )
+    )?;
+    put_bar(pieces, b"fill", place, column.asks, most)?;
+    put_bar(pieces, b"allow", place, column.made, most)?;
+    put(pieces, &[Piece::Markup(b"</g>\n")])
 }
 
 /// Puts the beginning of a chart, with its title.
@@ -164,7 +94,7 @@ fn put_beginning(
         pieces,
         &[
             Piece::Markup(b"<div class=\"strip\"><svg role=\"img\" viewBox=\"0 0 "),
-            Piece::Figure(count.saturating_mul(10)),
+            Piece::Figure(count.saturating_mul(COLUMN_WIDTH)),
             Piece::Markup(b" 100\" preserveAspectRatio=\"none\"><title>"),
             Piece::Markup(title),
             Piece::Figure(axis.first),
@@ -193,45 +123,63 @@ fn put_asks(pieces: &mut Vec<Piece<'_>>, axis: &Axis<'_>) -> Result<(), OutOfMem
     put(pieces, &[Piece::Markup(b"</svg></div>\n")])
 }
 
-/// How many states were made in all columns.
-fn made_in(columns: &[Column]) -> u64 {
+/// Puts a chart of a count for each column, by the greatest of them.
+fn put_counts(
+    pieces: &mut Vec<Piece<'_>>,
+    axis: &Axis<'_>,
+    words: &CountWords,
+    counts: &[u64],
+    most: u64,
+) -> Result<(), OutOfMemory> {
+    put_beginning(pieces, axis, words.title)?;
+    for (place, count) in counts.iter().enumerate() {
+        let place = place as u64;
+        put(
+            pieces,
+            &[
+                Piece::Markup(b"<g><title>"),
+                Piece::Markup(words.before),
+                Piece::Figure(axis.second_at(place)),
+                Piece::Markup(words.middle),
+                Piece::Figure(*count),
+                Piece::Markup(words.behind),
+                Piece::Markup(b"</title>"),
+            ],
+        )?;
+        put_bar(pieces, b"allow", place, *count, most)?;
+        put(pieces, &[Piece::Markup(b"</g>\n")])?;
+    }
+    put(pieces, &[Piece::Markup(b"</svg></div>\n")])
+}
+
+/// How many states were made up to each column.
+fn made_so_far(alloc: Global, columns: &[Column]) -> Result<Vec<u64>, OutOfMemory> {
+    let mut counts = Vec::with_capacity(alloc, columns.len())?;
     let mut made: u64 = 0;
     for column in columns {
         made = made.saturating_add(column.made);
+        counts.push(made)?;
     }
-    made
+    Ok(counts)
 }
 
-/// Puts a column: how many of all states were made so far.
-fn put_made_column(
-    pieces: &mut Vec<Piece<'_>>,
-    place: u64,
-    second: u64,
-    made: u64,
-    all: u64,
-) -> Result<(), OutOfMemory> {
-    let height = share(made, all, 100);
-    put(
-        pieces,
-        &[
-            Piece::Markup(b"<g><title>up to the column of second "),
-            Piece::Figure(second),
-            Piece::Markup(b": "),
-            Piece::Figure(made),
-            Piece::Markup(b" states made</title><rect class=\"allow\" x=\""),
-            Piece::Figure(place.saturating_mul(10)),
-            Piece::Markup(b"\" y=\""),
-            Piece::Figure(100u64.saturating_sub(height)),
-            Piece::Markup(b"\" width=\"9\" height=\""),
-            Piece::Figure(height),
-            Piece::Markup(b"\"/></g>\n"),
-        ],
-    )
+/// The greatest of some counts.
+fn most_of(counts: &[u64]) -> u64 {
+    let mut most: u64 = 0;
+    for count in counts {
+        most = most.max(*count);
+    }
+    most
 }
 
 /// Puts the chart of the states made so far, and how many of them live at the end.
-fn put_made(pieces: &mut Vec<Piece<'_>>, axis: &Axis<'_>, live: u64) -> Result<(), OutOfMemory> {
-    let all = made_in(axis.columns);
+fn put_made(
+    pieces: &mut Vec<Piece<'_>>,
+    axis: &Axis<'_>,
+    made: &[u64],
+    live: u64,
+) -> Result<(), OutOfMemory> {
+    let all = most_of(made);
     put(
         pieces,
         &[
@@ -248,57 +196,15 @@ fn put_made(pieces: &mut Vec<Piece<'_>>, axis: &Axis<'_>, live: u64) -> Result<(
     if all == 0 {
         return Ok(());
     }
-    put_beginning(pieces, axis, b"States made so far along the seconds, from ")?;
-    let mut made: u64 = 0;
-    for (place, column) in axis.columns.iter().enumerate() {
-        let place = place as u64;
-        made = made.saturating_add(column.made);
-        put_made_column(pieces, place, axis.second_at(place), made, all)?;
-    }
-    put(pieces, &[Piece::Markup(b"</svg></div>\n")])
+    put_counts(pieces, axis, &MADE, made, all)
 }
 
-/// The greatest of some counts.
-fn most_of(counts: &[u64]) -> u64 {
-    let mut most: u64 = 0;
-    for count in counts {
-        most = most.max(*count);
-    }
-    most
-}
-
-/// Puts a column: how many states lived.
-fn put_live_column(
-    pieces: &mut Vec<Piece<'_>>,
-    place: u64,
-    second: u64,
-    live: u64,
-    most: u64,
-) -> Result<(), OutOfMemory> {
-    let height = share(live, most, 100);
-    put(
-        pieces,
-        &[
-            Piece::Markup(b"<g><title>in the column of second "),
-            Piece::Figure(second),
-            Piece::Markup(b": at most "),
-            Piece::Figure(live),
-            Piece::Markup(b" live states</title><rect class=\"allow\" x=\""),
-            Piece::Figure(place.saturating_mul(10)),
-            Piece::Markup(b"\" y=\""),
-            Piece::Figure(100u64.saturating_sub(height)),
-            Piece::Markup(b"\" width=\"9\" height=\""),
-            Piece::Figure(height),
-            Piece::Markup(b"\"/></g>\n"),
-        ],
-    )
-}
-
-/// Puts the chart of the live states, which has a count for each column, and how many live at the end.
+/// Puts the chart of the live states, how many were made, and how many live at the end.
 fn put_live(
     pieces: &mut Vec<Piece<'_>>,
     axis: &Axis<'_>,
     counts: &[u64],
+    made: u64,
     live: u64,
 ) -> Result<(), OutOfMemory> {
     let most = most_of(counts);
@@ -306,7 +212,7 @@ fn put_live(
         pieces,
         &[
             Piece::Markup(b"<h3>Live states</h3>\n<p><span id=\"made\">"),
-            Piece::Figure(made_in(axis.columns)),
+            Piece::Figure(made),
             Piece::Markup(b"</span> states were made. At most <span id=\"most\">"),
             Piece::Figure(most),
             Piece::Markup(b"</span> lived at once, and "),
@@ -320,40 +226,34 @@ fn put_live(
     if most == 0 {
         return Ok(());
     }
-    put_beginning(pieces, axis, b"Live states along the seconds, from ")?;
-    for (place, count) in counts.iter().enumerate() {
-        let place = place as u64;
-        put_live_column(pieces, place, axis.second_at(place), *count, most)?;
-    }
-    put(pieces, &[Piece::Markup(b"</svg></div>\n")])
+    put_counts(pieces, axis, &LIVE, counts, most)
 }
 
-/// Puts the charts of the journal's seconds: with the counts of live states, where they are given, else
-/// with the states made so far.
+/// Puts the charts of the journal's seconds: what was asked, and below it how many states lived, where
+/// that is given, else how many were made so far.
 fn put_charts(
+    alloc: Global,
     pieces: &mut Vec<Piece<'_>>,
     axis: &Axis<'_>,
-    live: u64,
     counts: Option<&[u64]>,
+    live: u64,
 ) -> Result<(), OutOfMemory> {
     put_key(pieces, &KEY)?;
     put_asks(pieces, axis)?;
+    let made = made_so_far(alloc, axis.columns)?;
     match counts {
-        Some(counts) => put_live(pieces, axis, counts, live),
-        None => put_made(pieces, axis, live),
+        Some(counts) => put_live(pieces, axis, counts, most_of(&made), live),
+        None => put_made(pieces, axis, &made, live),
     }
 }
 
-/// The key of the chart.
-const KEY: [(&[u8], &[u8]); 2] = [(b"fill", b"asks"), (b"allow", b"those that made a state")];
-
 /// Puts what the states were asked along the seconds, where the report has its journal, and how many
-/// of them lived, where that is given for each of the journal's columns.
+/// of them lived, where that is given.
 pub(crate) fn put_journal<'a>(
     alloc: Global,
     pieces: &mut Vec<Piece<'a>>,
     report: &Report<'a>,
-    counts: Option<&[u64]>,
+    live: Option<&LiveStates>,
 ) -> Result<(), OutOfMemory> {
     let Some(journal) = &report.sections.journal else {
         return Ok(());
@@ -371,14 +271,25 @@ pub(crate) fn put_journal<'a>(
             ),
         ],
     )?;
-    if let Some(shown) = columns_of(journal) {
+    let shown = match live {
+        Some(live) => live.columns,
+        None => columns_of(journal),
+    };
+    if let Some(shown) = shown {
         let columns = asks_in(alloc, journal.lines, &shown)?;
         let axis = Axis {
             first: u64::from(shown.first),
             seconds: u64::from(shown.seconds),
             columns: &columns,
         };
-        put_charts(pieces, &axis, report.sections.states.len() as u64, counts)?;
+        let counts = live.map(|live| live.counts.as_slice());
+        put_charts(
+            alloc,
+            pieces,
+            &axis,
+            counts,
+            report.sections.states.len() as u64,
+        )?;
     }
     put(pieces, &[Piece::Markup(b"</section>\n")])
 }

@@ -1,5 +1,6 @@
 use crate::captures::{put_captures, totals_of};
 use crate::journal_chart::put_journal;
+use crate::live_states::LiveStates;
 use crate::moves_table::{MovesShown, put_moves};
 use crate::plain_words::{fault_words, refusal_words};
 use crate::rules_table::put_rules;
@@ -180,13 +181,12 @@ fn put_states<'a>(pieces: &mut Vec<Piece<'a>>, report: &Report<'a>) -> Result<()
 }
 
 /// The pieces of a page that shows a report, and what moved to another one where that is given. Where
-/// counts of live states are given, one for each of the journal's columns, they stand in place of the
-/// states made so far.
+/// counts of live states are given, they stand in place of the states made so far.
 pub fn page_of<'a>(
     alloc: Global,
     report: &Report<'a>,
     moves: Option<&MovesShown<'a>>,
-    live: Option<&[u64]>,
+    live: Option<&LiveStates>,
 ) -> Result<Vec<Piece<'a>>, OutOfMemory> {
     let mut pieces = Vec::new(alloc);
     put(

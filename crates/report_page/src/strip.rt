@@ -1,5 +1,6 @@
 ghost use Rattle.std.specs.Prelude.{◌<◌};
 
+use crate::rect::{COLUMN_WIDTH, PICTURE_HEIGHT, Rect, put_rect};
 use crate::shares::share;
 use crate::{Bin, Piece, Shade, bins_of, put};
 use fw_base::OutOfMemory;
@@ -7,11 +8,6 @@ use std::alloc::Global;
 
 /// How many bins a strip has at most.
 const MOST_BINS: usize = 200;
-
-/// How wide a bin is, and how high a strip, in the units of the picture.
-pub(crate) const BIN_WIDTH: u64 = 10;
-
-const STRIP_HEIGHT: u64 = 100;
 
 /// Four kinds of records in a strip: the class of each, from the top, and how a title tells it.
 #[derive(Clone, Copy)]
@@ -55,28 +51,63 @@ pub(crate) fn put_key(
     put(pieces, &[Piece::Markup(b"</ul>\n")])
 }
 
-/// Puts a rectangle of a bin.
-fn put_part(
+/// Puts the title of a bin: its records from this first one on, and how many of each kind.
+fn put_bin_title(
     pieces: &mut Vec<Piece<'_>>,
-    class: &'static [u8],
-    x: u64,
-    y: u64,
-    height: u64,
+    kinds: &Kinds,
+    counts: &[u64; 4],
+    total: u64,
+    first: u64,
 ) -> Result<(), OutOfMemory> {
     put(
         pieces,
         &[
-            Piece::Markup(b"<rect class=\""),
-            Piece::Markup(class),
-            Piece::Markup(b"\" x=\""),
-            Piece::Figure(x),
-            Piece::Markup(b"\" y=\""),
-            Piece::Figure(y),
-            Piece::Markup(b"\" width=\"10\" height=\""),
-            Piece::Figure(height),
-            Piece::Markup(b"\"/>"),
+            Piece::Markup(b"<title>records "),
+            Piece::Figure(first),
+            Piece::Markup(b" to "),
+            Piece::Figure(first.saturating_add(total).saturating_sub(1)),
+            Piece::Markup(b":"),
         ],
-    )
+    )?;
+    for (count, word) in counts.iter().zip(&kinds.words) {
+        if *count > 0 {
+            put(
+                pieces,
+                &[
+                    Piece::Markup(b" "),
+                    Piece::Figure(*count),
+                    Piece::Markup(word),
+                ],
+            )?;
+        }
+    }
+    put(pieces, &[Piece::Markup(b"</title>")])
+}
+
+/// Puts the parts of the bin in this place, one for each kind, from the top.
+fn put_bin_parts(
+    pieces: &mut Vec<Piece<'_>>,
+    kinds: &Kinds,
+    counts: &[u64; 4],
+    total: u64,
+    place: u64,
+) -> Result<(), OutOfMemory> {
+    let mut before: u64 = 0;
+    for (count, class) in counts.iter().zip(&kinds.classes) {
+        if *count > 0 {
+            let y = share(before, total, PICTURE_HEIGHT);
+            before = before.saturating_add(*count);
+            let end = share(before, total, PICTURE_HEIGHT);
+            let part = Rect {
+                x: place.saturating_mul(COLUMN_WIDTH),
+                y,
+                width: COLUMN_WIDTH,
+                height: end.saturating_sub(y),
+            };
+            put_rect(pieces, class, &part)?;
+        }
+    }
+    Ok(())
 }
 
 /// Puts a bin: a title, and a part for each kind.
@@ -97,44 +128,9 @@ fn put_bin(
     for count in counts {
         total = total.saturating_add(count);
     }
-    put(
-        pieces,
-        &[
-            Piece::Markup(b"<g><title>records "),
-            Piece::Figure(first),
-            Piece::Markup(b" to "),
-            Piece::Figure(first.saturating_add(total).saturating_sub(1)),
-            Piece::Markup(b":"),
-        ],
-    )?;
-    for (count, word) in counts.iter().zip(&kinds.words) {
-        if *count > 0 {
-            put(
-                pieces,
-                &[
-                    Piece::Markup(b" "),
-                    Piece::Figure(*count),
-                    Piece::Markup(word),
-                ],
-            )?;
-        }
-    }
-    put(pieces, &[Piece::Markup(b"</title>")])?;
-    let mut before: u64 = 0;
-    for (count, class) in counts.iter().zip(&kinds.classes) {
-        if *count > 0 {
-            let y = share(before, total, STRIP_HEIGHT);
-            before = before.saturating_add(*count);
-            let end = share(before, total, STRIP_HEIGHT);
-            put_part(
-                pieces,
-                class,
-                place.saturating_mul(BIN_WIDTH),
-                y,
-                end.saturating_sub(y),
-            )?;
-        }
-    }
+    put(pieces, &[Piece::Markup(b"<g>")])?;
+    put_bin_title(pieces, kinds, &counts, total, first)?;
+    put_bin_parts(pieces, kinds, &counts, total, place)?;
     put(pieces, &[Piece::Markup(b"</g>\n")])
 }
 
@@ -153,7 +149,11 @@ pub(crate) fn put_bins(
         pieces,
         &[
             Piece::Markup(b"<div class=\"strip\"><svg role=\"img\" viewBox=\"0 0 "),
-            Piece::Figure((bins.len() as u64).saturating_mul(BIN_WIDTH).max(BIN_WIDTH)),
+            Piece::Figure(
+                (bins.len() as u64)
+                    .saturating_mul(COLUMN_WIDTH)
+                    .max(COLUMN_WIDTH),
+            ),
             Piece::Markup(b" 100\" preserveAspectRatio=\"none\"><title>"),
             Piece::Markup(before),
             Piece::Figure(capture),

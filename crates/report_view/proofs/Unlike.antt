@@ -8,8 +8,8 @@ use Rattle.report_values.specs.Outcomes.{NumbersAll, outcome_text}
 use Rattle.report_values.specs.declared.capture.Capture.{Capture as ToldCapture}
 use Rattle.report_values.specs.declared.rules.KnownRule.{KnownRule}
 use Rattle.report_view.specs.MovesTold.{AreAlike, IsFirstOther, IsOtherAt, IsOtherNumber, IsTroubleOf, IsUnfit, IsUnlike, counts_of}
-use Rattle.report_view.specs.declared.inputs.Trouble.{Trouble}
-use Rattle.report_view.specs.declared.inputs.Trouble.TheVariants.{Usage, Unread, NoReport, Script, NoJournal, OtherScript, Captures, Records, Named, OtherRecords, Capture, OutOfMemory}
+use Rattle.report_view.specs.declared.trouble.Trouble.{Trouble}
+use Rattle.report_view.specs.declared.trouble.Trouble.TheVariants.{Usage, Unread, NoReport, Script, NoJournal, OtherScript, Captures, Records, Named, OtherRecords, Capture, OutOfMemory}
 
 -- one capture more has as many numbers as records
 pub counts_more : (captures : List ToldCapture) (i : ℕ) (capture : ToldCapture) (known : List KnownRule) (old new numbers news : List (List ℕ)) (one : List ℕ)

@@ -4,9 +4,9 @@ use Rattle.report_moves.specs.Moves.{AreToldOnce, HaveSameLengths, IsToldOf, rec
 use Rattle.report_moves.specs.declared.moves.Move.{Move}
 use Rattle.report_values.specs.Captures.{captures_lines}
 use Rattle.report_values.specs.declared.capture.Capture.{Capture as ToldCapture}
-use Rattle.report_view.specs.declared.inputs.Trouble.{Trouble}
-use Rattle.report_view.specs.declared.inputs.Trouble.TheVariants.{Usage, Unread, NoReport, Script, NoJournal, OtherScript, Captures, Records, Named, OtherRecords, Capture, OutOfMemory}
-use Rattle.report_view.specs.declared.moves_text.Compared.{Compared}
+use Rattle.report_view.specs.declared.trouble.Trouble.{Trouble}
+use Rattle.report_view.specs.declared.trouble.Trouble.TheVariants.{Usage, Unread, NoReport, Script, NoJournal, OtherScript, Captures, Records, Named, OtherRecords, Capture, OutOfMemory}
+use Rattle.report_view.specs.declared.compared.Compared.{Compared}
 
 -- how many records some moves have
 abbrev pub records_told : List Move → ℕ

@@ -3,11 +3,18 @@
 //! Tests: the built program: `tests/run`.
 #![tactic(auto)]
 
+mod compared;
 mod flows_text;
 mod inputs;
 mod moves_text;
+mod moves_view;
+mod page_view;
 mod run;
 mod script_text;
+mod script_view;
+mod shown;
+mod trouble;
+mod trouble_text;
 mod words;
 
 use crate::run::run;

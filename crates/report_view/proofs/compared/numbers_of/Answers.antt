@@ -1,5 +1,5 @@
 use Rattle.report_view.proofs.Unlike.{counts_more}
-use Rattle.report_view.proofs.moves_text.numbers_of.Goals as goal
+use Rattle.report_view.proofs.compared.numbers_of.Goals as goal
 
 pub loop-capture-preserved : goal.loop-capture-preserved
 loop-capture-preserved c =

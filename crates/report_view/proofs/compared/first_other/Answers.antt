@@ -1,7 +1,7 @@
 use Rattle.std.proofs.Common.{◌≢◌, ◌<◌, ◌≤◌, ◌∙◌, [], ap, arith, length, min, refl, sym}
 use Rattle.std.proofs.lemmas.List.{get_or_read_under}
 use Rattle.report_view.proofs.Unlike.{are_alike, other_at}
-use Rattle.report_view.proofs.moves_text.first_other.Goals as goal
+use Rattle.report_view.proofs.compared.first_other.Goals as goal
 
 pub returns-then-as_slice : goal.returns-then-as_slice
 returns-then-as_slice c =

@@ -1,5 +1,5 @@
 use Rattle.report_view.proofs.Unlike.{unlike_answer}
-use Rattle.report_view.proofs.run.compared_texts.Goals as goal
+use Rattle.report_view.proofs.moves_view.compared_texts.Goals as goal
 
 pub returns-clause-cause : goal.returns-clause-cause
 returns-clause-cause c =

@@ -1,0 +1,104 @@
+use crate::compared::{other_verdicts, records_of};
+use crate::inputs::read_text;
+use crate::moves_view::compared_texts;
+use crate::shown::{Shown, show};
+use crate::trouble::{Trouble, unfit, without_states};
+use fw_base::{Library, Sink};
+use report_page::{LiveStates, MovesShown, columns_of, page_of};
+use report_states::live_states;
+use report_values::{JournalColumns, Report, read_report};
+use std::alloc::Global;
+
+/// The columns of a journal in which the states are asked nothing.
+const NO_COLUMNS: JournalColumns = JournalColumns {
+    first: 0,
+    seconds: 1,
+    count: 0,
+};
+
+/// The report of that name, in its text.
+fn report_in<'a, 't>(
+    alloc: Global,
+    name: &'a [u8],
+    text: &'t [u8],
+) -> Result<Report<'t>, Trouble<'a>> {
+    match read_report(alloc, text) {
+        Ok(report) => Ok(report),
+        Err(error) => Err(unfit(name, error)),
+    }
+}
+
+/// How many states lived along the journal of that report, by the script of that name.
+fn live_states_by<'a, L: Library>(
+    alloc: Global,
+    library: &mut L,
+    name: &'a [u8],
+    report: &Report<'_>,
+    script: &'a [u8],
+) -> Result<LiveStates, Trouble<'a>> {
+    let text = read_text(alloc, library, script)?;
+    let Some(journal) = &report.sections.journal else {
+        return Err(Trouble::NoJournal(name));
+    };
+    let columns = columns_of(journal);
+    match live_states(alloc, &text, journal.lines, columns.unwrap_or(NO_COLUMNS)) {
+        Ok(counts) => Ok(LiveStates { columns, counts }),
+        Err(fault) => Err(without_states((name, script), journal, fault)),
+    }
+}
+
+/// How many states lived along the journal of that report, where a script is named that tells it.
+fn live_states_if<'a, L: Library>(
+    alloc: Global,
+    library: &mut L,
+    name: &'a [u8],
+    report: &Report<'_>,
+    script: Option<&'a [u8]>,
+) -> Result<Option<LiveStates>, Trouble<'a>> {
+    match script {
+        Some(script) => Ok(Some(live_states_by(alloc, library, name, report, script)?)),
+        None => Ok(None),
+    }
+}
+
+/// Shows a page of one report, by the script of that name where there is one.
+pub(crate) fn show_page<'a, L: Library, K: Sink>(
+    alloc: Global,
+    library: &mut L,
+    out: &mut K,
+    name: &'a [u8],
+    script: Option<&'a [u8]>,
+) -> Result<u8, Trouble<'a>> {
+    let text = read_text(alloc, library, name)?;
+    let report = report_in(alloc, name, &text)?;
+    let live = live_states_if(alloc, library, name, &report, script)?;
+    let pieces = page_of(alloc, &report, None, live.as_ref())?;
+    Ok(show(alloc, out, &Shown::Page(&pieces)))
+}
+
+/// Shows a page of one report with what moved to another, by the script of that name where there is
+/// one.
+pub(crate) fn show_page_with_moves<'a, L: Library, K: Sink>(
+    alloc: Global,
+    library: &mut L,
+    out: &mut K,
+    (old, new): (&'a [u8], &'a [u8]),
+    script: Option<&'a [u8]>,
+) -> Result<u8, Trouble<'a>> {
+    let old_text = read_text(alloc, library, old)?;
+    let new_text = read_text(alloc, library, new)?;
+    let compared = compared_texts(alloc, (old, new), &old_text, &new_text)?;
+    let report = report_in(alloc, old, &old_text)?;
+    let live = live_states_if(alloc, library, old, &report, script)?;
+    let moves = MovesShown {
+        texts: &compared.texts,
+        old: &compared.old,
+        new: &compared.new,
+        moved: &compared.moves.moved,
+        moved_records: records_of(&compared.moves.moved),
+        verdict_records: other_verdicts(&compared.texts, &compared.moves.moved),
+        stayed_records: records_of(&compared.moves.stayed),
+    };
+    let pieces = page_of(alloc, &report, Some(&moves), live.as_ref())?;
+    Ok(show(alloc, out, &Shown::Page(&pieces)))
+}
