@@ -78,8 +78,8 @@ regained table t v u work a r =
 
 -- a lane that is in a new section
 pub entered : (table t : TableId) (v u : Known) (work w : LaneWork) (e : SharedEdition) → t ≡ table → u ≡ after_entry means v e → w ≡ loosened (is_some v.part.refusal) work → (arc_value e).number ≡ v.part.held → SeenUpTo v.part (arc_value e).number
-    → EntersIn (lane_of table v work) (inside_of t u w false)
-entered table t v u work w e a b c number latest =
+    → SeenAs v.part (arc_value e).number (arc_value e).config → EntersIn (lane_of table v work) (inside_of t u w false)
+entered table t v u work w e a b c number latest named =
     let before = lane_of table v work in
     let after = lane_of table (after_entry means v e) (loosened (is_some v.part.refusal) work) in
     let same = lane-path t table u (after_entry means v e) w (loosened (is_some v.part.refusal) work) a b c in
@@ -88,6 +88,7 @@ entered table t v u work w e a b c number latest =
       reads = ap edition_read b;
       held = number;
       latest = latest;
+      named = named;
       lane_is = same;
       fresh = refl;
       stands = subst (λ (l : SharedLane). KeepsStanding before l) (sym same) (keeps-standing before after (((arc_value e).number, (arc_value e).config) ∷ []) refl refl refl refl refl);
