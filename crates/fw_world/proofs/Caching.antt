@@ -15,11 +15,12 @@ use Rattle.eval_engine.specs.Dockets.{DocketValue, judged_entry, judgement_in}
 use Rattle.eval_engine.specs.Question.{question_under}
 use Rattle.eval_engine.specs.declared.docket_entry.DocketEntry.{DocketEntry}
 use Rattle.eval_engine.specs.declared.judgement.Judgement.{Judgement}
+use Rattle.cached_verdicts.proofs.Recent.{has_recent_open}
 use Rattle.cached_verdicts.specs.LaneCache.{LaneCacheValue, IsNoneBefore, HasRecent, IsPortOf}
 use Rattle.cached_verdicts.specs.Verdicts.{KeepsVerdicts}
 use Rattle.cached_verdicts.specs.Visits.{Visit, last_number, visit_of}
 use Rattle.cached_verdicts.specs.declared.kept_verdict.KeptVerdict.{KeptVerdict}
-use Rattle.fw_world.specs.Caches.{capacity_of, IsPortFor, IsTrueFor, IsCacheBehind, IsCacheAfter, KeepsUnder, IsCacheAmong, KeepsSeen, IsCacheSeen}
+use Rattle.fw_world.specs.Caches.{capacity_of, first_cache, IsPortFor, IsTrueFor, IsCacheBehind, IsCacheAfter, KeepsUnder, IsCacheAmong, KeepsSeen, IsCacheSeen}
 use Rattle.fw_world.specs.Editions.{edition_numbered, judging_edition}
 use Rattle.fw_world.specs.Entries.{EachRecord, IsEntryFor}
 use Rattle.fw_world.specs.Inputs.{Input, Other, Malformed, Packet}
@@ -243,3 +244,8 @@ module _ (seen : List (ℕ × Configuration)) (edition : Published) (factual : I
             kept = λ e built.
                 subst (λ (e : Published). KeepsUnder e new) (same_edition edition e (sym built.numbered) (sym built.configured) factual built.factual) (keeps_of edition new port looked.port_is (looked.kept port own));
           })
+
+-- a new cache, or none, stands for no input
+pub CacheStandsFor-none : (editions : List Published) (cache : Option ℕ) → CacheStandsFor editions (record { entries = []; refused = 0 }) (first_cache cache) []
+CacheStandsFor-none editions None = tt
+CacheStandsFor-none editions (Some capacity) = has_recent_open capacity

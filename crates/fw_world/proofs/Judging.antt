@@ -157,3 +157,12 @@ module _ (editions : List Published) (asks : List LaneAsk) (docket : DocketValue
             AreAsksOf-record (docket.entries ++ entered ∷ []) asks judgement.edition (n + 1) ops replies (AreAsksOf-entries docket.entries entered asks stands.asked)
             (all_weaker (λ (one : LaneAsk). one.at ≤ n) (λ (one : LaneAsk). one.at ≤ n + 1) (λ one below. omega arith) asks within) (omega arith) entered_at;
       })
+
+-- what has entered, counted and asked nothing stands for no input
+pub StandFor-none : (editions : List Published) → StandFor editions [] (record { entries = []; refused = 0 }) [] []
+StandFor-none editions = record {
+  entered = tt;
+  evaluated = tt;
+  tallied = λ id. refl;
+  asked = record { ordered = λ i j d order within. absurd (omega arith); numbered = tt; entered = tt };
+}

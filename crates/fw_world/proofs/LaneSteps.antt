@@ -35,8 +35,8 @@ not_loose : (b : Bool) (loose : ℕ) → one_looser b loose ≡ 0 → (b ≡ fal
 not_loose false loose none = (refl, none)
 not_loose true loose none = absurd (omega (arith, none))
 
--- one section more
-one_section : (sections : ℕ) → (tracker_after sections + 2) % 2 ^ 64 ≡ tracker_after (sections + 1)
+-- the tracker word of one section more
+pub one_section : (sections : ℕ) → (tracker_after sections + 2) % 2 ^ 64 ≡ tracker_after (sections + 1)
 one_section sections = omega arith
 
 pub IsLane-entered : (lane : LaneValue) → IsLane 0 lane → IsLane 1 (inside_after_entry lane).lane

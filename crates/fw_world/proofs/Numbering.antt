@@ -1,16 +1,13 @@
 -- What the numbers of editions tell.
-use Rattle.std.proofs.Common.{◌≡◌, ◌≤◌, ℕ, zero, suc, ◌+◌, ◌-◌, List, [], ◌∷◌, ◌++◌, length, map, refl, ap, ◌∙◌, subst, arith}
+use Rattle.std.proofs.Common.{◌≡◌, ◌≤◌, ℕ, zero, suc, ◌+◌, ◌-◌, List, [], ◌∷◌, ◌++◌, length, refl, ap, subst, arith}
 use Rattle.std.proofs.lemmas.Option.{slice_get_within}
 use Rattle.std.specs.List.{AllByRecursion}
 use Rattle.std.specs.Prelude.{Option, Some, None, IfSome, slice_get}
 use Rattle.state_asks.specs.RuleLists.{has_id}
 use Rattle.generation_store.specs.Published.{Published, has_identity, IsEdition}
-use Rattle.state_journal.specs.Entries.{publications, last_number}
 use Rattle.state_journal.specs.Journal.{last_rules}
-use Rattle.state_journal.specs.declared.entry.Entry.{Entry}
-use Rattle.state_journal.specs.declared.entry.Entry.TheVariants.{Publish, Ask}
 use Rattle.fw_world.specs.Editions.{IsLastOf, AreNumbered, edition_numbered}
-use Rattle.fw_world.specs.Publications.{PublishesEach, facts_of}
+use Rattle.fw_world.specs.Publications.{facts_of}
 
 -- the last of several is the last of all but the first
 pub IsLastOf-tail : (first next : Published) (rest : List Published) (edition : Published) → IsLastOf (first ∷ next ∷ rest) edition → IsLastOf (next ∷ rest) edition
@@ -34,31 +31,6 @@ last_is_numbered number [] edition numbered last = cc
 last_is_numbered number (first ∷ []) edition numbered last = let same = ap (λ (e : Published). e.number) (IsLastOf-one first edition last) in omega (arith, numbered.0)
 last_is_numbered number (first ∷ next ∷ rest) edition numbered last =
     omega (arith, last_is_numbered (number + 1) (next ∷ rest) edition numbered.2 (IsLastOf-tail first next rest edition last))
-
--- the last of these numbers, or this one where there is none
-last_or : ℕ → List ℕ → ℕ
-last_or after [] = after
-last_or after (number ∷ numbers) = last_or number numbers
-
-last_number_is : (after : ℕ) (entries : List Entry) → last_number after entries ≡ last_or after (publications entries)
-unfolding last_or
-last_number_is after [] = refl
-last_number_is after (Publish number ∷ entries) = last_number_is number entries
-last_number_is after (Ask lane op reply at ∷ entries) = last_number_is after entries
-
-last_or_is : (before : ℕ) (editions : List Published) → AreNumbered (before + 1) editions → last_or before (map (λ (e : Published). e.number) editions) ≡ before + length editions
-unfolding last_or
-last_or_is before [] numbered = let same : before ≡ before + 0 = omega arith in same
-last_or_is before (first ∷ rest) numbered =
-    let same : before + 1 + length rest ≡ before + length (first ∷ rest) = omega arith in
-    ap (λ (n : ℕ). last_or n (map (λ (e : Published). e.number) rest)) numbered.0 ∙ last_or_is (before + 1) rest numbered.2 ∙ same
-
--- an ask comes behind the publication of the last edition
-pub last_number_of : (editions : List Published) (entries : List Entry) → AreNumbered 1 editions → PublishesEach editions entries → last_number 0 entries ≡ length editions
-last_number_of editions entries numbered once =
-    let same : 0 + length editions ≡ length editions = omega arith in
-    let from : AreNumbered (0 + 1) editions = numbered in
-    last_number_is 0 entries ∙ ap (last_or 0) once ∙ last_or_is 0 editions from ∙ same
 
 -- the next edition behind numbered ones
 pub AreNumbered-append : (number : ℕ) (editions : List Published) (edition : Published) → AreNumbered number editions → edition.number ≡ number + length editions → IsEdition edition → AreNumbered number (editions ++ edition ∷ [])

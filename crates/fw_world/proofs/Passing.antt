@@ -16,7 +16,8 @@ use Rattle.fw_world.proofs.Caching.{CacheStandsFor-skipped}
 use Rattle.fw_world.proofs.Judging.{StandFor-skipped}
 use Rattle.fw_world.proofs.LaneSteps.{judged_editions-append, IsLane-skipped}
 
-not_judged : (entry : Skipped) → judged_editions (entry_for entry ∷ []) ≡ []
+-- a record that is passed over has no judgement
+pub not_judged : (entry : Skipped) → judged_editions (entry_for entry ∷ []) ≡ []
 not_judged Other = refl
 not_judged (Malformed kind) = refl
 

@@ -1,32 +1,23 @@
 -- What closing a world leaves.
-use Rattle.std.specs.Prelude.{◌≡◌, ℕ, ◌+◌, ⊤, nat_le, if◌then◌else◌, List, [], ◌∷◌, map}
+use Rattle.std.specs.Prelude.{ℕ, List, map}
+use Rattle.fw_world.specs.ByPlace.{ordered_by, HavePlacesFrom, EachWith}
 use Rattle.fw_world.specs.Inputs.{Input}
 use Rattle.fw_world.specs.Lane.{LaneValue}
 use Rattle.fw_world.specs.RecordValue.{RecordValue}
 use Rattle.fw_world.specs.RecordedHits.{counted_by}
 use Rattle.fw_world.specs.World.{WorldValue, IsLaneOf, LaneStandsFor}
 
--- a lane among these: before the first whose place isn't below its own
-abbrev pub lanes_with : LaneValue → List LaneValue → List LaneValue
-lanes_with lane [] = lane ∷ []
-lanes_with lane (first ∷ others) = if nat_le lane.place first.place then lane ∷ first ∷ others else first ∷ lanes_with lane others
-
 -- these lanes in the order of their places
 abbrev pub by_place : List LaneValue → List LaneValue
-by_place [] = []
-by_place (lane ∷ lanes) = lanes_with lane (by_place lanes)
+by_place lanes = ordered_by (λ lane. lane.place) lanes
 
 -- the lanes are those of this world from this place on, each once, in the order of their places
 abbrev pub AreLanesFrom : WorldValue → ℕ → List LaneValue → Type 0
-AreLanesFrom world place [] = ⊤
-AreLanesFrom world place (lane ∷ lanes) = (lane.place ≡ place) × IsLaneOf world lane × AreLanesFrom world (place + 1) lanes
+AreLanesFrom world place lanes = HavePlacesFrom (λ lane. lane.place) (IsLaneOf world) place lanes
 
 -- each lane stands for its inputs
 abbrev pub EachStandsFor : WorldValue → List LaneValue → List (List Input) → Type 0
-EachStandsFor world [] [] = ⊤
-EachStandsFor world [] (inputs ∷ others) = ⊥
-EachStandsFor world (lane ∷ lanes) [] = ⊥
-EachStandsFor world (lane ∷ lanes) (inputs ∷ others) = LaneStandsFor world lane inputs × EachStandsFor world lanes others
+EachStandsFor world lanes inputs = EachWith (LaneStandsFor world) lanes inputs
 
 -- the record of a world and its lanes
 abbrev pub record_of_world : WorldValue → List LaneValue → RecordValue

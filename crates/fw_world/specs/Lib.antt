@@ -23,4 +23,5 @@ pub mod Columns
 pub mod AskRuns
 pub mod Skips
 pub mod CommitFaults
+pub mod ByPlace
 pub mod Closing

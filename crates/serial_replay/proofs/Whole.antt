@@ -10,15 +10,15 @@ use Rattle.fw_world.specs.Editions.{IsLastOf}
 use Rattle.fw_world.specs.Lane.{LaneValue, first_lanes}
 use Rattle.fw_world.specs.Legal.{IsLegal}
 use Rattle.fw_world.specs.Asks.{lane_asks}
-use Rattle.cached_verdicts.proofs.Recent.{has_recent_open}
+use Rattle.fw_world.proofs.Caching.{CacheStandsFor-none}
+use Rattle.fw_world.proofs.Judging.{StandFor-none}
 use Rattle.fw_base.specs.declared.port.Port.{Port}
 use Rattle.fw_world.specs.Caches.{first_cache, capacity_of, IsPortFor, IsCacheAmong}
 use Rattle.fw_world.specs.RecordedHits.{EachHasRoom, TellsHits}
-use Rattle.fw_world.specs.Standing.{StandFor, CacheStandsFor}
+use Rattle.fw_world.specs.Standing.{StandFor}
 use Rattle.fw_world.specs.RecordValue.{RecordValue}
 use Rattle.fw_world.specs.World.{WorldValue, published_count, DeskStandsFor}
 use Rattle.serial_world.specs.WorldKept.{IsNewWorld}
-use Rattle.generation_store.specs.Published.{Published}
 use Rattle.pcap_read.specs.Reading.{Captured}
 use Rattle.rule_chain.specs.Configuration.{Configuration}
 use Rattle.state_journal.specs.Journal.{Journal, first_journal}
@@ -91,18 +91,6 @@ ports-first cache place (suc count) (port ∷ ports) same = (free cache, ports-f
     free None = tt
     free (Some capacity) = tt
 
-recent-none : (editions : List Published) (cache : Option ℕ) → CacheStandsFor editions (record { entries = []; refused = 0 }) (first_cache cache) []
-recent-none editions None = tt
-recent-none editions (Some capacity) = has_recent_open capacity
-
-stands-none : (editions : List Published) → StandFor editions [] (record { entries = []; refused = 0 }) [] []
-stands-none editions = record {
-  entered = tt;
-  evaluated = tt;
-  tallied = λ id. refl;
-  asked = record { ordered = λ i j d order within. absurd (omega arith); numbered = tt; entered = tt };
-}
-
 stands-first : {S : Type 0} (cache : Option ℕ) (world : WorldValue) (place count : ℕ) (origins : List Origin) (tracks : List (Track S)) → ((k : ℕ) → lane_asks k world.journal.entries ≡ []) → length origins ≡ count → length tracks ≡ count
     → EachStandsFor world (first_lanes cache place count) (inputs_of origins (map (λ (track : Track S). []) tracks))
 stands-first cache world place zero [] [] asks a b = tt
@@ -111,7 +99,7 @@ stands-first cache world place zero [] (track ∷ tracks) asks a b = absurd (ome
 stands-first cache world place (suc count) [] tracks asks a b = absurd (omega arith)
 stands-first cache world place (suc count) (origin ∷ origins) [] asks a b = absurd (omega arith)
 stands-first cache world place (suc count) (origin ∷ origins) (track ∷ tracks) asks a b =
-    (record { stands = subst (λ own. StandFor world.editions own (record { entries = []; refused = 0 }) [] []) (sym (asks place)) (stands-none world.editions); cached = recent-none world.editions cache }, stands-first cache world (place + 1) count origins tracks asks (omega arith) (omega arith))
+    (record { stands = subst (λ own. StandFor world.editions own (record { entries = []; refused = 0 }) [] []) (sym (asks place)) (StandFor-none world.editions); cached = CacheStandsFor-none world.editions cache }, stands-first cache world (place + 1) count origins tracks asks (omega arith) (omega arith))
 
 joined-first : {S : Type 0} (tracks : List (Track S)) (rests : List (List Captured)) → map next_record_of rests ≡ map held_record_of tracks → joined_records (map (λ (track : Track S). []) tracks) rests ≡ rests
 joined-first [] [] fits = refl

@@ -1,6 +1,6 @@
 -- What asks and publications leave of a serial world.
 use Rattle.std.proofs.Common.{◌≡◌, ℕ, ◌+◌, ◌-◌, List, [], ◌∷◌, ◌++◌, length, map, inl, inr, refl, sym, ap, ◌∙◌, subst, arith}
-use Rattle.std.proofs.lemmas.List.{length-append, map-append}
+use Rattle.std.proofs.lemmas.List.{length-append, length-map, map-append}
 use Rattle.std.specs.Prelude.{Some, slice_get, ◌⊎◌}
 use Rattle.fw_base.specs.declared.port.Port.{Port}
 use Rattle.fw_rule.specs.declared.command.Command.{Command}
@@ -13,7 +13,7 @@ use Rattle.generation_store.specs.Published.{Published}
 use Rattle.state_journal.proofs.EntryLists.{publications-ask, publications-publication}
 use Rattle.state_journal.specs.Entries.{last_number}
 use Rattle.state_journal.specs.Items.{asks_of}
-use Rattle.state_journal.specs.Journal.{Journal, with_ask, with_publication}
+use Rattle.state_journal.specs.Journal.{Journal, IsJournal, with_ask, with_publication}
 use Rattle.eval_engine.proofs.Hits.{judgement_names_edition}
 use Rattle.eval_engine.specs.Dockets.{judged_entry}
 use Rattle.eval_engine.specs.Evaluation.{evaluate}
@@ -31,7 +31,7 @@ use Rattle.fw_world.specs.World.{WorldValue, LaneStandsFor}
 use Rattle.fw_world.proofs.AskLists.{lane_asks-record, asks_of-others, KeepsAround-asks}
 use Rattle.fw_world.proofs.Caching.{AreBelow, CacheStandsFor-judged}
 use Rattle.fw_world.proofs.Judging.{StandFor-judged}
-use Rattle.fw_world.proofs.Numbering.{last_is_numbered, last_number_of, AreNumbered-append, all_found_below}
+use Rattle.fw_world.proofs.Numbering.{last_is_numbered, AreNumbered-append, all_found_below}
 use Rattle.fw_world.proofs.Running.{EntersEach-length}
 use Rattle.serial_world.specs.LastEdition.{last_published}
 use Rattle.serial_world.specs.Steps.{Judges, BeginsJudging, ChangesAsksOf}
@@ -111,14 +111,14 @@ Judges-run old new lane at packet port second counts after judgement is ran =
 
 -- the lane that judged stands for the packet behind its inputs
 pub LaneStandsFor-judged : (old new : WorldValue) (before after : LaneValue) (packet : AnyIp) (port : Port) (second : ℕ) (judgement : Judgement) (inputs : List Input)
-    → IsWorld old → Judges old new before.place (length before.docket.entries + 1) packet port second before.tally after.tally judgement
+    → IsWorld old → IsJournal old.journal → Judges old new before.place (length before.docket.entries + 1) packet port second before.tally after.tally judgement
     → IsCacheAfter (question_under (last_published old.editions) packet port second) before.cache after.cache → after.place ≡ before.place → after.docket.entries ≡ before.docket.entries ++ judged_entry judgement ∷ [] → LaneStandsFor old before inputs → LaneStandsFor new after (inputs ++ Packet packet port second ∷ [])
-LaneStandsFor-judged old new before after packet port second judgement inputs is judges sees place entries stands =
+LaneStandsFor-judged old new before after packet port second judgement inputs is journal judges sees place entries stands =
     let at : ℕ = length before.docket.entries + 1 in
     let q : Question = question_under judges.edition packet port second in
     let ops : List Op = (evaluate q judges.replies).asks in
     let found : edition_numbered old.editions judgement.edition ≡ Some judges.edition = subst (λ (n : ℕ). slice_get old.editions (n - 1) ≡ Some judges.edition) (sym judges.numbered) judges.last in
-    let number : last_number 0 old.journal.entries ≡ judgement.edition = last_number_of old.editions old.journal.entries is.numbered is.published.once ∙ sym judges.numbered in
+    let number : last_number 0 old.journal.entries ≡ judgement.edition = journal.current ∙ sym (ap length is.published.factual) ∙ length-map old.editions (λ (e : Published). e.facts) ∙ sym judges.numbered in
     let own : lane_asks before.place new.journal.entries ≡ lane_asks before.place old.journal.entries ++ record_asks judgement.edition at ops judges.replies =
     ap (λ (j : Journal). lane_asks before.place j.entries) judges.entered ∙ lane_asks-record old.journal before.place at ops judges.replies
     ∙ ap (λ (n : ℕ). lane_asks before.place old.journal.entries ++ record_asks n at ops judges.replies) number in

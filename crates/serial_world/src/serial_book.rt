@@ -3,7 +3,7 @@ ghost use Rattle.std.specs.Arc.{arc_value};
 ghost use Rattle.fw_rule.specs.WellFormed.{IsWellFormed};
 ghost use Rattle.generation_store.specs.Published.{IsEdition};
 ghost use Rattle.rule_edits.specs.Changing.{IsChanging};
-ghost use Rattle.state_journal.specs.Journal.{first_journal};
+ghost use Rattle.state_journal.specs.Journal.{IsJournal, first_journal};
 ghost use Rattle.fw_world.specs.CommitFaults.{IsCauseOf};
 ghost use Rattle.fw_world.specs.World.{published_count};
 ghost use Rattle.serial_world.specs.Steps.{Publishes};
@@ -56,11 +56,12 @@ impl SerialBook {
         Ok(SerialBook { book, store })
     }
 
-    /// Does nothing, and says that editions and book are a world.
+    /// Does nothing, and says that editions and book are a world, and the book lawful.
     pub(crate) fn is_world(&self)
-        ensures { IsWorld self.now }
+        ensures world { IsWorld self.now }
+        ensures journal { IsJournal self.now.journal }
     {
-        let _ = &self.store;
+        let _entries = self.book.entries();
     }
 
     /// The number of the last edition.

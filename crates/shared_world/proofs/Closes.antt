@@ -7,6 +7,7 @@ use Rattle.atomic_table.specs.Seated.{TableId}
 use Rattle.counter_book.specs.declared.tally.Count.{Count}
 use Rattle.eval_engine.specs.Dockets.{DocketValue}
 use Rattle.fw_rule.specs.declared.command.Command.{Command}
+use Rattle.fw_world.proofs.Arranging.{length-by_place}
 use Rattle.fw_world.proofs.Recording.{as_many, lanes-stand, lanes-count, lanes-rise, TellsHits-world}
 use Rattle.fw_world.specs.Closing.{record_of_world}
 use Rattle.fw_world.specs.Editions.{AreEditions}
@@ -25,7 +26,6 @@ use Rattle.rm_lock.specs.Ends.{ClosesAs, EndsFor}
 use Rattle.rule_chain.specs.Configuration.{Configuration}
 use Rattle.state_journal.specs.Journal.{Journal, IsJournal}
 use Rattle.shared_world.proofs.Apart.{column, counted-are, placed, works-many}
-use Rattle.shared_world.proofs.Arranging.{length-by_place}
 use Rattle.shared_world.proofs.LastBook as last_book
 use Rattle.shared_world.proofs.LastLanes.{each_seat, last_world, are-lanes, are-kept, each-stands, each-asks, trackers-are}
 use Rattle.shared_world.specs.Apart.{AreApart, Seat, counted_in}
@@ -52,7 +52,7 @@ in_order world given ordered seats works same are apart = subst (λ (all : List 
 
 -- they are as many as the desk knows
 pub as_known : (given : List SharedLane) (shown inside : SharedDesk) → length given ≡ shown.lanes → inside ≡ shown → length (by_place given) ≡ inside.lanes
-as_known given shown inside many same = length-by_place given ∙ many ∙ sym (ap (λ (d : SharedDesk). d.lanes) same)
+as_known given shown inside many same = length-by_place (λ (lane : SharedLane). lane.place) given ∙ many ∙ sym (ap (λ (d : SharedDesk). d.lanes) same)
 
 plain_rooms : (cache : Option ℕ) (all : List SharedLane) → AllByRecursion (λ (lane : SharedLane). capacity_of lane.cache ≡ cache) all → EachHasRoom cache (map plain_lane all)
 plain_rooms cache [] rooms = tt

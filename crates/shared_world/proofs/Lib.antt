@@ -7,8 +7,7 @@ pub mod Judged
 -- desks that go on
 pub mod DeskSteps
 pub mod Committed
--- lanes in the order of their places, and taken apart
-pub mod Arranging
+-- lanes taken apart
 pub mod Apart
 -- a world that opens
 pub mod NewWorld

@@ -1,6 +1,6 @@
 -- Lanes that begin a section, are refused, leave, regain and pass over records.
 use Rattle.rule_chain.specs.Configuration.{Configuration}
-use Rattle.std.proofs.Common.{◌≡◌, ℕ, ◌+◌, ◌%◌, ◌^◌, ◌<◌, ◌≤◌, Bool, true, false, List, [], ◌∷◌, ◌++◌, length, Option, Some, None, refl, sym, ap, ◌∙◌, subst, arith, zero, suc, inl, inr}
+use Rattle.std.proofs.Common.{◌≡◌, ℕ, ◌+◌, ◌%◌, ◌^◌, ◌<◌, ◌≤◌, Bool, true, false, List, [], ◌∷◌, ◌++◌, length, Option, Some, None, refl, sym, ap, ◌∙◌, subst, zero, suc, inl, inr}
 use Rattle.std.proofs.lemmas.List.{append-nil}
 use Rattle.std.specs.Prelude.{All, IfSome, is_some, not, Result, Ok, Err, OnOk, OnErr, ◌⊎◌, slice_get}
 use Rattle.std.specs.Arc.{arc_value}
@@ -11,13 +11,14 @@ use Rattle.eval_engine.specs.declared.docket_entry.DocketEntry.{DocketEntry}
 use Rattle.fw_base.specs.declared.failure.OutOfMemory.{OutOfMemory}
 use Rattle.fw_world.proofs.Caching.{CacheStandsFor-skipped}
 use Rattle.fw_world.proofs.Judging.{StandFor-skipped}
-use Rattle.fw_world.proofs.LaneSteps.{IsLane-entered, IsLane-skipped, judged_editions-append}
+use Rattle.fw_world.proofs.LaneSteps.{IsLane-entered, IsLane-skipped, judged_editions-append, one_section}
+use Rattle.fw_world.proofs.Passing.{not_judged}
 use Rattle.fw_world.proofs.Records.{slice_get-append, slice_get-last}
 use Rattle.fw_world.proofs.Seen.{IsCacheSeen-more}
 use Rattle.fw_world.specs.Inputs.{Input}
 use Rattle.fw_world.specs.Lane.{one_looser}
 use Rattle.fw_world.specs.LaneKept.{IsLane}
-use Rattle.fw_world.specs.Sections.{judged_editions, tracker_after}
+use Rattle.fw_world.specs.Sections.{judged_editions}
 use Rattle.fw_world.specs.Skips.{entry_for, skipped_input}
 use Rattle.fw_world.specs.declared.lane_work.LaneWork.{LaneWork}
 use Rattle.fw_world.specs.declared.skipped.Skipped.{Skipped}
@@ -77,8 +78,8 @@ regained table t v u work a r =
 
 -- a lane that is in a new section
 pub entered : (table t : TableId) (v u : Known) (work w : LaneWork) (e : SharedEdition) → t ≡ table → u ≡ after_entry means v e → w ≡ loosened (is_some v.part.refusal) work → (arc_value e).number ≡ v.part.held → SeenUpTo v.part (arc_value e).number
-    → EntersIn (lane_of table v work) (inside_of t u w false)
-entered table t v u work w e a b c number latest =
+    → SeenAs v.part (arc_value e).number (arc_value e).config → EntersIn (lane_of table v work) (inside_of t u w false)
+entered table t v u work w e a b c number latest named =
     let before = lane_of table v work in
     let after = lane_of table (after_entry means v e) (loosened (is_some v.part.refusal) work) in
     let same = lane-path t table u (after_entry means v e) w (loosened (is_some v.part.refusal) work) a b c in
@@ -87,21 +88,18 @@ entered table t v u work w e a b c number latest =
       reads = ap edition_read b;
       held = number;
       latest = latest;
+      named = named;
       lane_is = same;
       fresh = refl;
       stands = subst (λ (l : SharedLane). KeepsStanding before l) (sym same) (keeps-standing before after (((arc_value e).number, (arc_value e).config) ∷ []) refl refl refl refl refl);
     }
-
--- one section more
-next_section : (sections : ℕ) → (tracker_after sections + 2) % 2 ^ 64 ≡ tracker_after (sections + 1)
-next_section sections = omega arith
 
 -- what holds of it
 pub entered-kept : (v : Known) (work : LaneWork) (e : SharedEdition) → IsSharedLane 0 v work → IsSharedLane 1 (after_entry means v e) (loosened (is_some v.part.refusal) work)
 entered-kept v work e is = record {
   plain =
       let loose = one_looser (is_some v.part.refusal) work.loose in
-      subst (λ (t : ℕ). IsLane 1 (record (plain_of v work) { tracker = t; loose = loose })) (next_section v.part.sections) (IsLane-entered (plain_of v work) is.plain);
+      subst (λ (t : ℕ). IsLane 1 (record (plain_of v work) { tracker = t; loose = loose })) (one_section v.part.sections) (IsLane-entered (plain_of v work) is.plain);
   of_book = record { first = is.of_book.first; count = is.of_book.count; rest = is.of_book.rest; opened = is.of_book.opened; last = is.of_book.last };
   judged = is.judged;
   seen = all_weaker (IsSeenIn v.part.pairs) (IsSeenIn (v.part.pairs ++ ((arc_value e).number, (arc_value e).config) ∷ []))
@@ -150,10 +148,6 @@ refused table t v u work w number a b c above =
     let after = lane_of table (after_refusal v number) more in
     let same = lane-path t table u (after_refusal v number) w more a b c in
     record { above = above; lane_is = same; stands = subst (λ (l : SharedLane). KeepsStanding before l) (sym same) (keeps before after refl refl refl refl refl) }
-
-not_judged : (entry : Skipped) → judged_editions (entry_for entry ∷ []) ≡ []
-not_judged Other = refl
-not_judged (Malformed kind) = refl
 
 -- a lane that passed over a record stands for it behind its inputs
 stands-skipped : (lane : SharedLane) (entry : Skipped) (inputs : List Input) → LaneStandsFor lane inputs → LaneStandsFor (with_entry (entry_for entry) lane) (inputs ++ skipped_input entry ∷ [])

@@ -1,18 +1,17 @@
 -- Lanes that stand for what they stood for.
-use Rattle.std.proofs.Common.{◌≡◌, ℕ, Option, Some, None, List, [], ◌++◌, false, refl, sym, subst, arith}
+use Rattle.std.proofs.Common.{◌≡◌, ℕ, Option, Some, None, List, [], ◌++◌, false, sym, subst}
 use Rattle.std.specs.Prelude.{IfSome}
 use Rattle.atomic_table.specs.Seated.{TableId}
-use Rattle.cached_verdicts.proofs.Recent.{has_recent_open}
 use Rattle.cached_verdicts.specs.LaneCache.{LaneCacheValue, HasRecent}
 use Rattle.counter_book.specs.declared.tally.Count.{Count}
 use Rattle.eval_engine.specs.declared.docket_entry.DocketEntry.{DocketEntry}
-use Rattle.fw_world.proofs.Judging.{StandFor-entries}
+use Rattle.fw_world.proofs.Caching.{CacheStandsFor-none}
+use Rattle.fw_world.proofs.Judging.{StandFor-entries, StandFor-none}
 use Rattle.fw_world.proofs.Seen.{StandForSeen-more}
 use Rattle.fw_world.specs.Asks.{LaneAsk, asks_in}
 use Rattle.fw_world.specs.Caches.{first_cache, IsCacheSeen}
 use Rattle.fw_world.specs.Standing.{StandFor, AreSeenOf, CacheStandsFor}
 use Rattle.fw_world.specs.Visits.{lane_visits}
-use Rattle.generation_store.specs.Published.{Published}
 use Rattle.rule_chain.specs.Configuration.{Configuration}
 use Rattle.fw_world.specs.declared.lane_work.LaneWork.{LaneWork}
 use Rattle.shared_world.specs.Known.{Known}
@@ -20,22 +19,10 @@ use Rattle.shared_world.specs.LaneKept.{IsNewSeat}
 use Rattle.shared_world.specs.SharedLane.{SharedLane, lane_of, new_lane}
 use Rattle.shared_world.specs.Standing.{LaneStandsFor, KeepsStanding}
 
-stands-none : (editions : List Published) → StandFor editions [] (record { entries = []; refused = 0 }) [] []
-stands-none editions = record {
-  entered = tt;
-  evaluated = tt;
-  tallied = λ id. refl;
-  asked = record { ordered = λ i j d order within. absurd (omega arith); numbered = tt; entered = tt };
-}
-
-recent-none : (editions : List Published) (cache : Option ℕ) → CacheStandsFor editions (record { entries = []; refused = 0 }) (first_cache cache) []
-recent-none editions None = tt
-recent-none editions (Some capacity) = has_recent_open capacity
-
 -- a new lane stands for no input
 pub stands-new : (world : TableId) (cache : Option ℕ) (place : ℕ) → LaneStandsFor (new_lane world cache place) []
 unfolding LaneStandsFor
-stands-new world cache place = λ editions are. record { stands = stands-none editions; cached = recent-none editions cache }
+stands-new world cache place = λ editions are. record { stands = StandFor-none editions; cached = CacheStandsFor-none editions cache }
 
 -- what a new lane's cache keeps was seen
 pub first-seen : (seen : List (ℕ × Configuration)) (cache : Option ℕ) → IsCacheSeen seen (first_cache cache)

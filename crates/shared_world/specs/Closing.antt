@@ -1,8 +1,9 @@
 -- A shared world as it opens and as it closes.
-use Rattle.std.specs.Prelude.{◌≡◌, ℕ, ◌+◌, ⊤, nat_le, if◌then◌else◌, Option, List, [], ◌∷◌, map}
+use Rattle.std.specs.Prelude.{◌≡◌, ℕ, ◌+◌, ⊤, Option, List, [], ◌∷◌, map}
 use Rattle.std.specs.List.{AllByRecursion}
 use Rattle.atomic_table.specs.Seated.{TableId}
 use Rattle.fw_world.specs.Asks.{lane_asks}
+use Rattle.fw_world.specs.ByPlace.{ordered_by, HavePlacesFrom, EachWith}
 use Rattle.fw_world.specs.Caches.{capacity_of}
 use Rattle.fw_world.specs.Inputs.{Input}
 use Rattle.fw_world.specs.RecordValue.{RecordValue}
@@ -18,27 +19,17 @@ abbrev pub AreNewLanes : TableId → Option ℕ → ℕ → List SharedLane → 
 AreNewLanes world cache place [] = ⊤
 AreNewLanes world cache place (lane ∷ lanes) = (lane ≡ new_lane world cache place) × LaneStandsFor lane [] × AreNewLanes world cache (place + 1) lanes
 
--- a lane among these: before the first whose place isn't below its own
-abbrev pub lanes_with : SharedLane → List SharedLane → List SharedLane
-lanes_with lane [] = lane ∷ []
-lanes_with lane (first ∷ others) = if nat_le lane.place first.place then lane ∷ first ∷ others else first ∷ lanes_with lane others
-
 -- these lanes in the order of their places
 abbrev pub by_place : List SharedLane → List SharedLane
-by_place [] = []
-by_place (lane ∷ lanes) = lanes_with lane (by_place lanes)
+by_place lanes = ordered_by (λ lane. lane.place) lanes
 
 -- the lanes are those of this world from this place on, each once, in the order of their places
 abbrev pub AreLanesFrom : TableId → ℕ → List SharedLane → Type 0
-AreLanesFrom world place [] = ⊤
-AreLanesFrom world place (lane ∷ lanes) = (lane.place ≡ place) × (lane.world ≡ world) × AreLanesFrom world (place + 1) lanes
+AreLanesFrom world place lanes = HavePlacesFrom (λ lane. lane.place) (λ lane. lane.world ≡ world) place lanes
 
 -- each lane stands for its inputs
 abbrev pub EachStandsFor : List SharedLane → List (List Input) → Type 0
-EachStandsFor [] [] = ⊤
-EachStandsFor [] (inputs ∷ others) = ⊥
-EachStandsFor (lane ∷ lanes) [] = ⊥
-EachStandsFor (lane ∷ lanes) (inputs ∷ others) = LaneStandsFor lane inputs × EachStandsFor lanes others
+EachStandsFor lanes inputs = EachWith LaneStandsFor lanes inputs
 
 -- each lane has a cache for so many verdicts, or each has none
 abbrev pub EachHasRoom : Option ℕ → List SharedLane → Type 0

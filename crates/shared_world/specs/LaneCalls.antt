@@ -15,13 +15,18 @@ use Rattle.shared_world.specs.declared.lane_entry.LaneEntry.TheVariants.{In, Rev
 abbrev pub SeesUpTo : SharedLane → ℕ → Type 0
 SeesUpTo lane number = (j seen : ℕ) (config : Configuration) → slice_get lane.seen j ≡ Some (seen, config) → seen ≤ number
 
+-- each edition that the lane read under this number was of this configuration
+abbrev pub SeesAs : SharedLane → ℕ → Configuration → Type 0
+SeesAs lane number config = (j : ℕ) (other : Configuration) → slice_get lane.seen j ≡ Some (number, other) → other ≡ config
+
 -- The lane is in a new section, and reads an edition of the number that it held, which none that it read
--- before is past.
+-- before is past. Each that it read before under this number was of the same configuration.
 pub record EntersIn (lane : SharedLane) (inside : SharedInside) : Type 0 where
   pub edition : Published
   pub reads : inside.edition ≡ Some edition
   pub held : edition.number ≡ lane.number
   pub latest : SeesUpTo lane edition.number
+  pub named : SeesAs lane edition.number edition.config
   pub lane_is : inside.lane ≡ lane_after_entry edition lane
   pub fresh : inside.judged ≡ false
   pub stands : KeepsStanding lane inside.lane

@@ -3,7 +3,7 @@ use Rattle.std.proofs.lemmas.List.Sorted.{IsPermutation-refl}
 use Rattle.eval_engine.specs.declared.docket_entry.DocketEntry.TheVariants.{Other}
 use Rattle.fw_world.specs.Closing.{AreLanesFrom, by_place}
 use Rattle.fw_world.specs.Lane.{LaneValue, first_lane, with_docket_entry}
-use Rattle.fw_world.specs.World.{WorldValue, published_count}
+use Rattle.fw_world.specs.World.{WorldValue, IsLaneOf, published_count}
 use Rattle.serial_world.specs.WorldKept.{IsNewWorld}
 use Rattle.fw_world.proofs.Arranging.{by_place-moved}
 use Rattle.rule_chain.specs.Configuration.{Configuration}
@@ -30,7 +30,7 @@ are-pair config world opened =
 close_in : (config : Configuration) (world after : WorldValue) (lanes moved : List LaneValue) → IsNewWorld config 2 world → after ≡ world → lanes ≡ pair → IsPermutation lanes moved → AreLanesFrom after 1 (by_place moved)
 close_in config world after lanes moved opened unchanged is same =
     let are = are-pair config world opened in
-    let ordered : by_place moved ≡ pair = by_place-moved world 1 pair moved are (subst (λ (l : List LaneValue). IsPermutation l moved) is same) in
+    let ordered : by_place moved ≡ pair = by_place-moved (λ (lane : LaneValue). lane.place) (IsLaneOf world) 1 pair moved are (subst (λ (l : List LaneValue). IsPermutation l moved) is same) in
     subst (λ (w : WorldValue). AreLanesFrom w 1 (by_place moved)) (sym unchanged) (subst (λ (l : List LaneValue). AreLanesFrom world 1 l) (sym ordered) are)
 
 pub close-requires-clause-lanes : goal.close-requires-clause-lanes

@@ -3,6 +3,7 @@ use Rattle.fw_world.specs.Closing.{AreLanesFrom, EachStandsFor, record_of_world}
 use Rattle.fw_world.specs.Lane.{LaneValue}
 use Rattle.fw_world.specs.RecordedHits.{TellsHits}
 use Rattle.fw_world.specs.Legal.{IsLegal}
+use Rattle.fw_world.specs.World.{IsLaneOf}
 use Rattle.fw_world.proofs.Arranging.{by_place-same}
 use Rattle.serial_replay.proofs.Whole.{no-loose}
 use Rattle.serial_replay.proofs.running.Running.close.Goals as goal
@@ -10,13 +11,13 @@ use Rattle.serial_replay.proofs.running.Running.close.Goals as goal
 pub close-requires-clause-lanes : goal.close-requires-clause-lanes
 close-requires-clause-lanes g c =
     let replay = c.args.self.replay in
-    subst (λ (lanes : List LaneValue). AreLanesFrom replay.world 1 lanes) (sym (by_place-same replay.world 1 replay.lanes.items c.requires.sound.lanes)) c.requires.sound.lanes
+    subst (λ (lanes : List LaneValue). AreLanesFrom replay.world 1 lanes) (sym (by_place-same (λ (lane : LaneValue). lane.place) (IsLaneOf replay.world) 1 replay.lanes.items c.requires.sound.lanes)) c.requires.sound.lanes
 
 pub returns : goal.returns
 returns g c =
     let replay = c.args.self.replay in
     let lanes = replay.lanes.items in
-    let same = by_place-same replay.world 1 lanes c.requires.sound.lanes in
+    let same = by_place-same (λ (lane : LaneValue). lane.place) (IsLaneOf replay.world) 1 lanes c.requires.sound.lanes in
     let exact = c.in_ok-record.ensures.exact ∙ ap (record_of_world replay.world) same in
     record {
       record_is = exact;

@@ -45,8 +45,8 @@ returns-clause-legal c = λ first commands inputs desk stands none.
     let editions = subst (λ (all : List Published). AreEditions first commands all) c.requires.desk desk in
     subst (λ (r : RecordValue). AreEditions first commands r.editions → length inputs ≡ r.journal.lanes → EachLane (LaneStands r) 1 inputs r.dockets r.tallies r.trackers
     → EachLane (LaneCounts r) 1 inputs r.dockets r.tallies r.trackers → IsLegal first commands inputs r) (same c) (c.new.ensures.legal first commands inputs)
-    editions (as_many world closed inputs stands ∙ length-by_place c.args.lanes.items ∙ c.requires.all) (lanes-stand world closed inputs c.requires.lanes stands)
-    (lanes-count world closed inputs c.requires.lanes stands (kept c) (all-by_place (λ (lane : LaneValue). lane.loose ≡ 0) c.args.lanes.items none))
+    editions (as_many world closed inputs stands ∙ length-by_place (λ (lane : LaneValue). lane.place) c.args.lanes.items ∙ c.requires.all) (lanes-stand world closed inputs c.requires.lanes stands)
+    (lanes-count world closed inputs c.requires.lanes stands (kept c) (all-by_place (λ (lane : LaneValue). lane.place) (λ (lane : LaneValue). lane.loose ≡ 0) c.args.lanes.items none))
 
 pub returns-clause-nearly : goal.returns-clause-nearly
 returns-clause-nearly c = λ first commands inputs desk stands.
@@ -55,9 +55,9 @@ returns-clause-nearly c = λ first commands inputs desk stands.
     let editions = subst (λ (all : List Published). AreEditions first commands all) c.requires.desk desk in
     subst (λ (r : RecordValue). AreEditions first commands r.editions → length inputs ≡ r.journal.lanes → EachLane (LaneStands r) 1 inputs r.dockets r.tallies r.trackers
     → EachLane LaneRises 1 inputs r.dockets r.tallies r.trackers → IsLegalButSections first commands inputs r) (same c) (c.new.ensures.nearly first commands inputs)
-    editions (as_many world closed inputs stands ∙ length-by_place c.args.lanes.items ∙ c.requires.all) (lanes-stand world closed inputs c.requires.lanes stands)
+    editions (as_many world closed inputs stands ∙ length-by_place (λ (lane : LaneValue). lane.place) c.args.lanes.items ∙ c.requires.all) (lanes-stand world closed inputs c.requires.lanes stands)
     (lanes-rise world closed inputs c.requires.lanes stands (kept c))
 
 pub returns-clause-hits : goal.returns-clause-hits
 returns-clause-hits c = λ cache inputs rooms stands.
-    TellsHits-world c.args.self (by_place c.args.lanes.items) cache inputs (all-by_place (λ (lane : LaneValue). capacity_of lane.cache ≡ cache) c.args.lanes.items rooms) stands
+    TellsHits-world c.args.self (by_place c.args.lanes.items) cache inputs (all-by_place (λ (lane : LaneValue). lane.place) (λ (lane : LaneValue). capacity_of lane.cache ≡ cache) c.args.lanes.items rooms) stands

@@ -23,7 +23,7 @@ use Rattle.serial_world.proofs.serial_world.SerialWorld.judge_record.Goals as go
 use Rattle.serial_world.proofs.serial_world.SerialWorld.judge_record.Goals.{After-judge}
 
 begun : (c : After-judge) → BeginsJudging c.self.inside.held c.judge.new.book c.args.lane.now.place (length c.args.lane.now.docket.entries + 1) c.args.packet.now c.args.port.now c.args.second
-begun c = BeginsJudging-run c.self.inside.held c.judge.new.book c.args.lane.now.place (length c.args.lane.now.docket.entries + 1) c.args.packet.now c.args.port.now c.args.second c.is_world.ensures c.judge.ensures.asked
+begun c = BeginsJudging-run c.self.inside.held c.judge.new.book c.args.lane.now.place (length c.args.lane.now.docket.entries + 1) c.args.packet.now c.args.port.now c.args.second c.is_world.ensures.world c.judge.ensures.asked
 
 judged : (c : After-judge) → IfOk c.judge.result (λ judgement. Judges c.self.inside.held c.judge.new.book c.args.lane.now.place (length c.args.lane.now.docket.entries + 1) c.args.packet.now c.args.port.now c.args.second c.args.lane.now.tally c.judge.new.self.tally judgement)
 judged c =
@@ -31,7 +31,7 @@ judged c =
     IfOk-weaker c.judge.result
     (λ judgement. Evaluates (AsksFor c.args.lane.now.place at) c.self.inside.held c.judge.new.book (question_under (last_published c.self.inside.held.editions) c.args.packet.now c.args.port.now c.args.second) c.args.lane.now.tally c.judge.new.self.tally judgement)
     (λ judgement. Judges c.self.inside.held c.judge.new.book c.args.lane.now.place at c.args.packet.now c.args.port.now c.args.second c.args.lane.now.tally c.judge.new.self.tally judgement)
-    (λ judgement ran. Judges-run c.self.inside.held c.judge.new.book c.args.lane.now.place at c.args.packet.now c.args.port.now c.args.second c.args.lane.now.tally c.judge.new.self.tally judgement c.is_world.ensures ran)
+    (λ judgement ran. Judges-run c.self.inside.held c.judge.new.book c.args.lane.now.place at c.args.packet.now c.args.port.now c.args.second c.args.lane.now.tally c.judge.new.self.tally judgement c.is_world.ensures.world ran)
     c.judge.ensures.judged
 
 pub invariant_of-self : goal.invariant_of-self
@@ -63,7 +63,7 @@ found world is = last_is_found world.editions (last_published world.editions) is
 pub judge-requires-clause-kept : goal.judge-requires-clause-kept
 judge-requires-clause-kept c =
     let among = subst (λ (w : WorldValue). IsCacheAmong w.editions c.args.lane.now.cache) (sym c.self.view_is) c.requires.of_world.cached in
-    IsTrueFor-among c.self.inside.held.editions (last_published c.self.inside.held.editions) c.args.lane.now.cache (found c.self.inside.held c.is_world.ensures) among
+    IsTrueFor-among c.self.inside.held.editions (last_published c.self.inside.held.editions) c.args.lane.now.cache (found c.self.inside.held c.is_world.ensures.world) among
 
 stands : (c : After-judge) → OnOk c.judge.result ((inputs : List Input) → LaneStandsFor c.args.self.now c.args.lane.now inputs → LaneStandsFor c.judge.new.book c.judge.new.self (inputs ++ Packet c.args.packet.now c.args.port.now c.args.second ∷ []))
 stands c =
@@ -76,7 +76,7 @@ stands c =
     (Sees c)
     _
     (λ judgement judges lane sees. λ inputs stands.
-    LaneStandsFor-judged c.args.self.now c.judge.new.book before after c.args.packet.now c.args.port.now c.args.second judgement inputs (rw c.self.view_is at c.is_world.ensures) judges sees
+    LaneStandsFor-judged c.args.self.now c.judge.new.book before after c.args.packet.now c.args.port.now c.args.second judgement inputs (rw c.self.view_is at c.is_world.ensures.world) (rw c.self.view_is at c.is_world.ensures.journal) judges sees
     (ap (λ (l : LaneValue). l.place) lane) (ap (λ (l : LaneValue). l.docket.entries) lane) stands)
     (judged_here c) c.judge.ensures.lane (sees c)
 
@@ -91,7 +91,7 @@ numbered c =
 cached : (c : After-judge) → IsCacheAmong c.args.self.now.editions c.judge.new.self.cache
 cached c =
     let world = c.args.self.now in
-    IsCacheAmong-behind world.editions (last_published world.editions) c.args.port.now c.args.lane.now.cache c.judge.new.self.cache (found world (rw c.self.view_is at c.is_world.ensures)) c.requires.port (behind c) c.requires.of_world.cached
+    IsCacheAmong-behind world.editions (last_published world.editions) c.args.port.now c.args.lane.now.cache c.judge.new.self.cache (found world (rw c.self.view_is at c.is_world.ensures.world)) c.requires.port (behind c) c.requires.of_world.cached
 
 pub returns-clause-of_world : goal.returns-clause-of_world
 returns-clause-of_world c =

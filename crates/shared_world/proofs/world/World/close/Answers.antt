@@ -3,6 +3,7 @@ use Rattle.std.proofs.lemmas.List.Elements.{All-from_recursion}
 use Rattle.std.specs.Prelude.{All}
 use Rattle.std.specs.Arc.{arc_value}
 use Rattle.atomic_table.specs.Seated.{TableId}
+use Rattle.fw_world.proofs.Arranging.{all-by_place}
 use Rattle.fw_world.specs.Caches.{capacity_of}
 use Rattle.fw_world.specs.Columns.{no_columns}
 use Rattle.fw_world.specs.Publications.{IsPublished}
@@ -10,7 +11,6 @@ use Rattle.fw_world.specs.RecordValue.{RecordValue}
 use Rattle.generation_store.specs.Published.{Published}
 use Rattle.state_journal.specs.Journal.{Journal, IsJournal}
 use Rattle.shared_world.proofs.Apart.{each_once, of_lock, works-many}
-use Rattle.shared_world.proofs.Arranging.{all-by_place}
 use Rattle.shared_world.proofs.Closes as closes
 use Rattle.shared_world.proofs.world.World.close.Goals as goal
 use Rattle.shared_world.proofs.world.World.close.Goals.{After-new}
@@ -93,7 +93,7 @@ returns-clause-legal c = λ first commands inputs accepted stand none.
     c.taken_apart-processors.result.0.items c.taken_apart-processors.result.1.items c.close-book.result.book c.close-book.result.trackers.items c.close-book.result.editions.items
     c.requires.lanes (many c) (apart c) c.close-book.ensures.closed
     c.args.desk (shown c) c.new.result (same c) first commands inputs accepted stand (c.new.ensures.legal first commands inputs)
-    (all-by_place (λ (lane : SharedLane). lane.loose ≡ 0) c.args.lanes.items none)
+    (all-by_place (λ (lane : SharedLane). lane.place) (λ (lane : SharedLane). lane.loose ≡ 0) c.args.lanes.items none)
 
 pub returns-clause-nearly : goal.returns-clause-nearly
 returns-clause-nearly c = λ first commands inputs accepted stand.
@@ -107,4 +107,4 @@ returns-clause-hits c = λ cache inputs rooms stand.
     closes.tells c.desk.inside.lanes c.desk.inside.operator.view c.desk.inside.store.editions c.desk.invariant.0 c.args.self (by_place c.args.lanes.items)
     c.taken_apart-processors.result.0.items c.taken_apart-processors.result.1.items c.close-book.result.book c.close-book.result.trackers.items c.close-book.result.editions.items
     c.requires.lanes (many c) (apart c) c.close-book.ensures.closed
-    c.new.result (same c) cache inputs (all-by_place (λ (lane : SharedLane). capacity_of lane.cache ≡ cache) c.args.lanes.items rooms) stand
+    c.new.result (same c) cache inputs (all-by_place (λ (lane : SharedLane). lane.place) (λ (lane : SharedLane). capacity_of lane.cache ≡ cache) c.args.lanes.items rooms) stand

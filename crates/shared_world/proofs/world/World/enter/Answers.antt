@@ -33,7 +33,7 @@ returns-in-In c = record {
       let t = c.in-In.ensures.entry.0 in
       subst (λ (l : SharedLane). EntersIn l (inside_of c.in-In.reading.table_id c.in-In.reading.view c.loosen.new.self false)) c.lane.view_is
       (entered c.lane.inside.processor.table_id c.in-In.reading.table_id c.lane.inside.processor.view c.in-In.reading.view c.lane.inside.work c.loosen.new.self c.in-In.ensures.entry.1.0 t
-      c.in-In.ensures.entry.1.1 (counted c) c.in-In.ensures.entry.1.2 c.in-In.ensures.entry.1.3);
+      c.in-In.ensures.entry.1.1 (counted c) c.in-In.ensures.entry.1.2 c.in-In.ensures.entry.1.3 c.in-In.ensures.entry.1.4);
 }
 
 pub returns-in-Revoked : goal.returns-in-Revoked
