@@ -28,6 +28,7 @@ use Rattle.fw_world.specs.Editions.{edition_numbered}
 use Rattle.fw_world.specs.Inputs.{Input, Packet}
 use Rattle.fw_world.specs.Lane.{LaneValue, with_docket_entry}
 use Rattle.fw_world.specs.LaneKept.{IsLane, pending_of}
+use Rattle.fw_world.specs.LaneSteps.{LaneJudges}
 use Rattle.fw_world.specs.Sections.{judged_editions, tracker_after}
 use Rattle.fw_world.specs.Standing.{StandFor, AreSeenOf}
 use Rattle.fw_world.specs.declared.lane_work.LaneWork.{LaneWork}
@@ -242,26 +243,25 @@ module _ (table : TableId) (v : Known) (work : LaneWork) (reads : ReadsSeen v) (
     loose = l i;
   }
 
-  module _ (result : Result Judgement OutOfMemory) (ran : IfOk result (Evaluates (Enters at) old new question work.tally w.tally)) (entered : IsEntered result) (working : OnOk result (work.failed ≡ false))
-      (asked : AsksFront (Enters at) Misses old new question) (failed : IsFailed result) (behind : IsCacheBehind edition port work.cache w.cache) (sees : OnOk result (IsCacheAfter question work.cache w.cache)) (at_port : IsPortFor work.cache port) where
+  module _ (lane : ℕ) (result : Result Judgement OutOfMemory) (judges : LaneJudges (λ old lane at. Enters at old) Misses old new lane question work w result) (at_port : IsPortFor work.cache port) where
     -- the next record of the lane was judged, or memory was wanted
-    pub next : (b : Bool) → IsSharedLane 1 v work → t ≡ table → (work.failed ≡ true → new ≡ old) → JudgesNext (inside_of table v work b) (inside_of t u w (is_ok result)) packet port second result
-    next b is own idle = record {
+    pub next : (b : Bool) → IsSharedLane 1 v work → t ≡ table → JudgesNext (inside_of table v work b) (inside_of t u w (is_ok result)) packet port second result
+    next b is own = record {
       edition = edition;
       reads = reading;
-      judged = judged_by result ran;
-      entered = entered_by result entered;
-      same = alike own (still asked) (loose_is result entered failed);
-      room = capacity-behind edition port work.cache w.cache behind;
-      at_port = IsPortFor-behind edition port work.cache w.cache behind at_port;
-      stands = stands_by result ran entered sees;
-      working = working_by result entered working;
+      judged = judged_by result judges.judged;
+      entered = entered_by result judges.entered;
+      same = alike own (still judges.asked) (loose_is result judges.entered judges.failed);
+      room = capacity-behind edition port work.cache w.cache judges.cache;
+      at_port = IsPortFor-behind edition port work.cache w.cache judges.cache at_port;
+      stands = stands_by result judges.judged judges.entered judges.seen;
+      working = working_by result judges.entered judges.working;
       idle = λ was.
-          let same : u ≡ v = ended ∙ ap (λ (a : AskingValue). a.view) (idle was) ∙ begun in
+          let same : u ≡ v = ended ∙ ap (λ (a : AskingValue). a.view) (judges.idle was) ∙ begun in
           (ap (λ (x : Known). asks_in x.part.own) same, ap (λ (x : Known). x.part.book_taken) same);
-      failed = failed_by result failed;
-      begun = begins asked;
-      reading = ap edition_read (still asked);
+      failed = failed_by result judges.failed;
+      begun = begins judges.asked;
+      reading = ap edition_read (still judges.asked);
       section = refl;
     }
       where
@@ -275,7 +275,7 @@ module _ (table : TableId) (v : Known) (work : LaneWork) (reads : ReadsSeen v) (
 
         stands_by : (r : Result Judgement OutOfMemory) → IfOk r (Evaluates (Enters at) old new question work.tally w.tally) → IsEntered r → OnOk r (IsCacheAfter question work.cache w.cache)
             → OnOk r ((inputs : List Input) → LaneStandsFor (lane_of table v work) inputs → LaneStandsFor (lane_of t u w) (inputs ++ Packet packet port second ∷ []))
-        stands_by (Ok judgement) ran entered saw = stands judgement ran (ap (λ (x : LaneWork). x.docket.entries) entered) (still asked) saw is.judged is.seen
+        stands_by (Ok judgement) ran entered saw = stands judgement ran (ap (λ (x : LaneWork). x.docket.entries) entered) (still judges.asked) saw is.judged is.seen
         stands_by (Err fault) ran entered saw = tt
 
         working_by : (r : Result Judgement OutOfMemory) → IsEntered r → OnOk r (work.failed ≡ false) → OnOk r ((work.failed ≡ false) × (w.failed ≡ false))
@@ -291,15 +291,15 @@ module _ (table : TableId) (v : Known) (work : LaneWork) (reads : ReadsSeen v) (
     cached_still is =
         let names = subst (λ (p : Published). (j : ℕ) (other : Configuration) → slice_get v.part.pairs j ≡ Some (p.number, other) → other ≡ p.config) (sym edition_is) reads.named in
         let pair : slice_get v.part.pairs reads.index ≡ Some (edition.number, edition.config) = subst (λ (p : Published). slice_get v.part.pairs reads.index ≡ Some (p.number, p.config)) (sym edition_is) reads.seen in
-        subst (λ (pairs : List (ℕ × Configuration)). IsCacheSeen pairs w.cache) (sym (ap (λ (x : Known). x.part.pairs) (still asked)))
-        (IsCacheSeen-behind v.part.pairs edition lawful names port work.cache w.cache reads.index pair at_port behind is.cached)
+        subst (λ (pairs : List (ℕ × Configuration)). IsCacheSeen pairs w.cache) (sym (ap (λ (x : Known). x.part.pairs) (still judges.asked)))
+        (IsCacheSeen-behind v.part.pairs edition lawful names port work.cache w.cache reads.index pair at_port judges.cache is.cached)
 
     -- what holds of it
     pub kept : IsSharedLane 1 v work → IsSharedLane (pending_of (is_ok result)) u w
-    kept is = kept_by result ran entered failed
+    kept is = kept_by result judges.judged judges.entered judges.failed
       where
         of_seat : steady_view u ≡ steady_view v
-        of_seat = still asked
+        of_seat = still judges.asked
 
         kept_by : (r : Result Judgement OutOfMemory) → IfOk r (Evaluates (Enters at) old new question work.tally w.tally) → IsEntered r → IsFailed r → IsSharedLane (pending_of (is_ok r)) u w
         kept_by (Ok judgement) ran entered failed =
@@ -357,13 +357,13 @@ module _ (table : TableId) (v : Known) (work : LaneWork) (reads : ReadsSeen v) (
             }
 
     pub reads_still : ReadsSeen u
-    reads_still = reads_after v u (still asked) reads
+    reads_still = reads_after v u (still judges.asked) reads
 
     pub place_still : u.place ≡ v.place
-    place_still = ap (λ (x : Known). x.place) (still asked)
+    place_still = ap (λ (x : Known). x.place) (still judges.asked)
 
     pub lock_still : new.lock ≡ old.lock
-    lock_still = (front asked).asks.lock
+    lock_still = (front judges.asked).asks.lock
 
 -- under the edition that is read all that the cache keeps is true
 pub is_true : (v : Known) (work : LaneWork) → ReadsSeen v → IsCacheSeen v.part.pairs work.cache → IsTrueFor (edition_of v) work.cache

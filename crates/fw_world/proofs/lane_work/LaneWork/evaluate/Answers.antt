@@ -1,4 +1,4 @@
-use Rattle.std.proofs.Common.{◌≡◌, None, List, length, refl, [], ◌∷◌, ◌++◌, ap, arith, subst, ◌∙◌}
+use Rattle.std.proofs.Common.{◌≡◌, None, List, length, refl, [], ◌∷◌, ◌++◌, ap, arith, rules, subst, ◌∙◌}
 use Rattle.state_asks.specs.declared.op.Op.{Op}
 use Rattle.state_asks.specs.declared.reply.Reply.{Reply}
 use Rattle.counter_book.specs.declared.tally.Count.{Count}
@@ -20,13 +20,25 @@ loop-judged-init g c =
       reached = record { asks = []; replies = []; stands = stands; entered = refl };
     }
 
-pub returns-in_err-judged-clause-asked : goal.returns-in_err-judged-clause-asked
-returns-in_err-judged-clause-asked g c = AsksFront-none _ _ _ _
+pub returns-in_err-judged : goal.returns-in_err-judged
+returns-in_err-judged g c = record {
+  judged = search rules;
+  asked = AsksFront-none _ _ _ _;
+  cache = search rules;
+  seen = search rules;
+  unentered = search rules;
+}
 
-pub returns-in-Some-clause-judged : goal.returns-in-Some-clause-judged
-returns-in-Some-clause-judged g c =
+pub returns-in-Some : goal.returns-in-Some
+returns-in-Some g c =
     let reached = rw c.in-Some.is at c.loop-judged.invariant.reached in
-    IsReached-ended _ _ _ _ _ _ c.in-Some.judgement c.loop-judged.paused c.requires.lawful c.requires.fitted reached
+    record {
+      judged = IsReached-ended _ _ _ _ _ _ c.in-Some.judgement c.loop-judged.paused c.requires.lawful c.requires.fitted reached;
+      asked = search rules;
+      cache = search rules;
+      seen = search rules;
+      unentered = search rules;
+    }
 
 pub loop-judged-preserved : goal.loop-judged-preserved
 loop-judged-preserved g c =

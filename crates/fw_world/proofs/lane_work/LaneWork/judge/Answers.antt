@@ -1,5 +1,27 @@
+use Rattle.std.proofs.Common.{rules}
 use Rattle.fw_world.proofs.Running.{AsksFront-none}
 use Rattle.fw_world.proofs.lane_work.LaneWork.judge.Goals as goal
 
-pub returns-then-self-clause-asked : goal.returns-then-self-clause-asked
-returns-then-self-clause-asked g c = AsksFront-none _ _ _ _
+pub returns-then-self : goal.returns-then-self
+returns-then-self g c = record {
+  judged = search rules;
+  entered = search rules;
+  working = search rules;
+  asked = AsksFront-none _ _ _ _;
+  cache = search rules;
+  seen = search rules;
+  failed = search rules;
+  idle = search rules;
+}
+
+pub returns-in_err-fit : goal.returns-in_err-fit
+returns-in_err-fit g c = record {
+  judged = search rules;
+  entered = search rules;
+  working = search rules;
+  asked = AsksFront-none _ _ _ _;
+  cache = search rules;
+  seen = search rules;
+  failed = search rules;
+  idle = search rules;
+}
