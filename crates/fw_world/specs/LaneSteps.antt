@@ -38,38 +38,30 @@ pub record LaneEnters (before after : LaneWork) (entry : DocketEntry) (result : 
   -- where memory is wanted the lane has failed
   pub failed : OnErr result (after ≡ record before { failed = true })
 
+-- an ask of the lane for its next record was entered with this reply
+abbrev pub EntersNext : {B : Type 0} → (B → ℕ → ℕ → Op → Reply → B → Type 0) → ℕ → LaneWork → B → Op → Reply → B → Type 0
+EntersNext enters lane work old op reply new = enters old lane (length work.docket.entries + 1) op reply new
+
 -- who is asked: what an ask of a lane for a record means, and what one may leave that wanted memory
 module _ {B : Type 0} (enters : B → ℕ → ℕ → Op → Reply → B → Type 0) (misses : B → B → Type 0) where
-  -- an ask of the lane for its next record was entered with this reply
-  abbrev pub enters_next : ℕ → LaneWork → B → Op → Reply → B → Type 0
-  enters_next lane work old op reply new = enters old lane (length work.docket.entries + 1) op reply new
-
   -- A packet was evaluated for the lane's next record, or memory was wanted.
   pub record LaneEvaluates (old new : B) (lane : ℕ) (question : Question) (before after : LaneWork) (result : Result Judgement OutOfMemory) : Type 0 where
     -- the evaluation is whole, and its hits were counted
-    pub judged : IfOk result (Evaluates (enters_next lane before) old new question before.tally after.tally)
+    pub judged : IfOk result (Evaluates (EntersNext enters lane before) old new question before.tally after.tally)
     -- the asks that were made stay, a beginning of those that the evaluation makes
-    pub asked : AsksFront (enters_next lane before) misses old new question
+    pub asked : AsksFront (EntersNext enters lane before) misses old new question
     -- its cache, where it has one, was looked into, or memory was wanted before
     pub cache : IsCacheBehind question.edition question.port before.cache after.cache
+    -- and saw the packet
     pub seen : OnOk result (IsCacheAfter question before.cache after.cache)
-    -- no entry is made
-    pub unentered : after ≡ record before { tally = after.tally; cache = after.cache }
 
   -- The lane's next record was judged, or memory was wanted.
   pub record LaneJudges (old new : B) (lane : ℕ) (question : Question) (before after : LaneWork) (result : Result Judgement OutOfMemory) : Type 0 where
-    -- the evaluation is whole, and its hits were counted
-    pub judged : IfOk result (Evaluates (enters_next lane before) old new question before.tally after.tally)
+    pub evaluated : LaneEvaluates old new lane question before after result
     -- its entry stands last in the docket
     pub entered : IfOk result (λ judgement. after ≡ record (with_work_entry (judged_entry judgement) before) { tally = after.tally; cache = after.cache })
-    -- a lane that has failed judges nothing
+    -- a lane that has failed judges nothing, and asks nothing
     pub working : OnOk result (before.failed ≡ false)
-    -- the asks that were made stay, a beginning of those that the evaluation makes
-    pub asked : AsksFront (enters_next lane before) misses old new question
-    -- its cache, where it has one, was looked into, or memory was wanted before
-    pub cache : IsCacheBehind question.edition question.port before.cache after.cache
-    pub seen : OnOk result (IsCacheAfter question before.cache after.cache)
+    pub idle : before.failed ≡ true → new ≡ old
     -- where memory is wanted the lane has failed, and no entry is made
     pub failed : OnErr result (after ≡ record before { tally = after.tally; cache = after.cache; failed = true })
-    -- a lane that has failed asks nothing
-    pub idle : before.failed ≡ true → new ≡ old

@@ -51,8 +51,12 @@ impl LaneWork {
         requires fitted { (B.edition book.old).config.greatest_counter < length self.old.tally }
         requires port { IsPortFor self.old.cache port.now }
         requires kept { IsTrueFor (B.edition book.old) self.old.cache }
-        ensures { LaneEvaluates B.enters B.misses book.old book.new lane
+        ensures evaluated { LaneEvaluates B.enters B.misses book.old book.new lane
             (question_under (B.edition book.old) packet.now port.now second) self.old self.new result }
+        ensures unentered { self.new ≡ record self.old {
+          tally = self.new.tally;
+          cache = self.new.cache;
+        } }
     {
         let at = self.docket.entries().len() as u64 + 1;
         let tally = &mut self.tally;

@@ -20,25 +20,23 @@ loop-judged-init g c =
       reached = record { asks = []; replies = []; stands = stands; entered = refl };
     }
 
-pub returns-in_err-judged : goal.returns-in_err-judged
-returns-in_err-judged g c = record {
+pub returns-in_err-judged-clause-evaluated : goal.returns-in_err-judged-clause-evaluated
+returns-in_err-judged-clause-evaluated g c = record {
   judged = search rules;
   asked = AsksFront-none _ _ _ _;
   cache = search rules;
   seen = search rules;
-  unentered = search rules;
 }
 
-pub returns-in-Some : goal.returns-in-Some
-returns-in-Some g c =
+pub returns-in-Some-clause-evaluated : goal.returns-in-Some-clause-evaluated
+returns-in-Some-clause-evaluated g c =
     let reached = rw c.in-Some.is at c.loop-judged.invariant.reached in
     record {
       judged = IsReached-ended _ _ _ _ _ _ c.in-Some.judgement c.loop-judged.paused c.requires.lawful c.requires.fitted reached;
       asked = search rules;
       cache = search rules;
       seen = search rules;
-      unentered = search rules;
-    }
+        }
 
 pub loop-judged-preserved : goal.loop-judged-preserved
 loop-judged-preserved g c =
