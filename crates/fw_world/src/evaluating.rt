@@ -38,6 +38,7 @@ fn begin_beside(
 impl LaneWork {
     /// Evaluates a packet for the lane's next record, by a look into its cache where it has one, and asks the
     /// states as often as the evaluation does. Where memory is wanted the asks that were made stay.
+    #[tactic(auto, using(crate::proofs::Running::asks_nothing))]
     pub(crate) fn evaluate<'x, B: AsksBook>(
         &mut self,
         book: &mut B,

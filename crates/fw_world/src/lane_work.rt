@@ -71,6 +71,7 @@ impl LaneWork {
     /// Judges the next record, a packet that was captured there at that second, under the edition that the
     /// asker lends. Where memory is wanted the lane has failed, no entry is made, and the asks that were made
     /// stay.
+    #[tactic(auto, using(crate::proofs::Running::asks_nothing))]
     pub fn judge<B: AsksBook>(
         &mut self,
         book: &mut B,

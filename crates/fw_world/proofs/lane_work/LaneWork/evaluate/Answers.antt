@@ -6,7 +6,7 @@ use Rattle.eval_engine.proofs.Progressing.{stands-length}
 use Rattle.eval_engine.specs.Question.{Question, question_under}
 use Rattle.eval_engine.specs.Standing.{StandsAt, asked_by}
 use Rattle.generation_store.specs.Published.{Published}
-use Rattle.fw_world.proofs.Running.{IsReached-ended, IsReached-answered, AsksFront-none}
+use Rattle.fw_world.proofs.Running.{IsReached-ended, IsReached-answered}
 use Rattle.fw_world.proofs.lane_work.LaneWork.evaluate.Goals as goal
 
 pub loop-judged-init : goal.loop-judged-init
@@ -20,14 +20,6 @@ loop-judged-init g c =
       reached = record { asks = []; replies = []; stands = stands; entered = refl };
     }
 
-pub returns-in_err-judged-clause-evaluated : goal.returns-in_err-judged-clause-evaluated
-returns-in_err-judged-clause-evaluated g c = record {
-  judged = search rules;
-  asked = AsksFront-none _ _ _ _;
-  cache = search rules;
-  seen = search rules;
-}
-
 pub returns-in-Some-clause-evaluated : goal.returns-in-Some-clause-evaluated
 returns-in-Some-clause-evaluated g c =
     let reached = rw c.in-Some.is at c.loop-judged.invariant.reached in
@@ -36,7 +28,7 @@ returns-in-Some-clause-evaluated g c =
       asked = search rules;
       cache = search rules;
       seen = search rules;
-        }
+    }
 
 pub loop-judged-preserved : goal.loop-judged-preserved
 loop-judged-preserved g c =
