@@ -35,13 +35,13 @@ is_world : (c : After-lane-1) → IsWorld c.args.self.now
 is_world c = rw c.self.view_is at c.is_world.ensures
 
 begun : (c : After-lane-1) → BeginsJudging c.args.self.now c.judge.new.book c.args.lane.now.place (length c.args.lane.now.docket.entries + 1) c.args.packet.now c.args.port.now c.args.second
-begun c = BeginsJudging-run c.args.self.now c.judge.new.book c.args.lane.now.place (length c.args.lane.now.docket.entries + 1) c.args.packet.now c.args.port.now c.args.second (is_world c) (judges c).asked
+begun c = BeginsJudging-run c.args.self.now c.judge.new.book c.args.lane.now.place (length c.args.lane.now.docket.entries + 1) c.args.packet.now c.args.port.now c.args.second (is_world c) (judges c).evaluated.asked
 
 judged : (c : After-lane-1) → IfOk c.judge.result (Judges c.args.self.now c.judge.new.book c.args.lane.now.place (length c.args.lane.now.docket.entries + 1) c.args.packet.now c.args.port.now c.args.second c.args.lane.now.tally c.judge.new.self.tally)
 judged c =
     IfOk-weaker c.judge.result _ _
     (λ judgement ran. Judges-run c.args.self.now c.judge.new.book c.args.lane.now.place (length c.args.lane.now.docket.entries + 1) c.args.packet.now c.args.port.now c.args.second c.args.lane.now.tally c.judge.new.self.tally judgement (is_world c) ran)
-    (judges c).judged
+    (judges c).evaluated.judged
 
 lane : (c : After-lane-1) → IfOk c.judge.result (λ judgement. after c ≡ record (with_docket_entry (judged_entry judgement) c.args.lane.now) { tally = c.judge.new.self.tally; cache = c.judge.new.self.cache })
 lane c = IfOk-weaker c.judge.result _ _ (λ judgement is. ap (with_work c.args.lane.now) is) (judges c).entered
@@ -74,7 +74,7 @@ stands c =
     (λ judgement judges lane sees. λ inputs stands.
     LaneStandsFor-judged c.args.self.now c.judge.new.book before (after c) c.args.packet.now c.args.port.now c.args.second judgement inputs (is_world c) judges sees
     (ap (λ (l : LaneValue). l.place) lane) (ap (λ (l : LaneValue). l.docket.entries) lane) stands)
-    (judged c) (lane c) (judges c).seen
+    (judged c) (lane c) (judges c).evaluated.seen
 
 numbered : (c : After-lane-1) → IfOk c.judge.result (λ judgement. judgement.edition ≡ published_count c.args.self.now)
 numbered c = IfOk-weaker c.judge.result _ _ (λ judgement judges. judges.numbered) (judged c)
@@ -83,7 +83,7 @@ numbered c = IfOk-weaker c.judge.result _ _ (λ judgement judges. judges.numbere
 cached : (c : After-lane-1) → IsCacheAmong c.args.self.now.editions c.judge.new.self.cache
 cached c =
     let world = c.args.self.now in
-    IsCacheAmong-behind world.editions (last_published world.editions) c.args.port.now c.args.lane.now.cache c.judge.new.self.cache (found world (is_world c)) c.requires.port (judges c).cache c.requires.of_world.cached
+    IsCacheAmong-behind world.editions (last_published world.editions) c.args.port.now c.args.lane.now.cache c.judge.new.self.cache (found world (is_world c)) c.requires.port (judges c).evaluated.cache c.requires.of_world.cached
 
 pub returns-clause-of_world : goal.returns-clause-of_world
 returns-clause-of_world c = IsLaneOf-after c.judge.result c.args.self.now c.judge.new.book c.args.lane.now (after c) (changes c).lanes (changes c).editions (numbered c) (lane c) (failed c) (cached c) c.requires.of_world
@@ -95,8 +95,8 @@ pub returns-clause-next : goal.returns-clause-next
 returns-clause-next c = record {
   judged = judged c;
   lane = lane c;
-  room = capacity-behind (last_published c.args.self.now.editions) c.args.port.now c.args.lane.now.cache c.judge.new.self.cache (judges c).cache;
-  at_port = IsPortFor-behind (last_published c.args.self.now.editions) c.args.port.now c.args.lane.now.cache c.judge.new.self.cache (judges c).cache c.requires.port;
+  room = capacity-behind (last_published c.args.self.now.editions) c.args.port.now c.args.lane.now.cache c.judge.new.self.cache (judges c).evaluated.cache;
+  at_port = IsPortFor-behind (last_published c.args.self.now.editions) c.args.port.now c.args.lane.now.cache c.judge.new.self.cache (judges c).evaluated.cache c.requires.port;
   stands = stands c;
   working = (judges c).working;
   idle = (judges c).idle;

@@ -12,9 +12,9 @@ enters : (c : After-work-2-1) → LaneEnters c.lane.inside.work c.enter-outcome.
 enters c = rw (c.deref_mut.ensures.value, c.skipped_entry.ensures) at c.enter-outcome.ensures
 
 pub invariant_of-result : goal.invariant_of-result
-invariant_of-result c = skipped-kept c.lane.inside.processor.view c.lane.inside.work c.enter-outcome.new.self c.args.entry c.enter-outcome.result (enters c).entered (enters c).failed c.lane.invariant
+invariant_of-result c = skipped-kept c.lane.inside.processor.view c.lane.inside.work c.enter-outcome.new.self c.args.entry c.enter-outcome.result (enters c) c.lane.invariant
 
 pub returns-clause-entered : goal.returns-clause-entered
 returns-clause-entered c =
     subst (λ (l : SharedLane). SkipsNext l (lane_of c.lane.inside.processor.table_id c.lane.inside.processor.view c.enter-outcome.new.self) c.args.entry c.enter-outcome.result) c.lane.view_is
-    (skipped c.lane.inside.processor.table_id c.lane.inside.processor.view c.lane.inside.work c.enter-outcome.new.self c.args.entry c.enter-outcome.result (enters c).entered (enters c).working (enters c).failed)
+    (skipped c.lane.inside.processor.table_id c.lane.inside.processor.view c.lane.inside.work c.enter-outcome.new.self c.args.entry c.enter-outcome.result (enters c))
