@@ -114,5 +114,5 @@ Evaluates-fitted enters old new q counts fitted tally judgement same ran = recor
 }
 
 -- no ask is a beginning
-pub AsksFront-none : {B : Type 0} (enters : B → Op → Reply → B → Type 0) (misses : B → B → Type 0) (now : B) (q : Question) → AsksFront enters misses now now q
-AsksFront-none enters misses now q = record { ops = []; replies = []; between = now; entered = refl; begins = ((evaluate q []).asks, refl); missed = inl refl }
+pub asks_nothing : {B : Type 0} (enters : B → Op → Reply → B → Type 0) (misses : B → B → Type 0) (now : B) (q : Question) → AsksFront enters misses now now q
+asks_nothing enters misses now q = record { ops = []; replies = []; between = now; entered = refl; begins = ((evaluate q []).asks, refl); missed = inl refl }

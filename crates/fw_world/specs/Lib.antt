@@ -21,6 +21,7 @@ pub mod World
 pub mod Columns
 -- what is done in whichever world
 pub mod AskRuns
+pub mod LaneSteps
 pub mod Skips
 pub mod CommitFaults
 pub mod ByPlace

@@ -2,8 +2,8 @@ ghost use Rattle.std.specs.Prelude.{◌≡◌, ◌+◌, ◌<◌, ◌^◌, [], le
 ghost use Rattle.rule_chain.specs.Chain.{IsConfiguration};
 ghost use Rattle.eval_engine.specs.Question.{question_under};
 ghost use Rattle.eval_engine.specs.Standing.{StandsAt};
-ghost use Rattle.fw_world.specs.AskRuns.{Evaluates, AsksFront};
 ghost use Rattle.fw_world.specs.Caches.{IsPortFor, IsTrueFor, IsCacheBehind, IsCacheAfter};
+ghost use Rattle.fw_world.specs.LaneSteps.{LaneEvaluates};
 
 use crate::asks_book::AsksBook;
 use crate::lane_work::LaneWork;
@@ -38,6 +38,7 @@ fn begin_beside(
 impl LaneWork {
     /// Evaluates a packet for the lane's next record, by a look into its cache where it has one, and asks the
     /// states as often as the evaluation does. Where memory is wanted the asks that were made stay.
+    #[tactic(auto, using(crate::proofs::Running::asks_nothing))]
     pub(crate) fn evaluate<'x, B: AsksBook>(
         &mut self,
         book: &mut B,
@@ -51,19 +52,8 @@ impl LaneWork {
         requires fitted { (B.edition book.old).config.greatest_counter < length self.old.tally }
         requires port { IsPortFor self.old.cache port.now }
         requires kept { IsTrueFor (B.edition book.old) self.old.cache }
-        ensures judged { IfOk result
-            (Evaluates (λ old op reply new.
-            B.enters old lane (length self.old.docket.entries + 1) op reply new) book.old book.new
-            (question_under (B.edition book.old) packet.now port.now second) self.old.tally
-            self.new.tally) }
-        ensures asked { AsksFront (λ old op reply new.
-            B.enters old lane (length self.old.docket.entries + 1) op reply new)
-            (λ old new. B.misses old new) book.old book.new
-            (question_under (B.edition book.old) packet.now port.now second) }
-        ensures cache { IsCacheBehind (B.edition book.old) port.now self.old.cache self.new.cache }
-        ensures seen { OnOk result (IsCacheAfter
-            (question_under (B.edition book.old) packet.now port.now second) self.old.cache
-            self.new.cache) }
+        ensures evaluated { LaneEvaluates B.enters B.misses book.old book.new lane
+            (question_under (B.edition book.old) packet.now port.now second) self.old self.new result }
         ensures unentered { self.new ≡ record self.old {
           tally = self.new.tally;
           cache = self.new.cache;

@@ -1,9 +1,7 @@
-ghost use Rattle.std.specs.Prelude.{◌≡◌, ◌+◌, ◌<◌, [], ◌∷◌, ◌++◌, length, true, false, IfOk, OnOk, OnErr};
-ghost use Rattle.eval_engine.specs.Dockets.{judged_entry};
+ghost use Rattle.std.specs.Prelude.{◌≡◌, [], true, false};
 ghost use Rattle.eval_engine.specs.Question.{question_under};
-ghost use Rattle.fw_world.specs.AskRuns.{Evaluates, AsksFront};
-ghost use Rattle.fw_world.specs.Caches.{IsPortFor, IsTrueFor, IsCacheBehind, IsCacheAfter};
-ghost use Rattle.fw_world.specs.Lane.{one_looser};
+ghost use Rattle.fw_world.specs.Caches.{IsPortFor, IsTrueFor};
+ghost use Rattle.fw_world.specs.LaneSteps.{LaneEnters, LaneJudges, work_after_section};
 
 use crate::asks_book::AsksBook;
 use cached_verdicts::LaneCache;
@@ -51,7 +49,7 @@ impl LaneWork {
 
     /// Counts a section as loose where it is one; the count stands still at the end of 64 bits.
     pub fn loosen(&mut self, is_loose: bool)
-        ensures { self.new ≡ record self.old { loose = one_looser is_loose self.old.loose } }
+        ensures { self.new ≡ work_after_section is_loose self.old }
     {
         if is_loose {
             self.loose = self.loose.saturating_add(1);
@@ -60,15 +58,7 @@ impl LaneWork {
 
     /// Enters a record. Where memory is wanted the lane has failed.
     pub fn enter(&mut self, entry: DocketEntry) -> Result<(), OutOfMemory>
-        ensures entered { OnOk result (self.new
-            ≡ record self.old {
-              docket = record self.old.docket {
-                entries = self.old.docket.entries
-                    ++ entry ∷ [];
-              };
-            }) }
-        ensures working { OnOk result (self.old.failed ≡ false) }
-        ensures failed { OnErr result (self.new ≡ record self.old { failed = true }) }
+        ensures { LaneEnters self.old self.new entry result }
     {
         if self.failed {
             return Err(OutOfMemory);
@@ -81,6 +71,7 @@ impl LaneWork {
     /// Judges the next record, a packet that was captured there at that second, under the edition that the
     /// asker lends. Where memory is wanted the lane has failed, no entry is made, and the asks that were made
     /// stay.
+    #[tactic(auto, using(crate::proofs::Running::asks_nothing))]
     pub fn judge<B: AsksBook>(
         &mut self,
         book: &mut B,
@@ -92,79 +83,20 @@ impl LaneWork {
         requires lane { B.serves book.old lane }
         requires port { IsPortFor self.old.cache port.now }
         requires kept { IsTrueFor (B.edition book.old) self.old.cache }
-        ensures judged { IfOk result
-            (Evaluates (λ old op reply new.
-            B.enters old lane (length self.old.docket.entries + 1) op reply new) book.old book.new
-            (question_under (B.edition book.old) packet.now port.now second) self.old.tally
-            self.new.tally) }
-        ensures entered { IfOk result (λ judgement. self.new ≡ record self.old {
-          docket = record self.old.docket { entries = self.old.docket.entries ++ judged_entry judgement ∷ [] };
-          tally = self.new.tally;
-          cache = self.new.cache;
-        }) }
-        ensures working { OnOk result (self.old.failed ≡ false) }
-        ensures asked { AsksFront (λ old op reply new.
-            B.enters old lane (length self.old.docket.entries + 1) op reply new)
-            (λ old new. B.misses old new) book.old book.new
-            (question_under (B.edition book.old) packet.now port.now second) }
-        ensures cache { IsCacheBehind (B.edition book.old) port.now self.old.cache self.new.cache }
-        ensures seen { OnOk result (IsCacheAfter
-            (question_under (B.edition book.old) packet.now port.now second) self.old.cache
-            self.new.cache) }
-        ensures failed { OnErr result (self.new ≡ record self.old {
-          tally = self.new.tally;
-          cache = self.new.cache;
-          failed = true;
-        }) }
-        ensures idle { self.old.failed ≡ true → book.new ≡ book.old }
+        ensures { LaneJudges B.enters B.misses book.old book.new lane
+            (question_under (B.edition book.old) packet.now port.now second) self.old self.new result }
     {
         if self.failed {
             return Err(OutOfMemory);
         }
-        let judged = self.try_judge(book, lane, packet, port, second);
-        self.failed = judged.is_err();
-        judged
-    }
-
-    fn try_judge<B: AsksBook>(
-        &mut self,
-        book: &mut B,
-        lane: u32,
-        packet: &AnyIp<'_>,
-        port: &Port,
-        second: u32,
-    ) -> Result<Judgement, OutOfMemory>
-        requires lane { B.serves book.old lane }
-        requires port { IsPortFor self.old.cache port.now }
-        requires kept { IsTrueFor (B.edition book.old) self.old.cache }
-        ensures judged { IfOk result
-            (Evaluates (λ old op reply new.
-            B.enters old lane (length self.old.docket.entries + 1) op reply new) book.old book.new
-            (question_under (B.edition book.old) packet.now port.now second) self.old.tally
-            self.new.tally) }
-        ensures entered { IfOk result (λ judgement. self.new ≡ record self.old {
-          docket = record self.old.docket { entries = self.old.docket.entries ++ judged_entry judgement ∷ [] };
-          tally = self.new.tally;
-          cache = self.new.cache;
-        }) }
-        ensures asked { AsksFront (λ old op reply new.
-            B.enters old lane (length self.old.docket.entries + 1) op reply new)
-            (λ old new. B.misses old new) book.old book.new
-            (question_under (B.edition book.old) packet.now port.now second) }
-        ensures cache { IsCacheBehind (B.edition book.old) port.now self.old.cache self.new.cache }
-        ensures seen { OnOk result (IsCacheAfter
-            (question_under (B.edition book.old) packet.now port.now second) self.old.cache
-            self.new.cache) }
-        ensures unentered { OnErr result (self.new ≡ record self.old {
-          tally = self.new.tally;
-          cache = self.new.cache;
-        }) }
-    {
+        // until its entry is made
+        self.failed = true;
         let config = book.edition().config();
         is_configuration(config);
         self.tally.fit(config.counters())?;
         let judgement = self.evaluate(book, lane, packet, port, second)?;
         self.docket.push(DocketEntry::judged(judgement))?;
+        self.failed = false;
         Ok(judgement)
     }
 }

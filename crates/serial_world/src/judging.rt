@@ -27,7 +27,9 @@ impl SerialWorld {
         ensures kept { IsLane 1 lane.old → IsLane (pending_of (is_ok result)) lane.new }
     {
         self.held.is_world();
-        lane.judge(&mut self.held, packet, port, second)
+        let place = lane.place();
+        lane.work()
+            .judge(&mut self.held, place, packet, port, second)
     }
 
     /// Judges the next record of the lane, a packet that was captured there at that second, under the last

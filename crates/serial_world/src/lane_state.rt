@@ -1,16 +1,14 @@
-ghost use Rattle.std.specs.Prelude.{◌≡◌, ◌+◌, ℕ, Option, None, length, ◌==◌, true, false, IfOk, OnOk, OnErr};
-ghost use Rattle.eval_engine.specs.Dockets.{judged_entry};
-ghost use Rattle.eval_engine.specs.Question.{question_under};
-ghost use Rattle.fw_world.specs.AskRuns.{Evaluates, AsksFront};
-ghost use Rattle.fw_world.specs.Caches.{first_cache, IsPortFor, IsTrueFor, IsCacheBehind, IsCacheAfter};
+ghost use Rattle.std.specs.Prelude.{◌≡◌, ℕ, Option, None, ◌==◌};
+ghost use Rattle.std.specs.Borrow.{Lends, sem};
+ghost use Rattle.fw_world.specs.Caches.{first_cache};
 ghost use Rattle.fw_world.specs.Lane as lanes;
-ghost use Rattle.fw_world.specs.Lane.{first_lane, lane_after_try, lane_after_admission, lane_after_regain, with_docket_entry};
+ghost use Rattle.fw_world.specs.Lane.{first_lane, lane_after_try, lane_after_admission, lane_after_regain};
+ghost use Rattle.fw_world.specs.LaneSteps.{work_of, with_work};
+ghost use Rattle.fw_world.specs.contracts.lane_work.LaneWork.{the_row as work_row};
+ghost use Rattle.serial_world.specs.contracts.lane_state.LaneState.{the_row};
 
 use cached_verdicts::LaneCache;
-use eval_engine::{DocketEntry, Judgement};
-use fw_base::{OutOfMemory, Port};
-use fw_world::{AsksBook, LaneWork};
-use ip6_headers::AnyIp;
+use fw_world::LaneWork;
 use std::alloc::Global;
 use std::marker::Model;
 
@@ -111,55 +109,13 @@ impl LaneState {
         self.work.loosen(!judged);
     }
 
-    /// Enters a record that isn't judged. Where memory is wanted the lane has failed.
-    pub(crate) fn skip(&mut self, entry: DocketEntry) -> Result<(), OutOfMemory>
-        ensures entered { OnOk result (self.new ≡ with_docket_entry entry self.old) }
-        ensures working { OnOk result (self.old.failed ≡ false) }
-        ensures failed { OnErr result (self.new ≡ record self.old { failed = true }) }
+    /// What it did, lent for the steps that a lane makes in whichever world.
+    pub(crate) fn work(&mut self) -> &mut LaneWork
+        ensures* writes_back { sem 𝓛
+            (Lends the_row work_row self.entry result (with_work self.old)) }
+        ensures value { result.now ≡ work_of self.old }
     {
-        self.work.enter(entry)
-    }
-
-    /// Judges the next record under the edition that the asker lends. Where memory is wanted the lane has
-    /// failed.
-    pub(crate) fn judge<B: AsksBook>(
-        &mut self,
-        book: &mut B,
-        packet: &AnyIp<'_>,
-        port: &Port,
-        second: u32,
-    ) -> Result<Judgement, OutOfMemory>
-        requires lane { B.serves book.old self.old.place }
-        requires port { IsPortFor self.old.cache port.now }
-        requires kept { IsTrueFor (B.edition book.old) self.old.cache }
-        ensures judged { IfOk result
-            (Evaluates (λ old op reply new.
-            B.enters old self.old.place (length self.old.docket.entries + 1) op reply new) book.old
-            book.new (question_under (B.edition book.old) packet.now port.now second)
-            self.old.tally self.new.tally) }
-        ensures lane { IfOk result (λ judgement. self.new
-            ≡ record (with_docket_entry (judged_entry judgement) self.old) {
-              tally = self.new.tally;
-              cache = self.new.cache;
-            }) }
-        ensures cache { IsCacheBehind (B.edition book.old) port.now self.old.cache self.new.cache }
-        ensures seen { OnOk result (IsCacheAfter
-            (question_under (B.edition book.old) packet.now port.now second) self.old.cache
-            self.new.cache) }
-        ensures working { OnOk result (self.old.failed ≡ false) }
-        ensures asked { AsksFront (λ old op reply new.
-            B.enters old self.old.place (length self.old.docket.entries + 1) op reply new)
-            (λ old new. B.misses old new) book.old book.new
-            (question_under (B.edition book.old) packet.now port.now second) }
-        ensures failed { OnErr result (self.new ≡ record self.old {
-          tally = self.new.tally;
-          cache = self.new.cache;
-          failed = true;
-        }) }
-        ensures idle { self.old.failed ≡ true → book.new ≡ book.old }
-    {
-        let place = self.place;
-        self.work.judge(book, place, packet, port, second)
+        &mut self.work
     }
 
     /// What it did, and its tracker word.

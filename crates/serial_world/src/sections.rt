@@ -78,6 +78,6 @@ impl SerialWorld {
         ensures entered { SkipsNext self.old lane.old lane.new entry result }
         ensures world { self.new ≡ self.old }
     {
-        lane.state.skip(skipped_entry(entry))
+        lane.state.work().enter(skipped_entry(entry))
     }
 }

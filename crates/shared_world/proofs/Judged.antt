@@ -28,6 +28,7 @@ use Rattle.fw_world.specs.Editions.{edition_numbered}
 use Rattle.fw_world.specs.Inputs.{Input, Packet}
 use Rattle.fw_world.specs.Lane.{LaneValue, with_docket_entry}
 use Rattle.fw_world.specs.LaneKept.{IsLane, pending_of}
+use Rattle.fw_world.specs.LaneSteps.{LaneJudges}
 use Rattle.fw_world.specs.Sections.{judged_editions, tracker_after}
 use Rattle.fw_world.specs.Standing.{StandFor, AreSeenOf}
 use Rattle.fw_world.specs.declared.lane_work.LaneWork.{LaneWork}
@@ -213,16 +214,6 @@ module _ (table : TableId) (v : Known) (work : LaneWork) (reads : ReadsSeen v) (
       let cached = CacheStandsFor-judged editions work.docket inputs (stood editions seen).stands.entered work.cache w.cache edition packet port second judgement w.docket there below sees entries (stood editions seen).cached in
       record { stands = subst (λ (asks : List LaneAsk). StandFor editions asks w.docket w.tally (inputs ++ Packet packet port second ∷ [])) own more; cached = cached }
 
-  abbrev IsEntered : Result Judgement OutOfMemory → Type 0
-  IsEntered result = IfOk result (λ judgement. w ≡ record work { docket = record work.docket { entries = work.docket.entries ++ judged_entry judgement ∷ [] }; tally = w.tally; cache = w.cache })
-
-  abbrev IsFailed : Result Judgement OutOfMemory → Type 0
-  IsFailed result = OnErr result (w ≡ record work { tally = w.tally; cache = w.cache; failed = true })
-
-  loose_is : (result : Result Judgement OutOfMemory) → IsEntered result → IsFailed result → w.loose ≡ work.loose
-  loose_is (Ok judgement) entered failed = ap (λ (x : LaneWork). x.loose) entered
-  loose_is (Err fault) entered failed = ap (λ (x : LaneWork). x.loose) failed
-
   alike : t ≡ table → steady_view u ≡ steady_view v → w.loose ≡ work.loose
       → lane_of t u w ≡ record (lane_of table v work) { docket = w.docket; tally = w.tally; cache = w.cache; asks = asks_in u.part.own; book_taken = u.part.book_taken; failed = w.failed }
   alike a s l = λ i. record {
@@ -242,67 +233,76 @@ module _ (table : TableId) (v : Known) (work : LaneWork) (reads : ReadsSeen v) (
     loose = l i;
   }
 
-  module _ (result : Result Judgement OutOfMemory) (ran : IfOk result (Evaluates (Enters at) old new question work.tally w.tally)) (entered : IsEntered result) (working : OnOk result (work.failed ≡ false))
-      (asked : AsksFront (Enters at) Misses old new question) (failed : IsFailed result) (behind : IsCacheBehind edition port work.cache w.cache) (sees : OnOk result (IsCacheAfter question work.cache w.cache)) (at_port : IsPortFor work.cache port) where
+  -- its next record was judged, or memory was wanted
+  abbrev NextIsJudged : ℕ → Result Judgement OutOfMemory → Type 0
+  NextIsJudged lane result = LaneJudges (λ old lane at. Enters at old) Misses old new lane question work w result
+
+  loose_is : (lane : ℕ) (result : Result Judgement OutOfMemory) → NextIsJudged lane result → w.loose ≡ work.loose
+  loose_is lane (Ok judgement) judges = ap (λ (x : LaneWork). x.loose) judges.entered
+  loose_is lane (Err fault) judges = ap (λ (x : LaneWork). x.loose) judges.failed
+
+  module _ (lane : ℕ) (result : Result Judgement OutOfMemory) (judges : NextIsJudged lane result) (at_port : IsPortFor work.cache port) where
     -- the next record of the lane was judged, or memory was wanted
-    pub next : (b : Bool) → IsSharedLane 1 v work → t ≡ table → (work.failed ≡ true → new ≡ old) → JudgesNext (inside_of table v work b) (inside_of t u w (is_ok result)) packet port second result
-    next b is own idle = record {
+    pub next : (b : Bool) → IsSharedLane 1 v work → t ≡ table → JudgesNext (inside_of table v work b) (inside_of t u w (is_ok result)) packet port second result
+    next b is own = record {
       edition = edition;
       reads = reading;
-      judged = judged_by result ran;
-      entered = entered_by result entered;
-      same = alike own (still asked) (loose_is result entered failed);
-      room = capacity-behind edition port work.cache w.cache behind;
-      at_port = IsPortFor-behind edition port work.cache w.cache behind at_port;
-      stands = stands_by result ran entered sees;
-      working = working_by result entered working;
+      judged = judged_by result judges;
+      entered = entered_by result judges;
+      same = alike own (still judges.evaluated.asked) (loose_is lane result judges);
+      room = capacity-behind edition port work.cache w.cache judges.evaluated.cache;
+      at_port = IsPortFor-behind edition port work.cache w.cache judges.evaluated.cache at_port;
+      stands = stands_by result judges;
+      working = working_by result judges;
       idle = λ was.
-          let same : u ≡ v = ended ∙ ap (λ (a : AskingValue). a.view) (idle was) ∙ begun in
+          let same : u ≡ v = ended ∙ ap (λ (a : AskingValue). a.view) (judges.idle was) ∙ begun in
           (ap (λ (x : Known). asks_in x.part.own) same, ap (λ (x : Known). x.part.book_taken) same);
-      failed = failed_by result failed;
-      begun = begins asked;
-      reading = ap edition_read (still asked);
+      failed = failed_by result judges;
+      begun = begins judges.evaluated.asked;
+      reading = ap edition_read (still judges.evaluated.asked);
       section = refl;
     }
       where
-        judged_by : (r : Result Judgement OutOfMemory) → IfOk r (Evaluates (Enters at) old new question work.tally w.tally) → IfOk r (Judges edition (lane_of table v work) (lane_of t u w) packet port second)
-        judged_by (Ok judgement) ran = judged judgement ran
-        judged_by (Err fault) ran = tt
+        judged_by : (r : Result Judgement OutOfMemory) → NextIsJudged lane r → IfOk r (Judges edition (lane_of table v work) (lane_of t u w) packet port second)
+        judged_by (Ok judgement) judges = judged judgement judges.evaluated.judged
+        judged_by (Err fault) judges = tt
 
-        entered_by : (r : Result Judgement OutOfMemory) → IsEntered r → IfOk r (λ judgement. w.docket ≡ record work.docket { entries = work.docket.entries ++ judged_entry judgement ∷ [] })
-        entered_by (Ok judgement) entered = ap (λ (x : LaneWork). x.docket) entered
-        entered_by (Err fault) entered = tt
+        entered_by : (r : Result Judgement OutOfMemory) → NextIsJudged lane r → IfOk r (λ judgement. w.docket ≡ record work.docket { entries = work.docket.entries ++ judged_entry judgement ∷ [] })
+        entered_by (Ok judgement) judges = ap (λ (x : LaneWork). x.docket) judges.entered
+        entered_by (Err fault) judges = tt
 
-        stands_by : (r : Result Judgement OutOfMemory) → IfOk r (Evaluates (Enters at) old new question work.tally w.tally) → IsEntered r → OnOk r (IsCacheAfter question work.cache w.cache)
-            → OnOk r ((inputs : List Input) → LaneStandsFor (lane_of table v work) inputs → LaneStandsFor (lane_of t u w) (inputs ++ Packet packet port second ∷ []))
-        stands_by (Ok judgement) ran entered saw = stands judgement ran (ap (λ (x : LaneWork). x.docket.entries) entered) (still asked) saw is.judged is.seen
-        stands_by (Err fault) ran entered saw = tt
+        stands_by : (r : Result Judgement OutOfMemory) → NextIsJudged lane r → OnOk r ((inputs : List Input) → LaneStandsFor (lane_of table v work) inputs → LaneStandsFor (lane_of t u w) (inputs ++ Packet packet port second ∷ []))
+        stands_by (Ok judgement) judges =
+            stands judgement judges.evaluated.judged (ap (λ (x : LaneWork). x.docket.entries) judges.entered) (still judges.evaluated.asked) judges.evaluated.seen is.judged is.seen
+        stands_by (Err fault) judges = tt
 
-        working_by : (r : Result Judgement OutOfMemory) → IsEntered r → OnOk r (work.failed ≡ false) → OnOk r ((work.failed ≡ false) × (w.failed ≡ false))
-        working_by (Ok judgement) entered working = (working, ap (λ (x : LaneWork). x.failed) entered ∙ working)
-        working_by (Err fault) entered working = tt
+        working_by : (r : Result Judgement OutOfMemory) → NextIsJudged lane r → OnOk r ((work.failed ≡ false) × (w.failed ≡ false))
+        working_by (Ok judgement) judges = (judges.working, ap (λ (x : LaneWork). x.failed) judges.entered ∙ judges.working)
+        working_by (Err fault) judges = tt
 
-        failed_by : (r : Result Judgement OutOfMemory) → IsFailed r → OnErr r ((w.failed ≡ true) × (w.docket ≡ work.docket))
-        failed_by (Ok judgement) failed = tt
-        failed_by (Err fault) failed = (ap (λ (x : LaneWork). x.failed) failed, ap (λ (x : LaneWork). x.docket) failed)
+        failed_by : (r : Result Judgement OutOfMemory) → NextIsJudged lane r → OnErr r ((w.failed ≡ true) × (w.docket ≡ work.docket))
+        failed_by (Ok judgement) judges = tt
+        failed_by (Err fault) judges = (ap (λ (x : LaneWork). x.failed) judges.failed, ap (λ (x : LaneWork). x.docket) judges.failed)
 
     -- its cache keeps what is true
     cached_still : IsSharedLane 1 v work → IsCacheSeen u.part.pairs w.cache
     cached_still is =
         let names = subst (λ (p : Published). (j : ℕ) (other : Configuration) → slice_get v.part.pairs j ≡ Some (p.number, other) → other ≡ p.config) (sym edition_is) reads.named in
         let pair : slice_get v.part.pairs reads.index ≡ Some (edition.number, edition.config) = subst (λ (p : Published). slice_get v.part.pairs reads.index ≡ Some (p.number, p.config)) (sym edition_is) reads.seen in
-        subst (λ (pairs : List (ℕ × Configuration)). IsCacheSeen pairs w.cache) (sym (ap (λ (x : Known). x.part.pairs) (still asked)))
-        (IsCacheSeen-behind v.part.pairs edition lawful names port work.cache w.cache reads.index pair at_port behind is.cached)
+        subst (λ (pairs : List (ℕ × Configuration)). IsCacheSeen pairs w.cache) (sym (ap (λ (x : Known). x.part.pairs) (still judges.evaluated.asked)))
+        (IsCacheSeen-behind v.part.pairs edition lawful names port work.cache w.cache reads.index pair at_port judges.evaluated.cache is.cached)
 
     -- what holds of it
     pub kept : IsSharedLane 1 v work → IsSharedLane (pending_of (is_ok result)) u w
-    kept is = kept_by result ran entered failed
+    kept is = kept_by result judges
       where
         of_seat : steady_view u ≡ steady_view v
-        of_seat = still asked
+        of_seat = still judges.evaluated.asked
 
-        kept_by : (r : Result Judgement OutOfMemory) → IfOk r (Evaluates (Enters at) old new question work.tally w.tally) → IsEntered r → IsFailed r → IsSharedLane (pending_of (is_ok r)) u w
-        kept_by (Ok judgement) ran entered failed =
+        kept_by : (r : Result Judgement OutOfMemory) → NextIsJudged lane r → IsSharedLane (pending_of (is_ok r)) u w
+        kept_by (Ok judgement) judges =
+            let ran = judges.evaluated.judged in
+            let entered = judges.entered in
             let number : judgement.edition ≡ v.part.held = judgement_names_edition question ran.replies judgement ran.outcome ∙ held in
             let below : All (λ n. n ≤ judgement.edition) (judged_editions work.docket.entries) = subst (λ (top : ℕ). All (λ n. n ≤ top) (judged_editions work.docket.entries)) (sym number) is.judged in
             let before : LaneValue = record (with_docket_entry (judged_entry judgement) (plain_of v work)) { tally = w.tally; cache = w.cache } in
@@ -331,7 +331,8 @@ module _ (table : TableId) (v : Known) (work : LaneWork) (reads : ReadsSeen v) (
                   (subst (λ (numbers : List ℕ). AllByRecursion (IsSeenIn v.part.pairs) numbers) (sym entries) (all_push (IsSeenIn v.part.pairs) (judged_editions work.docket.entries) judgement.edition is.seen one));
               cached = cached_still is;
             }
-        kept_by (Err fault) ran entered failed =
+        kept_by (Err fault) judges =
+            let failed = judges.failed in
             let before : LaneValue = record (plain_of v work) { tally = w.tally; cache = w.cache; failed = true } in
             let same : plain_of u w ≡ before = (λ i. record {
               place = (of_seat i).place;
@@ -357,13 +358,13 @@ module _ (table : TableId) (v : Known) (work : LaneWork) (reads : ReadsSeen v) (
             }
 
     pub reads_still : ReadsSeen u
-    reads_still = reads_after v u (still asked) reads
+    reads_still = reads_after v u (still judges.evaluated.asked) reads
 
     pub place_still : u.place ≡ v.place
-    place_still = ap (λ (x : Known). x.place) (still asked)
+    place_still = ap (λ (x : Known). x.place) (still judges.evaluated.asked)
 
     pub lock_still : new.lock ≡ old.lock
-    lock_still = (front asked).asks.lock
+    lock_still = (front judges.evaluated.asked).asks.lock
 
 -- under the edition that is read all that the cache keeps is true
 pub is_true : (v : Known) (work : LaneWork) → ReadsSeen v → IsCacheSeen v.part.pairs work.cache → IsTrueFor (edition_of v) work.cache

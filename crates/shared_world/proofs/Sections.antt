@@ -18,6 +18,7 @@ use Rattle.fw_world.proofs.Seen.{IsCacheSeen-more}
 use Rattle.fw_world.specs.Inputs.{Input}
 use Rattle.fw_world.specs.Lane.{one_looser}
 use Rattle.fw_world.specs.LaneKept.{IsLane}
+use Rattle.fw_world.specs.LaneSteps.{LaneEnters}
 use Rattle.fw_world.specs.Sections.{judged_editions}
 use Rattle.fw_world.specs.Skips.{entry_for, skipped_input}
 use Rattle.fw_world.specs.declared.lane_work.LaneWork.{LaneWork}
@@ -167,26 +168,22 @@ stands-skipped lane (Malformed kind) inputs stands = λ editions are.
       cached = CacheStandsFor-skipped editions lane.docket inputs stood.stands.entered lane.cache (skipped_input (Malformed kind)) (entry_for (Malformed kind)) more refl refl stood.cached;
     }
 
--- the work with one entry more
-abbrev pub worked : DocketEntry → LaneWork → LaneWork
-worked entry work = record work { docket = record work.docket { entries = work.docket.entries ++ entry ∷ [] } }
-
 -- a lane that passed over a record, or failed to
-pub skipped : (table : TableId) (v : Known) (work w : LaneWork) (entry : Skipped) (result : Result (Unit {0}) OutOfMemory) → OnOk result (w ≡ worked (entry_for entry) work) → OnOk result (work.failed ≡ false) → OnErr result (w ≡ record work { failed = true })
+pub skipped : (table : TableId) (v : Known) (work w : LaneWork) (entry : Skipped) (result : Result (Unit {0}) OutOfMemory) → LaneEnters work w (entry_for entry) result
     → SkipsNext (lane_of table v work) (lane_of table v w) entry result
-skipped table v work w entry (Ok done) entered working failed =
-    let same = ap (λ (x : LaneWork). lane_of table v x) entered in
+skipped table v work w entry (Ok done) enters =
+    let same = ap (λ (x : LaneWork). lane_of table v x) enters.entered in
     record {
       lane_is = same;
       stands = λ inputs stands. subst (λ (l : SharedLane). LaneStandsFor l (inputs ++ skipped_input entry ∷ [])) (sym same) (stands-skipped (lane_of table v work) entry inputs stands);
-      working = working;
+      working = enters.working;
       failed = tt;
     }
-skipped table v work w entry (Err fault) entered working failed = record { lane_is = tt; stands = tt; working = tt; failed = ap (λ (x : LaneWork). lane_of table v x) failed }
+skipped table v work w entry (Err fault) enters = record { lane_is = tt; stands = tt; working = tt; failed = ap (λ (x : LaneWork). lane_of table v x) enters.failed }
 
 -- what holds of it
-pub skipped-kept : (v : Known) (work w : LaneWork) (entry : Skipped) (result : Result (Unit {0}) OutOfMemory) → OnOk result (w ≡ worked (entry_for entry) work) → OnErr result (w ≡ record work { failed = true }) → IsSharedLane 0 v work → IsSharedLane 0 v w
-skipped-kept v work w entry (Ok done) entered failed is = subst (λ (x : LaneWork). IsSharedLane 0 v x) (sym entered) (record {
+pub skipped-kept : (v : Known) (work w : LaneWork) (entry : Skipped) (result : Result (Unit {0}) OutOfMemory) → LaneEnters work w (entry_for entry) result → IsSharedLane 0 v work → IsSharedLane 0 v w
+skipped-kept v work w entry (Ok done) enters is = subst (λ (x : LaneWork). IsSharedLane 0 v x) (sym enters.entered) (record {
   plain = IsLane-skipped (plain_of v work) (entry_for entry) (not_judged entry) is.plain;
   of_book = is.of_book;
   judged =
@@ -197,7 +194,7 @@ skipped-kept v work w entry (Ok done) entered failed is = subst (λ (x : LaneWor
       subst (λ (numbers : List ℕ). AllByRecursion (IsSeenIn v.part.pairs) numbers) (sym same) is.seen;
   cached = is.cached;
 })
-skipped-kept v work w entry (Err fault) entered failed is = subst (λ (x : LaneWork). IsSharedLane 0 v x) (sym failed) (record {
+skipped-kept v work w entry (Err fault) enters is = subst (λ (x : LaneWork). IsSharedLane 0 v x) (sym enters.failed) (record {
   plain = record { numbered = is.plain.numbered; above = is.plain.above; rising = is.plain.rising; few = is.plain.few; tracked = is.plain.tracked };
   of_book = is.of_book;
   judged = is.judged;

@@ -68,6 +68,6 @@ impl Lane {
     pub(crate) fn has_failed(&self) -> bool
         ensures { result ≡ self.now.failed }
     {
-        self.work.has_failed()
+        self.work.failed
     }
 }

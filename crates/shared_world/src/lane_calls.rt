@@ -33,7 +33,7 @@ impl World {
                 })
             }
             Entry::Revoked(processor, number) => {
-                work.refuse();
+                work.docket.refuse();
                 LaneEntry::Revoked(Lane { processor, work }, number)
             }
         }

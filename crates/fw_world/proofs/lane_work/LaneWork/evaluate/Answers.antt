@@ -1,4 +1,4 @@
-use Rattle.std.proofs.Common.{◌≡◌, None, List, length, refl, [], ◌∷◌, ◌++◌, ap, arith, subst, ◌∙◌}
+use Rattle.std.proofs.Common.{◌≡◌, None, List, length, refl, [], ◌∷◌, ◌++◌, ap, arith, rules, subst, ◌∙◌}
 use Rattle.state_asks.specs.declared.op.Op.{Op}
 use Rattle.state_asks.specs.declared.reply.Reply.{Reply}
 use Rattle.counter_book.specs.declared.tally.Count.{Count}
@@ -6,7 +6,7 @@ use Rattle.eval_engine.proofs.Progressing.{stands-length}
 use Rattle.eval_engine.specs.Question.{Question, question_under}
 use Rattle.eval_engine.specs.Standing.{StandsAt, asked_by}
 use Rattle.generation_store.specs.Published.{Published}
-use Rattle.fw_world.proofs.Running.{IsReached-ended, IsReached-answered, AsksFront-none}
+use Rattle.fw_world.proofs.Running.{IsReached-ended, IsReached-answered}
 use Rattle.fw_world.proofs.lane_work.LaneWork.evaluate.Goals as goal
 
 pub loop-judged-init : goal.loop-judged-init
@@ -20,13 +20,15 @@ loop-judged-init g c =
       reached = record { asks = []; replies = []; stands = stands; entered = refl };
     }
 
-pub returns-in_err-judged-clause-asked : goal.returns-in_err-judged-clause-asked
-returns-in_err-judged-clause-asked g c = AsksFront-none _ _ _ _
-
-pub returns-in-Some-clause-judged : goal.returns-in-Some-clause-judged
-returns-in-Some-clause-judged g c =
+pub returns-in-Some-clause-evaluated : goal.returns-in-Some-clause-evaluated
+returns-in-Some-clause-evaluated g c =
     let reached = rw c.in-Some.is at c.loop-judged.invariant.reached in
-    IsReached-ended _ _ _ _ _ _ c.in-Some.judgement c.loop-judged.paused c.requires.lawful c.requires.fitted reached
+    record {
+      judged = IsReached-ended _ _ _ _ _ _ c.in-Some.judgement c.loop-judged.paused c.requires.lawful c.requires.fitted reached;
+      asked = search rules;
+      cache = search rules;
+      seen = search rules;
+    }
 
 pub loop-judged-preserved : goal.loop-judged-preserved
 loop-judged-preserved g c =

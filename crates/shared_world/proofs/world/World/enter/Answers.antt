@@ -1,5 +1,6 @@
 use Rattle.std.proofs.Common.{◌≡◌, ◌+◌, ◌%◌, ◌^◌, Bool, subst, sym, ap, ◌∙◌, false}
 use Rattle.std.specs.Prelude.{is_some}
+use Rattle.eval_engine.specs.Dockets.{DocketValue}
 use Rattle.fw_world.specs.declared.lane_work.LaneWork.{LaneWork}
 use Rattle.generation_store.specs.Published.{Published, IsEdition}
 use Rattle.shared_world.proofs.Sections.{entered, entered-kept, entered-reads, refused, inside_of, loosened}
@@ -11,7 +12,7 @@ use Rattle.shared_world.specs.LaneKept.{IsSharedLane, ReadsSeen}
 use Rattle.shared_world.specs.SharedLane.{SharedLane, lane_of}
 
 counted : (c : After-is_edition) → c.loosen.new.self ≡ loosened (is_some c.lane.inside.processor.view.part.refusal) c.lane.inside.work
-counted c = c.loosen.ensures ∙ ap (λ (b : Bool). loosened b c.lane.inside.work) c.is_refused.ensures
+counted c = rw (c.deref_mut.ensures.value, c.is_refused.ensures) at c.loosen.ensures
 
 pub invariant_of-result : goal.invariant_of-result
 invariant_of-result c =
@@ -40,9 +41,12 @@ pub returns-in-Revoked : goal.returns-in-Revoked
 returns-in-Revoked c = record {
   entry =
       let v = c.lane.inside.processor.view in
-      let counted : c.loosen.new.self ≡ loosened (is_some v.part.refusal) c.lane.inside.work = c.loosen.ensures ∙ ap (λ (b : Bool). loosened b c.lane.inside.work) c.is_refused.ensures in
-      let same = c.refuse.ensures ∙ ap (λ (w : LaneWork). let x : LaneWork = record w { docket = record w.docket { refused = (w.docket.refused + 1) % 2 ^ 64 } } in x) counted in
-      subst (λ (l : SharedLane). IsRefused l (lane_of c.in-Revoked.processor.table_id c.in-Revoked.processor.view c.refuse.new.self) c.in-Revoked.number) c.lane.view_is
-      (refused c.lane.inside.processor.table_id c.in-Revoked.processor.table_id v c.in-Revoked.processor.view c.lane.inside.work c.refuse.new.self c.in-Revoked.number c.in-Revoked.ensures.entry.0
+      let counted : c.loosen.new.self ≡ loosened (is_some v.part.refusal) c.lane.inside.work = rw (c.deref_mut.ensures.value, c.is_refused.ensures) at c.loosen.ensures in
+      let lent : LaneWork = c.deref_mut-in-Revoked.result.now in
+      let w : LaneWork = record lent { docket = c.refuse.new.self } in
+      let same = ap (λ (d : DocketValue). let x : LaneWork = record lent { docket = d } in x) c.refuse.ensures
+      ∙ ap (λ (w : LaneWork). let x : LaneWork = record w { docket = record w.docket { refused = (w.docket.refused + 1) % 2 ^ 64 } } in x) (c.deref_mut-in-Revoked.ensures.value ∙ counted) in
+      subst (λ (l : SharedLane). IsRefused l (lane_of c.in-Revoked.processor.table_id c.in-Revoked.processor.view w) c.in-Revoked.number) c.lane.view_is
+      (refused c.lane.inside.processor.table_id c.in-Revoked.processor.table_id v c.in-Revoked.processor.view c.lane.inside.work w c.in-Revoked.number c.in-Revoked.ensures.entry.0
       c.in-Revoked.ensures.entry.1 same c.in-Revoked.ensures.entry.2);
 }
