@@ -1,37 +1,35 @@
 -- What a script gives before a packet is read is as the grammar yields it.
-use Rattle.std.proofs.Common.{◌≡◌, ℕ, Bool, true, false, if◌then◌else◌, is_some, Option, None, Some, IfSome, Result, Ok, Err, List, [], ◌∷◌, refl, subst}
+use Rattle.std.proofs.Common.{◌≡◌, ℕ, Bool, true, false, if◌then◌else◌, Option, None, Some, IfSome, Result, Ok, Err, List, [], ◌∷◌, refl, subst}
 use Rattle.std.specs.Prelude.{IfOk}
 use Rattle.std.specs.List.{AllByRecursion}
 use Rattle.audit_laws.specs.Captures.{IsFromScript}
 use Rattle.audit_laws.specs.Formed.{IsFormedLine, IsFormedScript}
 use Rattle.audit_laws.specs.Printable.{IsPrintableAnswer, IsPrintableConfig}
-use Rattle.audit_laws.specs.RuleNames.{HasNameBytes}
 use Rattle.audit_laws.proofs.KeptForms.{first_in_range, form_kept}
-use Rattle.audit_laws.proofs.PrintableRecords.{ArePrintableAnswers, IsGoodListing, listing_on}
+use Rattle.audit_laws.proofs.PrintableRecords.{ArePrintableAnswers, IsGoodListing, answer_in_range, listing_on}
 use Rattle.audit_laws.proofs.ScriptForms.{scripts_are_formed}
-use Rattle.capture_tracks.specs.Commands.{Entries, Listing, Rules, listing_of}
+use Rattle.capture_tracks.specs.Commands.{Listing, line_answer, listed_answer, listing_of}
 use Rattle.fw_command.specs.Scripts.{script_of}
 use Rattle.fw_command.specs.declared.script.Line.{Line}
 use Rattle.fw_command.specs.declared.script.Pace.{Pace}
 use Rattle.fw_command.specs.declared.script.Script.{Script}
 use Rattle.fw_command.specs.declared.script_fault.ScriptFault.{ScriptFault}
+use Rattle.fw_report.specs.declared.ends.Answer.{Answer}
+use Rattle.fw_report.specs.declared.ends.Answer.TheVariants.{Listed, Refused}
 use Rattle.fw_report.specs.declared.ends.LineAnswer.{LineAnswer}
-use Rattle.lookup_tables.specs.Tables.{table_named}
-use Rattle.replay_driver.specs.FirstEdition.{◌>>=◌, configuration_behind, configured_line, first_edition, first_edition_answer, listed_first, listings_of, on_line, read_script, table_shown, with_answer}
+use Rattle.replay_driver.specs.FirstEdition.{◌>>=◌, answered_line, configuration_behind, configured_line, first_edition, listed_first, listings_of, on_line, read_script, with_answer}
 use Rattle.replay_driver.specs.declared.first_edition.FirstEdition.{FirstEdition}
 use Rattle.replay_driver.specs.declared.script_error.ScriptError.{ScriptError}
-use Rattle.replay_driver.specs.declared.script_error.ScriptError.TheVariants.{Refused}
 use Rattle.rule_chain.specs.Configuration.{Configuration}
 use Rattle.rule_chain.specs.First.{first_configuration}
-use Rattle.rule_edits.specs.Answers.{Answer}
+use Rattle.rule_edits.specs.Answers.{Answer as Applied}
 use Rattle.rule_edits.specs.Apply.{apply}
 use Rattle.rule_edits.specs.Changing.{is_changing}
-use Rattle.rule_edits.specs.declared.apply_fault.ApplyFault.TheVariants.{NoSuchTable}
 use Rattle.replay_driver.proofs.Complete.{ok_same}
 
 -- ---- the configuration
 
-line_applied : (config after : Configuration) (line : Line) (answer : Answer Configuration) → IsPrintableConfig config → IsFormedLine line → apply config line.command ≡ answer → on_line line.line answer ≡ Ok after → IsPrintableConfig after
+line_applied : (config after : Configuration) (line : Line) (answer : Applied Configuration) → IsPrintableConfig config → IsFormedLine line → apply config line.command ≡ answer → on_line line.line answer ≡ Ok after → IsPrintableConfig after
 line_applied config after line (Ok made) is formed applies gives =
     let same : made ≡ after = ok_same made after gives in
     subst IsPrintableConfig same (form_kept config made line.command is formed applies)
@@ -57,18 +55,13 @@ lines_configured config after (line ∷ lines) is formed gives =
 
 -- ---- the answers
 
-shown_in_range : (config : Configuration) (line : ℕ) (name : List ℕ) (answer : Option LineAnswer) → HasNameBytes name → table_shown config line name ≡ Ok answer → IfSome answer (λ a. IsPrintableAnswer a.answer)
-shown_in_range config line name answer named gives = by_test (is_some (table_named config.tables name)) gives
-  where
-    by_test : (b : Bool) → (let r : Result (Option LineAnswer) ScriptError = if b then Ok (first_edition_answer line (Some name)) else Err (Refused (record { line = line; fault = NoSuchTable })) in r) ≡ Ok answer
-        → IfSome answer (λ a. IsPrintableAnswer a.answer)
-    by_test true gives = subst (λ (o : Option LineAnswer). IfSome o (λ a. IsPrintableAnswer a.answer)) (ok_same (first_edition_answer line (Some name)) answer gives) named
-    by_test false gives = absurd (cc)
+answered_in_range : (line : ℕ) (shown : Answer) (answer : Option LineAnswer) → IsPrintableAnswer shown → answered_line line shown ≡ Ok answer → IfSome answer (λ a. IsPrintableAnswer a.answer)
+answered_in_range line (Refused fault) answer printable gives = absurd (cc)
+answered_in_range line (Listed edition table) answer printable gives = subst (λ (o : Option LineAnswer). IfSome o (λ a. IsPrintableAnswer a.answer)) (ok_same (Some (line_answer line (Listed edition table))) answer gives) printable
 
 listed_in_range : (config : Configuration) (line : ℕ) (listing : Option Listing) (answer : Option LineAnswer) → IfSome listing IsGoodListing → listed_first config line listing ≡ Ok answer → IfSome answer (λ a. IsPrintableAnswer a.answer)
 listed_in_range config line None answer good gives = subst (λ (o : Option LineAnswer). IfSome o (λ a. IsPrintableAnswer a.answer)) (ok_same None answer gives) tt
-listed_in_range config line (Some Rules) answer good gives = subst (λ (o : Option LineAnswer). IfSome o (λ a. IsPrintableAnswer a.answer)) (ok_same (first_edition_answer line None) answer gives) tt
-listed_in_range config line (Some (Entries name)) answer good gives = shown_in_range config line name answer good gives
+listed_in_range config line (Some listing) answer good gives = answered_in_range line (listed_answer config 1 listing) answer (answer_in_range config 1 listing good) gives
 
 before_others : (answer : Option LineAnswer) (others : List LineAnswer) → IfSome answer (λ a. IsPrintableAnswer a.answer) → ArePrintableAnswers others → ArePrintableAnswers (with_answer answer others)
 before_others None others one all = all

@@ -72,11 +72,12 @@ abbrev pub ArePrintableAnswers : List LineAnswer → Type 0
 ArePrintableAnswers answers = AllByRecursion (λ answer. IsPrintableAnswer answer.answer) answers
 
 -- a table that is listed has its name
-pub listed_in_range : (there : Bool) (number : ℕ) (name : List ℕ) → HasNameBytes name → IsPrintableAnswer (if there then Listed number (Some name) else Refused NoSuchTable)
+listed_in_range : (there : Bool) (number : ℕ) (name : List ℕ) → HasNameBytes name → IsPrintableAnswer (if there then Listed number (Some name) else Refused NoSuchTable)
 listed_in_range true number name named = named
 listed_in_range false number name named = tt
 
-answer_in_range : (config : Configuration) (number : ℕ) (listing : Listing) → IsGoodListing listing → IsPrintableAnswer (listed_answer config number listing)
+-- the answer to a listing
+pub answer_in_range : (config : Configuration) (number : ℕ) (listing : Listing) → IsGoodListing listing → IsPrintableAnswer (listed_answer config number listing)
 answer_in_range config number Rules good = tt
 answer_in_range config number (Entries name) good = listed_in_range (is_some (table_named config.tables name)) number name good
 

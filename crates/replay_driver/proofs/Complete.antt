@@ -1,9 +1,6 @@
 -- Where all is as it should be, a run answers 0.
 use Rattle.std.proofs.Common.{◌≡◌, ℕ, ◌+◌, ◌≤◌, Bool, true, false, List, [], ◌∷◌, ◌++◌, length, Option, None, Some, Result, Ok, Err, refl, sym, ap, ◌∙◌, subst, arith, inl, inr, ◌⊎◌, append-nil, length-append}
-use Rattle.std.specs.Prelude.{IfSome, MatchOption, ◌||◌, is_some, if◌then◌else◌}
-use Rattle.lookup_tables.specs.Tables.{table_named}
-use Rattle.rule_edits.specs.declared.apply_fault.ApplyFault.TheVariants.{NoSuchTable}
-use Rattle.replay_driver.specs.declared.script_error.ScriptError.TheVariants.{Refused}
+use Rattle.std.specs.Prelude.{IfSome, MatchOption, ◌||◌}
 use Rattle.std.specs.List.{list_any, AllByRecursion}
 use Rattle.std.specs.Io.KnownBytes.{Consumes, IsAtEnd}
 use Rattle.std.proofs.lemmas.Bool.{or_from}
@@ -19,6 +16,8 @@ use Rattle.fw_command.specs.Scripts.{script_of}
 use Rattle.fw_report.specs.CaptureEnds.{is_unread}
 use Rattle.fw_report.specs.declared.capture_end.CaptureEnd.{CaptureEnd}
 use Rattle.fw_report.specs.declared.capture_end.CaptureEnd.TheVariants.{Read, Stopped}
+use Rattle.fw_report.specs.declared.ends.Answer.{Answer}
+use Rattle.fw_report.specs.declared.ends.Answer.TheVariants.{Refused, Listed}
 use Rattle.fw_report.specs.declared.ends.Ends.{Ends}
 use Rattle.fw_report.specs.declared.ends.LineAnswer.{LineAnswer}
 use Rattle.fw_world.specs.RecordValue.{RecordValue}
@@ -31,12 +30,12 @@ use Rattle.pcap_read.specs.declared.capture_fault.CaptureFault.TheVariants.{Read
 use Rattle.pcap_read.proofs.OneFront.{front_unique, front_stays}
 use Rattle.rule_chain.specs.Configuration.{Configuration}
 use Rattle.rule_chain.specs.First.{first_configuration}
-use Rattle.capture_tracks.specs.Commands.{Listing, Rules, Entries, listing_of}
+use Rattle.capture_tracks.specs.Commands.{Listing, line_answer, listed_answer, listing_of}
 use Rattle.capture_tracks.specs.Reading.{Track, IsRead, AllRead, IsEnd}
 use Rattle.capture_tracks.specs.Commands.{lines_outcome}
 use Rattle.capture_tracks.specs.Replay.{limit_for}
 use Rattle.capture_tracks.specs.declared.opened.OpenedCapture.{OpenedCapture}
-use Rattle.replay_driver.specs.FirstEdition.{◌>>=◌, first_edition, configuration_behind, listings_of, listed_first, table_shown, first_edition_answer, with_answer, read_script}
+use Rattle.replay_driver.specs.FirstEdition.{◌>>=◌, first_edition, configuration_behind, listings_of, answered_line, listed_first, with_answer, read_script}
 use Rattle.replay_driver.specs.Found.{ReadsScript, FindsReplay, FindsLoad, IsReplayOf, known_left, no_failures, made_capture}
 use Rattle.replay_driver.specs.Openings.{OpensAll}
 use Rattle.replay_driver.specs.Promises.{AllWhole, IsAccepted, IsComplete, IsCompleteJob}
@@ -114,17 +113,13 @@ pub ok_same : {X E : Type 0} (x y : X) → ◌≡◌ {A = Result X E} (Ok x) (Ok
 ok_same x y e = cc
 
 -- none of them is a refusal
-shown_well : (config : Configuration) (line : ℕ) (name : List ℕ) (a : Option LineAnswer) → table_shown config line name ≡ Ok a → list_any is_refused (with_answer a []) ≡ false
-shown_well config line name a is = by_test (is_some (table_named config.tables name)) is
-  where
-    by_test : (b : Bool) → (if b then Ok (first_edition_answer line (Some name)) else Err (Refused (record { line = line; fault = NoSuchTable }))) ≡ Ok a → list_any is_refused (with_answer a []) ≡ false
-    by_test true e = subst (λ (o : Option LineAnswer). list_any is_refused (with_answer o []) ≡ false) (ok_same (first_edition_answer line (Some name)) a e) refl
-    by_test false e = absurd (cc)
+answered_well : (line : ℕ) (shown : Answer) (a : Option LineAnswer) → answered_line line shown ≡ Ok a → list_any is_refused (with_answer a []) ≡ false
+answered_well line (Refused fault) a is = absurd (cc)
+answered_well line (Listed edition table) a is = subst (λ (o : Option LineAnswer). list_any is_refused (with_answer o []) ≡ false) (ok_same (Some (line_answer line (Listed edition table))) a is) refl
 
 first_well : (config : Configuration) (line : ℕ) (listing : Option Listing) (a : Option LineAnswer) → listed_first config line listing ≡ Ok a → list_any is_refused (with_answer a []) ≡ false
 first_well config line None a is = subst (λ (o : Option LineAnswer). list_any is_refused (with_answer o []) ≡ false) (ok_same None a is) refl
-first_well config line (Some Rules) a is = subst (λ (o : Option LineAnswer). list_any is_refused (with_answer o []) ≡ false) (ok_same (first_edition_answer line None) a is) refl
-first_well config line (Some (Entries name)) a is = shown_well config line name a is
+first_well config line (Some listing) a is = answered_well line (listed_answer config 1 listing) a is
 
 before_others : (a : Option LineAnswer) (others : List LineAnswer) → with_answer a others ≡ with_answer a [] ++ others
 before_others None others = refl

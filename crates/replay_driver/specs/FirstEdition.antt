@@ -1,22 +1,21 @@
 -- What a script gives before a packet is read (ipfw(8)): edition 1, the configuration that the commands before
 -- `live` make one after the other; the answers to the listings among them, which show edition 1; and what
 -- stands behind `live`.
-use Rattle.std.specs.Prelude.{◌≡◌, ℕ, is_some, if◌then◌else◌, Option, Some, None, Result, Ok, Err, List, [], ◌∷◌}
+use Rattle.std.specs.Prelude.{◌≡◌, ℕ, if◌then◌else◌, Option, Some, None, Result, Ok, Err, List, [], ◌∷◌}
 use Rattle.fw_command.specs.declared.script.Line.{Line}
 use Rattle.fw_command.specs.declared.script.Pace.{Pace}
 use Rattle.fw_command.specs.declared.script.Script.{Script}
 use Rattle.fw_command.specs.declared.script_fault.ScriptFault.{ScriptFault}
 use Rattle.fw_command.specs.Scripts.{script_of}
-use Rattle.fw_report.specs.declared.ends.Answer.TheVariants.{Listed}
+use Rattle.fw_report.specs.declared.ends.Answer.{Answer}
+use Rattle.fw_report.specs.declared.ends.Answer.TheVariants as answer
 use Rattle.fw_report.specs.declared.ends.LineAnswer.{LineAnswer}
-use Rattle.lookup_tables.specs.Tables.{table_named}
-use Rattle.rule_edits.specs.Answers.{Answer}
+use Rattle.rule_edits.specs.Answers.{Answer as Applied}
 use Rattle.rule_edits.specs.Apply.{apply}
 use Rattle.rule_edits.specs.Changing.{is_changing}
 use Rattle.rule_chain.specs.Configuration.{Configuration}
 use Rattle.rule_chain.specs.First.{first_configuration}
-use Rattle.rule_edits.specs.declared.apply_fault.ApplyFault.TheVariants.{NoSuchTable}
-use Rattle.capture_tracks.specs.Commands.{Listing, Rules, Entries, listing_of, line_answer}
+use Rattle.capture_tracks.specs.Commands.{Listing, line_answer, listed_answer, listing_of}
 use Rattle.replay_driver.specs.declared.first_edition.FirstEdition.{FirstEdition}
 use Rattle.replay_driver.specs.declared.script_error.ScriptError.{ScriptError}
 use Rattle.replay_driver.specs.declared.script_error.ScriptError.TheVariants.{Fault, Refused, OutOfMemory}
@@ -28,7 +27,7 @@ abbrev pub ◌>>=◌ : {X Y : Type 0} → Result X ScriptError → (X → Result
 (Err e) >>= f = Err e
 
 -- what the command on this line comes to
-abbrev pub on_line : {X : Type 0} → ℕ → Answer X → Result X ScriptError
+abbrev pub on_line : {X : Type 0} → ℕ → Applied X → Result X ScriptError
 on_line line (Ok x) = Ok x
 on_line line (Err fault) = Err (Refused (record { line = line; fault = fault }))
 
@@ -43,21 +42,15 @@ configuration_behind config (line ∷ lines) = do
   next ← configured_line config line
   configuration_behind next lines
 
--- an answer that shows edition 1
-abbrev pub first_edition_answer : ℕ → Option (List ℕ) → Option LineAnswer
-first_edition_answer line table = Some (line_answer line (Listed 1 table))
+-- what the answer to this line comes to: one that is refused is the script's error
+abbrev pub answered_line : ℕ → Answer → Result (Option LineAnswer) ScriptError
+answered_line line (answer.Refused fault) = Err (Refused (record { line = line; fault = fault }))
+answered_line line (answer.Listed edition table) = Ok (Some (line_answer line (answer.Listed edition table)))
 
--- the answer to a listing of this table
-abbrev pub table_shown : Configuration → ℕ → List ℕ → Result (Option LineAnswer) ScriptError
-table_shown config line name =
-    if is_some (table_named config.tables name) then Ok (first_edition_answer line (Some name))
-    else Err (Refused (record { line = line; fault = NoSuchTable }))
-
--- a listing is answered by edition 1; one of no table is refused
+-- a listing is answered by edition 1
 abbrev pub listed_first : Configuration → ℕ → Option Listing → Result (Option LineAnswer) ScriptError
 listed_first config line None = Ok None
-listed_first config line (Some Rules) = Ok (first_edition_answer line None)
-listed_first config line (Some (Entries name)) = table_shown config line name
+listed_first config line (Some listing) = answered_line line (listed_answer config 1 listing)
 
 -- the answer before the others, where there is one
 abbrev pub with_answer : Option LineAnswer → List LineAnswer → List LineAnswer

@@ -8,8 +8,7 @@ ghost use Rattle.replay_driver.specs.FirstEdition as spec;
 ghost use Rattle.replay_driver.specs.FirstEdition.{GivesView};
 
 use crate::{RefusedLine, ScriptError};
-use capture_tracks::{Listing, listing_of};
-use fw_base::Name;
+use capture_tracks::{answer_listing, listing_of};
 use fw_command::{Line, Pace, Script, ScriptFault, Step, parse_script};
 use fw_report::{Answer, LineAnswer};
 use fw_rule::Items;
@@ -58,27 +57,13 @@ fn configure(alloc: Global, lines: &[Line]) -> Result<Config, ScriptError>
     Ok(config)
 }
 
-/// An answer that shows edition 1.
-fn listed(line: u32, table: Option<Name>) -> Option<LineAnswer>
-    ensures { result ≡ spec.first_edition_answer line table }
+/// What the answer to this line comes to: one that is refused is the script's error.
+fn answered_line(line: u32, answer: Answer) -> Result<Option<LineAnswer>, ScriptError>
+    ensures { GivesView (λ a. a) result (spec.answered_line line answer) }
 {
-    Some(LineAnswer {
-        line,
-        answer: Answer::Listed { edition: 1, table },
-    })
-}
-
-/// The answer to a listing of that table.
-fn list_table(config: &Config, line: u32, name: &Name) -> Result<Option<LineAnswer>, ScriptError>
-    ensures { GivesView (λ a. a) result (spec.table_shown config.now line name.now) }
-{
-    if config.table(name).is_some() {
-        Ok(listed(line, Some(name.clone()?)))
-    } else {
-        Err(ScriptError::Refused(RefusedLine {
-            line,
-            fault: ApplyFault::NoSuchTable,
-        }))
+    match answer {
+        Answer::Refused(fault) => Err(ScriptError::Refused(RefusedLine { line, fault })),
+        Answer::Listed { .. } => Ok(Some(LineAnswer { line, answer })),
     }
 }
 
@@ -88,8 +73,7 @@ fn list_line(config: &Config, line: &Line) -> Result<Option<LineAnswer>, ScriptE
         (spec.listed_first config.now line.now.line (commands.listing_of line.now.command)) }
 {
     match listing_of(&line.command) {
-        Some(Listing::Rules) => Ok(listed(line.line, None)),
-        Some(Listing::Entries(name)) => list_table(config, line.line, name),
+        Some(listing) => answered_line(line.line, answer_listing(config, 1, listing)?),
         None => Ok(None),
     }
 }
