@@ -1,4 +1,4 @@
-//! Tests of tables, a configuration and its commands by the public calls of lookup_tables and rule_chain.
+//! Tests of tables, a configuration and its commands by the public calls of lookup_tables, rule_chain and rule_edits.
 #![tactic(auto)]
 
 #[cfg(test)]

@@ -1,4 +1,5 @@
 //! Worked captures, in every cut.
+use crate::frames::{SYN, behind};
 use fw_base::{Link, MemorySource, Source};
 use pcap_read::{Capture, CaptureFault, count_records};
 use std::alloc::{AllocError, Global};
@@ -24,29 +25,16 @@ fn frame_header() -> &'static [u8] {
     b"\x64\x00\x00\x00\x00\x00\x00\x00\x36\x00\x00\x00\x36\x00\x00\x00"
 }
 
-/// An IPv4 packet with a TCP SYN.
-fn packet() -> &'static [u8] {
-    b"\x45\x00\x00\x28\x00\x00\x00\x00\x40\x06\x00\x00\x0a\x00\x00\x01\xc0\x00\x02\x01\x04\x01\x00\x50\x00\x00\x00\x00\x00\x00\x00\x00\x50\x02\xff\xff\x00\x00\x00\x00"
-}
-
-/// The packet behind an Ethernet header.
+/// The SYN behind an Ethernet header.
 fn frame(alloc: Global) -> Result<Vec<u8>, AllocError> {
-    let mut bytes = Vec::from_slice(
-        alloc,
-        b"\x02\x00\x00\x00\x00\x01\x02\x00\x00\x00\x00\x02\x08\x00".as_slice(),
-    )?;
-    bytes.extend_from_slice(packet())?;
-    Ok(bytes)
+    let header = b"\x02\x00\x00\x00\x00\x01\x02\x00\x00\x00\x00\x02\x08\x00";
+    behind(alloc, header, SYN)
 }
 
-/// The packet behind a Linux cooked header.
+/// The SYN behind a Linux cooked header.
 fn cooked(alloc: Global) -> Result<Vec<u8>, AllocError> {
-    let mut bytes = Vec::from_slice(
-        alloc,
-        b"\x00\x00\x00\x01\x00\x06\x02\x00\x00\x00\x00\x02\x00\x00\x08\x00".as_slice(),
-    )?;
-    bytes.extend_from_slice(packet())?;
-    Ok(bytes)
+    let header = b"\x00\x00\x00\x01\x00\x06\x02\x00\x00\x00\x00\x02\x00\x00\x08\x00";
+    behind(alloc, header, SYN)
 }
 
 /// A big-endian capture with nanoseconds and link type 113, of one record of 56 bytes at second 100.

@@ -7,6 +7,8 @@ mod captures;
 #[cfg(test)]
 mod files;
 #[cfg(test)]
+mod frames;
+#[cfg(test)]
 mod packets;
 #[cfg(test)]
 mod packets6;

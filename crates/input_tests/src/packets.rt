@@ -1,9 +1,14 @@
 mod frames;
+mod links;
 mod made;
+mod malformed;
 
+use crate::frames::{SYN, behind};
 use frames::CAPTURED;
 use fw_base::{Addr, Link};
+use links::{READ_AS_IP, READ_AS_OTHER};
 use made::PACKETS;
+use malformed::MALFORMED_FRAMES;
 use packet_headers::{Flow, Ip4, Packet, flow, read_packet};
 use std::alloc::{AllocError, Global};
 use std::process::Abort;
@@ -66,19 +71,9 @@ fn assert_all_tell(rt: &impl Abort, alloc: Global, rows: &[Row]) -> Result<(), F
     Ok(())
 }
 
-/// One SYN, without a link header.
-const SYN: &[u8] =
-    b"\x45\x00\x00\x28\x00\x00\x00\x00\x40\x06\x00\x00\x0a\x00\x00\x01\xc0\x00\x02\x01\x04\x01\x00\x50\x00\x00\x00\x00\x00\x00\x00\x00\x50\x02\xff\xff\x00\x00\x00\x00";
-
+/// What the SYN tells.
 const SYN_TELLS: &str =
     "10.0.0.1 > 192.0.2.1 protocol 6 total 40 offset 0 ports 1025 80 flags 2 flow";
-
-fn behind(alloc: Global, link_header: &[u8]) -> Result<Vec<u8>, AllocError> {
-    let mut frame = Vec::new(alloc);
-    frame.extend_from_slice(link_header)?;
-    frame.extend_from_slice(SYN)?;
-    Ok(frame)
-}
 
 #[test]
 fn captured_packets_read_as_another_program_reads_them(rt: HostRuntime) -> Result<(), Fail> {
@@ -92,47 +87,13 @@ fn fields_of_packets(rt: HostRuntime) -> Result<(), Fail> {
 
 #[test]
 fn arp_is_other_and_vlan_is_read(rt: HostRuntime) -> Result<(), Fail> {
-    let read_as_ip: [(Link, &[u8]); 6] = [
-        (Link::Null, b"\x02\x00\x00\x00"),
-        (Link::Null, b"\x00\x00\x00\x02"),
-        (
-            Link::Ethernet,
-            b"\x02\x00\x00\x00\x00\x01\x02\x00\x00\x00\x00\x02\x08\x00",
-        ),
-        (
-            Link::Ethernet,
-            b"\x02\x00\x00\x00\x00\x01\x02\x00\x00\x00\x00\x02\x81\x00\x00\x05\x08\x00",
-        ),
-        (Link::Raw, b""),
-        (
-            Link::Cooked,
-            b"\x00\x00\x00\x01\x00\x06\x02\x00\x00\x00\x00\x02\x00\x00\x08\x00",
-        ),
-    ];
-    for (link, header) in read_as_ip {
-        let frame = behind(rt.alloc(), header)?;
+    for (link, header) in READ_AS_IP {
+        let frame = behind(rt.alloc(), header, SYN)?;
         let found = read_text(&rt, rt.alloc(), link, &frame)?;
         assert_eq!(rt; found.as_str(), SYN_TELLS, "{link:?} {header:?}");
     }
-    let other: [(Link, &[u8]); 6] = [
-        (Link::Null, b"\x18\x00\x00\x00"),
-        (Link::Null, b"\x00\x02\x00\x00"),
-        (
-            Link::Ethernet,
-            b"\x02\x00\x00\x00\x00\x01\x02\x00\x00\x00\x00\x02\x08\x06",
-        ),
-        (
-            Link::Ethernet,
-            b"\x02\x00\x00\x00\x00\x01\x02\x00\x00\x00\x00\x02\x81\x00\x00\x05\x81\x00\x00\x06\x08\x00",
-        ),
-        (Link::Raw, b"\x60"),
-        (
-            Link::Cooked,
-            b"\x00\x00\x00\x01\x00\x06\x02\x00\x00\x00\x00\x02\x00\x00\x08\x06",
-        ),
-    ];
-    for (link, header) in other {
-        let frame = behind(rt.alloc(), header)?;
+    for (link, header) in READ_AS_OTHER {
+        let frame = behind(rt.alloc(), header, SYN)?;
         assert!(rt;
             matches!(read(&rt, link, &frame), Packet::Other),
             "{link:?} {header:?}"
@@ -143,69 +104,9 @@ fn arp_is_other_and_vlan_is_read(rt: HostRuntime) -> Result<(), Fail> {
 
 #[test]
 fn malformed_kinds(rt: HostRuntime) {
-    let frames: [(Link, &[u8], u8); 14] = [
-        (Link::Null, b"\x02\x00\x00", 1),
-        (
-            Link::Ethernet,
-            b"\x02\x00\x00\x00\x00\x01\x02\x00\x00\x00\x00\x02\x08",
-            1,
-        ),
-        (
-            Link::Ethernet,
-            b"\x02\x00\x00\x00\x00\x01\x02\x00\x00\x00\x00\x02\x81\x00\x00\x05\x08",
-            1,
-        ),
-        (
-            Link::Cooked,
-            b"\x00\x00\x00\x01\x00\x06\x02\x00\x00\x00\x00\x02\x00\x00\x08",
-            1,
-        ),
-        (Link::Null, b"\x02\x00\x00\x00", 2),
-        (
-            Link::Ethernet,
-            b"\x02\x00\x00\x00\x00\x01\x02\x00\x00\x00\x00\x02\x81\x00\x00\x05\x08\x00",
-            2,
-        ),
-        (Link::Raw, b"", 2),
-        (
-            Link::Raw,
-            b"\x55\x00\x00\x00\x00\x00\x00\x00\x00\x00\x00\x00\x00\x00\x00\x00\x00\x00\x00\x00",
-            3,
-        ),
-        (
-            Link::Raw,
-            b"\x44\x00\x00\x00\x00\x00\x00\x00\x00\x00\x00\x00\x00\x00\x00\x00\x00\x00\x00\x00",
-            4,
-        ),
-        (
-            Link::Raw,
-            b"\x46\x00\x00\x00\x00\x00\x00\x00\x00\x00\x00\x00\x00\x00\x00\x00\x00\x00\x00\x00",
-            2,
-        ),
-        (
-            Link::Raw,
-            b"\x45\x00\x00\x13\x00\x00\x00\x00\x00\x00\x00\x00\x00\x00\x00\x00\x00\x00\x00\x00",
-            5,
-        ),
-        (
-            Link::Raw,
-            b"\x55\x00\x00\x00\x00\x00\x00\x00\x00\x00\x00\x00\x00\x00\x00\x00\x00\x00\x00",
-            2,
-        ),
-        (
-            Link::Raw,
-            b"\x34\x00\x00\x00\x00\x00\x00\x00\x00\x00\x00\x00\x00\x00\x00\x00\x00\x00\x00\x00",
-            3,
-        ),
-        (
-            Link::Raw,
-            b"\x44\x00\x00\x13\x00\x00\x00\x00\x00\x00\x00\x00\x00\x00\x00\x00\x00\x00\x00\x00",
-            4,
-        ),
-    ];
-    for (link, frame, kind) in frames {
-        match read(&rt, link, frame) {
-            Packet::Malformed(found) => assert_eq!(rt; found, kind, "{link:?} {frame:?}"),
+    for row in &MALFORMED_FRAMES {
+        match read(&rt, row.link, row.frame) {
+            Packet::Malformed(found) => assert_eq!(rt; found, row.kind, "{row:?}"),
             other => panic!(rt; "{other:?}"),
         }
     }

@@ -1,11 +1,11 @@
 mod links;
 mod made;
 
+use crate::frames::{DATAGRAM, DATAGRAM6, behind};
 use fw_base::{Addr6, Link};
 use ip6_headers::{AnyIp, AnyPacket, Ip6, read_any};
 use links::{FRAMES, HEADERS};
 use made::{PACKETS, SHORT};
-use std::alloc::{AllocError, Global};
 use std::process::Abort;
 use std::test::Fail;
 
@@ -157,31 +157,16 @@ fn kind_of(packet: &AnyPacket<'_>) -> Kind {
     }
 }
 
-/// A datagram of UDP without a link header.
-const DATAGRAM: &[u8] =
-    b"\x60\x00\x00\x00\x00\x08\x11\x40\x20\x01\x0d\xb8\x00\x00\x00\x00\x00\x00\x00\x00\x00\x00\x00\x01\x20\x01\x0d\xb8\x00\x00\x00\x00\x00\x00\x00\x00\x00\x00\x00\x02\x00\x05\x00\x06\x00\x08\x00\x00";
-
-/// The same of IPv4.
-const DATAGRAM4: &[u8] =
-    b"\x45\x00\x00\x1c\x00\x00\x00\x00\x40\x11\x00\x00\x0a\x00\x00\x01\xc0\x00\x02\x01\x00\x05\x00\x06\x00\x08\x00\x00";
-
-fn behind(alloc: Global, link_header: &[u8], packet: &[u8]) -> Result<Vec<u8>, AllocError> {
-    let mut frame = Vec::new(alloc);
-    frame.extend_from_slice(link_header)?;
-    frame.extend_from_slice(packet)?;
-    Ok(frame)
-}
-
 #[test]
 fn link_headers_tell_the_version(rt: HostRuntime) -> Result<(), Fail> {
     for (link, header, six, four) in HEADERS {
-        let frame = behind(rt.alloc(), header, DATAGRAM)?;
+        let frame = behind(rt.alloc(), header, DATAGRAM6)?;
         assert_eq!(rt;
             kind_of(&read(&rt, link, &frame)),
             six,
             "{link:?} {header:?}"
         );
-        let frame = behind(rt.alloc(), header, DATAGRAM4)?;
+        let frame = behind(rt.alloc(), header, DATAGRAM)?;
         assert_eq!(rt;
             kind_of(&read(&rt, link, &frame)),
             four,
@@ -206,7 +191,7 @@ fn malformed_kinds_of_either_version(rt: HostRuntime) {
 fn version_behind_a_link_header(rt: HostRuntime) -> Result<(), Fail> {
     for version in 0..16u8 {
         let start = [0x1c, 0, 0, 0, 16 * version];
-        let frame = behind(rt.alloc(), &start, &DATAGRAM[1..])?;
+        let frame = behind(rt.alloc(), &start, &DATAGRAM6[1..])?;
         let kind = if version == 6 {
             Kind::Six
         } else {

@@ -1,6 +1,6 @@
 //! A script and a capture made from a number, the same at each run: what the mode `load` replays.
 //!
-//! Tests: `language_tests`, src/loads.
+//! Tests: `record_tests`, src/loads.
 #![tactic(auto)]
 
 pub use load::{Load, MOST_RECORDS, make};

@@ -1,7 +1,7 @@
 //! The order in which a serial run replays the records of several captures, and runs the commands between
 //! them.
 //!
-//! Tests: `language_tests`, src/schedules.
+//! Tests: `record_tests`, src/schedules.
 #![tactic(auto)]
 
 pub use agenda::Agenda;

@@ -1,4 +1,5 @@
-//! Tests of the dynamic states and their journal by the public calls of dyn_states and state_journal.
+//! Tests of the dynamic states, their texts and their journal by the public calls of dyn_states, state_texts and
+//! state_journal.
 #![tactic(auto)]
 
 #[cfg(test)]

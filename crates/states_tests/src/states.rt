@@ -1,6 +1,8 @@
 ghost use Rattle.std.specs.Prelude.{◌≡◌, ◌+◌, ◌<◌, ◌≤◌, ◌^◌};
 ghost use Rattle.fw_rule.specs.Settings.{IsLifetime, IsMostStates};
 
+mod worked_rows;
+
 use dyn_states::{ScannedStates, States};
 use fw_base::{Addr, MemorySink, Name};
 use fw_rule::{LimitMask, Settings, USUAL_MOST_STATES};
@@ -127,16 +129,22 @@ fn publish(rt: &impl Abort, states: &mut States, facts: &Facts) {
     states.publish(facts);
 }
 
+/// The names of flows, by their numbers.
+fn names(alloc: Global) -> Result<[Name; 3], Fail> {
+    Ok([
+        Name::new(alloc, b"default")?,
+        Name::new(alloc, b"web")?,
+        Name::new(alloc, b"dns")?,
+    ])
+}
+
+/// The name `web`.
+const WEB: FlowName = FlowName::Named(1);
+
 /// What `write_states` writes, compared with the text.
-fn assert_printed(
-    rt: &impl Abort,
-    alloc: Global,
-    states: &States,
-    names: &[Name],
-    text: &str,
-) -> Result<(), Fail> {
+fn assert_printed(rt: &impl Abort, alloc: Global, states: &States, text: &str) -> Result<(), Fail> {
     let mut out = MemorySink::new(alloc, 1024)?;
-    write_states(states, names, &mut out).or(Err("not written"))?;
+    write_states(states, &names(alloc)?, &mut out).or(Err("not written"))?;
     assert_eq!(rt; out.written(), text.as_bytes());
     Ok(())
 }
@@ -150,131 +158,78 @@ const LAST_RULE: RuleRef = RuleRef {
     number: 65_535,
 };
 
-/// Each row of asks and replies is a worked row of the manual's subject, by its name.
-#[test]
-fn worked_rows(rt: HostRuntime) -> Result<(), Fail> {
-    let found = Reply::Found(Way::Forward, RULE);
-    let answered = Reply::Found(Way::Reverse, RULE);
-
-    let mut tcp_state_lives_and_dies = States::open(rt.alloc(), USUAL_MOST_STATES, usual())?;
+/// States of one flow at second 101: of `RULE` under `dns`, of `OTHER_RULE` under `web`.
+fn named_states(rt: &impl Abort, alloc: Global) -> Result<States, Fail> {
+    let mut states = States::open(alloc, USUAL_MOST_STATES, usual())?;
     assert_answers(
-        &rt,
-        &mut tcp_state_lives_and_dies,
-        &[
-            (find(segment(1025), SYN, 100), Reply::NotFound),
-            (install(segment(1025), SYN, 100, RULE, 0), Reply::Created),
-            (find(answer(1025), SYN | ACK, 101), answered),
-            (find(segment(1025), FIN | ACK, 102), found),
-            (find(answer(1025), FIN | ACK, 103), answered),
-            (find(segment(1025), ACK, 104), Reply::NotFound),
-        ],
-    );
-    assert_eq!(rt; tcp_state_lives_and_dies.clock(), 104);
-
-    let mut limit_by_source_address = States::open(rt.alloc(), USUAL_MOST_STATES, usual())?;
-    let two = (LimitMask::SrcAddr, 2);
-    assert_answers(
-        &rt,
-        &mut limit_by_source_address,
-        &[
-            (limited(segment(1), 100, RULE, two), Reply::Created),
-            (limited(segment(2), 101, RULE, two), Reply::Created),
-            (limited(segment(2), 101, RULE, two), Reply::Exists),
-            (limited(segment(3), 102, RULE, two), Reply::LimitReached(2)),
-            (limited(segment(3), 102, OTHER_RULE, two), Reply::Created),
-            (limited(segment(4), 122, RULE, two), Reply::Created),
-        ],
-    );
-
-    let mut clock_never_goes_back = States::open(rt.alloc(), USUAL_MOST_STATES, usual())?;
-    assert_answers(
-        &rt,
-        &mut clock_never_goes_back,
-        &[
-            (install(datagram(5), 0, 100, RULE, 0), Reply::Created),
-            (find(datagram(5), 0, 109), found),
-            (find(datagram(5), 0, 50), found),
-            (find(datagram(5), 0, 118), found),
-            (find(datagram(5), 0, 128), Reply::NotFound),
-        ],
-    );
-
-    let mut state_table_full = States::open(rt.alloc(), 16, settings(1, 1, 1, false))?;
-    assert_answers(
-        &rt,
-        &mut state_table_full,
-        &[
-            (install(datagram(5), 0, 100, RULE, 0), Reply::Created),
-            (install(datagram(7), 0, 101, RULE, 0), Reply::TableFull(1)),
-            (install(datagram(7), 0, 110, RULE, 0), Reply::Created),
-        ],
-    );
-    Ok(())
-}
-
-/// Names, publications and the printed lines.
-#[test]
-fn names_and_publications(rt: HostRuntime) -> Result<(), Fail> {
-    let names = [
-        Name::new(rt.alloc(), b"default")?,
-        Name::new(rt.alloc(), b"web")?,
-        Name::new(rt.alloc(), b"dns")?,
-    ];
-    let mut states = States::open(rt.alloc(), USUAL_MOST_STATES, usual())?;
-    let web = FlowName::Named(1);
-    assert_answers(
-        &rt,
+        rt,
         &mut states,
         &[
-            (lookup(datagram(5), 0, 100, web), Reply::NotFound),
+            (lookup(datagram(5), 0, 100, WEB), Reply::NotFound),
             (install(datagram(5), 0, 100, RULE, 2), Reply::Created),
-            (lookup(datagram(5), 0, 101, web), Reply::NotFound),
+            (lookup(datagram(5), 0, 101, WEB), Reply::NotFound),
             (install(datagram(5), 0, 101, OTHER_RULE, 1), Reply::Created),
             (
                 lookup(datagram(5), 0, 101, FlowName::Any),
                 Reply::Found(Way::Forward, RULE),
             ),
             (
-                lookup(datagram(5), 0, 101, web),
+                lookup(datagram(5), 0, 101, WEB),
                 Reply::Found(Way::Forward, OTHER_RULE),
             ),
         ],
     );
+    Ok(states)
+}
+
+/// A publication of all rules but `RULE`.
+fn drop_first(rt: &impl Abort, alloc: Global, states: &mut States) -> Result<(), Fail> {
+    let left = Identities::new(alloc, vec![in alloc; 0, 1, 3]?)?;
+    publish(rt, states, &facts(rt, 2, left, false));
+    Ok(())
+}
+
+#[test]
+fn names_tell_states_apart(rt: HostRuntime) -> Result<(), Fail> {
+    let states = named_states(&rt, rt.alloc())?;
     assert_printed(
         &rt,
         rt.alloc(),
         &states,
-        &names,
         "clock 101\nstates 2\n\
         00200 udp 10.0.0.1 5 192.0.2.1 6 expires 111 :dns\n\
         00300 udp 10.0.0.1 5 192.0.2.1 6 expires 111 :web\n",
-    )?;
+    )
+}
 
-    let left = Identities::new(rt.alloc(), vec![in rt.alloc(); 0, 1, 3]?)?;
-    let publication_drops_states = facts(&rt, 2, left, false);
-    publish(&rt, &mut states, &publication_drops_states);
+#[test]
+fn publication_drops_states(rt: HostRuntime) -> Result<(), Fail> {
+    let mut states = named_states(&rt, rt.alloc())?;
+    drop_first(&rt, rt.alloc(), &mut states)?;
     assert_printed(
         &rt,
         rt.alloc(),
         &states,
-        &names,
         "clock 101\nstates 1\n00300 udp 10.0.0.1 5 192.0.2.1 6 expires 111 :web\n",
-    )?;
+    )
+}
 
+#[test]
+fn kept_state_gets_the_last_rule(rt: HostRuntime) -> Result<(), Fail> {
+    let mut states = named_states(&rt, rt.alloc())?;
+    drop_first(&rt, rt.alloc(), &mut states)?;
     let last = Identities::new(rt.alloc(), vec![in rt.alloc(); 0]?)?;
-    let kept_state_gets_the_last_rule = facts(&rt, 3, last, true);
-    publish(&rt, &mut states, &kept_state_gets_the_last_rule);
+    publish(&rt, &mut states, &facts(&rt, 3, last, true));
     let found = Reply::Found(Way::Forward, LAST_RULE);
     assert_answers(
         &rt,
         &mut states,
-        &[(lookup(datagram(5), 0, 102, web), found)],
+        &[(lookup(datagram(5), 0, 102, WEB), found)],
     );
     assert_printed(
         &rt,
         rt.alloc(),
         &states,
-        &names,
         "clock 102\nstates 1\n65535 udp 10.0.0.1 5 192.0.2.1 6 expires 112 :web\n",
     )
 }

@@ -1,4 +1,5 @@
 //! Packets without a link header, each with one byte of it changed, and whether the key stays the same.
+use crate::frames::{DATAGRAM, SYN};
 
 /// A packet, and the same with another byte at a place.
 pub struct Change {
@@ -9,15 +10,7 @@ pub struct Change {
     pub is_equal: bool,
 }
 
-/// A SYN from 10.0.0.1, port 1025, to 192.0.2.1, port 80.
-pub const SYN: &[u8] =
-    b"\x45\x00\x00\x28\x00\x00\x00\x00\x40\x06\x00\x00\x0a\x00\x00\x01\xc0\x00\x02\x01\x04\x01\x00\x50\x00\x00\x00\x00\x00\x00\x00\x00\x50\x02\xff\xff\x00\x00\x00\x00";
-
-/// A datagram of UDP from port 5 to port 6.
-pub const DATAGRAM: &[u8] =
-    b"\x45\x00\x00\x1c\x00\x00\x00\x00\x40\x11\x00\x00\x0a\x00\x00\x01\xc0\x00\x02\x01\x00\x05\x00\x06\x00\x08\x00\x00";
-
-/// The same from port 0 to port 0.
+/// A datagram of UDP from port 0 to port 0.
 pub const PORTLESS: &[u8] =
     b"\x45\x00\x00\x1c\x00\x00\x00\x00\x40\x11\x00\x00\x0a\x00\x00\x01\xc0\x00\x02\x01\x00\x00\x00\x00\x00\x08\x00\x00";
 

@@ -1,5 +1,6 @@
 //! Packets in the order of their visits to a cache.
-use super::changes::{DATAGRAM, ECHO, SYN};
+use super::changes::ECHO;
+use crate::frames::{DATAGRAM, SYN};
 
 /// A packet in an edition, and the number of the rule that decides on it.
 pub struct Visit {

@@ -1,0 +1,25 @@
+//! Packets without a link header that the tests share.
+use std::alloc::{AllocError, Global};
+
+/// A SYN from 10.0.0.1, port 1025, to 192.0.2.1, port 80.
+pub(crate) const SYN: &[u8] =
+    b"\x45\x00\x00\x28\x00\x00\x00\x00\x40\x06\x00\x00\x0a\x00\x00\x01\xc0\x00\x02\x01\x04\x01\x00\x50\x00\x00\x00\x00\x00\x00\x00\x00\x50\x02\xff\xff\x00\x00\x00\x00";
+
+/// A datagram of UDP from 10.0.0.1, port 5, to 192.0.2.1, port 6.
+pub(crate) const DATAGRAM: &[u8] =
+    b"\x45\x00\x00\x1c\x00\x00\x00\x00\x40\x11\x00\x00\x0a\x00\x00\x01\xc0\x00\x02\x01\x00\x05\x00\x06\x00\x08\x00\x00";
+
+/// A datagram of UDP from 2001:db8::1, port 5, to 2001:db8::2, port 6.
+pub(crate) const DATAGRAM6: &[u8] =
+    b"\x60\x00\x00\x00\x00\x08\x11\x40\x20\x01\x0d\xb8\x00\x00\x00\x00\x00\x00\x00\x00\x00\x00\x00\x01\x20\x01\x0d\xb8\x00\x00\x00\x00\x00\x00\x00\x00\x00\x00\x00\x02\x00\x05\x00\x06\x00\x08\x00\x00";
+
+/// The packet behind a link header.
+pub(crate) fn behind(
+    alloc: Global,
+    link_header: &[u8],
+    packet: &[u8],
+) -> Result<Vec<u8>, AllocError> {
+    let mut frame = Vec::from_slice(alloc, link_header)?;
+    frame.extend_from_slice(packet)?;
+    Ok(frame)
+}
