@@ -1,4 +1,4 @@
-use Rattle.std.proofs.Common.{◌≡◌, ℕ, ◌+◌, List, [], ◌∷◌, ◌++◌, length, ◌∙◌, sym, ap, subst}
+use Rattle.std.proofs.Common.{◌≡◌, ◌+◌, List, [], ◌∷◌, ◌++◌, length, ◌∙◌, sym, ap}
 use Rattle.std.proofs.lemmas.Result.{IfOk-weaker, on_err_weaker}
 use Rattle.std.specs.Prelude.{Some, true, IfOk, OnOk, OnErr}
 use Rattle.eval_engine.specs.Dockets.{judged_entry}
@@ -65,7 +65,7 @@ found world is = last_is_found world.editions (last_published world.editions) is
 
 pub judge-requires-clause-kept : goal.judge-requires-clause-kept
 judge-requires-clause-kept c =
-    rw (c.work.ensures.value, c.self.view_is) (IsTrueFor-among c.args.self.now.editions (last_published c.args.self.now.editions) c.args.lane.now.cache (found c.args.self.now (is_world c)) c.requires.of_world.cached)
+    rw (c.work.ensures.value, c.self.view_is) (IsTrueFor-among c.args.self.now.editions (last_published c.args.self.now.editions) c.args.lane.now.cache (found c.args.self.now (rw c.self.view_is at c.is_world.ensures.world)) c.requires.of_world.cached)
 
 stands : (c : After-lane-1) → OnOk c.judge.result ((inputs : List Input) → LaneStandsFor c.args.self.now c.args.lane.now inputs → LaneStandsFor c.judge.new.book (after c) (inputs ++ Packet c.args.packet.now c.args.port.now c.args.second ∷ []))
 stands c =
