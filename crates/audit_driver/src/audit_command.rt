@@ -19,8 +19,8 @@ use crate::audit_result::AuditResult;
 use crate::concluding::{conclude, stop};
 use crate::examined::{Examined, examine};
 use capture_tracks::OpenedCapture;
-use command_words::{CaptureWord, MOST_CAPTURES, Mode};
-use fw_base::{Library, Name, OutOfMemory, Sink, Source};
+use command_words::{CaptureWord, Mode};
+use fw_base::{Library, MOST_CAPTURES, Name, OutOfMemory, Sink, Source};
 use replay_driver::{
     FirstEdition, LibraryView, NamedSource, Outcome, Readiness, Ready, SinkView, make_ready,
     no_ends, read_named, status_written,

@@ -4,10 +4,10 @@ ghost use Rattle.fw_report.specs.CaptureEnds as ends_spec;
 
 use crate::capture_audit::{CaptureAudit, audit_capture};
 use capture_tracks::{MOST_RECORDS, OpenedCapture, limit_for};
-use fw_base::{OutOfMemory, Source};
+use fw_base::{MOST_CAPTURES, OutOfMemory, Source};
 use fw_report::CaptureEnd;
 use replay_driver::is_unread;
-use run_audit::{Audit, MOST_CAPTURES};
+use run_audit::Audit;
 use std::alloc::Global;
 
 /// Captures that were audited in their order, to the first that stopped the audit.

@@ -7,7 +7,7 @@
 
 pub use capture_word::CaptureWord;
 pub use invocation::{Invocation, Mode};
-pub use words::{MOST_CAPTURES, read_words};
+pub use words::read_words;
 
 mod arguments;
 mod bytes;

@@ -7,11 +7,8 @@ use crate::arguments::{Arguments, arguments_in};
 use crate::captures::captures_of;
 use crate::invocation::{Invocation, Mode};
 use crate::load_word::load_number;
-use fw_base::OutOfMemory;
+use fw_base::{MOST_CAPTURES, OutOfMemory};
 use std::alloc::Global;
-
-/// How many captures are replayed at most.
-pub const MOST_CAPTURES: usize = 16;
 
 /// What the positional words of a replay name.
 #[tactic(auto, unfolding(crate::specs::Words::replay_of))]
@@ -30,7 +27,7 @@ fn replay_of<'a>(
     let [script, captures @ ..] = positional else {
         return Ok(None);
     };
-    if script.is_empty() || captures.is_empty() || captures.len() > MOST_CAPTURES {
+    if script.is_empty() || captures.is_empty() || captures.len() > MOST_CAPTURES as usize {
         return Ok(None);
     }
     match captures_of(alloc, captures)? {
@@ -76,7 +73,7 @@ fn audit_of<'a>(
     if report.is_empty() || script.is_empty() {
         return Ok(None);
     }
-    if captures.is_empty() || captures.len() > MOST_CAPTURES {
+    if captures.is_empty() || captures.len() > MOST_CAPTURES as usize {
         return Ok(None);
     }
     match captures_of(alloc, captures)? {

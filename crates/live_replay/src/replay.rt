@@ -10,12 +10,12 @@ use crate::operator::Operator;
 use crate::runner::Runner;
 use crate::task::{Finished, Task};
 use capture_tracks::{OpenedCapture, Replayed, limit_for};
-use fw_base::{Gate, OutOfMemory, Source};
+use fw_base::{Gate, MOST_CAPTURES, OutOfMemory, Source};
 use fw_command::Step;
 use fw_report::{CaptureEnd, Ends};
 use fw_rule::Items;
 use rule_chain::Config;
-use shared_world::{Lane, MOST_LANES, OpenWorld, World};
+use shared_world::{Lane, OpenWorld, World};
 use std::alloc::Global;
 use std::sync::Wait;
 use std::thread::Threads;
@@ -99,7 +99,7 @@ pub fn replay_live<S: Source + Send, G: Gate + Sync, R: Threads + Wait + Sync>(
     captures: Vec<OpenedCapture<S>>,
 ) -> Result<Replayed<S>, OutOfMemory>
     requires some { 1 ≤ vec_len captures }
-    requires few { vec_len captures ≤ MOST_LANES }
+    requires few { vec_len captures ≤ MOST_CAPTURES }
     requires cache { IsCacheSize cache }
     requires steps { AllByRecursion IsStepInRange steps.now }
     ensures { IfOk result (IsReplay S.left S.faults config steps.now cache captures.items) }

@@ -7,8 +7,7 @@ ghost use Rattle.replay_driver.specs.EditionReplay.{ReplaysEdition};
 
 use crate::first_edition::FirstEdition;
 use capture_tracks::{OpenedCapture, Replayed};
-use command_words::MOST_CAPTURES;
-use fw_base::{Gate, OutOfMemory, Source};
+use fw_base::{Gate, MOST_CAPTURES, OutOfMemory, Source};
 use fw_report::{Ends, LineAnswer};
 use fw_rule::Items;
 use live_replay::{Runner, replay_live};

@@ -6,6 +6,7 @@ ghost use Rattle.report_reading.specs.AskLines as spec;
 use crate::ask_parts::{Question, asked_question, flags, reply};
 use crate::flow_texts::{flow, name};
 use crate::parts::{behind, number, positive};
+use fw_base::MOST_CAPTURES;
 use fw_rule::ANY_FLOW;
 use packet_headers::Flow;
 use state_asks::{FlowName, Op, Reply, RuleRef};
@@ -95,7 +96,7 @@ fn asked_in(lane: u64, at: u64, second: u32, text: &[u8]) -> Option<AskLine<'_>>
 pub(crate) fn ask_in(line: &[u8]) -> Option<AskLine<'_>>
     ensures { option_map spec.value_of_ask result ≡ spec.ask_in line.now }
 {
-    let (lane, rest) = positive(behind(b"ask ", line)?, 16)?;
+    let (lane, rest) = positive(behind(b"ask ", line)?, u64::from(MOST_CAPTURES))?;
     let (at, rest) = positive(behind(b".", rest)?, u64::MAX)?;
     let (second, rest) = number(behind(b" ", rest)?, u64::from(u32::MAX))?;
     asked_in(lane, at, second as u32, rest)

@@ -2,6 +2,7 @@ ghost use Rattle.std.specs.Prelude.{◌≡◌};
 ghost use Rattle.report_reading.specs.LaneLines as spec;
 
 use crate::parts::{behind, is_end, number, positive};
+use fw_base::MOST_CAPTURES;
 
 /// What the line of a lane tells.
 #[derive(Clone, Copy, Debug, PartialEq, Eq)]
@@ -19,7 +20,7 @@ pub struct LaneLine {
 pub(crate) fn lane_in(line: &[u8]) -> Option<LaneLine>
     ensures { result ≡ spec.lane_in line.now }
 {
-    let (lane, rest) = positive(behind(b"lane ", line)?, 16)?;
+    let (lane, rest) = positive(behind(b"lane ", line)?, u64::from(MOST_CAPTURES))?;
     let (refused, rest) = number(behind(b" refused ", rest)?, u64::MAX)?;
     let (tracker, rest) = number(behind(b" tracker ", rest)?, u64::MAX)?;
     lane_of(lane, refused, tracker, rest)

@@ -7,6 +7,7 @@ ghost use Rattle.fw_report.specs.DocketText.{record_line};
 
 use crate::parts::{behind, is_end, is_word, number, positive, rule_number};
 use eval_engine::{Cause, DocketEntry, Judgement, Verdict};
+use fw_base::MOST_CAPTURES;
 use fw_rule::UNREACH_NAMES;
 use state_asks::RuleRef;
 
@@ -174,7 +175,7 @@ fn entry(text: &[u8]) -> Option<DocketEntry>
 pub(crate) fn record_in(line: &[u8]) -> Option<RecordLine>
     ensures { result ≡ spec.record_in line.now }
 {
-    let (capture, rest) = positive(line, 16)?;
+    let (capture, rest) = positive(line, u64::from(MOST_CAPTURES))?;
     let (at, rest) = positive(behind(b".", rest)?, u64::MAX)?;
     let entry = entry(rest)?;
     Some(RecordLine { capture, at, entry })

@@ -3,11 +3,8 @@ ghost use Rattle.fw_report.specs.DocketText.{record_lines};
 ghost use Rattle.report_values.specs.Captures as spec;
 
 use crate::{EndLine, Lines, Records};
-use fw_base::OutOfMemory;
+use fw_base::{MOST_CAPTURES, OutOfMemory};
 use std::alloc::Global;
-
-/// How many captures a report has at most.
-const MOST_CAPTURES: u64 = 16;
 
 /// What is told of a capture.
 #[derive(Drop)]
@@ -59,7 +56,7 @@ pub fn read_captures<'a>(
     ensures ends { IfOk result (λ captures. spec.HaveEnds 1 captures.items) }
 {
     let mut captures = Vec::new(alloc);
-    for number in 1..=MOST_CAPTURES {
+    for number in 1..=MOST_CAPTURES as u64 {
         let mut ahead = *lines;
         match read_capture(alloc, &mut ahead, number)? {
             Some(capture) => captures.push(capture)?,

@@ -15,7 +15,7 @@ use crate::judging::Judging;
 use crate::opening::opened_report;
 use crate::told::Told;
 use crate::{AuditFault, Rebuilt};
-use fw_base::Port;
+use fw_base::{MOST_CAPTURES, Port};
 use fw_command::Step;
 use fw_report::LineAnswer;
 use fw_world::Skipped;
@@ -23,9 +23,6 @@ use ip6_headers::AnyIp;
 use rule_chain::Config;
 use std::alloc::Global;
 use std::marker::Model;
-
-/// How many captures an audit may have.
-pub const MOST_CAPTURES: u32 = 16;
 
 /// The audit of a report beside its script and its captures.
 #[derive(Drop)]

@@ -6,9 +6,8 @@ ghost use Rattle.run_audit.specs.Replaying.{AreNumbered, IsAskInRange};
 ghost use Rattle.run_audit.specs.Telling.{IsBegunUnder, IsUnder, journal_of};
 ghost use Rattle.state_journal.specs.Journal.{with_publication};
 
-use crate::MOST_CAPTURES;
 use crate::replaying::{edition_at, replay_line};
-use fw_base::OutOfMemory;
+use fw_base::{MOST_CAPTURES, OutOfMemory};
 use generation_store::Edition;
 use report_reading::Reading;
 use state_journal::Book;

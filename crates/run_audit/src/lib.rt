@@ -3,7 +3,7 @@
 //! Tests: `run_tests`, src/openings and src/runs/audits.
 #![tactic(auto)]
 
-pub use audit::{Audit, MOST_CAPTURES};
+pub use audit::Audit;
 pub use audit_fault::AuditFault;
 pub use comparer::Comparer;
 pub use laws::{

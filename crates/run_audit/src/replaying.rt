@@ -7,7 +7,7 @@ ghost use Rattle.run_audit.specs.Replaying.{IsAskTold, IsEntered, AreNumbered, I
 ghost use Rattle.state_journal.specs.Journal.{Journal, last_rules, with_publication};
 
 use crate::told_asks::{are_told_alike, op_under};
-use fw_base::{Kept, OutOfMemory};
+use fw_base::{Kept, MOST_CAPTURES, OutOfMemory};
 use generation_store::Edition;
 use report_reading::{AskLine, Reading};
 use state_asks::Op;
@@ -22,7 +22,7 @@ pub(crate) fn replay_ask(
     edition: &Edition,
     told: &AskLine<'_>,
 ) -> Result<bool, OutOfMemory>
-    requires lanes { 16 ≤ book.old.lanes }
+    requires lanes { MOST_CAPTURES ≤ book.old.lanes }
     requires published { last_rules book.old.facts ≡ edition.now.facts.rules }
     requires told { IsAsk (told.now.name.now ∷ []) told.now.lane told.now.at told.now.op
         told.now.reply }
@@ -92,7 +92,7 @@ pub(crate) fn replay_asked(
     editions: &[Arc<Edition>],
     told: &AskLine<'_>,
 ) -> Result<bool, OutOfMemory>
-    requires lanes { 16 ≤ book.old.lanes }
+    requires lanes { MOST_CAPTURES ≤ book.old.lanes }
     requires published { IsPublishedLast (map arc_value editions.now) book.old }
     requires told { IsAsk (told.now.name.now ∷ []) told.now.lane told.now.at told.now.op
         told.now.reply }
@@ -111,7 +111,7 @@ pub(crate) fn replay_line(
     editions: &[Arc<Edition>],
     told: &Reading<'_>,
 ) -> Result<bool, OutOfMemory>
-    requires lanes { 16 ≤ book.old.lanes }
+    requires lanes { MOST_CAPTURES ≤ book.old.lanes }
     requires numbered { AreNumbered (map arc_value editions.now) }
     requires published { IsPublishedLast (map arc_value editions.now) book.old }
     requires told { IsAskInRange (line_value told.now) }

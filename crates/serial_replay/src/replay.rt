@@ -8,11 +8,11 @@ use crate::replay_world::ReplayWorld;
 use crate::running::Running;
 use crate::tracks::Tracks;
 use capture_tracks::{OpenedCapture, Replayed, limit_for};
-use fw_base::{OutOfMemory, Source};
+use fw_base::{MOST_CAPTURES, OutOfMemory, Source};
 use fw_command::Step;
 use rule_chain::Config;
 use serial_schedule::Agenda;
-use serial_world::{MOST_LANES, OpenSerial, SerialWorld};
+use serial_world::{OpenSerial, SerialWorld};
 use std::alloc::Global;
 
 /// Replays 1 to 16 captures beside the commands behind `live`: of the captures that still have a record, the one
@@ -26,7 +26,7 @@ pub fn replay_serial<S: Source>(
     captures: Vec<OpenedCapture<S>>,
 ) -> Result<Replayed<S>, OutOfMemory>
     requires some { 1 ≤ vec_len captures }
-    requires few { vec_len captures ≤ MOST_LANES }
+    requires few { vec_len captures ≤ MOST_CAPTURES }
     requires cache { IsCacheSize cache }
     requires steps { AllByRecursion IsStepInRange steps.now }
     ensures { IfOk result (IsSerialReplay S.left S.faults config steps.now cache

@@ -8,7 +8,7 @@ pub use open_serial::OpenSerial;
 pub use serial_desk::SerialDesk;
 pub use serial_inside::SerialInside;
 pub use serial_lane::{SerialEntry, SerialLane};
-pub use serial_world::{MOST_LANES, SerialWorld};
+pub use serial_world::SerialWorld;
 
 mod closing;
 mod judging;

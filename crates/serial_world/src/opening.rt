@@ -8,8 +8,8 @@ ghost use Rattle.serial_world.specs.WorldKept.{IsNewWorld};
 
 use crate::lane_state::LaneState;
 use crate::serial_book::SerialBook;
-use crate::{MOST_LANES, OpenSerial, SerialDesk, SerialLane, SerialWorld};
-use fw_base::OutOfMemory;
+use crate::{OpenSerial, SerialDesk, SerialLane, SerialWorld};
+use fw_base::{MOST_CAPTURES, OutOfMemory};
 use fw_world::{Columns, open_cache, share_edition, store_of};
 use generation_store::Edition;
 use rule_chain::Config;
@@ -18,7 +18,7 @@ use std::sync::Arc;
 
 /// The lanes of a world that is opened.
 fn open_lanes(alloc: Global, lanes: u32, cache: Option<u32>) -> Result<Vec<SerialLane>, OutOfMemory>
-    requires most { lanes ≤ MOST_LANES }
+    requires most { lanes ≤ MOST_CAPTURES }
     requires cache { IsCacheSize cache }
     ensures { IfOk result (λ opened. opened.items ≡ first_lanes cache 1 lanes) }
 {
@@ -44,7 +44,7 @@ fn open_desk(alloc: Global, edition: &Arc<Edition>) -> Result<SerialDesk, OutOfM
 fn open_world(alloc: Global, edition: Arc<Edition>, lanes: u32) -> Result<SerialWorld, OutOfMemory>
     requires number { (arc_value edition).number ≡ 1 }
     requires factual { IsEdition (arc_value edition) }
-    requires lanes { (1 ≤ lanes) × (lanes ≤ MOST_LANES) }
+    requires lanes { (1 ≤ lanes) × (lanes ≤ MOST_CAPTURES) }
     ensures editions { IfOk result (λ world. world.editions ≡ arc_value edition ∷ []) }
     ensures journal { IfOk result (λ world.
         world.journal ≡ first_journal lanes (arc_value edition).facts) }
@@ -65,7 +65,7 @@ impl SerialWorld {
         cache: Option<u32>,
     ) -> Result<OpenSerial, OutOfMemory>
         requires least { 1 ≤ lanes }
-        requires most { lanes ≤ MOST_LANES }
+        requires most { lanes ≤ MOST_CAPTURES }
         requires cache { IsCacheSize cache }
         ensures world { IfOk result (λ opened. IsNewWorld config lanes opened.world) }
         ensures lanes { IfOk result (λ opened. opened.lanes.items ≡ first_lanes cache 1 lanes) }

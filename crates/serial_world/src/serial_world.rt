@@ -2,9 +2,6 @@ use crate::serial_book::SerialBook;
 use fw_world::Columns;
 use std::marker::Model;
 
-/// How many lanes a serial world may have.
-pub const MOST_LANES: u32 = 16;
-
 /// The world for one thread: the editions, and the one book of the states.
 #[derive(Drop)]
 pub struct SerialWorld {

@@ -9,7 +9,7 @@ pub use inside::Inside;
 pub use lane::Lane;
 pub use lane_entry::LaneEntry;
 pub use open_world::OpenWorld;
-pub use world::{MOST_LANES, World};
+pub use world::World;
 
 mod asking;
 mod closing;

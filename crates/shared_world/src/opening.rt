@@ -9,8 +9,8 @@ ghost use Rattle.shared_world.specs.SharedDesk.{IsNewDesk};
 use crate::closing_room::ClosingRoom;
 use crate::preparing::shares_of;
 use crate::shared_book::SharedBook;
-use crate::{Desk, Lane, MOST_LANES, OpenWorld, World};
-use fw_base::OutOfMemory;
+use crate::{Desk, Lane, OpenWorld, World};
+use fw_base::{MOST_CAPTURES, OutOfMemory};
 use fw_world::store_of;
 use generation_store::Edition;
 use rm_lock::{Opened, Processor, RmLock};
@@ -47,7 +47,7 @@ impl World {
         cache: Option<u32>,
     ) -> Result<OpenWorld, OutOfMemory>
         requires least { 1 ≤ lanes }
-        requires most { lanes ≤ MOST_LANES }
+        requires most { lanes ≤ MOST_CAPTURES }
         requires cache { IsCacheSize cache }
         ensures lanes { IfOk result (λ opened.
             AreNewLanes opened.world cache 1 opened.lanes.items) }

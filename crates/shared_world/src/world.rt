@@ -4,9 +4,6 @@ use rm_lock::RmLock;
 use std::marker::Model;
 use std::sync::Arc;
 
-/// How many lanes a world may have.
-pub const MOST_LANES: u32 = 16;
-
 /// The world for many threads: each lane reads the edition of its own slot, and the one book of the states
 /// goes from lane to lane. Its calls take `&self`, and move the lane, the inside or the desk that calls.
 #[derive(Drop)]
