@@ -4,3 +4,5 @@ pub mod CaptureEnds
 pub mod SilentWords
 pub mod LineCounts
 pub mod Sections
+-- the parts of an ask's line
+pub mod AskParts

@@ -5,7 +5,7 @@
 
 pub use capture_end::CaptureEnd;
 pub use ends::{Answer, Ends, LineAnswer};
-pub use laws::record_lines_are_records;
+pub use laws::{ask_lines_are_their_parts, record_lines_are_records};
 pub use recorded::Recorded;
 pub use report::write_report;
 pub use summary::write_summary;
