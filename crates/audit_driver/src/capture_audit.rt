@@ -7,11 +7,12 @@ ghost use Rattle.audit_driver.specs.CaptureAudit.{HasTrack, MeetsAll, AuditsCapt
 ghost use Rattle.audit_driver.specs.Taken.{taken_input};
 
 use crate::taken::{Taken, held};
-use capture_tracks::{MOST_RECORD_BYTES, MOST_RECORDS, OpenedCapture, Track};
+use capture_tracks::{OpenedCapture, Track};
 use fw_base::{OutOfMemory, Source};
 use fw_report::CaptureEnd;
 use fw_world::Skipped;
 use ip6_headers::{AnyPacket, read_any};
+use pcap_read::{MOST_RECORD_BYTES, MOST_RECORDS};
 use run_audit::{Audit, AuditFault};
 use std::alloc::Global;
 

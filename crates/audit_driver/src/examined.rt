@@ -3,9 +3,10 @@ ghost use Rattle.audit_driver.specs.Examined.{HasRoom, ExaminesNext, ExaminesAll
 ghost use Rattle.fw_report.specs.CaptureEnds as ends_spec;
 
 use crate::capture_audit::{CaptureAudit, audit_capture};
-use capture_tracks::{MOST_RECORDS, OpenedCapture, limit_for};
+use capture_tracks::{OpenedCapture, limit_for};
 use fw_base::{MOST_CAPTURES, OutOfMemory, Source};
 use fw_report::CaptureEnd;
+use pcap_read::MOST_RECORDS;
 use replay_driver::is_unread;
 use run_audit::Audit;
 use std::alloc::Global;

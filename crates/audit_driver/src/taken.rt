@@ -2,9 +2,9 @@ ghost use Rattle.std.specs.Prelude.{◌≡◌, ◌≤◌, IfSome, length};
 ghost use Rattle.std.specs.Option.{option_map};
 ghost use Rattle.audit_driver.specs.Taken.{held_input, taken_input};
 
-use capture_tracks::{MOST_RECORD_BYTES, Track};
+use capture_tracks::Track;
 use fw_base::{Link, Port, Source};
-use pcap_read::Record;
+use pcap_read::{MOST_RECORD_BYTES, Record};
 
 /// A record of a capture, as the audit meets it.
 #[derive(Drop)]

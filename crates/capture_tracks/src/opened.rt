@@ -2,15 +2,10 @@ ghost use Rattle.std.specs.Prelude.{◌≡◌, ◌≤◌};
 ghost use Rattle.capture_tracks.specs.Replay as replay;
 
 use fw_base::Port;
-
-/// How many records one capture may have.
-pub const MOST_RECORDS: u32 = 4_194_304;
+use pcap_read::MOST_RECORDS;
 
 /// How many records all captures together may have.
 pub const MOST_RECORDS_OF_ALL: u32 = 33_554_432;
-
-/// How many bytes one record may have.
-pub const MOST_RECORD_BYTES: usize = 262_144;
 
 /// How many records each of so many captures may have: together 33,554,432, and at most 4,194,304.
 pub fn limit_for(captures: u32) -> u32

@@ -1,11 +1,11 @@
 ghost use Rattle.std.specs.Prelude.{◌≡◌, ◌≤◌, IfOk};
 ghost use Rattle.capture_tracks.specs.Tracks.{Begins, BeginsRefused, GoesFurther, end_of, source_at};
 
+use crate::OpenedCapture;
 use crate::open_track::OpenTrack;
-use crate::{MOST_RECORDS, OpenedCapture};
 use fw_base::{OutOfMemory, Source};
 use fw_report::CaptureEnd;
-use pcap_read::{Capture, CaptureFault, OpenFault};
+use pcap_read::{Capture, CaptureFault, MOST_RECORDS, OpenFault};
 use std::alloc::Global;
 
 /// A capture that is being replayed.

@@ -6,10 +6,10 @@ ghost use Rattle.live_replay.specs.Posted.{IsPosted, AdmitsLane, TakesInput};
 ghost use Rattle.live_replay.specs.Taken.{taken_input};
 
 use crate::taken::Taken;
-use capture_tracks::MOST_RECORD_BYTES;
 use fw_base::{Gate, OutOfMemory, Port};
 use fw_world::Skipped;
 use ip6_headers::{AnyIp, AnyPacket, read_any};
+use pcap_read::MOST_RECORD_BYTES;
 use shared_world::{Inside, Lane, LaneEntry, World};
 use std::sync::Wait;
 

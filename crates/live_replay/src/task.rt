@@ -3,9 +3,10 @@ ghost use Rattle.live_replay.specs.Work.{HasWork, IsReady, Finishes, TakesAll};
 
 use crate::lane_steps::meet;
 use crate::taken::held;
-use capture_tracks::{MOST_RECORDS, OpenedCapture, Track};
+use capture_tracks::{OpenedCapture, Track};
 use fw_base::{Gate, OutOfMemory, Source};
 use fw_report::CaptureEnd;
+use pcap_read::MOST_RECORDS;
 use shared_world::{Lane, World};
 use std::alloc::Global;
 use std::sync::Wait;

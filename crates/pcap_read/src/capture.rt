@@ -4,6 +4,7 @@ ghost use Rattle.std.specs.Option.{option_map};
 use crate::capture_fault::{CaptureFault, OpenFault, Stop};
 use crate::finding::find_record;
 use crate::format::Format;
+use crate::limits::{MOST_RECORD_BYTES, MOST_RECORDS};
 use crate::opening::take_header;
 use crate::record::Record;
 use crate::records::record_in;
@@ -49,7 +50,7 @@ impl<S: Source> Capture<S> {
     /// is read.
     pub fn open(alloc: Global, source: S, limit: u32) -> Result<Capture<S>, OpenFault<S>>
         requires some { 1 ≤ limit }
-        requires most { limit ≤ 4194304 }
+        requires most { limit ≤ MOST_RECORDS }
         ensures { MatchResult result
             (IsOpened S.left S.faults limit source)
             (IsRefused S.left S.faults limit source) }
@@ -93,7 +94,8 @@ impl<S: Source> Capture<S> {
     /// the source may fail: records that were read whole before are given first, and no read is made
     /// after a failing one.
     pub fn next(&mut self) -> Result<Option<Record<'_>>, CaptureFault>
-        ensures small { IfOk result (λ found. IfSome found (λ r. length r.bytes.now ≤ 262144)) }
+        ensures small { IfOk result (λ found. IfSome found (λ r.
+            length r.bytes.now ≤ MOST_RECORD_BYTES)) }
         ensures* advances { sem 𝓛
             (Rests (the_row S.row) self.entry (λ new.
             Advances S.left S.faults self.old new (answer_of result))) }
@@ -107,7 +109,7 @@ impl<S: Source> Capture<S> {
     #[inline(always)]
     pub fn current(&self) -> Option<Record<'_>>
         ensures value { option_map captured_of result ≡ current_of self.now }
-        ensures small { IfSome result (λ r. length r.bytes.now ≤ 262144) }
+        ensures small { IfSome result (λ r. length r.bytes.now ≤ MOST_RECORD_BYTES) }
     {
         if self.size == 0 {
             return None;

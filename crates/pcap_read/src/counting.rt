@@ -4,6 +4,7 @@ ghost use Rattle.pcap_read.specs.Counting.{IsCounted, IsExact, IsExactFault};
 
 use crate::capture::Capture;
 use crate::capture_fault::{CaptureFault, OpenFault};
+use crate::limits::MOST_RECORDS;
 use fw_base::Source;
 use std::alloc::Global;
 
@@ -15,7 +16,7 @@ pub fn count_records<S: Source>(
     limit: u32,
 ) -> Result<Counted<S>, OpenFault<S>>
     requires some { 1 ≤ limit }
-    requires most { limit ≤ 4194304 }
+    requires most { limit ≤ MOST_RECORDS }
 
     // The bytes that it took have so many records, and a reader stops so behind them.
     ensures counted { IfOk result (IsCounted S.left S.faults limit source) }

@@ -8,15 +8,13 @@ ghost use Rattle.pcap_read.specs.Finding.{Finds};
 use crate::capture_fault::CaptureFault;
 use crate::filling::fill;
 use crate::format::Format;
+use crate::limits::MOST_RECORD_BYTES;
 use crate::numbers::u32_at;
 use crate::window::Window;
 use fw_base::Source;
 
 /// The length of a record's header.
 pub(crate) const RECORD_HEADER_LENGTH: usize = 16;
-
-/// How many captured bytes a record has at most.
-const MOST_CAPTURED: u32 = 262_144;
 
 /// Reads until the next record is whole at the front of the window. Answers how many bytes it takes
 /// with its header, or `None` at the end of the capture. Of `limit` records `given` were given before.
@@ -44,7 +42,7 @@ pub(crate) fn find_record<S: Source>(
         return Err(CaptureFault::ShortRecordHeader);
     }
     let captured = u32_at(format.order, 8, window.bytes());
-    if captured > MOST_CAPTURED {
+    if captured as usize > MOST_RECORD_BYTES {
         return Err(CaptureFault::RecordTooLong);
     }
     let size = RECORD_HEADER_LENGTH + captured as usize;

@@ -12,6 +12,7 @@ pub use capture::Capture;
 pub use capture_fault::{CaptureFault, OpenFault};
 pub use counting::{Counted, count_records};
 pub use laws::one_front;
+pub use limits::{MOST_RECORD_BYTES, MOST_RECORDS};
 pub use record::Record;
 
 mod capture;
@@ -22,6 +23,7 @@ mod finding;
 mod format;
 mod header;
 mod laws;
+mod limits;
 mod numbers;
 mod opening;
 mod record;

@@ -10,13 +10,10 @@ use crate::flow_counts::FlowCounts;
 use crate::move_places::places_of;
 use crate::{AnyFlow, FlowsFault, flow_in};
 use fw_base::{OutOfMemory, Source};
-use pcap_read::{Capture, CaptureFault};
+use pcap_read::{Capture, CaptureFault, MOST_RECORDS};
 use report_moves::Move;
 use std::alloc::Global;
 use std::collections::HashMap;
-
-/// How many records of a capture are read at most.
-const MOST_RECORDS: u32 = 4_194_304;
 
 /// What the records of a capture came to in two reports.
 #[derive(Clone, Copy, Debug)]

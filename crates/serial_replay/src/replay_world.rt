@@ -10,13 +10,13 @@ ghost use Rattle.capture_tracks.specs.Operator.{IsListed};
 ghost use Rattle.serial_replay.specs.ReplayWorld.{AnswersLine, Accepts, RefusesLine, RunsALine, ReplaysARecord, IsSound};
 ghost use Rattle.capture_tracks.specs.Reading.{input_of};
 
-use capture_tracks::{Listing, MOST_RECORD_BYTES, answer_listing, listing_of};
+use capture_tracks::{Listing, answer_listing, listing_of};
 use fw_base::{Link, OutOfMemory, Port};
 use fw_command::Line;
 use fw_report::{Answer, LineAnswer};
 use fw_world::{CommitFault, Skipped};
 use ip6_headers::{AnyPacket, read_any};
-use pcap_read::Record;
+use pcap_read::{MOST_RECORD_BYTES, Record};
 use serial_world::{SerialDesk, SerialLane, SerialWorld};
 use std::alloc::Global;
 

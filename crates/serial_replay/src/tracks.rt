@@ -6,10 +6,10 @@ ghost use Rattle.serial_replay.specs.Tracks.{BeginAll, GoesFurtherAt, open_of};
 ghost use Rattle.serial_schedule.specs.Order as order;
 ghost use Rattle.serial_schedule.specs.Order.{moment_of};
 
-use capture_tracks::{MOST_RECORDS, OpenTrack, OpenedCapture, Track};
+use capture_tracks::{OpenTrack, OpenedCapture, Track};
 use fw_base::{OutOfMemory, Source};
 use fw_report::CaptureEnd;
-use pcap_read::Capture;
+use pcap_read::{Capture, MOST_RECORDS};
 use serial_schedule::{Moment, first_capture};
 use std::alloc::Global;
 use std::marker::Model;

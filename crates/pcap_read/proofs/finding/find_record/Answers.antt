@@ -40,11 +40,11 @@ returns-then-not-branch-2-clause-finds g c =
     stops_at_end c.args.limit c.args.format c.args.given c.fill-2.new.window InRecordHeader
     (in_record_header _ _ _ _ (omega (arith, some, longer)) c.if-given-limit.false here.0) here.1
 
-pub returns-then-captured-gt-MOST_CAPTURED-clause-finds : goal.returns-then-captured-gt-MOST_CAPTURED-clause-finds
-returns-then-captured-gt-MOST_CAPTURED-clause-finds g c =
+pub returns-then-captured-gt-MOST_RECORD_BYTES-clause-finds : goal.returns-then-captured-gt-MOST_RECORD_BYTES-clause-finds
+returns-then-captured-gt-MOST_RECORD_BYTES-clause-finds g c =
     let whole = was_true _ _ c.in_ok-fill-2.field-0 c.if-not-branch-2.false c.in_ok-fill-2.ensures.fills.1 in
     let is = c.u32_at-captured.ensures ∙ ap (captured_length c.args.format) c.bytes.ensures in
-    (Closed _, too_long c.args.limit c.args.format c.args.given c.fill-2.new.window c.if-given-limit.false whole (omega (arith, is, c.if-captured-gt-MOST_CAPTURED.true)), refl)
+    (Closed _, too_long c.args.limit c.args.format c.args.given c.fill-2.new.window c.if-given-limit.false whole (omega (arith, is, c.if-captured-gt-MOST_RECORD_BYTES.true)), refl)
 
 pub returns-in_err-fill-3-clause-grows : goal.returns-in_err-fill-3-clause-grows
 returns-in_err-fill-3-clause-grows g c =
@@ -58,7 +58,7 @@ returns-in_err-fill-3-clause-finds g c =
     let is = captured_length-grown c.args.format c.fill-2.new.window c.fill-3.new.window grown.0 whole grown.1 ∙ sym (c.u32_at-captured.ensures ∙ ap (captured_length c.args.format) c.bytes.ensures) in
     let p = err_from_is_err_and c.from_residual-in_err-fill-3.result c.from_residual-in_err-fill-3.ensures.1 in
     rw (p.1, p.2) (stops_failed c.args.limit c.args.format c.args.given c.fill-3.new.window InRecord
-    (in_record _ _ _ _ c.if-given-limit.false (omega (arith, whole, longer)) (omega (arith, is, c.if-captured-gt-MOST_CAPTURED.false)) (omega (arith, is, c.in_err-fill-3.ensures.fills.1)))
+    (in_record _ _ _ _ c.if-given-limit.false (omega (arith, whole, longer)) (omega (arith, is, c.if-captured-gt-MOST_RECORD_BYTES.false)) (omega (arith, is, c.in_err-fill-3.ensures.fills.1)))
     (omega (arith, c.in_err-fill-3.ensures.cause.failed, c.in_ok-fill-2.ensures.cause.later, c.in_ok-fill.ensures.cause.later)))
 
 pub returns-then-not-branch-3-clause-grows : goal.returns-then-not-branch-3-clause-grows
@@ -73,7 +73,7 @@ returns-then-not-branch-3-clause-finds g c =
     let longer = ap length grown.1 ∙ length-append c.fill-2.new.window grown.0 in
     let is = captured_length-grown c.args.format c.fill-2.new.window c.fill-3.new.window grown.0 whole grown.1 ∙ sym (c.u32_at-captured.ensures ∙ ap (captured_length c.args.format) c.bytes.ensures) in
     stops_at_end c.args.limit c.args.format c.args.given c.fill-3.new.window InRecord
-    (in_record _ _ _ _ c.if-given-limit.false (omega (arith, whole, longer)) (omega (arith, is, c.if-captured-gt-MOST_CAPTURED.false)) (omega (arith, is, here.0))) here.1
+    (in_record _ _ _ _ c.if-given-limit.false (omega (arith, whole, longer)) (omega (arith, is, c.if-captured-gt-MOST_RECORD_BYTES.false)) (omega (arith, is, here.0))) here.1
 
 pub returns-clause-grows : goal.returns-clause-grows
 returns-clause-grows g c =
@@ -86,9 +86,9 @@ returns-clause-finds g c =
     let grown = c.in_ok-fill-3.ensures.fills.0 in
     let is = captured_length-grown c.args.format c.fill-2.new.window c.fill-3.new.window grown.0 whole grown.1 ∙ sym (c.u32_at-captured.ensures ∙ ap (captured_length c.args.format) c.bytes.ensures) in
     record {
-      took = took c.args.limit c.args.format c.args.given c.fill-3.new.window (16 + c.u32_at-captured.result) c.if-given-limit.false (omega (arith, is, c.if-captured-gt-MOST_CAPTURED.false)) (omega (arith, is)) there;
+      took = took c.args.limit c.args.format c.args.given c.fill-3.new.window (16 + c.u32_at-captured.result) c.if-given-limit.false (omega (arith, is, c.if-captured-gt-MOST_RECORD_BYTES.false)) (omega (arith, is)) there;
       header = omega arith;
       within = there;
-      most = omega (arith, c.if-captured-gt-MOST_CAPTURED.false);
+      most = omega (arith, c.if-captured-gt-MOST_RECORD_BYTES.false);
       few = c.if-given-limit.false;
     }
