@@ -3,8 +3,9 @@ ghost use Rattle.eval_engine.specs.Dockets.{judged_entry};
 ghost use Rattle.eval_engine.specs.Question.{question_under};
 ghost use Rattle.fw_world.specs.AskRuns.{Evaluates, AsksFront};
 ghost use Rattle.fw_world.specs.Caches.{first_cache, IsPortFor, IsTrueFor, IsCacheBehind, IsCacheAfter};
-ghost use Rattle.fw_world.specs.Lane as lanes;
-ghost use Rattle.fw_world.specs.Lane.{first_lane, lane_after_try, lane_after_admission, lane_after_regain, with_docket_entry};
+ghost use Rattle.fw_world.specs.Lane.{with_docket_entry};
+ghost use Rattle.serial_world.specs.SerialLane as lanes;
+ghost use Rattle.serial_world.specs.SerialLane.{first_lane, lane_after_try, lane_after_admission, lane_after_regain};
 
 use cached_verdicts::LaneCache;
 use eval_engine::{DocketEntry, Judgement};
