@@ -1,7 +1,7 @@
 -- What holds of every lane, in whatever world.
 use Rattle.std.specs.Prelude.{◌≡◌, ℕ, ◌+◌, ◌≤◌, ◌<◌, Bool, true, false, IfSome, unwrap_or, length}
 use Rattle.std.specs.List.Sorted.{IsNonDecreasing}
-use Rattle.fw_world.specs.Lane.{LaneValue, InsideValue}
+use Rattle.fw_world.specs.Lane.{LaneValue}
 use Rattle.fw_world.specs.Sections.{judged_editions, tracker_after}
 
 -- Numbers of editions begin with 1 and rise; and where no section was loose, each refused entry made the
@@ -17,7 +17,3 @@ pub record IsLane (pending : ℕ) (lane : LaneValue) : Type 0 where
 abbrev pub pending_of : Bool → ℕ
 pending_of true = 0
 pending_of false = 1
-
--- what holds of a lane within a section
-abbrev pub IsInside : InsideValue → Type 0
-IsInside inside = IsLane (pending_of inside.judged) inside.lane

@@ -7,7 +7,8 @@ use Rattle.fw_command.specs.WellFormed.{IsStepInRange}
 use Rattle.fw_command.specs.declared.script.Step.{Step}
 use Rattle.fw_world.specs.Closing.{AreLanesFrom, EachStandsFor}
 use Rattle.fw_world.specs.Editions.{IsLastOf}
-use Rattle.fw_world.specs.Lane.{LaneValue, first_lanes}
+use Rattle.fw_world.specs.Lane.{LaneValue}
+use Rattle.serial_world.specs.SerialLane.{first_lanes}
 use Rattle.fw_world.specs.Legal.{IsLegal}
 use Rattle.fw_world.specs.Asks.{lane_asks}
 use Rattle.fw_world.proofs.Caching.{CacheStandsFor-none}

@@ -10,7 +10,8 @@ use Rattle.eval_engine.specs.declared.judgement.Judgement.{Judgement}
 use Rattle.fw_rule.specs.declared.command.Command.{Command}
 use Rattle.fw_world.specs.CommitFaults.{RefusesCommand}
 use Rattle.fw_world.specs.Inputs.{Input, Other, Malformed, Packet}
-use Rattle.fw_world.specs.Lane.{LaneValue, lane_after_admission, with_docket_entry}
+use Rattle.fw_world.specs.Lane.{LaneValue, with_docket_entry}
+use Rattle.serial_world.specs.SerialLane.{lane_after_admission}
 use Rattle.serial_world.specs.Steps.{Judges, Publishes}
 use Rattle.fw_world.specs.World.{WorldValue, published_count}
 use Rattle.ip6_headers.specs.declared.any_ip.AnyIp.{AnyIp}

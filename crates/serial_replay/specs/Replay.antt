@@ -1,7 +1,7 @@
 -- A whole replay in the order of the schedule.
 use Rattle.std.specs.Prelude.{◌≡◌, ℕ, Option, List, [], ◌∷◌, length, map}
 use Rattle.fw_command.specs.declared.script.Step.{Step}
-use Rattle.fw_world.specs.Lane.{first_lanes}
+use Rattle.serial_world.specs.SerialLane.{first_lanes}
 use Rattle.fw_world.specs.RecordValue.{RecordValue}
 use Rattle.generation_store.specs.Published.{Published, IsBuilt}
 use Rattle.rule_chain.specs.Configuration.{Configuration}

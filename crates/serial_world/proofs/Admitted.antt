@@ -8,7 +8,8 @@ use Rattle.fw_base.specs.declared.port.Port.{Port}
 use Rattle.ip6_headers.specs.declared.any_ip.AnyIp.{AnyIp}
 use Rattle.fw_world.specs.Caches.{capacity_of, IsPortFor}
 use Rattle.fw_world.specs.Inputs.{Input, Packet}
-use Rattle.fw_world.specs.Lane.{LaneValue, lane_after_admission, with_docket_entry}
+use Rattle.fw_world.specs.Lane.{LaneValue, with_docket_entry}
+use Rattle.serial_world.specs.SerialLane.{lane_after_admission}
 use Rattle.fw_world.specs.World.{WorldValue, published_count, LaneStandsFor}
 use Rattle.serial_world.specs.Steps.{Judges, JudgesAdmitted}
 

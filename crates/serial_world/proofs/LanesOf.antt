@@ -9,7 +9,8 @@ use Rattle.eval_engine.specs.declared.judgement.Judgement.{Judgement}
 use Rattle.cached_verdicts.specs.LaneCache.{LaneCacheValue}
 use Rattle.generation_store.specs.Published.{Published}
 use Rattle.fw_world.specs.Caches.{IsCacheAmong}
-use Rattle.fw_world.specs.Lane.{LaneValue, with_docket_entry, lane_after_admission}
+use Rattle.fw_world.specs.Lane.{LaneValue, with_docket_entry}
+use Rattle.serial_world.specs.SerialLane.{lane_after_admission}
 use Rattle.fw_world.specs.LaneKept.{IsLane, pending_of}
 use Rattle.fw_base.specs.declared.port.Port.{Port}
 use Rattle.ip6_headers.specs.declared.any_ip.AnyIp.{AnyIp}

@@ -2,5 +2,6 @@
 pub mod WorldKept
 pub mod LastEdition
 -- what its calls do
+pub mod SerialLane
 pub mod Steps
 pub mod SerialEntries

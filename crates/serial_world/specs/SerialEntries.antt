@@ -1,6 +1,7 @@
 -- What an entry into a section of the serial world answers.
 use Rattle.std.specs.Prelude.{ℕ, ◌==◌, if◌then◌else◌}
-use Rattle.fw_world.specs.Lane.{LaneValue, inside_after_entry, lane_after_refusal}
+use Rattle.fw_world.specs.Lane.{LaneValue}
+use Rattle.serial_world.specs.SerialLane.{inside_after_entry, lane_after_refusal}
 use Rattle.serial_world.specs.declared.serial_lane.SerialEntry.{SerialEntry}
 use Rattle.serial_world.specs.declared.serial_lane.SerialEntry.TheVariants.{In, Revoked}
 

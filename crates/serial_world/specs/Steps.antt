@@ -22,7 +22,8 @@ use Rattle.fw_world.specs.Caches.{capacity_of, IsPortFor}
 use Rattle.fw_world.specs.Editions.{IsLastOf, IsNextEdition}
 use Rattle.fw_world.specs.CommitFaults.{IsCauseOf}
 use Rattle.fw_world.specs.Inputs.{Input, Packet}
-use Rattle.fw_world.specs.Lane.{LaneValue, lane_after_admission, lane_after_leave, with_docket_entry}
+use Rattle.fw_world.specs.Lane.{LaneValue, with_docket_entry}
+use Rattle.serial_world.specs.SerialLane.{lane_after_admission, lane_after_leave}
 use Rattle.fw_world.specs.Skips.{entry_for, skipped_input}
 use Rattle.fw_world.specs.World.{WorldValue, published_count, IsLaneOf, LaneStandsFor, DeskStandsFor}
 use Rattle.fw_world.specs.declared.commit_fault.CommitFault.{CommitFault}

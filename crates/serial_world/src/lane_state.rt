@@ -1,10 +1,10 @@
 ghost use Rattle.std.specs.Prelude.{◌≡◌, ℕ, Option, None, ◌==◌};
 ghost use Rattle.std.specs.Borrow.{Lends, sem};
 ghost use Rattle.fw_world.specs.Caches.{first_cache};
-ghost use Rattle.fw_world.specs.Lane as lanes;
-ghost use Rattle.fw_world.specs.Lane.{first_lane, lane_after_try, lane_after_admission, lane_after_regain};
 ghost use Rattle.fw_world.specs.LaneSteps.{work_of, with_work};
 ghost use Rattle.fw_world.specs.contracts.lane_work.LaneWork.{the_row as work_row};
+ghost use Rattle.serial_world.specs.SerialLane as lanes;
+ghost use Rattle.serial_world.specs.SerialLane.{first_lane, lane_after_try, lane_after_admission, lane_after_regain};
 ghost use Rattle.serial_world.specs.contracts.lane_state.LaneState.{the_row};
 
 use cached_verdicts::LaneCache;

@@ -3,7 +3,7 @@ ghost use Rattle.std.specs.Arc.{arc_value};
 ghost use Rattle.fw_world.specs.Caches.{IsCacheSize};
 ghost use Rattle.generation_store.specs.Published.{IsEdition};
 ghost use Rattle.state_journal.specs.Journal.{first_journal};
-ghost use Rattle.fw_world.specs.Lane.{first_lanes};
+ghost use Rattle.serial_world.specs.SerialLane.{first_lanes};
 ghost use Rattle.serial_world.specs.WorldKept.{IsNewWorld};
 
 use crate::lane_state::LaneState;

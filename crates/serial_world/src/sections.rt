@@ -1,6 +1,6 @@
 ghost use Rattle.std.specs.Prelude.{◌≡◌, false, IsSome};
-ghost use Rattle.fw_world.specs.Lane as lanes;
-ghost use Rattle.fw_world.specs.Lane.{lane_after_regain};
+ghost use Rattle.serial_world.specs.SerialLane as lanes;
+ghost use Rattle.serial_world.specs.SerialLane.{lane_after_regain};
 ghost use Rattle.serial_world.specs.Steps.{SkipsNext};
 ghost use Rattle.serial_world.specs.SerialEntries.{entry_of};
 ghost use Rattle.fw_world.specs.World.{published_count, IsLaneOf};

@@ -9,8 +9,7 @@ pub struct SerialInside {
 }
 
 impl Model for SerialInside {
-    ghost use Rattle.fw_world.specs.Lane.{InsideValue};
-    ghost use Rattle.fw_world.specs.LaneKept.{IsInside};
+    ghost use Rattle.serial_world.specs.SerialLane.{InsideValue, IsInside};
 
     ghost Value = { InsideValue };
 

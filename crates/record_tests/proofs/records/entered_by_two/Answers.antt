@@ -2,7 +2,8 @@ use Rattle.std.proofs.Common.{◌≡◌, None, List, [], ◌∷◌, length, get_
 use Rattle.std.proofs.lemmas.List.Sorted.{IsPermutation-refl}
 use Rattle.eval_engine.specs.declared.docket_entry.DocketEntry.TheVariants.{Other}
 use Rattle.fw_world.specs.Closing.{AreLanesFrom, by_place}
-use Rattle.fw_world.specs.Lane.{LaneValue, first_lane, with_docket_entry}
+use Rattle.fw_world.specs.Lane.{LaneValue, with_docket_entry}
+use Rattle.serial_world.specs.SerialLane.{first_lane}
 use Rattle.fw_world.specs.World.{WorldValue, IsLaneOf, published_count}
 use Rattle.serial_world.specs.WorldKept.{IsNewWorld}
 use Rattle.fw_world.proofs.Arranging.{by_place-moved}

@@ -1,6 +1,7 @@
 use Rattle.std.proofs.Common.{◌≡◌, ℕ, suc, ◌+◌, ◌-◌, ◌≤◌, List, [], ◌∷◌, ◌++◌, ap, ◌∙◌, arith, append_assoc}
 use Rattle.std.specs.Prelude.{Option}
-use Rattle.fw_world.specs.Lane.{LaneValue, first_lane, first_lanes}
+use Rattle.fw_world.specs.Lane.{LaneValue}
+use Rattle.serial_world.specs.SerialLane.{first_lane, first_lanes}
 use Rattle.serial_world.proofs.opening.open_lanes.Goals as goal
 
 next : (cache : Option ℕ) (items all : List LaneValue) (place lanes : ℕ) → place ≤ lanes → items ++ first_lanes cache place (lanes + 1 - place) ≡ all

@@ -1,5 +1,5 @@
 use Rattle.std.proofs.Common.{◌≡◌, ◌++◌, ◌-◌, ◌+◌}
-use Rattle.fw_world.specs.Lane.{first_lanes}
+use Rattle.serial_world.specs.SerialLane.{first_lanes}
 use Rattle.serial_world.proofs.opening.open_lanes.Given as goal
 
 abbrev pub invariant-loop-place : goal.invariant-loop-place

@@ -1,9 +1,10 @@
 use Rattle.std.proofs.Common.{◌≡◌, ◌≤◌, ◌<◌, ◌^◌, ℕ, Bool, None, ◌∙◌, sym, ap, subst, arith}
 use Rattle.fw_world.specs.Caches.{IsPortFor}
-use Rattle.fw_world.specs.Lane.{LaneValue, lane_after_admission, lane_after_leave}
-use Rattle.fw_world.specs.LaneKept.{IsLane, IsInside, pending_of}
+use Rattle.fw_world.specs.Lane.{LaneValue}
+use Rattle.serial_world.specs.SerialLane.{IsInside, lane_after_admission, lane_after_leave}
+use Rattle.fw_world.specs.LaneKept.{IsLane, pending_of}
 use Rattle.fw_world.specs.World.{WorldValue, published_count, IsLaneOf}
-use Rattle.fw_world.proofs.LaneSteps.{IsLane-admitted, IsLane-left}
+use Rattle.serial_world.proofs.LaneSteps.{IsLane-admitted, IsLane-left}
 use Rattle.serial_world.specs.Steps.{JudgesNext}
 use Rattle.serial_world.proofs.LanesOf.{IsLaneOf-admitted, refusal-next}
 use Rattle.serial_world.proofs.serial_world.SerialWorld.judge.Goals as goal

@@ -1,5 +1,6 @@
 use Rattle.std.proofs.Common.{ap, subst}
-use Rattle.fw_world.specs.Lane.{LaneValue, InsideValue}
+use Rattle.fw_world.specs.Lane.{LaneValue}
+use Rattle.serial_world.specs.SerialLane.{InsideValue}
 use Rattle.serial_world.specs.Steps.{JudgesNext}
 use Rattle.serial_world.proofs.serial_world.SerialWorld.judge_in.Goals as goal
 
