@@ -77,7 +77,8 @@ impl ScannedStates {
         self.states.capacity()
     }
 
-    /// The states in order of making; dead ones are among them until the next ask.
+    /// The states in order of making. No dead one is among them: an ask that raises the clock gives up each that
+    /// dies.
     pub fn states(&self) -> &[State]
         ensures { result.now ≡ self.now.object.states }
     {
