@@ -1,7 +1,5 @@
 -- The steps of a lane's work: each is one relation, in whichever world and whichever call makes it.
 use Rattle.std.specs.Prelude.{◌≡◌, ℕ, ◌+◌, Bool, true, false, Result, IfOk, OnOk, OnErr, [], ◌∷◌, ◌++◌, length}
-use Rattle.cached_verdicts.specs.LaneCache.{LaneCacheValue}
-use Rattle.counter_book.specs.declared.tally.Count.{Count}
 use Rattle.eval_engine.specs.Dockets.{judged_entry}
 use Rattle.eval_engine.specs.Question.{Question}
 use Rattle.eval_engine.specs.declared.docket_entry.DocketEntry.{DocketEntry}
