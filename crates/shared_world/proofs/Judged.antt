@@ -16,7 +16,7 @@ use Rattle.std.specs.List.{AllByRecursion}
 use Rattle.std.proofs.lemmas.List.Elements.{recursion_from_All}
 use Rattle.fw_base.proofs.Lists.{all_push}
 use Rattle.fw_world.proofs.Caching.{CacheStandsFor-judged, IsCacheSeen-behind, IsPortFor-behind, IsTrueFor-seen, capacity-behind}
-use Rattle.fw_world.specs.Caches.{IsPortFor, IsTrueFor, IsCacheBehind, IsCacheAfter, IsCacheSeen}
+use Rattle.fw_world.specs.Caches.{IsPortFor, IsTrueFor, IsCacheAfter, IsCacheSeen}
 use Rattle.shared_world.proofs.SeenCaches.{seen-below}
 use Rattle.fw_world.proofs.AskLists.{asks_in-append}
 use Rattle.fw_world.proofs.Judging.{StandFor-judged}

@@ -1,13 +1,12 @@
 -- Lanes that begin a section, are refused, leave, regain and pass over records.
 use Rattle.rule_chain.specs.Configuration.{Configuration}
-use Rattle.std.proofs.Common.{◌≡◌, ℕ, ◌+◌, ◌%◌, ◌^◌, ◌<◌, ◌≤◌, Bool, true, false, List, [], ◌∷◌, ◌++◌, length, Option, Some, None, refl, sym, ap, ◌∙◌, subst, arith, zero, suc, inl, inr}
+use Rattle.std.proofs.Common.{◌≡◌, ℕ, ◌+◌, ◌%◌, ◌^◌, ◌<◌, ◌≤◌, Bool, false, List, [], ◌∷◌, ◌++◌, length, Option, Some, None, refl, sym, ap, ◌∙◌, subst, arith, zero, suc, inl, inr}
 use Rattle.std.proofs.lemmas.List.{append-nil}
-use Rattle.std.specs.Prelude.{All, IfSome, is_some, not, Result, Ok, Err, OnOk, OnErr, ◌⊎◌, slice_get}
+use Rattle.std.specs.Prelude.{All, IfSome, is_some, not, Result, Ok, Err, ◌⊎◌, slice_get}
 use Rattle.std.specs.Arc.{arc_value}
 use Rattle.std.specs.List.{AllByRecursion}
 use Rattle.fw_base.proofs.Lists.{all_weaker}
 use Rattle.atomic_table.specs.Seated.{TableId}
-use Rattle.eval_engine.specs.declared.docket_entry.DocketEntry.{DocketEntry}
 use Rattle.fw_base.specs.declared.failure.OutOfMemory.{OutOfMemory}
 use Rattle.fw_world.proofs.Caching.{CacheStandsFor-skipped}
 use Rattle.fw_world.proofs.Judging.{StandFor-skipped}

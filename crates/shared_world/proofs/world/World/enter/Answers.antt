@@ -1,4 +1,4 @@
-use Rattle.std.proofs.Common.{◌≡◌, ◌+◌, ◌%◌, ◌^◌, Bool, subst, sym, ap, ◌∙◌, false}
+use Rattle.std.proofs.Common.{◌≡◌, ◌+◌, ◌%◌, ◌^◌, subst, sym, ap, ◌∙◌, false}
 use Rattle.std.specs.Prelude.{is_some}
 use Rattle.eval_engine.specs.Dockets.{DocketValue}
 use Rattle.fw_world.specs.LaneSteps.{work_after_section}

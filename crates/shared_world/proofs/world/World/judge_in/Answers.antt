@@ -1,4 +1,4 @@
-use Rattle.std.proofs.Common.{◌≡◌, ◌+◌, Bool, false, length, ◌∙◌, sym, ap, subst}
+use Rattle.std.proofs.Common.{◌≡◌, Bool, false, ◌∙◌, sym, ap, subst}
 use Rattle.eval_engine.specs.Question.{question_under}
 use Rattle.fw_world.specs.Caches.{IsPortFor, IsTrueFor}
 use Rattle.fw_world.specs.LaneKept.{pending_of}
