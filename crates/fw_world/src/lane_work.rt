@@ -89,7 +89,7 @@ impl LaneWork {
         if self.failed {
             return Err(OutOfMemory);
         }
-        // until its entry is made
+        // it has failed until its entry is made
         self.failed = true;
         let config = book.edition().config();
         is_configuration(config);

@@ -17,7 +17,7 @@ use Rattle.fw_world.proofs.Seen.{IsCacheSeen-more}
 use Rattle.fw_world.specs.Inputs.{Input}
 use Rattle.fw_world.specs.Lane.{one_looser}
 use Rattle.fw_world.specs.LaneKept.{IsLane}
-use Rattle.fw_world.specs.LaneSteps.{LaneEnters}
+use Rattle.fw_world.specs.LaneSteps.{LaneEnters, work_after_section}
 use Rattle.fw_world.specs.Sections.{judged_editions}
 use Rattle.fw_world.specs.Skips.{entry_for, skipped_input}
 use Rattle.fw_world.specs.declared.lane_work.LaneWork.{LaneWork}
@@ -45,16 +45,12 @@ inside_of table v work judged = record { lane = lane_of table v work; edition = 
 keeps : (before after : SharedLane) → after.seen ≡ before.seen → after.asks ≡ before.asks → after.docket.entries ≡ before.docket.entries → after.tally ≡ before.tally → after.cache ≡ before.cache → KeepsStanding before after
 keeps before after seen asks entries tally cache = keeps-standing before after [] (seen ∙ sym (append-nil before.seen)) asks entries tally cache
 
--- the work of which one more section was counted as loose, or not
-abbrev pub loosened : Bool → LaneWork → LaneWork
-loosened b work = record work { loose = one_looser b work.loose }
-
 -- a lane that left its section
-pub left : (table t : TableId) (v u : Known) (work w : LaneWork) (judged : Bool) → t ≡ table → u ≡ after_lower v → w ≡ loosened (not judged) work → LeavesLane (inside_of table v work judged) (lane_of t u w)
+pub left : (table t : TableId) (v u : Known) (work w : LaneWork) (judged : Bool) → t ≡ table → u ≡ after_lower v → w ≡ work_after_section (not judged) work → LeavesLane (inside_of table v work judged) (lane_of t u w)
 left table t v u work w judged a b c =
     let before = lane_of table v work in
-    let after = lane_of table (after_lower v) (loosened (not judged) work) in
-    let same = lane-path t table u (after_lower v) w (loosened (not judged) work) a b c in
+    let after = lane_of table (after_lower v) (work_after_section (not judged) work) in
+    let same = lane-path t table u (after_lower v) w (work_after_section (not judged) work) a b c in
     record { lane_is = same; stands = subst (λ (l : SharedLane). KeepsStanding before l) (sym same) (keeps before after refl refl refl refl refl) }
 
 heard : (refusal : Option ℕ) (number : ℕ) → ((t : ℕ) → refusal ≡ Some t → t ≤ number) → IfSome refusal (λ refused. refused ≤ number)
@@ -77,12 +73,12 @@ regained table t v u work a r =
     }
 
 -- a lane that is in a new section
-pub entered : (table t : TableId) (v u : Known) (work w : LaneWork) (e : SharedEdition) → t ≡ table → u ≡ after_entry means v e → w ≡ loosened (is_some v.part.refusal) work → (arc_value e).number ≡ v.part.held → SeenUpTo v.part (arc_value e).number
+pub entered : (table t : TableId) (v u : Known) (work w : LaneWork) (e : SharedEdition) → t ≡ table → u ≡ after_entry means v e → w ≡ work_after_section (is_some v.part.refusal) work → (arc_value e).number ≡ v.part.held → SeenUpTo v.part (arc_value e).number
     → SeenAs v.part (arc_value e).number (arc_value e).config → EntersIn (lane_of table v work) (inside_of t u w false)
 entered table t v u work w e a b c number latest named =
     let before = lane_of table v work in
-    let after = lane_of table (after_entry means v e) (loosened (is_some v.part.refusal) work) in
-    let same = lane-path t table u (after_entry means v e) w (loosened (is_some v.part.refusal) work) a b c in
+    let after = lane_of table (after_entry means v e) (work_after_section (is_some v.part.refusal) work) in
+    let same = lane-path t table u (after_entry means v e) w (work_after_section (is_some v.part.refusal) work) a b c in
     record {
       edition = arc_value e;
       reads = ap edition_read b;
@@ -95,7 +91,7 @@ entered table t v u work w e a b c number latest named =
     }
 
 -- what holds of it
-pub entered-kept : (v : Known) (work : LaneWork) (e : SharedEdition) → IsSharedLane 0 v work → IsSharedLane 1 (after_entry means v e) (loosened (is_some v.part.refusal) work)
+pub entered-kept : (v : Known) (work : LaneWork) (e : SharedEdition) → IsSharedLane 0 v work → IsSharedLane 1 (after_entry means v e) (work_after_section (is_some v.part.refusal) work)
 entered-kept v work e is = record {
   plain =
       let loose = one_looser (is_some v.part.refusal) work.loose in
@@ -140,11 +136,11 @@ entered-reads v e found number reading lawful names = record {
 
 -- a lane that was refused
 pub refused : (table t : TableId) (v u : Known) (work w : LaneWork) (number : ℕ) → t ≡ table → u ≡ after_refusal v number
-    → w ≡ record (loosened (is_some v.part.refusal) work) { docket = record work.docket { refused = (work.docket.refused + 1) % 2 ^ 64 } }
+    → w ≡ record (work_after_section (is_some v.part.refusal) work) { docket = record work.docket { refused = (work.docket.refused + 1) % 2 ^ 64 } }
     → v.part.held < number → IsRefused (lane_of table v work) (lane_of t u w) number
 refused table t v u work w number a b c above =
     let before = lane_of table v work in
-    let more : LaneWork = record (loosened (is_some v.part.refusal) work) { docket = record work.docket { refused = (work.docket.refused + 1) % 2 ^ 64 } } in
+    let more : LaneWork = record (work_after_section (is_some v.part.refusal) work) { docket = record work.docket { refused = (work.docket.refused + 1) % 2 ^ 64 } } in
     let after = lane_of table (after_refusal v number) more in
     let same = lane-path t table u (after_refusal v number) w more a b c in
     record { above = above; lane_is = same; stands = subst (λ (l : SharedLane). KeepsStanding before l) (sym same) (keeps before after refl refl refl refl refl) }
