@@ -2,15 +2,12 @@ ghost use Rattle.std.specs.Prelude.{◌≡◌, ◌+◌, ◌≤◌, ◌++◌, cou
 ghost use Rattle.fw_base.specs.Texts.{WritesText};
 ghost use Rattle.fw_report.specs.Summary as text;
 
+use crate::Recorded;
 use crate::line::{LINE_BYTES, Line};
-use counter_book::Tally;
 use eval_engine::{Docket, DocketEntry, Verdict};
 use fw_base::{Failed, Sink};
-use generation_store::Edition;
 use itoa::Buffer;
 use rule_text::WriteFault;
-use state_journal::Book;
-use std::sync::Arc;
 
 fn is_allowed(entry: &DocketEntry) -> bool
     ensures { result ≡ text.is_judged text.is_allow entry.now }
@@ -125,18 +122,21 @@ fn write_totals<K: Sink>(
 /// Writes the summary of a run: six lines, of its records, those that were let through, those of the
 /// verdict `deny`, its editions, the entries of the journal, and the live states. The counts of the rules
 /// don't stand there. It takes no memory. Where the sink fails, a front of the text was written.
-pub fn write_summary<K: Sink>(
-    editions: &[Arc<Edition>],
-    book: &Book,
-    dockets: &[Docket],
-    _tallies: &[Tally],
-    out: &mut K,
-) -> Result<(), WriteFault>
+pub fn write_summary<K: Sink>(recorded: &Recorded<'_>, out: &mut K) -> Result<(), WriteFault>
     ensures { WritesText (K.written out.old) (K.written out.new) (K.faults out.old)
         (K.faults out.new)
-        (text.summary_text dockets.now (length editions.now) (length book.now.entries)
-        (length book.now.object.states)) result }
+        (text.summary_text recorded.now.dockets (length recorded.now.editions)
+        (length recorded.now.journal.entries) (length recorded.now.journal.object.states))
+        result }
 {
+    let book = recorded.book;
     let states = book.states().count();
-    write_totals(out, dockets, editions.len(), book.entries().len(), states).map_err(|_| WriteFault)
+    write_totals(
+        out,
+        recorded.dockets,
+        recorded.editions.len(),
+        book.entries().len(),
+        states,
+    )
+    .map_err(|_| WriteFault)
 }

@@ -165,6 +165,20 @@ impl RunResult {
     }
 }
 
+/// A record as what is reported.
+fn recorded_of(kept: &Record) -> Recorded<'_>
+    ensures { result ≡ spec.report_record kept.now }
+{
+    Recorded {
+        editions: kept.editions(),
+        book: kept.book(),
+        dockets: kept.dockets(),
+        tallies: kept.tallies(),
+        trackers: kept.trackers(),
+        hits: kept.hits(),
+    }
+}
+
 /// Writes the report of a record.
 fn report<K: Sink>(out: &mut K, kept: &Record, ends: &Ends, journal: bool) -> Result<(), Failed>
     requires { 0 < length kept.now.editions }
@@ -172,15 +186,7 @@ fn report<K: Sink>(out: &mut K, kept: &Record, ends: &Ends, journal: bool) -> Re
         (K.faults out.new) (report_text (spec.report_record kept.now) ends.now.captures
         ends.now.answers journal) result }
 {
-    let recorded = Recorded {
-        editions: kept.editions(),
-        book: kept.book(),
-        dockets: kept.dockets(),
-        tallies: kept.tallies(),
-        trackers: kept.trackers(),
-        hits: kept.hits(),
-    };
-    write_report(&recorded, ends, journal, out).map_err(|_| Failed)
+    write_report(&recorded_of(kept), ends, journal, out).map_err(|_| Failed)
 }
 
 /// Writes the summary of a record.
@@ -188,14 +194,7 @@ fn sum_up<K: Sink>(out: &mut K, kept: &Record) -> Result<(), Failed>
     ensures { WritesText (K.written out.old) (K.written out.new) (K.faults out.old)
         (K.faults out.new) (spec.summary_of kept.now) result }
 {
-    write_summary(
-        kept.editions(),
-        kept.book(),
-        kept.dockets(),
-        kept.tallies(),
-        out,
-    )
-    .map_err(|_| Failed)
+    write_summary(&recorded_of(kept), out).map_err(|_| Failed)
 }
 
 /// Writes which name couldn't be read.

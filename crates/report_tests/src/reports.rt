@@ -64,7 +64,7 @@ fn write_both(
         hits: row.hits,
     };
     write_report(&recorded, ends, row.is_asked, out).or(Err("not written"))?;
-    write_summary(editions, book, dockets, tallies, out).or(Err("not written"))
+    write_summary(&recorded, out).or(Err("not written"))
 }
 
 /// Writes the report and then the summary, with the book that the row wants.
