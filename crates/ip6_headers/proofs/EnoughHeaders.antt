@@ -1,5 +1,5 @@
 -- As many headers as the packet has bytes are enough for the end of its chain.
-use Rattle.std.proofs.Common.{◌≡◌, ℕ, ◌+◌, ◌*◌, ◌≤◌, ◌<◌, List, [], ◌∷◌, length, zero, suc, find, Some, None, Option, is_some, unwrap_or, true, false, refl, arith, ap, ◌∙◌, sym, Bool, if◌then◌else◌}
+use Rattle.std.proofs.Common.{◌≡◌, ℕ, ◌+◌, ◌-◌, ◌*◌, ◌≤◌, ◌<◌, List, [], ◌∷◌, length, zero, suc, find, Some, None, Option, is_some, unwrap_or, true, false, refl, arith, ap, ◌∙◌, sym, Bool, if◌then◌else◌}
 use Rattle.std.specs.Prelude.{not, ◌||◌, ◌==◌}
 use Rattle.std.proofs.lemmas.Bool.{leb-true}
 use Rattle.packet_headers.specs.Octets.{octet}
@@ -15,6 +15,7 @@ least_told number count = by_tests (number == fragment) (number == authenticatio
     by_tests false true = omega arith
     by_tests false false = omega arith
 
+-- a test that fails with its second part true
 second : (a b c : Bool) → (not a || (not b || c)) ≡ false → b ≡ true
 second true true c e = refl
 second true false c e = absurd (cc)
@@ -30,6 +31,16 @@ passed_whole packet header passed =
 next_further : (packet : List ℕ) (header : Header) → header.place + 8 ≤ (next_header packet header).place
 next_further packet header = omega (arith, least_told header.number (octet packet (header.place + 1)))
 
+-- one header fewer
+one_fewer : (count : ℕ) → suc count - 1 ≡ count
+one_fewer count = omega arith
+
+-- a header at which the chain goes on is passed
+passed_on : (count : ℕ) (packet : List ℕ) (header : Header) → ends_chain packet header ≡ false
+    → find (ends_chain packet) (headers_from (suc count) packet header) ≡ find (ends_chain packet) (headers_from count packet (next_header packet header))
+passed_on count packet header is =
+    from-passed (suc count) packet header (omega arith) is ∙ ap (λ (n : ℕ). find (ends_chain packet) (headers_from n packet (next_header packet header))) (one_fewer count)
+
 -- any more headers have the same end of the chain
 pub same_end : (count more : ℕ) (packet : List ℕ) (header : Header) → 0 < count → length packet < count + header.place → count ≤ more
     → find (ends_chain packet) (headers_from more packet header) ≡ find (ends_chain packet) (headers_from count packet header)
@@ -44,7 +55,7 @@ same_end (suc count) (suc more) packet header some enough fewer = by_end (ends_c
     by_end false is behind =
         let whole = passed_whole packet header is in
         let further = next_further packet header in
-        from-passed (suc more) packet header (omega arith) is ∙ behind (omega (arith, enough, whole, further)) (omega (arith, enough, whole, further)) ∙ sym (from-passed (suc count) packet header (omega arith) is)
+        passed_on more packet header is ∙ behind (omega (arith, enough, whole, further)) (omega (arith, enough, whole, further)) ∙ sym (passed_on count packet header is)
 
 -- the chain ends among them
 pub ends_among : (count : ℕ) (packet : List ℕ) (header : Header) → 0 < count → length packet < count + header.place → is_some (find (ends_chain packet) (headers_from count packet header)) ≡ true
@@ -58,7 +69,7 @@ ends_among (suc count) packet header some enough = by_end (ends_chain packet hea
     by_end false is behind =
         let whole = passed_whole packet header is in
         let further = next_further packet header in
-        ap (λ (o : Option Header). is_some o) (from-passed (suc count) packet header (omega arith) is) ∙ behind (omega (arith, enough, whole, further)) (omega (arith, enough, whole, further))
+        ap (λ (o : Option Header). is_some o) (passed_on count packet header is) ∙ behind (omega (arith, enough, whole, further)) (omega (arith, enough, whole, further))
 
 unwrapped : (found : Option Header) (other : Header) → is_some found ≡ true → found ≡ Some (unwrap_or found other)
 unwrapped None other some = absurd (cc)
