@@ -1,2 +1,3 @@
 pub mod Walks
+pub mod EnoughHeaders
 pub mod Spelled6

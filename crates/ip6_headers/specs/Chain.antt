@@ -1,6 +1,6 @@
 -- The headers of an IPv6 packet behind its first 40 bytes, by the places where they begin (RFC 8200
 -- section 4; the authentication header by RFC 4302 section 2). Places count from the packet's first byte.
-use Rattle.std.specs.Prelude.{ℕ, ◌+◌, ◌*◌, ◌/◌, List, [], ◌∷◌, length, zero, suc, find, unwrap_or, Bool, not, ◌||◌, ◌==◌, nat_le, if◌then◌else◌}
+use Rattle.std.specs.Prelude.{◌≡◌, ℕ, ◌+◌, ◌*◌, ◌/◌, ◌<◌, ◌≤◌, Some, List, [], ◌∷◌, length, zero, suc, find, unwrap_or, Bool, not, ◌||◌, ◌==◌, nat_le, if◌then◌else◌}
 use Rattle.packet_headers.specs.Octets.{octet, two_octets}
 
 -- A header behind the first 40 bytes.
@@ -91,3 +91,12 @@ headers packet = headers_from (length packet) packet (first_header packet)
 -- the first of them at which the chain ends
 unfoldable pub last_header : List ℕ → Header
 last_header packet = unwrap_or (find (ends_chain packet) (headers packet)) (first_header packet)
+
+-- In a packet that isn't empty the chain ends at one of its headers.
+abbrev pub ChainsEnd : Type 0
+ChainsEnd = (packet : List ℕ) → 0 < length packet → find (ends_chain packet) (headers packet) ≡ Some (last_header packet)
+
+-- As many headers as bytes are enough: among any more of them the chain ends at the same one.
+abbrev pub MoreHeadersEndAlike : Type 0
+MoreHeadersEndAlike = (packet : List ℕ) (more : ℕ) → length packet ≤ more
+    → unwrap_or (find (ends_chain packet) (headers_from more packet (first_header packet))) (first_header packet) ≡ last_header packet
