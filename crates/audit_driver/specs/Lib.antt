@@ -5,7 +5,6 @@ pub mod Taken
 pub mod CaptureAudit
 pub mod Examined
 -- what an audit comes to
-pub mod TextComparer
 pub mod Concluding
 pub mod Found
 -- what is printed

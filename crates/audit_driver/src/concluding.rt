@@ -3,7 +3,6 @@ ghost use Rattle.command_words.specs.Invocation.{capture_names};
 ghost use Rattle.audit_driver.specs.Concluding.{ComparesWith, Concludes, IsAnAudit, IsStoppedSo};
 
 use crate::audit_result::AuditResult;
-use crate::text_comparer::TextComparer;
 use command_words::CaptureWord;
 use fw_base::{Name, OutOfMemory};
 use fw_report::{CaptureEnd, Ends, LineAnswer, Recorded, write_report};
@@ -39,9 +38,7 @@ fn compare(rebuilt: Rebuilt, ends: &Ends) -> Result<AuditResult, OutOfMemory>
         trackers,
         ..
     } = rebuilt;
-    let mut sink = TextComparer {
-        comparer: Comparer::new(report),
-    };
+    let mut sink = Comparer::new(report);
     let recorded = Recorded {
         editions: &editions,
         book: &book,
@@ -54,7 +51,7 @@ fn compare(rebuilt: Rebuilt, ends: &Ends) -> Result<AuditResult, OutOfMemory>
     if written.is_err() {
         return Err(OutOfMemory);
     }
-    match sink.comparer.differs() {
+    match sink.differs() {
         Some(line) => Ok(AuditResult::No(line)),
         None => Ok(AuditResult::Yes),
     }

@@ -16,4 +16,3 @@ mod examined;
 mod laws;
 mod run_command;
 mod taken;
-mod text_comparer;

@@ -54,8 +54,9 @@ impl<K: Sink> PieceSink<K> {
     /// Hands the sink all that is buffered. Where the sink fails, what it didn't take stays buffered.
     pub fn flush(&mut self) -> Result<(), Failed>
         ensures all { OnOk result (self.new.pending ≡ []) }
-        ensures handed_on { HandsOn K.written self.old self.new }
-        ensures cause { HasCause (K.faults self.old.sink) (K.faults self.new.sink) result }
+        ensures handed_on { HandsOn K.state self.old self.new }
+        ensures cause { HasCause (K.state self.old.sink).faults (K.state self.new.sink).faults
+            result }
     {
         while self.start < self.buffer.len() {
             let count = self.sink.write(&self.buffer[self.start..])?;
@@ -78,9 +79,11 @@ impl<K: Sink> PieceSink<K> {
     fn pass(&mut self, bytes: &[u8]) -> Result<usize, Failed>
         ensures bound { WritesAtMost result bytes.now }
         ensures advances { IfOk result (λ count. 0 < length bytes.now → 0 < count) }
-        ensures bytes { WriteAppends (K.written self.old.sink) (K.written self.new.sink) result
-            bytes.now }
-        ensures cause { HasCause (K.faults self.old.sink) (K.faults self.new.sink) result }
+        ensures bytes { WriteAppends (K.state self.old.sink).written
+            (K.state self.new.sink).written result bytes.now }
+        ensures made { (K.state self.new.sink).made_with ≡ (K.state self.old.sink).made_with }
+        ensures cause { HasCause (K.state self.old.sink).faults (K.state self.new.sink).faults
+            result }
         ensures kept { self.new ≡ record self.old { sink = self.new.sink } }
     {
         self.sink.write(bytes)
@@ -106,9 +109,7 @@ fn push_within(buffer: &mut Vec<u8>, bytes: &[u8]) -> bool
 }
 
 impl<K: Sink> Sink for PieceSink<K> {
-    ghost written = { spec.written_of K.written };
-
-    ghost faults = { λ p. K.faults p.sink };
+    ghost state = { spec.state_of K.state };
 
     fn write(&mut self, bytes: &[u8]) -> Result<usize, Failed> {
         if self.buffer(bytes) {

@@ -49,9 +49,7 @@ impl MemorySink {
 }
 
 impl Sink for MemorySink {
-    ghost written = { λ s. Some s.text };
-
-    ghost faults = { λ s. s.failures };
+    ghost state = { λ s. record { written = Some s.text; made_with = []; faults = s.failures } };
 
     fn write(&mut self, bytes: &[u8]) -> Result<usize, Failed>
         ensures bound { WritesAtMost result bytes.now }

@@ -31,8 +31,7 @@ fn kind_text(kind: Kind) -> &'static [u8]
 
 #[tactic(auto, unfolding(crate::specs::FaultText::placed_text))]
 fn write_placed<K: Sink>(out: &mut K, line: u32, column: u32, kind: &[u8]) -> Result<(), Failed>
-    ensures { WritesText (K.written out.old) (K.written out.new) (K.faults out.old)
-        (K.faults out.new) (spec.placed_text line column kind.now) result }
+    ensures { WritesText (K.state out.old) (K.state out.new) (spec.placed_text line column kind.now) result }
 {
     let mut line_digits = Buffer::new();
     let line = line_digits.format(line).as_bytes();
@@ -59,8 +58,7 @@ impl ScriptFault {
     /// Writes the one line that the program prints of the fault; nothing where memory ran out.
     #[tactic(auto, unfolding(crate::specs::FaultText::fault_text))]
     pub fn write<K: Sink>(&self, out: &mut K) -> Result<(), Failed>
-        ensures { WritesText (K.written out.old) (K.written out.new) (K.faults out.old)
-            (K.faults out.new) (spec.fault_text self.now) result }
+        ensures { WritesText (K.state out.old) (K.state out.new) (spec.fault_text self.now) result }
     {
         match *self {
             ScriptFault::TooLong => write_text(out, b"script TooLong\n"),

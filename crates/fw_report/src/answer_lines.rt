@@ -22,8 +22,7 @@ use std::sync::Arc;
 /// Writes which line of the script is answered, and by which edition.
 #[tactic(auto, unfolding(crate::specs::AnswerText::origin))]
 fn write_origin<K: Sink>(out: &mut K, line: u32, edition: u64) -> Result<(), Failed>
-    ensures { WritesText (K.written out.old) (K.written out.new) (K.faults out.old)
-        (K.faults out.new) (text.origin line edition) result }
+    ensures { WritesText (K.state out.old) (K.state out.new) (text.origin line edition) result }
 {
     let mut origin = Line::new();
     origin.put_text(b"\n");
@@ -35,8 +34,7 @@ fn write_origin<K: Sink>(out: &mut K, line: u32, edition: u64) -> Result<(), Fai
 }
 
 fn write_canonical<K: Sink>(out: &mut K, rule: &Rule) -> Result<(), Failed>
-    ensures { WritesText (K.written out.old) (K.written out.new) (K.faults out.old)
-        (K.faults out.new) (rule_text rule.now) result }
+    ensures { WritesText (K.state out.old) (K.state out.new) (rule_text rule.now) result }
 {
     write_rule(rule, out).map_err(|_| Failed)
 }
@@ -44,16 +42,14 @@ fn write_canonical<K: Sink>(out: &mut K, rule: &Rule) -> Result<(), Failed>
 /// Writes a rule's line.
 #[tactic(auto, unfolding(crate::specs::AnswerText::rule_line))]
 fn write_rule_line<K: Sink>(out: &mut K, rule: &Arc<Rule>) -> Result<(), Failed>
-    ensures { WritesText (K.written out.old) (K.written out.new) (K.faults out.old)
-        (K.faults out.new) (text.rule_line (arc_value rule.now)) result }
+    ensures { WritesText (K.state out.old) (K.state out.new) (text.rule_line (arc_value rule.now)) result }
 {
     write_canonical(out, rule)?;
     write_text(out, b"\n")
 }
 
 fn write_rule_lines<K: Sink>(out: &mut K, rules: &[Arc<Rule>]) -> Result<(), Failed>
-    ensures { WritesText (K.written out.old) (K.written out.new) (K.faults out.old)
-        (K.faults out.new) (flat_map (λ rule. text.rule_line (arc_value rule)) rules.now) result }
+    ensures { WritesText (K.state out.old) (K.state out.new) (flat_map (λ rule. text.rule_line (arc_value rule)) rules.now) result }
 {
     for rule in rules {
         write_rule_line(out, rule)?;
@@ -64,8 +60,7 @@ fn write_rule_lines<K: Sink>(out: &mut K, rules: &[Arc<Rule>]) -> Result<(), Fai
 /// Writes how many rules there are.
 #[tactic(auto, unfolding(crate::specs::AnswerText::count_line))]
 pub(crate) fn write_count<K: Sink>(out: &mut K, count: usize) -> Result<(), Failed>
-    ensures { WritesText (K.written out.old) (K.written out.new) (K.faults out.old)
-        (K.faults out.new) (text.count_line count) result }
+    ensures { WritesText (K.state out.old) (K.state out.new) (text.count_line count) result }
 {
     let mut line = Line::new();
     line.put_text(b"\n");
@@ -77,8 +72,7 @@ pub(crate) fn write_count<K: Sink>(out: &mut K, count: usize) -> Result<(), Fail
 /// Writes the rules of an edition.
 #[tactic(auto, unfolding(crate::specs::AnswerText::rules_listing))]
 fn write_rules<K: Sink>(out: &mut K, config: &Config, line: u32, edition: u64) -> Result<(), Failed>
-    ensures { WritesText (K.written out.old) (K.written out.new) (K.faults out.old)
-        (K.faults out.new) (text.rules_listing line edition config.now.rules) result }
+    ensures { WritesText (K.state out.old) (K.state out.new) (text.rules_listing line edition config.now.rules) result }
 {
     let rules = config.rules();
     write_text(out, b"list")?;
@@ -90,8 +84,7 @@ fn write_rules<K: Sink>(out: &mut K, config: &Config, line: u32, edition: u64) -
 /// Writes a prefix's length and its value.
 #[tactic(auto, unfolding(crate::specs::AnswerText::length_text))]
 fn write_length<K: Sink>(out: &mut K, bits: u8, value: u32) -> Result<(), Failed>
-    ensures { WritesText (K.written out.old) (K.written out.new) (K.faults out.old)
-        (K.faults out.new) (text.length_text bits value) result }
+    ensures { WritesText (K.state out.old) (K.state out.new) (text.length_text bits value) result }
 {
     let mut line = Line::new();
     line.put_text(b"\n");
@@ -104,8 +97,7 @@ fn write_length<K: Sink>(out: &mut K, bits: u8, value: u32) -> Result<(), Failed
 
 /// Writes the line of a prefix and its value.
 fn write_address_line<K: Sink>(out: &mut K, entry: &(Prefix, u32)) -> Result<(), Failed>
-    ensures { WritesText (K.written out.old) (K.written out.new) (K.faults out.old)
-        (K.faults out.new) (text.address_line entry.now) result }
+    ensures { WritesText (K.state out.old) (K.state out.new) (text.address_line entry.now) result }
 {
     write_address(out, entry.0.address())?;
     write_length(out, entry.0.length(), entry.1)
@@ -114,8 +106,7 @@ fn write_address_line<K: Sink>(out: &mut K, entry: &(Prefix, u32)) -> Result<(),
 /// Writes the line of a number and its value.
 #[tactic(auto, unfolding(crate::specs::AnswerText::number_line))]
 fn write_number_line<K: Sink>(out: &mut K, entry: &(u32, u32)) -> Result<(), Failed>
-    ensures { WritesText (K.written out.old) (K.written out.new) (K.faults out.old)
-        (K.faults out.new) (text.number_line entry.now) result }
+    ensures { WritesText (K.state out.old) (K.state out.new) (text.number_line entry.now) result }
 {
     let mut line = Line::new();
     line.put_text(b"\n");
@@ -126,8 +117,7 @@ fn write_number_line<K: Sink>(out: &mut K, entry: &(u32, u32)) -> Result<(), Fai
 }
 
 fn write_address_lines<K: Sink>(out: &mut K, entries: &[(Prefix, u32)]) -> Result<(), Failed>
-    ensures { WritesText (K.written out.old) (K.written out.new) (K.faults out.old)
-        (K.faults out.new) (flat_map text.address_line entries.now) result }
+    ensures { WritesText (K.state out.old) (K.state out.new) (flat_map text.address_line entries.now) result }
 {
     for entry in entries {
         write_address_line(out, entry)?;
@@ -136,8 +126,7 @@ fn write_address_lines<K: Sink>(out: &mut K, entries: &[(Prefix, u32)]) -> Resul
 }
 
 fn write_number_lines<K: Sink>(out: &mut K, entries: &[(u32, u32)]) -> Result<(), Failed>
-    ensures { WritesText (K.written out.old) (K.written out.new) (K.faults out.old)
-        (K.faults out.new) (flat_map text.number_line entries.now) result }
+    ensures { WritesText (K.state out.old) (K.state out.new) (flat_map text.number_line entries.now) result }
 {
     for entry in entries {
         write_number_line(out, entry)?;
@@ -146,8 +135,7 @@ fn write_number_lines<K: Sink>(out: &mut K, entries: &[(u32, u32)]) -> Result<()
 }
 
 fn write_table_lines<K: Sink>(out: &mut K, table: &Table) -> Result<(), Failed>
-    ensures { WritesText (K.written out.old) (K.written out.new) (K.faults out.old)
-        (K.faults out.new) (text.table_lines table.now) result }
+    ensures { WritesText (K.state out.old) (K.state out.new) (text.table_lines table.now) result }
 {
     match table {
         Table::Addresses(entries) => write_address_lines(out, entries.entries()),
@@ -158,8 +146,7 @@ fn write_table_lines<K: Sink>(out: &mut K, table: &Table) -> Result<(), Failed>
 /// Writes the word of a type and how many entries there are.
 fn write_size<K: Sink>(out: &mut K, word: &[u8], size: usize) -> Result<(), Failed>
     requires { length word.now ≤ 100 }
-    ensures { WritesText (K.written out.old) (K.written out.new) (K.faults out.old)
-        (K.faults out.new) (word.now ++ decimal size) result }
+    ensures { WritesText (K.state out.old) (K.state out.new) (word.now ++ decimal size) result }
 {
     let mut line = Line::new();
     line.put_number(size as u64);
@@ -170,8 +157,7 @@ fn write_size<K: Sink>(out: &mut K, word: &[u8], size: usize) -> Result<(), Fail
 /// Writes a table's type and how many entries it has.
 #[tactic(auto, unfolding(crate::specs::AnswerText::table_size))]
 fn write_table_size<K: Sink>(out: &mut K, table: &Table) -> Result<(), Failed>
-    ensures { WritesText (K.written out.old) (K.written out.new) (K.faults out.old)
-        (K.faults out.new) (text.table_size table.now) result }
+    ensures { WritesText (K.state out.old) (K.state out.new) (text.table_size table.now) result }
 {
     match table {
         Table::Addresses(entries) => write_size(out, b" addr ", entries.entries().len()),
@@ -188,8 +174,7 @@ fn write_table<K: Sink>(
     line: u32,
     edition: u64,
 ) -> Result<(), Failed>
-    ensures { WritesText (K.written out.old) (K.written out.new) (K.faults out.old)
-        (K.faults out.new) (text.table_listing line edition name.now table.now) result }
+    ensures { WritesText (K.state out.old) (K.state out.new) (text.table_listing line edition name.now table.now) result }
 {
     write_text(out, b"table ")?;
     write_text(out, name.bytes())?;
@@ -206,8 +191,7 @@ fn write_named<K: Sink>(
     line: u32,
     edition: u64,
 ) -> Result<(), Failed>
-    ensures { WritesText (K.written out.old) (K.written out.new) (K.faults out.old)
-        (K.faults out.new)
+    ensures { WritesText (K.state out.old) (K.state out.new)
         (text.named_listing line edition name.now (table_named config.now.tables name.now)) result }
 {
     match config.table(name) {
@@ -224,8 +208,7 @@ fn write_listing<K: Sink>(
     edition: u64,
     table: &Option<Name>,
 ) -> Result<(), Failed>
-    ensures { WritesText (K.written out.old) (K.written out.new) (K.faults out.old)
-        (K.faults out.new) (text.config_listing line edition table.now config.now) result }
+    ensures { WritesText (K.state out.old) (K.state out.new) (text.config_listing line edition table.now config.now) result }
 {
     match table {
         None => write_rules(out, config, line, edition),
@@ -257,8 +240,7 @@ fn put_refusal(line: &mut Line, fault: ApplyFault)
 /// Writes that a command was refused.
 #[tactic(auto, unfolding(crate::specs::AnswerText::refused_line))]
 fn write_refused<K: Sink>(out: &mut K, line: u32, fault: ApplyFault) -> Result<(), Failed>
-    ensures { WritesText (K.written out.old) (K.written out.new) (K.faults out.old)
-        (K.faults out.new) (text.refused_line line fault) result }
+    ensures { WritesText (K.state out.old) (K.state out.new) (text.refused_line line fault) result }
 {
     let mut refused = Line::new();
     refused.put_text(b"\n");
@@ -274,8 +256,7 @@ fn write_answer<K: Sink>(
     editions: &[Arc<Edition>],
     answer: &LineAnswer,
 ) -> Result<(), Failed>
-    ensures { WritesText (K.written out.old) (K.written out.new) (K.faults out.old)
-        (K.faults out.new) (text.answer_text (map arc_value editions.now) answer.now) result }
+    ensures { WritesText (K.state out.old) (K.state out.new) (text.answer_text (map arc_value editions.now) answer.now) result }
 {
     match &answer.answer {
         Answer::Refused(fault) => write_refused(out, answer.line, *fault),
@@ -292,8 +273,7 @@ pub(crate) fn write_answers<K: Sink>(
     editions: &[Arc<Edition>],
     answers: &[LineAnswer],
 ) -> Result<(), Failed>
-    ensures { WritesText (K.written out.old) (K.written out.new) (K.faults out.old)
-        (K.faults out.new) (text.answers_text (map arc_value editions.now) answers.now) result }
+    ensures { WritesText (K.state out.old) (K.state out.new) (text.answers_text (map arc_value editions.now) answers.now) result }
 {
     for answer in answers {
         write_answer(out, editions, answer)?;

@@ -175,8 +175,7 @@ fn write_record<K: Sink>(
     at: u64,
     entry: DocketEntry,
 ) -> Result<(), Failed>
-    ensures { WritesText (K.written out.old) (K.written out.new) (K.faults out.old)
-        (K.faults out.new) (text.record_line capture at entry) result }
+    ensures { WritesText (K.state out.old) (K.state out.new) (text.record_line capture at entry) result }
 {
     put_entry(line, entry);
     line.put_number(at);
@@ -225,8 +224,7 @@ fn write_end<K: Sink>(
     capture: u64,
     end: CaptureEnd,
 ) -> Result<(), Failed>
-    ensures { WritesText (K.written out.old) (K.written out.new) (K.faults out.old)
-        (K.faults out.new) (text.end_line capture end) result }
+    ensures { WritesText (K.state out.old) (K.state out.new) (text.end_line capture end) result }
 {
     put_end(line, capture, end);
     line.write(out)
@@ -239,8 +237,7 @@ fn write_capture<K: Sink>(
     entries: &[DocketEntry],
     end: CaptureEnd,
 ) -> Result<(), Failed>
-    ensures { WritesText (K.written out.old) (K.written out.new) (K.faults out.old)
-        (K.faults out.new) (text.capture_text capture entries.now end) result }
+    ensures { WritesText (K.state out.old) (K.state out.new) (text.capture_text capture entries.now end) result }
 {
     let mut line = Line::new();
     let mut at = 1u64;
@@ -257,8 +254,7 @@ pub(crate) fn write_captures<K: Sink>(
     dockets: &[Docket],
     ends: &[CaptureEnd],
 ) -> Result<(), Failed>
-    ensures { WritesText (K.written out.old) (K.written out.new) (K.faults out.old)
-        (K.faults out.new) (text.captures_text 1 dockets.now ends.now) result }
+    ensures { WritesText (K.state out.old) (K.state out.new) (text.captures_text 1 dockets.now ends.now) result }
 {
     let mut capture = 1u64;
     let mut rest = ends;

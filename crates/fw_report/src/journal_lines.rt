@@ -20,8 +20,7 @@ const LONGEST_NAME: usize = 100;
 /// Writes the hits of a lane's cache.
 #[tactic(auto, unfolding(crate::specs::JournalText::hits_line))]
 fn write_lane_hits<K: Sink>(out: &mut K, lane: u64, hits: u64) -> Result<(), Failed>
-    ensures { WritesText (K.written out.old) (K.written out.new) (K.faults out.old)
-        (K.faults out.new) (text.hits_line lane hits) result }
+    ensures { WritesText (K.state out.old) (K.state out.new) (text.hits_line lane hits) result }
 {
     let mut line = Line::new();
     line.put_text(b"\n");
@@ -34,8 +33,7 @@ fn write_lane_hits<K: Sink>(out: &mut K, lane: u64, hits: u64) -> Result<(), Fai
 
 /// Writes the hits of the lanes' caches, in the order of the lanes.
 pub(crate) fn write_hits<K: Sink>(out: &mut K, hits: &[u64]) -> Result<(), Failed>
-    ensures { WritesText (K.written out.old) (K.written out.new) (K.faults out.old)
-        (K.faults out.new) (text.hits_text 1 hits.now) result }
+    ensures { WritesText (K.state out.old) (K.state out.new) (text.hits_text 1 hits.now) result }
 {
     let mut lane = 1u64;
     for count in hits {
@@ -308,8 +306,7 @@ fn write_long_ask<K: Sink>(
     name: &[u8],
     rest: &Line,
 ) -> Result<(), Failed>
-    ensures { WritesText (K.written out.old) (K.written out.new) (K.faults out.old)
-        (K.faults out.new) (ask.ask_front lane at op.now ++ (name.now ++ rest.now)) result }
+    ensures { WritesText (K.state out.old) (K.state out.new) (ask.ask_front lane at op.now ++ (name.now ++ rest.now)) result }
 {
     let mut front = Line::new();
     put_ask_front(&mut front, lane, at, op);
@@ -326,8 +323,7 @@ fn write_ask<K: Sink>(
     name: &[u8],
 ) -> Result<(), Failed>
     requires { length rest.old ≤ 135 }
-    ensures { WritesText (K.written out.old) (K.written out.new) (K.faults out.old)
-        (K.faults out.new) (ask.ask_front lane at op.now ++ (name.now ++ rest.old)) result }
+    ensures { WritesText (K.state out.old) (K.state out.new) (ask.ask_front lane at op.now ++ (name.now ++ rest.old)) result }
 {
     if name.len() <= LONGEST_NAME {
         rest.put_text(name);
@@ -341,8 +337,7 @@ fn write_ask<K: Sink>(
 /// Writes the line of a publication.
 #[tactic(auto, unfolding(crate::specs::JournalText::publish_line))]
 fn write_publication<K: Sink>(out: &mut K, line: &mut Line, number: u64) -> Result<(), Failed>
-    ensures { WritesText (K.written out.old) (K.written out.new) (K.faults out.old)
-        (K.faults out.new) (text.publish_line number) result }
+    ensures { WritesText (K.state out.old) (K.state out.new) (text.publish_line number) result }
 {
     line.clear();
     line.put_text(b"\n");
@@ -357,8 +352,7 @@ fn write_entry<K: Sink>(
     names: &[Name],
     entry: &Entry,
 ) -> Result<(), Failed>
-    ensures { WritesText (K.written out.old) (K.written out.new) (K.faults out.old)
-        (K.faults out.new) (text.entry_line names.now entry.now) result }
+    ensures { WritesText (K.state out.old) (K.state out.new) (text.entry_line names.now entry.now) result }
 {
     match entry {
         Entry::Publish(number) => write_publication(out, line, *number),
@@ -375,8 +369,7 @@ fn write_entry<K: Sink>(
 }
 
 fn write_entries<K: Sink>(out: &mut K, names: &[Name], entries: &[Entry]) -> Result<(), Failed>
-    ensures { WritesText (K.written out.old) (K.written out.new) (K.faults out.old)
-        (K.faults out.new) (flat_map (text.entry_line names.now) entries.now) result }
+    ensures { WritesText (K.state out.old) (K.state out.new) (flat_map (text.entry_line names.now) entries.now) result }
 {
     let mut line = Line::new();
     for entry in entries {
@@ -388,8 +381,7 @@ fn write_entries<K: Sink>(out: &mut K, names: &[Name], entries: &[Entry]) -> Res
 /// Writes a lane's refused entries, and its tracker's word.
 #[tactic(auto, unfolding(crate::specs::JournalText::lane_line))]
 fn write_lane<K: Sink>(out: &mut K, lane: u64, refused: u64, tracker: u64) -> Result<(), Failed>
-    ensures { WritesText (K.written out.old) (K.written out.new) (K.faults out.old)
-        (K.faults out.new) (text.lane_line lane refused tracker) result }
+    ensures { WritesText (K.state out.old) (K.state out.new) (text.lane_line lane refused tracker) result }
 {
     let mut line = Line::new();
     line.put_text(b"\n");
@@ -403,8 +395,7 @@ fn write_lane<K: Sink>(out: &mut K, lane: u64, refused: u64, tracker: u64) -> Re
 }
 
 fn write_lanes<K: Sink>(out: &mut K, dockets: &[Docket], trackers: &[u64]) -> Result<(), Failed>
-    ensures { WritesText (K.written out.old) (K.written out.new) (K.faults out.old)
-        (K.faults out.new) (text.lanes_text 1 dockets.now trackers.now) result }
+    ensures { WritesText (K.state out.old) (K.state out.new) (text.lanes_text 1 dockets.now trackers.now) result }
 {
     let mut lane = 1u64;
     let mut rest = trackers;
@@ -421,8 +412,7 @@ fn write_lanes<K: Sink>(out: &mut K, dockets: &[Docket], trackers: &[u64]) -> Re
 
 #[tactic(auto, unfolding(crate::specs::JournalText::journal_heading))]
 fn write_heading<K: Sink>(out: &mut K, entries: usize) -> Result<(), Failed>
-    ensures { WritesText (K.written out.old) (K.written out.new) (K.faults out.old)
-        (K.faults out.new) (text.journal_heading entries) result }
+    ensures { WritesText (K.state out.old) (K.state out.new) (text.journal_heading entries) result }
 {
     let mut line = Line::new();
     line.put_text(b"\n");
@@ -439,8 +429,7 @@ pub(crate) fn write_journal<K: Sink>(
     dockets: &[Docket],
     trackers: &[u64],
 ) -> Result<(), Failed>
-    ensures { WritesText (K.written out.old) (K.written out.new) (K.faults out.old)
-        (K.faults out.new) (text.journal_text names.now entries.now dockets.now trackers.now)
+    ensures { WritesText (K.state out.old) (K.state out.new) (text.journal_text names.now entries.now dockets.now trackers.now)
         result }
 {
     write_heading(out, entries.len())?;

@@ -133,8 +133,7 @@ impl Line {
 
     /// Writes the line.
     pub(crate) fn write<K: Sink>(&self, out: &mut K) -> Result<(), Failed>
-        ensures { WritesText (K.written out.old) (K.written out.new) (K.faults out.old)
-            (K.faults out.new) self.now result }
+        ensures { WritesText (K.state out.old) (K.state out.new) self.now result }
     {
         write_text(out, &self.bytes[self.start..])
     }
@@ -148,8 +147,7 @@ pub(crate) fn write_around<K: Sink>(
     text: &[u8],
     rest: &Line,
 ) -> Result<(), Failed>
-    ensures { WritesText (K.written out.old) (K.written out.new) (K.faults out.old)
-        (K.faults out.new) (front.now ++ (text.now ++ rest.now)) result }
+    ensures { WritesText (K.state out.old) (K.state out.new) (front.now ++ (text.now ++ rest.now)) result }
 {
     front.write(out)?;
     write_text(out, text)?;

@@ -30,8 +30,7 @@ pub(crate) fn last_of(editions: &[Arc<Edition>]) -> &Edition
 }
 
 fn write_live<K: Sink>(out: &mut K, names: &[Name], states: &States) -> Result<(), Failed>
-    ensures { WritesText (K.written out.old) (K.written out.new) (K.faults out.old)
-        (K.faults out.new) (states_text names.now states.now.object) result }
+    ensures { WritesText (K.state out.old) (K.state out.new) (states_text names.now states.now.object) result }
 {
     write_states(states, names, out).map_err(|_| Failed)
 }
@@ -43,8 +42,7 @@ fn write_last<K: Sink>(
     tallies: &[Tally],
     states: &States,
 ) -> Result<(), Failed>
-    ensures { WritesText (K.written out.old) (K.written out.new) (K.faults out.old)
-        (K.faults out.new) (text.last_text config.now tallies.now states.now.object) result }
+    ensures { WritesText (K.state out.old) (K.state out.new) (text.last_text config.now tallies.now states.now.object) result }
 {
     write_disabled(out, config.disabled())?;
     write_counted_rules(out, tallies, config.rules())?;
@@ -60,8 +58,7 @@ fn write_optional_journal<K: Sink>(
     dockets: &[Docket],
     trackers: &[u64],
 ) -> Result<(), Failed>
-    ensures { WritesText (K.written out.old) (K.written out.new) (K.faults out.old)
-        (K.faults out.new) (optional_journal journal names.now entries.now dockets.now trackers.now)
+    ensures { WritesText (K.state out.old) (K.state out.new) (optional_journal journal names.now entries.now dockets.now trackers.now)
         result }
 {
     if journal {
@@ -78,8 +75,7 @@ fn write_start<K: Sink>(
     dockets: &[Docket],
     ends: &Ends,
 ) -> Result<(), Failed>
-    ensures { WritesText (K.written out.old) (K.written out.new) (K.faults out.old)
-        (K.faults out.new)
+    ensures { WritesText (K.state out.old) (K.state out.new)
         (text.start_text (map arc_value editions.now) dockets.now ends.now.captures
         ends.now.answers) result }
 {
@@ -95,8 +91,7 @@ fn write_closing<K: Sink>(
     recorded: &Recorded<'_>,
     journal: bool,
 ) -> Result<(), Failed>
-    ensures { WritesText (K.written out.old) (K.written out.new) (K.faults out.old)
-        (K.faults out.new) (text.closing_text recorded.now journal config.now) result }
+    ensures { WritesText (K.state out.old) (K.state out.new) (text.closing_text recorded.now journal config.now) result }
 {
     let book = recorded.book;
     write_last(out, config, recorded.tallies, book.states())?;
@@ -119,8 +114,7 @@ fn write_sections<K: Sink>(
     journal: bool,
 ) -> Result<(), Failed>
     requires { 0 < length recorded.now.editions }
-    ensures { WritesText (K.written out.old) (K.written out.new) (K.faults out.old)
-        (K.faults out.new)
+    ensures { WritesText (K.state out.old) (K.state out.new)
         (text.report_text recorded.now ends.now.captures ends.now.answers journal) result }
 {
     let config = last_of(recorded.editions).config();
@@ -139,8 +133,7 @@ pub fn write_report<K: Sink>(
     out: &mut K,
 ) -> Result<(), WriteFault>
     requires { 0 < length recorded.now.editions }
-    ensures { WritesText (K.written out.old) (K.written out.new) (K.faults out.old)
-        (K.faults out.new)
+    ensures { WritesText (K.state out.old) (K.state out.new)
         (text.report_text recorded.now ends.now.captures ends.now.answers journal) result }
 {
     write_sections(out, recorded, ends, journal).map_err(|_| WriteFault)

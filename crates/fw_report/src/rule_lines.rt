@@ -16,8 +16,7 @@ use std::sync::Arc;
 /// Writes how many editions were published.
 #[tactic(auto, unfolding(crate::specs::RulesText::editions_line))]
 pub(crate) fn write_editions<K: Sink>(out: &mut K, count: usize) -> Result<(), Failed>
-    ensures { WritesText (K.written out.old) (K.written out.new) (K.faults out.old)
-        (K.faults out.new) (text.editions_line count) result }
+    ensures { WritesText (K.state out.old) (K.state out.new) (text.editions_line count) result }
 {
     let mut line = Line::new();
     line.put_text(b"\n");
@@ -29,8 +28,7 @@ pub(crate) fn write_editions<K: Sink>(out: &mut K, count: usize) -> Result<(), F
 /// Writes the set where the mask has its bit.
 fn write_set<K: Sink>(out: &mut K, mask: u32, set: u32) -> Result<(), Failed>
     requires { set < 32 }
-    ensures { WritesText (K.written out.old) (K.written out.new) (K.faults out.old)
-        (K.faults out.new) (text.set_text mask set) result }
+    ensures { WritesText (K.state out.old) (K.state out.new) (text.set_text mask set) result }
 {
     if has_bit(mask, set) {
         let mut line = Line::new();
@@ -44,8 +42,7 @@ fn write_set<K: Sink>(out: &mut K, mask: u32, set: u32) -> Result<(), Failed>
 
 /// Writes the sets of which the mask has the bit.
 fn write_sets<K: Sink>(out: &mut K, mask: u32) -> Result<(), Failed>
-    ensures { WritesText (K.written out.old) (K.written out.new) (K.faults out.old)
-        (K.faults out.new) (text.sets_text mask 32 0) result }
+    ensures { WritesText (K.state out.old) (K.state out.new) (text.sets_text mask 32 0) result }
 {
     for set in 0..32 {
         write_set(out, mask, set)?;
@@ -56,8 +53,7 @@ fn write_sets<K: Sink>(out: &mut K, mask: u32) -> Result<(), Failed>
 /// Writes the disabled sets, where there is one.
 #[tactic(auto, unfolding(crate::specs::RulesText::disabled_line))]
 pub(crate) fn write_disabled<K: Sink>(out: &mut K, disabled: u32) -> Result<(), Failed>
-    ensures { WritesText (K.written out.old) (K.written out.new) (K.faults out.old)
-        (K.faults out.new) (text.disabled_text disabled) result }
+    ensures { WritesText (K.state out.old) (K.state out.new) (text.disabled_text disabled) result }
 {
     if disabled == 0 {
         return Ok(());
@@ -68,8 +64,7 @@ pub(crate) fn write_disabled<K: Sink>(out: &mut K, disabled: u32) -> Result<(), 
 }
 
 fn write_rest<K: Sink>(out: &mut K, rule: &Rule) -> Result<(), Failed>
-    ensures { WritesText (K.written out.old) (K.written out.new) (K.faults out.old)
-        (K.faults out.new) (rest_text rule.now) result }
+    ensures { WritesText (K.state out.old) (K.state out.new) (rest_text rule.now) result }
 {
     write_rule_rest(rule, out).map_err(|_| Failed)
 }
@@ -77,8 +72,7 @@ fn write_rest<K: Sink>(out: &mut K, rule: &Rule) -> Result<(), Failed>
 /// Writes a rule's number and what was counted for it.
 #[tactic(auto, unfolding(crate::specs::RulesText::counts_text))]
 fn write_counts<K: Sink>(out: &mut K, tallies: &[Tally], rule: &Rule) -> Result<(), Failed>
-    ensures { WritesText (K.written out.old) (K.written out.new) (K.faults out.old)
-        (K.faults out.new) (text.counts_text tallies.now rule.now) result }
+    ensures { WritesText (K.state out.old) (K.state out.new) (text.counts_text tallies.now rule.now) result }
 {
     let counted = total(tallies, rule.counter);
     let mut line = Line::new();
@@ -92,8 +86,7 @@ fn write_counts<K: Sink>(out: &mut K, tallies: &[Tally], rule: &Rule) -> Result<
 
 /// Writes a rule's line with its counts.
 fn write_counted<K: Sink>(out: &mut K, tallies: &[Tally], rule: &Arc<Rule>) -> Result<(), Failed>
-    ensures { WritesText (K.written out.old) (K.written out.new) (K.faults out.old)
-        (K.faults out.new) (text.counted_line tallies.now (arc_value rule.now)) result }
+    ensures { WritesText (K.state out.old) (K.state out.new) (text.counted_line tallies.now (arc_value rule.now)) result }
 {
     write_counts(out, tallies, rule)?;
     write_rest(out, rule)?;
@@ -105,8 +98,7 @@ fn write_counted_lines<K: Sink>(
     tallies: &[Tally],
     rules: &[Arc<Rule>],
 ) -> Result<(), Failed>
-    ensures { WritesText (K.written out.old) (K.written out.new) (K.faults out.old)
-        (K.faults out.new)
+    ensures { WritesText (K.state out.old) (K.state out.new)
         (flat_map (λ rule. text.counted_line tallies.now (arc_value rule)) rules.now) result }
 {
     for rule in rules {
@@ -121,8 +113,7 @@ pub(crate) fn write_counted_rules<K: Sink>(
     tallies: &[Tally],
     rules: &[Arc<Rule>],
 ) -> Result<(), Failed>
-    ensures { WritesText (K.written out.old) (K.written out.new) (K.faults out.old)
-        (K.faults out.new) (text.rules_text tallies.now (map arc_value rules.now)) result }
+    ensures { WritesText (K.state out.old) (K.state out.new) (text.rules_text tallies.now (map arc_value rules.now)) result }
 {
     write_count(out, rules.len())?;
     write_counted_lines(out, tallies, rules)

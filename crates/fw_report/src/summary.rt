@@ -98,8 +98,7 @@ fn write_totals<K: Sink>(
     entries: usize,
     states: usize,
 ) -> Result<(), Failed>
-    ensures { WritesText (K.written out.old) (K.written out.new) (K.faults out.old)
-        (K.faults out.new) (text.summary_text dockets.now editions entries states) result }
+    ensures { WritesText (K.state out.old) (K.state out.new) (text.summary_text dockets.now editions entries states) result }
 {
     let counted = add_up(dockets);
     let mut line = Line::new();
@@ -123,8 +122,7 @@ fn write_totals<K: Sink>(
 /// verdict `deny`, its editions, the entries of the journal, and the live states. The counts of the rules
 /// don't stand there. It takes no memory. Where the sink fails, a front of the text was written.
 pub fn write_summary<K: Sink>(recorded: &Recorded<'_>, out: &mut K) -> Result<(), WriteFault>
-    ensures { WritesText (K.written out.old) (K.written out.new) (K.faults out.old)
-        (K.faults out.new)
+    ensures { WritesText (K.state out.old) (K.state out.new)
         (text.summary_text recorded.now.dockets (length recorded.now.editions)
         (length recorded.now.journal.entries) (length recorded.now.journal.object.states))
         result }

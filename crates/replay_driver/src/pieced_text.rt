@@ -10,8 +10,7 @@ use fw_base::{Failed, Sink};
 pub(crate) fn write_pieced<K: Sink>(sink: K, text: (Vec<u8>, &RunResult)) -> (K, Result<(), Failed>)
     requires empty { text.0.items ≡ [] }
     requires writable { IsWritable text.1.now }
-    ensures { WritesText (K.written sink) (K.written result.0) (K.faults sink) (K.faults result.0)
-        (result_text text.entry.1.now) result.1 }
+    ensures { WritesText (K.state sink) (K.state result.0) (result_text text.entry.1.now) result.1 }
 {
     let (buffer, found) = text;
     let mut pieces = PieceSink::new(sink, buffer);

@@ -132,8 +132,7 @@ impl RunResult {
     #[tactic(auto, unfolding(crate::specs::RunResult::result_text))]
     pub(crate) fn write<K: Sink>(&self, out: &mut K) -> Result<(), Failed>
         requires { spec.IsWritable self.now }
-        ensures { WritesText (K.written out.old) (K.written out.new) (K.faults out.old)
-            (K.faults out.new) (spec.result_text self.now) result }
+        ensures { WritesText (K.state out.old) (K.state out.new) (spec.result_text self.now) result }
     {
         match self {
             RunResult::Usage => write_usage(out),
@@ -182,8 +181,7 @@ fn recorded_of(kept: &Record) -> Recorded<'_>
 /// Writes the report of a record.
 fn report<K: Sink>(out: &mut K, kept: &Record, ends: &Ends, journal: bool) -> Result<(), Failed>
     requires { 0 < length kept.now.editions }
-    ensures { WritesText (K.written out.old) (K.written out.new) (K.faults out.old)
-        (K.faults out.new) (report_text (spec.report_record kept.now) ends.now.captures
+    ensures { WritesText (K.state out.old) (K.state out.new) (report_text (spec.report_record kept.now) ends.now.captures
         ends.now.answers journal) result }
 {
     write_report(&recorded_of(kept), ends, journal, out).map_err(|_| Failed)
@@ -191,8 +189,7 @@ fn report<K: Sink>(out: &mut K, kept: &Record, ends: &Ends, journal: bool) -> Re
 
 /// Writes the summary of a record.
 fn sum_up<K: Sink>(out: &mut K, kept: &Record) -> Result<(), Failed>
-    ensures { WritesText (K.written out.old) (K.written out.new) (K.faults out.old)
-        (K.faults out.new) (spec.summary_of kept.now) result }
+    ensures { WritesText (K.state out.old) (K.state out.new) (spec.summary_of kept.now) result }
 {
     write_summary(&recorded_of(kept), out).map_err(|_| Failed)
 }
@@ -200,8 +197,7 @@ fn sum_up<K: Sink>(out: &mut K, kept: &Record) -> Result<(), Failed>
 /// Writes which name couldn't be read.
 #[tactic(auto, unfolding(crate::specs::RunResult::unread_text))]
 fn write_unread<K: Sink>(out: &mut K, name: &Name) -> Result<(), Failed>
-    ensures { WritesText (K.written out.old) (K.written out.new) (K.faults out.old)
-        (K.faults out.new) (spec.unread_text name.now) result }
+    ensures { WritesText (K.state out.old) (K.state out.new) (spec.unread_text name.now) result }
 {
     let name = name.bytes();
     write_pieces(out, &[b"cannot read ", name, b"\n"])
@@ -210,8 +206,7 @@ fn write_unread<K: Sink>(out: &mut K, name: &Name) -> Result<(), Failed>
 /// Writes the usage line.
 #[tactic(auto, unfolding(crate::specs::RunResult::usage_text))]
 fn write_usage<K: Sink>(out: &mut K) -> Result<(), Failed>
-    ensures { WritesText (K.written out.old) (K.written out.new) (K.faults out.old)
-        (K.faults out.new) spec.usage_text result }
+    ensures { WritesText (K.state out.old) (K.state out.new) spec.usage_text result }
 {
     write_text(
         out,

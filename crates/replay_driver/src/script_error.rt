@@ -46,8 +46,7 @@ impl From<OutOfMemory> for ScriptError {
 /// Writes which script line is refused, and why.
 #[tactic(auto, unfolding(crate::specs::ScriptTexts::refused_text))]
 fn write_refused<K: Sink>(out: &mut K, refused: RefusedLine) -> Result<(), Failed>
-    ensures { WritesText (K.written out.old) (K.written out.new) (K.faults out.old)
-        (K.faults out.new) (spec.refused_text refused) result }
+    ensures { WritesText (K.state out.old) (K.state out.new) (spec.refused_text refused) result }
 {
     let mut line_digits = Buffer::new();
     let line = line_digits.format(refused.line).as_bytes();
@@ -62,8 +61,7 @@ impl ScriptError {
     /// Writes the one line that says why; nothing where memory ran out.
     #[tactic(auto, unfolding(crate::specs::ScriptTexts::error_text))]
     pub fn write<K: Sink>(&self, out: &mut K) -> Result<(), Failed>
-        ensures { WritesText (K.written out.old) (K.written out.new) (K.faults out.old)
-            (K.faults out.new) (spec.error_text self.now) result }
+        ensures { WritesText (K.state out.old) (K.state out.new) (spec.error_text self.now) result }
     {
         match self {
             ScriptError::Fault(fault) => fault.write(out),

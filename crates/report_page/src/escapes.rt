@@ -5,8 +5,7 @@ use fw_base::{Failed, Sink, write_text};
 
 /// Writes a byte so that it is no markup.
 fn write_escaped_byte<K: Sink>(out: &mut K, byte: u8) -> Result<(), Failed>
-    ensures { WritesText (K.written out.old) (K.written out.new) (K.faults out.old)
-        (K.faults out.new) (spec.escaped_byte byte) result }
+    ensures { WritesText (K.state out.old) (K.state out.new) (spec.escaped_byte byte) result }
 {
     if byte == b'&' {
         write_text(out, b"&amp;")
@@ -28,8 +27,7 @@ fn write_escaped_byte<K: Sink>(out: &mut K, byte: u8) -> Result<(), Failed>
 /// Writes a text so that no byte of it is markup.
 #[tactic(auto, unfolding(crate::specs::Escapes::escaped))]
 pub fn write_escaped<K: Sink>(out: &mut K, text: &[u8]) -> Result<(), Failed>
-    ensures { WritesText (K.written out.old) (K.written out.new) (K.faults out.old)
-        (K.faults out.new) (spec.escaped text.now) result }
+    ensures { WritesText (K.state out.old) (K.state out.new) (spec.escaped text.now) result }
 {
     for byte in text {
         write_escaped_byte(out, *byte)?;

@@ -15,16 +15,14 @@ pub enum Piece<'a> {
 }
 
 fn write_figure<K: Sink>(out: &mut K, figure: u64) -> Result<(), Failed>
-    ensures { WritesText (K.written out.old) (K.written out.new) (K.faults out.old)
-        (K.faults out.new) (spec.piece_text (Piece.Figure figure)) result }
+    ensures { WritesText (K.state out.old) (K.state out.new) (spec.piece_text (Piece.Figure figure)) result }
 {
     let mut digits = Buffer::new();
     write_text(out, digits.format(figure).as_bytes())
 }
 
 fn write_piece<K: Sink>(out: &mut K, piece: &Piece<'_>) -> Result<(), Failed>
-    ensures { WritesText (K.written out.old) (K.written out.new) (K.faults out.old)
-        (K.faults out.new) (spec.piece_text piece.now) result }
+    ensures { WritesText (K.state out.old) (K.state out.new) (spec.piece_text piece.now) result }
 {
     match piece {
         Piece::Markup(markup) => write_text(out, markup),
@@ -36,8 +34,7 @@ fn write_piece<K: Sink>(out: &mut K, piece: &Piece<'_>) -> Result<(), Failed>
 /// Writes a page: its markup, and each text escaped.
 #[tactic(auto, unfolding(crate::specs::Pieces::page_text))]
 pub fn write_page<K: Sink>(out: &mut K, pieces: &[Piece<'_>]) -> Result<(), Failed>
-    ensures { WritesText (K.written out.old) (K.written out.new) (K.faults out.old)
-        (K.faults out.new) (spec.page_text pieces.now) result }
+    ensures { WritesText (K.state out.old) (K.state out.new) (spec.page_text pieces.now) result }
 {
     for piece in pieces {
         write_piece(out, piece)?;

@@ -5,6 +5,7 @@ use Rattle.std.specs.Fmt.{decimal}
 use Rattle.std.proofs.lemmas.Option.{slice_get_past}
 use Rattle.std.specs.Borrow.{Bor}
 use Rattle.std.proofs.lemmas.List.{append-nil, take_min, drop_min, drop_all}
+use Rattle.fw_base.specs.Texts.{SinkState}
 use Rattle.fw_base.proofs.Texts.{IsUnderWay}
 use Rattle.std.proofs.lemmas.Grind.{flat_map-append}
 use Rattle.fw_rule.specs.Bits.{has_bit}
@@ -191,8 +192,8 @@ unfolding parted
 parted_numbers-end test most before k done = rw (numbers_where-end test most k done) refl
 
 -- the rest is the same, in other words
-pub same_rest : {a b : Option (List ℕ)} {l m : ℕ} {text was rest : List ℕ} → was ≡ rest → IsUnderWay a b l m text was → IsUnderWay a b l m text rest
-same_rest e way = record { done = way.done; split = way.split ∙ ap (λ more. way.done ++ more) e; appended = way.appended; later = way.later }
+pub same_rest : {a b : SinkState} {text was rest : List ℕ} → was ≡ rest → IsUnderWay a b text was → IsUnderWay a b text rest
+same_rest e way = record { done = way.done; split = way.split ∙ ap (λ more. way.done ++ more) e; appended = way.appended; made = way.made; later = way.later }
 
 -- an option is written as ` not ` or nothing, and its test
 pub spaced-option : (option : Opt) → spaced_text (option_words option) ≡ (if option.negated then codes " not" else []) ++ spaced_text (test_words option.test)

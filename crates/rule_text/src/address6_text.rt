@@ -94,8 +94,7 @@ fn longest_run(groups: &[u16]) -> Run
 /// Writes the groups with `::` in the run's place.
 fn write_shortened<K: Sink>(out: &mut K, groups: &[u16], run: Run) -> Result<(), Failed>
     requires { run.place + run.count ≤ length groups.now }
-    ensures { WritesText (K.written out.old) (K.written out.new) (K.faults out.old)
-        (K.faults out.new) (text.shortened_text groups.now run.place run.count) result }
+    ensures { WritesText (K.state out.old) (K.state out.new) (text.shortened_text groups.now run.place run.count) result }
 {
     write_joined(out, b':', &groups[..run.place])?;
     write_text(out, b"::")?;
@@ -103,8 +102,7 @@ fn write_shortened<K: Sink>(out: &mut K, groups: &[u16], run: Run) -> Result<(),
 }
 
 fn write_groups<K: Sink>(out: &mut K, groups: &[u16]) -> Result<(), Failed>
-    ensures { WritesText (K.written out.old) (K.written out.new) (K.faults out.old)
-        (K.faults out.new) (text.groups_text groups.now) result }
+    ensures { WritesText (K.state out.old) (K.state out.new) (text.groups_text groups.now) result }
 {
     let run = longest_run(groups);
     if run.count < 2 {
@@ -118,16 +116,14 @@ fn write_groups<K: Sink>(out: &mut K, groups: &[u16]) -> Result<(), Failed>
 /// zeros, and the longest run of two or more zero groups, the first of equal ones, as `::` (RFC 5952
 /// section 4). Where the sink fails, a front of that was written.
 pub fn write_address6<K: Sink>(out: &mut K, address: Addr6) -> Result<(), Failed>
-    ensures { WritesText (K.written out.old) (K.written out.new) (K.faults out.old)
-        (K.faults out.new) (text.address6_text address.0) result }
+    ensures { WritesText (K.state out.old) (K.state out.new) (text.address6_text address.0) result }
 {
     write_groups(out, &groups(address.0))
 }
 
 /// Writes an IPv6 prefix, one of 128 without its length.
 pub(crate) fn write_prefix6<K: Sink>(out: &mut K, prefix: Prefix6) -> Result<(), Failed>
-    ensures { WritesText (K.written out.old) (K.written out.new) (K.faults out.old)
-        (K.faults out.new) (text.network6_text prefix) result }
+    ensures { WritesText (K.state out.old) (K.state out.new) (text.network6_text prefix) result }
 {
     write_address6(out, prefix.address())?;
     let bits = prefix.length();

@@ -12,8 +12,7 @@ use fw_rule::AddrItem;
 /// written.
 #[tactic(auto, unfolding(fw_base::specs::Addr::address_text))]
 pub fn write_address<K: Sink>(out: &mut K, address: Addr) -> Result<(), Failed>
-    ensures { WritesText (K.written out.old) (K.written out.new) (K.faults out.old)
-        (K.faults out.new) (address_text address.0) result }
+    ensures { WritesText (K.state out.old) (K.state out.new) (address_text address.0) result }
 {
     let [first, second, third, fourth] = address.0.to_be_bytes();
     let dot = Piece::Text(b".");
@@ -27,8 +26,7 @@ pub fn write_address<K: Sink>(out: &mut K, address: Addr) -> Result<(), Failed>
 /// Writes a prefix, one of 32 without its length.
 #[tactic(auto, unfolding(crate::specs::Canonical::network_text))]
 fn write_prefix<K: Sink>(out: &mut K, prefix: Prefix) -> Result<(), Failed>
-    ensures { WritesText (K.written out.old) (K.written out.new) (K.faults out.old)
-        (K.faults out.new) (network_text prefix) result }
+    ensures { WritesText (K.state out.old) (K.state out.new) (network_text prefix) result }
 {
     write_address(out, prefix.address())?;
     let bits = prefix.length();

@@ -47,8 +47,7 @@ fn unreach_piece(code: u8) -> Piece<'static>
 
 /// Writes `check-state` and which flows it looks up, each word behind a space.
 fn write_check_state<K: Sink>(out: &mut K, name: &Option<Name>) -> Result<(), Failed>
-    ensures { WritesText (K.written out.old) (K.written out.new) (K.faults out.old)
-        (K.faults out.new) (spaced_text (text.check_state_words name.now)) result }
+    ensures { WritesText (K.state out.old) (K.state out.new) (spaced_text (text.check_state_words name.now)) result }
 {
     write_text(out, b" check-state")?;
     match name {
@@ -59,8 +58,7 @@ fn write_check_state<K: Sink>(out: &mut K, name: &Option<Name>) -> Result<(), Fa
 
 /// Writes an action, each word behind a space.
 fn write_action<K: Sink>(out: &mut K, action: &Action) -> Result<(), Failed>
-    ensures { WritesText (K.written out.old) (K.written out.new) (K.faults out.old)
-        (K.faults out.new) (spaced_text (text.action_words action.now)) result }
+    ensures { WritesText (K.state out.old) (K.state out.new) (spaced_text (text.action_words action.now)) result }
 {
     match action {
         Action::Allow => write_text(out, b" allow"),
@@ -85,8 +83,7 @@ fn write_action<K: Sink>(out: &mut K, action: &Action) -> Result<(), Failed>
 
 /// Writes the set where it isn't 0.
 fn write_set<K: Sink>(out: &mut K, set: u8) -> Result<(), Failed>
-    ensures { WritesText (K.written out.old) (K.written out.new) (K.faults out.old)
-        (K.faults out.new) (spaced_text (text.set_words set)) result }
+    ensures { WritesText (K.state out.old) (K.state out.new) (spaced_text (text.set_words set)) result }
 {
     if set == 0 {
         Ok(())
@@ -97,8 +94,7 @@ fn write_set<K: Sink>(out: &mut K, set: u8) -> Result<(), Failed>
 
 /// Writes `log` and its amount where it isn't 0.
 fn write_amount<K: Sink>(out: &mut K, amount: u32) -> Result<(), Failed>
-    ensures { WritesText (K.written out.old) (K.written out.new) (K.faults out.old)
-        (K.faults out.new) (spaced_text (text.amount_words amount)) result }
+    ensures { WritesText (K.state out.old) (K.state out.new) (spaced_text (text.amount_words amount)) result }
 {
     if amount == 0 {
         write_text(out, b" log")
@@ -111,8 +107,7 @@ fn write_amount<K: Sink>(out: &mut K, amount: u32) -> Result<(), Failed>
 }
 
 fn write_log<K: Sink>(out: &mut K, log: Option<u32>) -> Result<(), Failed>
-    ensures { WritesText (K.written out.old) (K.written out.new) (K.faults out.old)
-        (K.faults out.new) (spaced_text (text.log_words log)) result }
+    ensures { WritesText (K.state out.old) (K.state out.new) (spaced_text (text.log_words log)) result }
 {
     match log {
         None => Ok(()),
@@ -124,8 +119,7 @@ fn write_log<K: Sink>(out: &mut K, log: Option<u32>) -> Result<(), Failed>
 /// written.
 #[tactic(auto, unfolding(crate::specs::Canonical::protocol_word))]
 pub fn write_protocol<K: Sink>(out: &mut K, protocol: u8) -> Result<(), Failed>
-    ensures { WritesText (K.written out.old) (K.written out.new) (K.faults out.old)
-        (K.faults out.new) (spaced_text (text.one_word (text.protocol_word protocol))) result }
+    ensures { WritesText (K.state out.old) (K.state out.new) (spaced_text (text.one_word (text.protocol_word protocol))) result }
 {
     match protocol {
         0 => write_text(out, b" ip"),
@@ -141,8 +135,7 @@ pub fn write_protocol<K: Sink>(out: &mut K, protocol: u8) -> Result<(), Failed>
 
 /// Writes the version of IP or the protocol behind a space.
 fn write_family<K: Sink>(out: &mut K, family: Family, protocol: u8) -> Result<(), Failed>
-    ensures { WritesText (K.written out.old) (K.written out.new) (K.faults out.old)
-        (K.faults out.new) (spaced_text (text.one_word (text.family_word family protocol))) result }
+    ensures { WritesText (K.state out.old) (K.state out.new) (spaced_text (text.one_word (text.family_word family protocol))) result }
 {
     match family {
         Family::AnyIp => write_protocol(out, protocol),
@@ -152,8 +145,7 @@ fn write_family<K: Sink>(out: &mut K, family: Family, protocol: u8) -> Result<()
 }
 
 fn write_ports<K: Sink>(out: &mut K, ports: &Option<PortList>) -> Result<(), Failed>
-    ensures { WritesText (K.written out.old) (K.written out.new) (K.faults out.old)
-        (K.faults out.new) (spaced_text (text.port_words ports.now)) result }
+    ensures { WritesText (K.state out.old) (K.state out.new) (spaced_text (text.port_words ports.now)) result }
 {
     match ports {
         None => Ok(()),
@@ -162,8 +154,7 @@ fn write_ports<K: Sink>(out: &mut K, ports: &Option<PortList>) -> Result<(), Fai
 }
 
 fn write_addresses<K: Sink>(out: &mut K, addresses: &AddrSpec) -> Result<(), Failed>
-    ensures { WritesText (K.written out.old) (K.written out.new) (K.faults out.old)
-        (K.faults out.new) (spaced_text (text.addr_words addresses.now)) result }
+    ensures { WritesText (K.state out.old) (K.state out.new) (spaced_text (text.addr_words addresses.now)) result }
 {
     write_list_words(out, addresses.negated, addresses.items.as_slice())
 }
@@ -175,8 +166,7 @@ fn write_end<K: Sink>(
     addresses: &AddrSpec,
     ports: &Option<PortList>,
 ) -> Result<(), Failed>
-    ensures { WritesText (K.written out.old) (K.written out.new) (K.faults out.old)
-        (K.faults out.new)
+    ensures { WritesText (K.state out.old) (K.state out.new)
         (word.now ++ spaced_text (text.addr_words addresses.now ++ text.port_words ports.now)) result }
 {
     write_text(out, word)?;
@@ -191,8 +181,7 @@ fn write_placed<K: Sink>(
     state: &Option<StateOpt>,
     state_at: usize,
 ) -> Result<(), Failed>
-    ensures { WritesText (K.written out.old) (K.written out.new) (K.faults out.old)
-        (K.faults out.new) (spaced_text (text.placed_words options.now state.now state_at)) result }
+    ensures { WritesText (K.state out.old) (K.state out.new) (spaced_text (text.placed_words options.now state.now state_at)) result }
 {
     let (before, behind) = options.split_at(state_at.min(options.len()));
     write_options(out, before)?;
@@ -201,15 +190,13 @@ fn write_placed<K: Sink>(
 }
 
 fn write_body_options<K: Sink>(out: &mut K, body: &Body) -> Result<(), Failed>
-    ensures { WritesText (K.written out.old) (K.written out.new) (K.faults out.old)
-        (K.faults out.new) (spaced_text (text.options_words body.now)) result }
+    ensures { WritesText (K.state out.old) (K.state out.new) (spaced_text (text.options_words body.now)) result }
 {
     write_placed(out, body.options.as_slice(), &body.state, body.state_at)
 }
 
 fn write_body<K: Sink>(out: &mut K, body: &Body) -> Result<(), Failed>
-    ensures { WritesText (K.written out.old) (K.written out.new) (K.faults out.old)
-        (K.faults out.new) (spaced_text (text.body_words body.now)) result }
+    ensures { WritesText (K.state out.old) (K.state out.new) (spaced_text (text.body_words body.now)) result }
 {
     write_family(out, body.family, body.protocol)?;
     write_end(out, b" from", &body.source, &body.source_ports)?;
@@ -218,8 +205,7 @@ fn write_body<K: Sink>(out: &mut K, body: &Body) -> Result<(), Failed>
 }
 
 fn write_optional_body<K: Sink>(out: &mut K, body: &Option<Body>) -> Result<(), Failed>
-    ensures { WritesText (K.written out.old) (K.written out.new) (K.faults out.old)
-        (K.faults out.new) (spaced_text (text.optional_body body.now)) result }
+    ensures { WritesText (K.state out.old) (K.state out.new) (spaced_text (text.optional_body body.now)) result }
 {
     match body {
         None => Ok(()),
@@ -228,8 +214,7 @@ fn write_optional_body<K: Sink>(out: &mut K, body: &Option<Body>) -> Result<(), 
 }
 
 fn write_words<K: Sink>(out: &mut K, rule: &Rule) -> Result<(), Failed>
-    ensures { WritesText (K.written out.old) (K.written out.new) (K.faults out.old)
-        (K.faults out.new) (rest_text rule.now) result }
+    ensures { WritesText (K.state out.old) (K.state out.new) (rest_text rule.now) result }
 {
     write_set(out, rule.set)?;
     write_action(out, &rule.action)?;
@@ -238,8 +223,7 @@ fn write_words<K: Sink>(out: &mut K, rule: &Rule) -> Result<(), Failed>
 }
 
 fn write_whole<K: Sink>(out: &mut K, rule: &Rule) -> Result<(), Failed>
-    ensures { WritesText (K.written out.old) (K.written out.new) (K.faults out.old)
-        (K.faults out.new) (rule_text rule.now) result }
+    ensures { WritesText (K.state out.old) (K.state out.new) (rule_text rule.now) result }
 {
     write_five_digits(out, rule.number)?;
     write_words(out, rule)
@@ -248,8 +232,7 @@ fn write_whole<K: Sink>(out: &mut K, rule: &Rule) -> Result<(), Failed>
 /// Writes the canonical text of a rule, without a line's end. It takes no memory. Where the sink
 /// fails, a front of the text was written.
 pub fn write_rule<K: Sink>(rule: &Rule, out: &mut K) -> Result<(), WriteFault>
-    ensures { WritesText (K.written out.old) (K.written out.new) (K.faults out.old)
-        (K.faults out.new) (rule_text rule.now) result }
+    ensures { WritesText (K.state out.old) (K.state out.new) (rule_text rule.now) result }
 {
     write_whole(out, rule).map_err(|_| WriteFault)
 }
@@ -257,8 +240,7 @@ pub fn write_rule<K: Sink>(rule: &Rule, out: &mut K) -> Result<(), WriteFault>
 /// Writes the canonical text of a rule but for its number: what stands behind it, with the space
 /// before it. It takes no memory. Where the sink fails, a front of that was written.
 pub fn write_rule_rest<K: Sink>(rule: &Rule, out: &mut K) -> Result<(), WriteFault>
-    ensures { WritesText (K.written out.old) (K.written out.new) (K.faults out.old)
-        (K.faults out.new) (rest_text rule.now) result }
+    ensures { WritesText (K.state out.old) (K.state out.new) (rest_text rule.now) result }
 {
     write_words(out, rule).map_err(|_| WriteFault)
 }

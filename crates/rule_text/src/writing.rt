@@ -17,8 +17,7 @@ pub(crate) enum Piece<'a> {
 
 /// Writes one piece.
 pub(crate) fn write_piece<K: Sink>(out: &mut K, piece: Piece<'_>) -> Result<(), Failed>
-    ensures { WritesText (K.written out.old) (K.written out.new) (K.faults out.old)
-        (K.faults out.new) (piece_text piece.entry) result }
+    ensures { WritesText (K.state out.old) (K.state out.new) (piece_text piece.entry) result }
 {
     match piece {
         Piece::Text(bytes) => write_text(out, bytes),
@@ -32,8 +31,7 @@ pub(crate) fn write_piece<K: Sink>(out: &mut K, piece: Piece<'_>) -> Result<(), 
 
 /// Writes the pieces one after another.
 pub(crate) fn write_pieces<K: Sink>(out: &mut K, pieces: &[Piece<'_>]) -> Result<(), Failed>
-    ensures { WritesText (K.written out.old) (K.written out.new) (K.faults out.old)
-        (K.faults out.new) (pieces_text pieces.now) result }
+    ensures { WritesText (K.state out.old) (K.state out.new) (pieces_text pieces.now) result }
 {
     for piece in pieces {
         write_piece(out, *piece)?;
@@ -43,8 +41,7 @@ pub(crate) fn write_pieces<K: Sink>(out: &mut K, pieces: &[Piece<'_>]) -> Result
 
 /// Writes a number as five digits with leading zeros. Where the sink fails, a front of them was written.
 pub fn write_five_digits<K: Sink>(out: &mut K, n: u16) -> Result<(), Failed>
-    ensures { WritesText (K.written out.old) (K.written out.new) (K.faults out.old)
-        (K.faults out.new) (five_digits n) result }
+    ensures { WritesText (K.state out.old) (K.state out.new) (five_digits n) result }
 {
     let mut buffer = [0; MOST_DIGITS];
     let start = put_digits(u32::from(n), &mut buffer);
@@ -58,8 +55,7 @@ pub(crate) trait Element {
 
     /// Writes its text.
     fn write<K: Sink>(&self, out: &mut K) -> Result<(), Failed>
-        ensures { WritesText (K.written out.old) (K.written out.new) (K.faults out.old)
-            (K.faults out.new) (text self.now) result };
+        ensures { WritesText (K.state out.old) (K.state out.new) (text self.now) result };
 }
 
 /// Writes the elements with that byte between them.
@@ -68,8 +64,7 @@ pub(crate) fn write_joined<T: Element, K: Sink>(
     between: u8,
     items: &[T],
 ) -> Result<(), Failed>
-    ensures { WritesText (K.written out.old) (K.written out.new) (K.faults out.old)
-        (K.faults out.new) (join_with_byte between (map T.text items.now)) result }
+    ensures { WritesText (K.state out.old) (K.state out.new) (join_with_byte between (map T.text items.now)) result }
 {
     let Some((first, others)) = items.split_first() else {
         return Ok(());
@@ -88,8 +83,7 @@ pub(crate) fn write_list_words<T: Element, K: Sink>(
     negated: bool,
     items: &[T],
 ) -> Result<(), Failed>
-    ensures { WritesText (K.written out.old) (K.written out.new) (K.faults out.old)
-        (K.faults out.new) (spaced_text (list_words negated (map T.text items.now))) result }
+    ensures { WritesText (K.state out.old) (K.state out.new) (spaced_text (list_words negated (map T.text items.now))) result }
 {
     write_text(out, list_start(negated))?;
     write_joined(out, b',', items)

@@ -1,4 +1,4 @@
-ghost use Rattle.std.specs.Prelude.{◌≡◌, ◌<◌, ◌≤◌, ◌+◌, ◌++◌, [], Some, IfOk, Ok, length, take, drop};
+ghost use Rattle.std.specs.Prelude.{◌≡◌, ◌<◌, ◌≤◌, ◌+◌, ◌++◌, [], ◌∷◌, Some, IfOk, Ok, length, take, drop};
 ghost use Rattle.std.specs.Io.{WritesAtMost};
 ghost use Rattle.std.specs.Io.KnownBytes.{WriteAppends};
 ghost use Rattle.fw_base.specs.Faults.{HasCause};
@@ -11,7 +11,7 @@ use std::marker::Model;
 use std::mem;
 use std::snapshot::Snapshot;
 
-/// A sink that keeps nothing: it compares what is written with a text. Contracts see both.
+/// A sink that keeps nothing: it compares what is written with a text, which it is made with. Contracts see both.
 #[derive(Drop)]
 pub struct Comparer {
     text: Vec<u8>,
@@ -63,9 +63,11 @@ impl Comparer {
 }
 
 impl Sink for Comparer {
-    ghost written = { λ c. Some c.written };
-
-    ghost faults = { λ _. 0 };
+    ghost state = { λ c. record {
+      written = Some c.written;
+      made_with = c.text ∷ [];
+      faults = 0;
+    } };
 
     fn write(&mut self, bytes: &[u8]) -> Result<usize, Failed>
         ensures bound { WritesAtMost result bytes.now }

@@ -59,9 +59,9 @@ impl<R: Read + Drop> Source for FaultCounter<R> {
 }
 
 impl<W: Write + Drop> Sink for FaultCounter<W> {
-    ghost written = { λ c. W.contents c.0 };
+    ghost use Rattle.std.specs.Prelude.{[]};
 
-    ghost faults = { λ c. c.1 };
+    ghost state = { λ c. record { written = W.contents c.0; made_with = []; faults = c.1 } };
 
     fn write(&mut self, bytes: &[u8]) -> Result<usize, Failed> {
         match self.inner.write(bytes) {

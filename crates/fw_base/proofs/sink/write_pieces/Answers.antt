@@ -9,10 +9,10 @@ returns-in_err-write_text g c =
     let (error, is, same) = err_from_is_err_and c.from_residual.result c.from_residual.ensures.1 in
     let none : Bor (List ℕ) = record { ref_ptr = (0, 0); now = [] } in
     let next = flat_map-drop (λ (piece : Bor (List ℕ)). piece.now) c.args.pieces.now c.loop-piece.piece-index none c.loop-piece-test.true in
-    rw is (breaks_in _ _ _ _ _ _ _ _ _ _ error (rw next at c.loop-piece.invariant) c.in_err-write_text.ensures)
+    rw is (breaks_in _ _ _ _ _ _ _ error (rw next at c.loop-piece.invariant) c.in_err-write_text.ensures)
 
 pub loop-piece-preserved : goal.loop-piece-preserved
 loop-piece-preserved g c =
     let none : Bor (List ℕ) = record { ref_ptr = (0, 0); now = [] } in
     let next = flat_map-drop (λ (piece : Bor (List ℕ)). piece.now) c.args.pieces.now c.loop-piece.piece-index none c.loop-piece-test.true in
-    goes_on_with _ _ _ _ _ _ _ _ _ _ (rw next at c.loop-piece.invariant) c.in_ok-write_text.ensures
+    goes_on_with _ _ _ _ _ _ _ (rw next at c.loop-piece.invariant) c.in_ok-write_text.ensures

@@ -5,5 +5,5 @@ use Rattle.fw_base.proofs.Texts.{IsUnderWay}
 use Rattle.fw_base.proofs.sink.write_pieces.Given as goal
 
 abbrev pub invariant-loop-piece : goal.invariant-loop-piece
-invariant-loop-piece g l = IsUnderWay (g.K.Sink.written l.initial.out) (g.K.Sink.written l.out) (g.K.Sink.faults l.initial.out) (g.K.Sink.faults l.out)
+invariant-loop-piece g l = IsUnderWay (g.K.Sink.state l.initial.out) (g.K.Sink.state l.out)
     (flat_map (λ (piece : Bor (List ℕ)). piece.now) l.pieces) (flat_map (λ (piece : Bor (List ℕ)). piece.now) (drop l.piece-index l.pieces))

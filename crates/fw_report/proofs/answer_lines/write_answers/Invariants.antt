@@ -6,4 +6,4 @@ use Rattle.fw_report.specs.AnswerText.{answer_text}
 use Rattle.fw_report.proofs.answer_lines.write_answers.Given as goal
 
 abbrev pub invariant-loop-answer : goal.invariant-loop-answer
-invariant-loop-answer g l = IsUnderWay (g.K.Sink.written l.initial.out) (g.K.Sink.written l.out) (g.K.Sink.faults l.initial.out) (g.K.Sink.faults l.out) (flat_map (answer_text (map arc_value l.editions)) l.answers) (flat_map (answer_text (map arc_value l.editions)) (drop l.answer-index l.answers))
+invariant-loop-answer g l = IsUnderWay (g.K.Sink.state l.initial.out) (g.K.Sink.state l.out) (flat_map (answer_text (map arc_value l.editions)) l.answers) (flat_map (answer_text (map arc_value l.editions)) (drop l.answer-index l.answers))

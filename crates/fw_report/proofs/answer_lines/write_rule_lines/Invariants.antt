@@ -7,4 +7,4 @@ use Rattle.fw_report.specs.AnswerText.{rule_line}
 use Rattle.fw_report.proofs.answer_lines.write_rule_lines.Given as goal
 
 abbrev pub invariant-loop-rule : goal.invariant-loop-rule
-invariant-loop-rule g l = IsUnderWay (g.K.Sink.written l.initial.out) (g.K.Sink.written l.out) (g.K.Sink.faults l.initial.out) (g.K.Sink.faults l.out) (flat_map (λ (rule : Arc Rule Global). rule_line (arc_value rule)) l.rules) (flat_map (λ (rule : Arc Rule Global). rule_line (arc_value rule)) (drop l.rule-index l.rules))
+invariant-loop-rule g l = IsUnderWay (g.K.Sink.state l.initial.out) (g.K.Sink.state l.out) (flat_map (λ (rule : Arc Rule Global). rule_line (arc_value rule)) l.rules) (flat_map (λ (rule : Arc Rule Global). rule_line (arc_value rule)) (drop l.rule-index l.rules))

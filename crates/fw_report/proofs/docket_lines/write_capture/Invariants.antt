@@ -7,6 +7,6 @@ use Rattle.fw_report.proofs.docket_lines.write_capture.Given as goal
 abbrev pub invariant-loop-entry : goal.invariant-loop-entry
 invariant-loop-entry g l = record {
   number : l.at ≡ l.entry-index + 1;
-  written : IsUnderWay (g.K.Sink.written l.initial.out) (g.K.Sink.written l.out) (g.K.Sink.faults l.initial.out) (g.K.Sink.faults l.out)
+  written : IsUnderWay (g.K.Sink.state l.initial.out) (g.K.Sink.state l.out)
       (capture_text l.capture l.entries l.end) (record_lines l.capture l.at (drop l.entry-index l.entries) ++ end_line l.capture l.end);
 }

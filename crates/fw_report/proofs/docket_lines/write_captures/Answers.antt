@@ -9,7 +9,7 @@ use Rattle.fw_report.proofs.docket_lines.write_captures.Goals as goal
 pub returns-in_default : goal.returns-in_default
 returns-in_default g c =
     let none : length c.loop-docket.rest.now ≡ 0 = c.in_default.ensures.cases in
-    ends _ _ _ _ _ _ _ c.loop-docket.invariant.written (no_capture_end c.loop-docket.capture (drop c.loop-docket.docket-index c.args.dockets.now) c.loop-docket.rest.now none)
+    ends _ _ _ _ _ c.loop-docket.invariant.written (no_capture_end c.loop-docket.capture (drop c.loop-docket.docket-index c.args.dockets.now) c.loop-docket.rest.now none)
 
 pub returns-in_err-write_capture : goal.returns-in_err-write_capture
 returns-in_err-write_capture g c =
@@ -27,4 +27,4 @@ loop-docket-preserved g c =
     }
 
 pub returns : goal.returns
-returns g c = ends _ _ _ _ _ _ _ c.loop-docket.invariant.written (no_capture c.loop-docket.capture c.loop-docket.docket-index c.args.dockets.now c.loop-docket.rest.now c.loop-docket-test.false)
+returns g c = ends _ _ _ _ _ c.loop-docket.invariant.written (no_capture c.loop-docket.capture c.loop-docket.docket-index c.args.dockets.now c.loop-docket.rest.now c.loop-docket-test.false)

@@ -6,5 +6,5 @@ use Rattle.fw_report.proofs.docket_lines.write_captures.Given as goal
 abbrev pub invariant-loop-docket : goal.invariant-loop-docket
 invariant-loop-docket g l = record {
   number : l.capture ≡ l.docket-index + 1;
-  written : IsUnderWay (g.K.Sink.written l.initial.out) (g.K.Sink.written l.out) (g.K.Sink.faults l.initial.out) (g.K.Sink.faults l.out) (captures_text 1 l.dockets l.ends) (captures_text l.capture (drop l.docket-index l.dockets) l.rest);
+  written : IsUnderWay (g.K.Sink.state l.initial.out) (g.K.Sink.state l.out) (captures_text 1 l.dockets l.ends) (captures_text l.capture (drop l.docket-index l.dockets) l.rest);
 }

@@ -4,4 +4,4 @@ use Rattle.fw_report.specs.JournalText.{entry_line}
 use Rattle.fw_report.proofs.journal_lines.write_entries.Given as goal
 
 abbrev pub invariant-loop-entry : goal.invariant-loop-entry
-invariant-loop-entry g l = IsUnderWay (g.K.Sink.written l.initial.out) (g.K.Sink.written l.out) (g.K.Sink.faults l.initial.out) (g.K.Sink.faults l.out) (flat_map (entry_line l.names) l.entries) (flat_map (entry_line l.names) (drop l.entry-index l.entries))
+invariant-loop-entry g l = IsUnderWay (g.K.Sink.state l.initial.out) (g.K.Sink.state l.out) (flat_map (entry_line l.names) l.entries) (flat_map (entry_line l.names) (drop l.entry-index l.entries))

@@ -19,4 +19,4 @@ loop-count-preserved g c =
     }
 
 pub returns : goal.returns
-returns g c = ends _ _ _ _ _ _ _ c.loop-count.invariant.written (no_hits c.loop-count.lane c.loop-count.count-index c.args.hits.now c.loop-count-test.false)
+returns g c = ends _ _ _ _ _ c.loop-count.invariant.written (no_hits c.loop-count.lane c.loop-count.count-index c.args.hits.now c.loop-count-test.false)

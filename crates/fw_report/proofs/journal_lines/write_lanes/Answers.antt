@@ -8,7 +8,7 @@ use Rattle.fw_report.proofs.journal_lines.write_lanes.Goals as goal
 pub returns-in_default : goal.returns-in_default
 returns-in_default g c =
     let none : length c.loop-docket.rest.now ≡ 0 = c.in_default.ensures.cases in
-    ends _ _ _ _ _ _ _ c.loop-docket.invariant.written (no_tracker c.loop-docket.lane (drop c.loop-docket.docket-index c.args.dockets.now) c.loop-docket.rest.now none)
+    ends _ _ _ _ _ c.loop-docket.invariant.written (no_tracker c.loop-docket.lane (drop c.loop-docket.docket-index c.args.dockets.now) c.loop-docket.rest.now none)
 
 pub returns-in_err-write_lane : goal.returns-in_err-write_lane
 returns-in_err-write_lane g c =
@@ -26,4 +26,4 @@ loop-docket-preserved g c =
     }
 
 pub returns : goal.returns
-returns g c = ends _ _ _ _ _ _ _ c.loop-docket.invariant.written (no_lane c.loop-docket.lane c.loop-docket.docket-index c.args.dockets.now c.loop-docket.rest.now c.loop-docket-test.false)
+returns g c = ends _ _ _ _ _ c.loop-docket.invariant.written (no_lane c.loop-docket.lane c.loop-docket.docket-index c.args.dockets.now c.loop-docket.rest.now c.loop-docket-test.false)

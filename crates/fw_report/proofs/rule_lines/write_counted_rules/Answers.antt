@@ -13,10 +13,10 @@ pub returns-in_err-write_count : goal.returns-in_err-write_count
 unfolding rules_text
 returns-in_err-write_count g c =
     let rest : List ℕ = flat_map (counted_line c.args.tallies.now) (map arc_value c.args.rules.now) in
-    breaks_off _ _ rest (starts _ _ _) (ap (λ (n : ℕ). count_line n ++ rest) (length-map c.args.rules.now arc_value)) c.in_err-write_count.was c.write_count.ensures c.from_residual.ensures.1
+    breaks_off _ _ rest (starts _ _) (ap (λ (n : ℕ). count_line n ++ rest) (length-map c.args.rules.now arc_value)) c.in_err-write_count.was c.write_count.ensures c.from_residual.ensures.1
 
 pub returns : goal.returns
 unfolding rules_text
 returns g c =
     let rest : List ℕ = flat_map (counted_line c.args.tallies.now) (map arc_value c.args.rules.now) in
-    finishes _ (goes rest (starts _ _ _) (ap (λ (n : ℕ). count_line n ++ rest) (length-map c.args.rules.now arc_value)) c.in_ok-write_count.was c.write_count.ensures) (flat_map_map (counted_line c.args.tallies.now) arc_value c.args.rules.now) c.write_counted_lines.ensures
+    finishes _ (goes rest (starts _ _) (ap (λ (n : ℕ). count_line n ++ rest) (length-map c.args.rules.now arc_value)) c.in_ok-write_count.was c.write_count.ensures) (flat_map_map (counted_line c.args.tallies.now) arc_value c.args.rules.now) c.write_counted_lines.ensures

@@ -14,4 +14,4 @@ loop-set-preserved g c =
     goes (sets_text c.args.mask (32 - (c.loop-set.set + 1)) (c.loop-set.set + 1)) c.loop-set.invariant (next_set c.args.mask c.loop-set.set c.loop-set-test.true) c.in_ok-write_set.was c.write_set.ensures
 
 pub returns : goal.returns
-returns g c = ends _ _ _ _ _ _ _ c.loop-set.invariant (no_set c.args.mask c.loop-set.set (omega arith))
+returns g c = ends _ _ _ _ _ c.loop-set.invariant (no_set c.args.mask c.loop-set.set (omega arith))

@@ -5,5 +5,5 @@ use Rattle.report_page.specs.Escapes.{escaped_byte}
 use Rattle.report_page.proofs.escapes.write_escaped.Given as goal
 
 abbrev pub invariant-loop-byte : goal.invariant-loop-byte
-invariant-loop-byte g l = IsUnderWay (g.K.Sink.written l.initial.out) (g.K.Sink.written l.out) (g.K.Sink.faults l.initial.out) (g.K.Sink.faults l.out)
+invariant-loop-byte g l = IsUnderWay (g.K.Sink.state l.initial.out) (g.K.Sink.state l.out)
     (flat_map escaped_byte l.text) (flat_map escaped_byte (drop l.byte-index l.text))

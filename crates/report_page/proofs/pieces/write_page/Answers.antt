@@ -10,9 +10,9 @@ unfolding page_text
 returns-in_err-write_piece g c =
     let (error, is, same) = err_from_is_err_and c.from_residual.result c.from_residual.ensures.1 in
     let next = flat_map-drop piece_text c.args.pieces.now c.loop-piece.piece-index (Markup (record { ref_ptr = (0, 0); now = [] })) c.loop-piece-test.true in
-    rw is (breaks_in _ _ _ _ _ _ _ _ _ _ error (rw next at c.loop-piece.invariant) c.in_err-write_piece.ensures)
+    rw is (breaks_in _ _ _ _ _ _ _ error (rw next at c.loop-piece.invariant) c.in_err-write_piece.ensures)
 
 pub loop-piece-preserved : goal.loop-piece-preserved
 loop-piece-preserved g c =
     let next = flat_map-drop piece_text c.args.pieces.now c.loop-piece.piece-index (Markup (record { ref_ptr = (0, 0); now = [] })) c.loop-piece-test.true in
-    goes_on_with _ _ _ _ _ _ _ _ _ _ (rw next at c.loop-piece.invariant) c.in_ok-write_piece.ensures
+    goes_on_with _ _ _ _ _ _ _ (rw next at c.loop-piece.invariant) c.in_ok-write_piece.ensures

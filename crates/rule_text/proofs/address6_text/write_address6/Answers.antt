@@ -6,4 +6,4 @@ use Rattle.rule_text.proofs.address6_text.write_address6.Goals as goal
 
 pub returns : goal.returns
 unfolding address6_text
-returns g c = finishes _ (starts _ _ _) (ap groups_text (sym c.groups.ensures)) c.write_groups.ensures
+returns g c = finishes _ (starts _ _) (ap groups_text (sym c.groups.ensures)) c.write_groups.ensures

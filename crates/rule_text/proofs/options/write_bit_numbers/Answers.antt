@@ -8,10 +8,10 @@ use Rattle.rule_text.proofs.options.write_bit_numbers.Goals as goal
 use Rattle.rule_text.proofs.options.write_bit_numbers.Goals.{then-has_bit+in_ok-write_pieces, else-has_bit}
 
 pub returns-in_err-write_text : goal.returns-in_err-write_text
-returns-in_err-write_text g c = breaks_off _ _ _ (starts _ _ _) refl c.in_err-write_text.was c.write_text.ensures c.from_residual.ensures.1
+returns-in_err-write_text g c = breaks_off _ _ _ (starts _ _) refl c.in_err-write_text.was c.write_text.ensures c.from_residual.ensures.1
 
 pub loop-bit-init : goal.loop-bit-init
-loop-bit-init g c = goes _ (starts _ _ _) (ap (λ rest. c.args.word.now ++ rest) (parted-nil (numbers_where (has_bit c.args.mask) 32 0))) c.in_ok-write_text.was c.write_text.ensures
+loop-bit-init g c = goes _ (starts _ _) (ap (λ rest. c.args.word.now ++ rest) (parted-nil (numbers_where (has_bit c.args.mask) 32 0))) c.in_ok-write_text.was c.write_text.ensures
 
 pub returns-in_err-write_pieces : goal.returns-in_err-write_pieces
 returns-in_err-write_pieces g c =
@@ -26,4 +26,4 @@ loop-bit-preserved g c =
     ]
 
 pub returns : goal.returns
-returns g c = ends _ _ _ _ _ _ _ c.loop-bit.invariant (parted_numbers-end (has_bit c.args.mask) 32 _ _ (omega arith))
+returns g c = ends _ _ _ _ _ c.loop-bit.invariant (parted_numbers-end (has_bit c.args.mask) 32 _ _ (omega arith))

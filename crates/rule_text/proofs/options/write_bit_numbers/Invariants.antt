@@ -8,5 +8,5 @@ use Rattle.rule_text.proofs.options.write_bit_numbers.Given as goal
 
 abbrev pub invariant-loop-bit : goal.invariant-loop-bit
 invariant-loop-bit g l =
-    IsUnderWay (g.K.Sink.written l.fn.out) (g.K.Sink.written l.out) (g.K.Sink.faults l.fn.out) (g.K.Sink.faults l.out) (l.fn.word ++ join_with_byte 44 (numbers_where (has_bit l.mask) 32 0))
+    IsUnderWay (g.K.Sink.state l.fn.out) (g.K.Sink.state l.out) (l.fn.word ++ join_with_byte 44 (numbers_where (has_bit l.mask) 32 0))
     (parted l.before (numbers_where (has_bit l.mask) (32 - l.bit) l.bit))

@@ -6,5 +6,5 @@ use Rattle.rule_text.proofs.options.write_options.Given as goal
 
 abbrev pub invariant-loop-option : goal.invariant-loop-option
 invariant-loop-option g l =
-    IsUnderWay (g.K.Sink.written l.initial.out) (g.K.Sink.written l.out) (g.K.Sink.faults l.initial.out) (g.K.Sink.faults l.out) (spaced_text (flat_map option_words l.options))
+    IsUnderWay (g.K.Sink.state l.initial.out) (g.K.Sink.state l.out) (spaced_text (flat_map option_words l.options))
     (spaced_text (flat_map option_words (drop l.option-index l.options)))

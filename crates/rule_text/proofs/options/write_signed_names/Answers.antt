@@ -7,10 +7,10 @@ use Rattle.rule_text.proofs.options.write_signed_names.Goals as goal
 use Rattle.rule_text.proofs.options.write_signed_names.Goals.{in-Some+in_ok-write_pieces, in_default}
 
 pub returns-in_err-write_text : goal.returns-in_err-write_text
-returns-in_err-write_text g c = breaks_off _ _ _ (starts _ _ _) refl c.in_err-write_text.was c.write_text.ensures c.from_residual.ensures.1
+returns-in_err-write_text g c = breaks_off _ _ _ (starts _ _) refl c.in_err-write_text.was c.write_text.ensures c.from_residual.ensures.1
 
 pub loop-bit-init : goal.loop-bit-init
-loop-bit-init g c = goes _ (starts _ _ _) (ap (λ rest. c.args.word.now ++ rest) (parted-nil (signed_names (map (λ name. name.now) c.args.names.now) 0 c.args.set c.args.clear))) c.in_ok-write_text.was c.write_text.ensures
+loop-bit-init g c = goes _ (starts _ _) (ap (λ rest. c.args.word.now ++ rest) (parted-nil (signed_names (map (λ name. name.now) c.args.names.now) 0 c.args.set c.args.clear))) c.in_ok-write_text.was c.write_text.ensures
 
 pub returns-in_err-write_pieces : goal.returns-in_err-write_pieces
 returns-in_err-write_pieces g c =
@@ -59,4 +59,4 @@ loop-bit-preserved g c =
     ]
 
 pub returns : goal.returns
-returns g c = ends _ _ _ _ _ _ _ c.loop-bit.invariant (parted-end _ _ _ _ _ c.loop-bit-test.false)
+returns g c = ends _ _ _ _ _ c.loop-bit.invariant (parted-end _ _ _ _ _ c.loop-bit-test.false)

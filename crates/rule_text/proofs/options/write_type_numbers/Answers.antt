@@ -8,10 +8,10 @@ use Rattle.rule_text.proofs.options.write_type_numbers.Goals as goal
 use Rattle.rule_text.proofs.options.write_type_numbers.Goals.{then-contains+in_ok-write_pieces, else-contains}
 
 pub returns-in_err-write_text : goal.returns-in_err-write_text
-returns-in_err-write_text g c = breaks_off _ _ _ (starts _ _ _) refl c.in_err-write_text.was c.write_text.ensures c.from_residual.ensures.1
+returns-in_err-write_text g c = breaks_off _ _ _ (starts _ _) refl c.in_err-write_text.was c.write_text.ensures c.from_residual.ensures.1
 
 pub loop-number-init : goal.loop-number-init
-loop-number-init g c = goes _ (starts _ _ _) (ap (λ rest. c.args.word.now ++ rest) (parted-nil (numbers_where (has_type c.args.types.now) 256 0))) c.in_ok-write_text.was c.write_text.ensures
+loop-number-init g c = goes _ (starts _ _) (ap (λ rest. c.args.word.now ++ rest) (parted-nil (numbers_where (has_type c.args.types.now) 256 0))) c.in_ok-write_text.was c.write_text.ensures
 
 pub returns-in_err-write_pieces : goal.returns-in_err-write_pieces
 returns-in_err-write_pieces g c =
@@ -26,4 +26,4 @@ loop-number-preserved g c =
     ]
 
 pub returns : goal.returns
-returns g c = ends _ _ _ _ _ _ _ c.loop-number.invariant (parted_numbers-end (has_type c.args.types.now) 256 _ _ (omega arith))
+returns g c = ends _ _ _ _ _ c.loop-number.invariant (parted_numbers-end (has_type c.args.types.now) 256 _ _ (omega arith))

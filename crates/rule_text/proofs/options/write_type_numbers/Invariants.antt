@@ -8,5 +8,5 @@ use Rattle.rule_text.proofs.options.write_type_numbers.Given as goal
 
 abbrev pub invariant-loop-number : goal.invariant-loop-number
 invariant-loop-number g l =
-    IsUnderWay (g.K.Sink.written l.fn.out) (g.K.Sink.written l.out) (g.K.Sink.faults l.fn.out) (g.K.Sink.faults l.out) (l.fn.word ++ join_with_byte 44 (numbers_where (has_type l.types) 256 0))
+    IsUnderWay (g.K.Sink.state l.fn.out) (g.K.Sink.state l.out) (l.fn.word ++ join_with_byte 44 (numbers_where (has_type l.types) 256 0))
     (parted l.before (numbers_where (has_type l.types) (256 - l.number) l.number))

@@ -6,10 +6,10 @@ use Rattle.rule_text.proofs.writing.write_joined.Goals as goal
 
 pub returns-in_err-write : goal.returns-in_err-write
 returns-in_err-write g c =
-    breaks_off _ _ _ (starts _ _ _) (join-first _ g.T.Element.text _ _ _ c.in-Some.ensures.cases.0) c.in_err-write.was c.write.ensures c.from_residual.ensures.1
+    breaks_off _ _ _ (starts _ _) (join-first _ g.T.Element.text _ _ _ c.in-Some.ensures.cases.0) c.in_err-write.was c.write.ensures c.from_residual.ensures.1
 
 pub loop-item-init : goal.loop-item-init
-loop-item-init g c = goes _ (starts _ _ _) (join-first _ g.T.Element.text _ _ _ c.in-Some.ensures.cases.0) c.in_ok-write.was c.write.ensures
+loop-item-init g c = goes _ (starts _ _) (join-first _ g.T.Element.text _ _ _ c.in-Some.ensures.cases.0) c.in_ok-write.was c.write.ensures
 
 pub returns-in_err-write_text : goal.returns-in_err-write_text
 returns-in_err-write_text g c =

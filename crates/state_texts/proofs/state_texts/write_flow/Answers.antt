@@ -11,18 +11,18 @@ pub returns-in_err-write_protocol : goal.returns-in_err-write_protocol
 returns-in_err-write_protocol g c =
     let f = c.args.flow.now in
     let split = spaced-append (protocol_word f.protocol ∷ []) (address_text f.source.0 ∷ decimal f.source_port ∷ address_text f.destination.0 ∷ decimal f.destination_port ∷ []) in
-    breaks_off _ _ _ (starts _ _ _) split c.in_err-write_protocol.was c.write_protocol.ensures c.from_residual.ensures.1
+    breaks_off _ _ _ (starts _ _) split c.in_err-write_protocol.was c.write_protocol.ensures c.from_residual.ensures.1
 
 pub returns-in_err-write_end : goal.returns-in_err-write_end
 returns-in_err-write_end g c =
     let f = c.args.flow.now in
     let split = spaced-append (protocol_word f.protocol ∷ []) (address_text f.source.0 ∷ decimal f.source_port ∷ address_text f.destination.0 ∷ decimal f.destination_port ∷ []) in
     let ends = spaced-append (address_text f.source.0 ∷ decimal f.source_port ∷ []) (address_text f.destination.0 ∷ decimal f.destination_port ∷ []) in
-    breaks_off _ _ _ (goes _ (starts _ _ _) split c.in_ok-write_protocol.was c.write_protocol.ensures) ends c.in_err-write_end.was c.write_end.ensures c.from_residual-in_err-write_end.ensures.1
+    breaks_off _ _ _ (goes _ (starts _ _) split c.in_ok-write_protocol.was c.write_protocol.ensures) ends c.in_err-write_end.was c.write_end.ensures c.from_residual-in_err-write_end.ensures.1
 
 pub returns : goal.returns
 returns g c =
     let f = c.args.flow.now in
     let split = spaced-append (protocol_word f.protocol ∷ []) (address_text f.source.0 ∷ decimal f.source_port ∷ address_text f.destination.0 ∷ decimal f.destination_port ∷ []) in
     let ends = spaced-append (address_text f.source.0 ∷ decimal f.source_port ∷ []) (address_text f.destination.0 ∷ decimal f.destination_port ∷ []) in
-    finishes _ (goes _ (goes _ (starts _ _ _) split c.in_ok-write_protocol.was c.write_protocol.ensures) ends c.in_ok-write_end.was c.write_end.ensures) refl c.write_end-2.ensures
+    finishes _ (goes _ (goes _ (starts _ _) split c.in_ok-write_protocol.was c.write_protocol.ensures) ends c.in_ok-write_end.was c.write_end.ensures) refl c.write_end-2.ensures

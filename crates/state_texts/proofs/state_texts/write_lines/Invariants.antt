@@ -6,5 +6,5 @@ use Rattle.state_texts.proofs.state_texts.write_lines.Given as goal
 
 abbrev pub invariant-loop-slot : goal.invariant-loop-slot
 invariant-loop-slot g l =
-    IsUnderWay (g.K.Sink.written l.initial.out) (g.K.Sink.written l.out) (g.K.Sink.faults l.initial.out) (g.K.Sink.faults l.out)
+    IsUnderWay (g.K.Sink.state l.initial.out) (g.K.Sink.state l.out)
     (flat_map (slot_text l.names) l.slots) (flat_map (slot_text l.names) (drop l.slot-index l.slots))
