@@ -4,10 +4,10 @@ ghost use Rattle.generation_store.specs.Jumps as jumps;
 ghost use Rattle.eval_engine.specs.Encounter as spec;
 ghost use Rattle.eval_engine.specs.Place.{IsRuleAt};
 ghost use Rattle.eval_engine.specs.Walk as walk;
-ghost use Rattle.evaluation_laws.specs.Views.{viewed_question, viewed_names};
+ghost use Rattle.evaluation_laws.specs.Views.{viewed_question, seen_by};
 
-use crate::looked::Looked;
 use crate::question::Question;
+use crate::searched::Searched;
 use fw_rule::{LimitMask, Rule, StateOpt, has_bit};
 use ip6_headers::AnyIp;
 use packet_headers::{Flow, flow};
@@ -77,15 +77,15 @@ pub(crate) fn name_at(question: &Question<'_, '_>, place: usize, rule: &Rule) ->
 /// The packet's flow, where the rule's name is due.
 pub(crate) fn lookup_flow(
     question: &Question<'_, '_>,
-    looked: &Looked,
+    searched: &Searched,
     place: usize,
     rule: &Rule,
 ) -> Option<Flow>
     requires { IsRuleAt (viewed_question question.now) place rule.now }
     ensures { result
-        ≡ walk.lookup_flow (viewed_question question.now) (viewed_names looked.now) rule.now }
+        ≡ walk.lookup_flow (viewed_question question.now) (seen_by searched.now) rule.now }
 {
-    if looks_up(rule) && looked.is_due(name_at(question, place, rule)) {
+    if looks_up(rule) && searched.is_due(name_at(question, place, rule)) {
         flow_of(question)
     } else {
         None

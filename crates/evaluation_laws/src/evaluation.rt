@@ -4,9 +4,9 @@ ghost use Rattle.eval_engine.specs.Question.{question_under};
 ghost use Rattle.evaluation_laws.specs.Story as told;
 ghost use Rattle.evaluation_laws.specs.Views.{ending_of, viewed_outcome};
 
-use crate::looked::Looked;
 use crate::question::Question;
 use crate::running::meet;
+use crate::searched::Searched;
 use crate::story::Ending;
 use eval_engine::Judgement;
 use fw_base::{OutOfMemory, Port};
@@ -66,7 +66,7 @@ pub fn evaluate(
         alloc,
     };
     is_configuration(edition.config());
-    let story = meet(&question, 0, &Looked::none(), 0, replies)?;
+    let story = meet(&question, 0, &Searched::none(), 0, replies)?;
     let outcome = outcome_by(&story.ending);
     Ok(Evaluation {
         asks: story.asks,

@@ -5,15 +5,15 @@ ghost use Rattle.eval_engine.specs.Place.{IsRuleAt};
 ghost use Rattle.eval_engine.specs.Walk as walk;
 ghost use Rattle.evaluation_laws.specs.Runs.{Meets, Tests, Acts};
 ghost use Rattle.evaluation_laws.specs.Running.{IsRun};
-ghost use Rattle.evaluation_laws.specs.Views.{viewed_question, viewed_names, story_of};
+ghost use Rattle.evaluation_laws.specs.Views.{viewed_question, seen_by, story_of};
 
 use crate::encounter::{
     flow_of, install_by, is_disabled, is_held, lookup_by, lookup_flow, name_at, rule_at,
 };
 use crate::ends::{decided, last_judgement, mistaken, open_at, refused};
-use crate::looked::Looked;
 use crate::places::{first_behind, first_from, place_of, place_skipped};
 use crate::question::Question;
+use crate::searched::Searched;
 use crate::story::{Ending, Story, asked, behind, hit, plainly};
 use eval_engine::{Cause, MOST_CALLS, Verdict};
 use fw_base::OutOfMemory;
@@ -27,14 +27,14 @@ use state_asks::Reply;
 pub(crate) fn meet<'r>(
     question: &Question<'_, '_>,
     depth: usize,
-    looked: &Looked,
+    searched: &Searched,
     place: usize,
     replies: &'r [Reply],
 ) -> Result<Story<'r>, OutOfMemory>
     requires shallow { depth ≤ 16 }
     requires within { place ≤ length question.now.edition.now.config.rules }
     ensures { IfOk result (λ story.
-        IsRun (viewed_question question.now) depth (viewed_names looked.now)
+        IsRun (viewed_question question.now) depth (seen_by searched.now)
         (Meets (drop place question.now.edition.now.config.rules)) replies.now (story_of story)) }
 {
     let Some(rule) = rule_at(question, place) else {
@@ -42,11 +42,11 @@ pub(crate) fn meet<'r>(
         return Ok(plainly(question.alloc, last));
     };
     if is_disabled(question, rule) {
-        return meet(question, depth, looked, place + 1, replies);
+        return meet(question, depth, searched, place + 1, replies);
     }
-    match lookup_flow(question, looked, place, rule) {
-        Some(flow) => look(question, depth, looked, place, rule, flow, replies),
-        None => test(question, depth, looked, place, rule, replies),
+    match lookup_flow(question, searched, place, rule) {
+        Some(flow) => look(question, depth, searched, place, rule, flow, replies),
+        None => test(question, depth, searched, place, rule, replies),
     }
 }
 
@@ -55,7 +55,7 @@ pub(crate) fn meet<'r>(
 fn look<'r>(
     question: &Question<'_, '_>,
     depth: usize,
-    looked: &Looked,
+    searched: &Searched,
     place: usize,
     rule: &Rule,
     flow: Flow,
@@ -64,10 +64,10 @@ fn look<'r>(
     requires shallow { depth ≤ 16 }
     requires there { IsRuleAt (viewed_question question.now) place rule.now }
     requires enabled { spec.is_disabled (viewed_question question.now) rule.now ≡ false }
-    requires due { walk.lookup_flow (viewed_question question.now) (viewed_names looked.now) rule.now
+    requires due { walk.lookup_flow (viewed_question question.now) (seen_by searched.now) rule.now
         ≡ Some flow }
     ensures { IfOk result (λ story.
-        IsRun (viewed_question question.now) depth (viewed_names looked.now)
+        IsRun (viewed_question question.now) depth (seen_by searched.now)
         (Meets (drop place question.now.edition.now.config.rules)) replies.now (story_of story)) }
 {
     let op = lookup_by(question, place, rule, flow);
@@ -77,14 +77,14 @@ fn look<'r>(
     match reply {
         Reply::Found(_, maker) => match place_of(question, maker.id) {
             Some((at, found)) => {
-                let story = act(question, depth, &Looked::done(), at, found, left)?;
+                let story = act(question, depth, &Searched::done(), at, found, left)?;
                 asked(op, story)
             }
             None => mistaken(question, op),
         },
         Reply::NotFound => {
-            let looked = looked.with(name_at(question, place, rule));
-            asked(op, test(question, depth, &looked, place, rule, left)?)
+            let searched = searched.with(name_at(question, place, rule));
+            asked(op, test(question, depth, &searched, place, rule, left)?)
         }
         Reply::Created | Reply::Exists | Reply::LimitReached(_) | Reply::TableFull(_) => {
             mistaken(question, op)
@@ -97,7 +97,7 @@ fn look<'r>(
 fn test<'r>(
     question: &Question<'_, '_>,
     depth: usize,
-    looked: &Looked,
+    searched: &Searched,
     place: usize,
     rule: &Rule,
     replies: &'r [Reply],
@@ -105,22 +105,22 @@ fn test<'r>(
     requires shallow { depth ≤ 16 }
     requires there { IsRuleAt (viewed_question question.now) place rule.now }
     ensures { IfOk result (λ story.
-        IsRun (viewed_question question.now) depth (viewed_names looked.now)
+        IsRun (viewed_question question.now) depth (seen_by searched.now)
         (Tests rule.now (drop (place + 1) question.now.edition.now.config.rules)) replies.now
         (story_of story)) }
 {
     if is_check_state(&rule.action) {
-        return meet(question, depth, looked, place + 1, replies);
+        return meet(question, depth, searched, place + 1, replies);
     }
     if !is_held(question, rule) {
-        return meet(question, depth, looked, place + 1, replies);
+        return meet(question, depth, searched, place + 1, replies);
     }
     let Some(state) = state_of(rule) else {
-        return act(question, depth, looked, place, rule, replies);
+        return act(question, depth, searched, place, rule, replies);
     };
     match flow_of(question) {
-        Some(flow) => install(question, depth, looked, place, rule, state, flow, replies),
-        None => meet(question, depth, looked, place + 1, replies),
+        Some(flow) => install(question, depth, searched, place, rule, state, flow, replies),
+        None => meet(question, depth, searched, place + 1, replies),
     }
 }
 
@@ -129,7 +129,7 @@ fn test<'r>(
 fn install<'r>(
     question: &Question<'_, '_>,
     depth: usize,
-    looked: &Looked,
+    searched: &Searched,
     place: usize,
     rule: &Rule,
     state: &StateOpt,
@@ -143,7 +143,7 @@ fn install<'r>(
     requires made { spec.state_of rule.now ≡ Some state.now }
     requires flowing { spec.any_flow_of question.now.packet.now ≡ Some flow }
     ensures { IfOk result (λ story.
-        IsRun (viewed_question question.now) depth (viewed_names looked.now)
+        IsRun (viewed_question question.now) depth (seen_by searched.now)
         (Tests rule.now (drop (place + 1) question.now.edition.now.config.rules)) replies.now
         (story_of story)) }
 {
@@ -153,7 +153,7 @@ fn install<'r>(
     };
     match reply {
         Reply::Created | Reply::Exists => {
-            asked(op, act(question, depth, looked, place, rule, left)?)
+            asked(op, act(question, depth, searched, place, rule, left)?)
         }
         Reply::LimitReached(count) => refused(question, op, rule, Cause::Limit(*count), left),
         Reply::TableFull(count) => refused(question, op, rule, Cause::Full(*count), left),
@@ -166,7 +166,7 @@ fn install<'r>(
 fn act<'r>(
     question: &Question<'_, '_>,
     depth: usize,
-    looked: &Looked,
+    searched: &Searched,
     place: usize,
     rule: &Rule,
     replies: &'r [Reply],
@@ -174,7 +174,7 @@ fn act<'r>(
     requires shallow { depth ≤ 16 }
     requires there { IsRuleAt (viewed_question question.now) place rule.now }
     ensures { IfOk result (λ story.
-        IsRun (viewed_question question.now) depth (viewed_names looked.now)
+        IsRun (viewed_question question.now) depth (seen_by searched.now)
         (Acts rule.now (drop (place + 1) question.now.edition.now.config.rules)) replies.now
         (story_of story)) }
 {
@@ -186,22 +186,25 @@ fn act<'r>(
         Action::Count | Action::CheckState(_) => {
             hit(
                 rule.counter,
-                meet(question, depth, looked, place + 1, replies)?,
+                meet(question, depth, searched, place + 1, replies)?,
             )
         }
         Action::SkipTo(number) => {
             let next = place_skipped(question, place, *number);
-            hit(rule.counter, meet(question, depth, looked, next, replies)?)
+            hit(
+                rule.counter,
+                meet(question, depth, searched, next, replies)?,
+            )
         }
-        Action::Call(number) => call(question, depth, looked, place, rule, *number, replies),
+        Action::Call(number) => call(question, depth, searched, place, rule, *number, replies),
         Action::Return => {
             if depth == 0 {
                 hit(
                     rule.counter,
-                    meet(question, depth, looked, place + 1, replies)?,
+                    meet(question, depth, searched, place + 1, replies)?,
                 )
             } else {
-                let back = Ending::Returns(*looked, replies);
+                let back = Ending::Returns(*searched, replies);
                 hit(rule.counter, plainly(question.alloc, back))
             }
         }
@@ -213,7 +216,7 @@ fn act<'r>(
 fn call<'r>(
     question: &Question<'_, '_>,
     depth: usize,
-    looked: &Looked,
+    searched: &Searched,
     place: usize,
     rule: &Rule,
     number: u16,
@@ -223,18 +226,18 @@ fn call<'r>(
     requires there { IsRuleAt (viewed_question question.now) place rule.now }
     requires calling { rule.now.action ≡ action.Call number }
     ensures { IfOk result (λ story.
-        IsRun (viewed_question question.now) depth (viewed_names looked.now)
+        IsRun (viewed_question question.now) depth (seen_by searched.now)
         (Acts rule.now (drop (place + 1) question.now.edition.now.config.rules)) replies.now
         (story_of story)) }
 {
     if depth == MOST_CALLS {
         return hit(
             rule.counter,
-            meet(question, depth, looked, place + 1, replies)?,
+            meet(question, depth, searched, place + 1, replies)?,
         );
     }
     let start = first_from(question, number);
-    let inner = meet(question, depth + 1, looked, start, replies)?;
+    let inner = meet(question, depth + 1, searched, start, replies)?;
     match inner.ending {
         Ending::Returns(later, left) => {
             let next = first_behind(question, place, rule);

@@ -2,7 +2,7 @@ ghost use Rattle.std.specs.Prelude.{◌≡◌, IfOk};
 ghost use Rattle.evaluation_laws.specs.Story as spec;
 ghost use Rattle.evaluation_laws.specs.Views.{ending_of, story_of};
 
-use crate::looked::Looked;
+use crate::searched::Searched;
 use eval_engine::Judgement;
 use fw_base::OutOfMemory;
 use state_asks::{Op, Reply};
@@ -19,7 +19,7 @@ pub(crate) enum Ending<'r> {
     /// At a reply that isn't one to its ask.
     Mistakes,
     /// By a `return`, with these names looked up and these replies left.
-    Returns(Looked, &'r [Reply]),
+    Returns(Searched, &'r [Reply]),
 }
 
 /// What a run comes to.

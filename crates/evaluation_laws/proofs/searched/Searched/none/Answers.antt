@@ -4,8 +4,8 @@ use Rattle.std.proofs.Math.Path.{fun_ext}
 use Rattle.state_asks.specs.declared.op.FlowName.{FlowName}
 use Rattle.state_asks.specs.declared.op.FlowName.TheVariants.{Any, Named}
 use Rattle.eval_engine.specs.Trace.{Names}
-use Rattle.evaluation_laws.specs.Views.{is_looked}
-use Rattle.evaluation_laws.proofs.looked.Looked.none.Goals as goal
+use Rattle.evaluation_laws.specs.Views.{is_searched}
+use Rattle.evaluation_laws.proofs.searched.Searched.none.Goals as goal
 
 -- no number was looked up
 unset : (size number : ℕ) → get_or (replicate size false) number false ≡ false
@@ -18,9 +18,9 @@ unset size number = go (nat_lt number size) refl
         let le : size ≤ number = grind arith in
         get_or_past (replicate size false) number false (omega (arith, long))
 
-none_looked : (name : FlowName) → is_looked (record { names = replicate 256 false; any = false; found = false }) name ≡ false
-none_looked Any = refl
-none_looked (Named number) = unset 256 number
+none_searched : (name : FlowName) → is_searched (record { names = replicate 256 false; any = false; found = false }) name ≡ false
+none_searched Any = refl
+none_searched (Named number) = unset 256 number
 
 pub returns : goal.returns
-returns c = ap Names (fun_ext none_looked)
+returns c = ap Names (fun_ext none_searched)

@@ -1,12 +1,12 @@
 ghost use Rattle.std.specs.Prelude.{◌≡◌};
-ghost use Rattle.evaluation_laws.specs.Views.{is_looked, viewed_names};
+ghost use Rattle.evaluation_laws.specs.Views.{is_searched, seen_by};
 ghost use Rattle.eval_engine.specs.Trace as trace;
 
 use state_asks::FlowName;
 
 /// The flow names that were looked up.
 #[derive(Clone, Copy, Debug)]
-pub(crate) struct Looked {
+pub(crate) struct Searched {
     /// By their numbers.
     pub(crate) names: [bool; 256],
     /// `:any` was looked up.
@@ -15,12 +15,12 @@ pub(crate) struct Looked {
     pub(crate) found: bool,
 }
 
-impl Looked {
+impl Searched {
     /// No name was looked up.
-    pub(crate) fn none() -> Looked
-        ensures { viewed_names result ≡ trace.no_names }
+    pub(crate) fn none() -> Searched
+        ensures { seen_by result ≡ trace.no_names }
     {
-        Looked {
+        Searched {
             names: [false; 256],
             any: false,
             found: false,
@@ -28,10 +28,10 @@ impl Looked {
     }
 
     /// A state was found.
-    pub(crate) fn done() -> Looked
-        ensures { viewed_names result ≡ trace.Done }
+    pub(crate) fn done() -> Searched
+        ensures { seen_by result ≡ trace.Done }
     {
-        Looked {
+        Searched {
             names: [false; 256],
             any: false,
             found: true,
@@ -39,7 +39,7 @@ impl Looked {
     }
 
     fn has(&self, name: FlowName) -> bool
-        ensures { result ≡ is_looked self.now name }
+        ensures { result ≡ is_searched self.now name }
     {
         match name {
             FlowName::Any => self.any,
@@ -49,20 +49,20 @@ impl Looked {
 
     /// Whether the name is looked up: neither it nor `:any` was.
     pub(crate) fn is_due(&self, name: FlowName) -> bool
-        ensures { result ≡ trace.is_name_due (viewed_names self.now) name }
+        ensures { result ≡ trace.is_name_due (seen_by self.now) name }
     {
         !self.found && (!self.any && !self.has(name))
     }
 
     /// With this name.
-    pub(crate) fn with(&self, name: FlowName) -> Looked
-        ensures { viewed_names result ≡ trace.with_seen (viewed_names self.now) name }
+    pub(crate) fn with(&self, name: FlowName) -> Searched
+        ensures { seen_by result ≡ trace.with_seen (seen_by self.now) name }
     {
-        let mut looked = *self;
+        let mut searched = *self;
         match name {
-            FlowName::Any => looked.any = true,
-            FlowName::Named(number) => looked.names[usize::from(number)] = true,
+            FlowName::Any => searched.any = true,
+            FlowName::Named(number) => searched.names[usize::from(number)] = true,
         }
-        looked
+        searched
     }
 }
