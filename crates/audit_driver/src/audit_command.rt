@@ -264,7 +264,8 @@ pub fn audit<L: Library, K: Sink>(
         result }
     ensures never_1 { result.status ≢ 1 }
     ensures never_3 { result.status ≢ 3 }
-    ensures status_5_cause { result.status ≡ 5 → Rose (K.state out.old).faults (K.state out.new).faults }
+    ensures status_5_cause { result.status ≡ 5
+        → Rose (K.state out.old).faults (K.state out.new).faults }
     ensures status_6_silent { result.status ≡ 6 → out.new ≡ out.old }
     ensures nothing_kept { result.kept ≡ None }
 

@@ -37,7 +37,8 @@ impl AuditResult {
     /// Writes what was found: one line.
     #[tactic(auto, unfolding(crate::specs::AuditTexts::result_text))]
     pub(crate) fn write<K: Sink>(&self, out: &mut K) -> Result<(), Failed>
-        ensures { WritesText (K.state out.old) (K.state out.new) (spec.result_text self.now) result }
+        ensures { WritesText (K.state out.old) (K.state out.new)
+            (spec.result_text self.now) result }
     {
         match self {
             AuditResult::Unread(name) => write_pieces(out, &[b"cannot read ", name.bytes(), b"\n"]),

@@ -12,7 +12,8 @@ use Rattle.eval_engine.specs.declared.judgement.Judgement.{Judgement}
 use Rattle.evaluation_laws.proofs.Acting.{installs_are_of_rules}
 use Rattle.evaluation_laws.specs.Laws.{is_installed}
 use Rattle.fw_base.specs.declared.port.Port.{Port}
-use Rattle.fw_report.specs.JournalText.{asked_second, flow_of_ask, name_numbered}
+use Rattle.fw_report.specs.JournalText.{flow_of_ask, name_numbered}
+use Rattle.state_asks.specs.Asked.{asked_second}
 use Rattle.fw_rule.specs.declared.command.Command.{Command}
 use Rattle.fw_world.proofs.Records.{asks_are_within}
 use Rattle.fw_world.specs.Asks.{LaneAsk, AreAsksOf, IsAskOfEntry, IsJudgedUnder, asks_in, asks_of_record, lane_asks, ops_of, replies_of}

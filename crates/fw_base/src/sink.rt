@@ -18,7 +18,8 @@ pub trait Sink: Drop {
     fn write(&mut self, bytes: &[u8]) -> Result<usize, Failed>
         ensures bound { WritesAtMost result bytes.now }
         ensures advances { IfOk result (λ count. 0 < length bytes.now → 0 < count) }
-        ensures bytes { WriteAppends (state self.old).written (state self.new).written result bytes.now }
+        ensures bytes { WriteAppends (state self.old).written (state self.new).written result
+            bytes.now }
         ensures made { (state self.new).made_with ≡ (state self.old).made_with }
         ensures cause { HasCause (state self.old).faults (state self.new).faults result };
 }
@@ -37,7 +38,8 @@ pub fn write_text<K: Sink>(out: &mut K, text: &[u8]) -> Result<(), Failed>
 
 /// Writes the pieces one after the other. Where the sink fails, a front of them was written.
 pub fn write_pieces<K: Sink>(out: &mut K, pieces: &[&[u8]]) -> Result<(), Failed>
-    ensures { WritesText (K.state out.old) (K.state out.new) (flat_map (λ piece. piece.now) pieces.now) result }
+    ensures { WritesText (K.state out.old) (K.state out.new)
+        (flat_map (λ piece. piece.now) pieces.now) result }
 {
     for piece in pieces {
         write_text(out, piece)?;

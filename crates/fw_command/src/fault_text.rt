@@ -31,7 +31,8 @@ fn kind_text(kind: Kind) -> &'static [u8]
 
 #[tactic(auto, unfolding(crate::specs::FaultText::placed_text))]
 fn write_placed<K: Sink>(out: &mut K, line: u32, column: u32, kind: &[u8]) -> Result<(), Failed>
-    ensures { WritesText (K.state out.old) (K.state out.new) (spec.placed_text line column kind.now) result }
+    ensures { WritesText (K.state out.old) (K.state out.new)
+        (spec.placed_text line column kind.now) result }
 {
     let mut line_digits = Buffer::new();
     let line = line_digits.format(line).as_bytes();

@@ -93,11 +93,6 @@ abbrev pub asked_flags : Op → ℕ
 asked_flags (Lookup flags flow second name) = flags
 asked_flags (Install flags flow second rule limit name) = flags
 
--- the second of the ask
-abbrev pub asked_second : Op → ℕ
-asked_second (Lookup flags flow second name) = second
-asked_second (Install flags flow second rule limit name) = second
-
 -- what is asked
 abbrev pub op_text : List (List ℕ) → Op → List ℕ
 op_text names (Lookup flags flow second name) = lookup_text names name

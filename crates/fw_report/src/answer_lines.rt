@@ -42,14 +42,16 @@ fn write_canonical<K: Sink>(out: &mut K, rule: &Rule) -> Result<(), Failed>
 /// Writes a rule's line.
 #[tactic(auto, unfolding(crate::specs::AnswerText::rule_line))]
 fn write_rule_line<K: Sink>(out: &mut K, rule: &Arc<Rule>) -> Result<(), Failed>
-    ensures { WritesText (K.state out.old) (K.state out.new) (text.rule_line (arc_value rule.now)) result }
+    ensures { WritesText (K.state out.old) (K.state out.new)
+        (text.rule_line (arc_value rule.now)) result }
 {
     write_canonical(out, rule)?;
     write_text(out, b"\n")
 }
 
 fn write_rule_lines<K: Sink>(out: &mut K, rules: &[Arc<Rule>]) -> Result<(), Failed>
-    ensures { WritesText (K.state out.old) (K.state out.new) (flat_map (λ rule. text.rule_line (arc_value rule)) rules.now) result }
+    ensures { WritesText (K.state out.old) (K.state out.new)
+        (flat_map (λ rule. text.rule_line (arc_value rule)) rules.now) result }
 {
     for rule in rules {
         write_rule_line(out, rule)?;
@@ -72,7 +74,8 @@ pub(crate) fn write_count<K: Sink>(out: &mut K, count: usize) -> Result<(), Fail
 /// Writes the rules of an edition.
 #[tactic(auto, unfolding(crate::specs::AnswerText::rules_listing))]
 fn write_rules<K: Sink>(out: &mut K, config: &Config, line: u32, edition: u64) -> Result<(), Failed>
-    ensures { WritesText (K.state out.old) (K.state out.new) (text.rules_listing line edition config.now.rules) result }
+    ensures { WritesText (K.state out.old) (K.state out.new)
+        (text.rules_listing line edition config.now.rules) result }
 {
     let rules = config.rules();
     write_text(out, b"list")?;
@@ -117,7 +120,8 @@ fn write_number_line<K: Sink>(out: &mut K, entry: &(u32, u32)) -> Result<(), Fai
 }
 
 fn write_address_lines<K: Sink>(out: &mut K, entries: &[(Prefix, u32)]) -> Result<(), Failed>
-    ensures { WritesText (K.state out.old) (K.state out.new) (flat_map text.address_line entries.now) result }
+    ensures { WritesText (K.state out.old) (K.state out.new)
+        (flat_map text.address_line entries.now) result }
 {
     for entry in entries {
         write_address_line(out, entry)?;
@@ -126,7 +130,8 @@ fn write_address_lines<K: Sink>(out: &mut K, entries: &[(Prefix, u32)]) -> Resul
 }
 
 fn write_number_lines<K: Sink>(out: &mut K, entries: &[(u32, u32)]) -> Result<(), Failed>
-    ensures { WritesText (K.state out.old) (K.state out.new) (flat_map text.number_line entries.now) result }
+    ensures { WritesText (K.state out.old) (K.state out.new)
+        (flat_map text.number_line entries.now) result }
 {
     for entry in entries {
         write_number_line(out, entry)?;
@@ -174,7 +179,8 @@ fn write_table<K: Sink>(
     line: u32,
     edition: u64,
 ) -> Result<(), Failed>
-    ensures { WritesText (K.state out.old) (K.state out.new) (text.table_listing line edition name.now table.now) result }
+    ensures { WritesText (K.state out.old) (K.state out.new)
+        (text.table_listing line edition name.now table.now) result }
 {
     write_text(out, b"table ")?;
     write_text(out, name.bytes())?;
@@ -208,7 +214,8 @@ fn write_listing<K: Sink>(
     edition: u64,
     table: &Option<Name>,
 ) -> Result<(), Failed>
-    ensures { WritesText (K.state out.old) (K.state out.new) (text.config_listing line edition table.now config.now) result }
+    ensures { WritesText (K.state out.old) (K.state out.new)
+        (text.config_listing line edition table.now config.now) result }
 {
     match table {
         None => write_rules(out, config, line, edition),
@@ -256,7 +263,8 @@ fn write_answer<K: Sink>(
     editions: &[Arc<Edition>],
     answer: &LineAnswer,
 ) -> Result<(), Failed>
-    ensures { WritesText (K.state out.old) (K.state out.new) (text.answer_text (map arc_value editions.now) answer.now) result }
+    ensures { WritesText (K.state out.old) (K.state out.new)
+        (text.answer_text (map arc_value editions.now) answer.now) result }
 {
     match &answer.answer {
         Answer::Refused(fault) => write_refused(out, answer.line, *fault),
@@ -273,7 +281,8 @@ pub(crate) fn write_answers<K: Sink>(
     editions: &[Arc<Edition>],
     answers: &[LineAnswer],
 ) -> Result<(), Failed>
-    ensures { WritesText (K.state out.old) (K.state out.new) (text.answers_text (map arc_value editions.now) answers.now) result }
+    ensures { WritesText (K.state out.old) (K.state out.new)
+        (text.answers_text (map arc_value editions.now) answers.now) result }
 {
     for answer in answers {
         write_answer(out, editions, answer)?;

@@ -175,7 +175,8 @@ fn write_record<K: Sink>(
     at: u64,
     entry: DocketEntry,
 ) -> Result<(), Failed>
-    ensures { WritesText (K.state out.old) (K.state out.new) (text.record_line capture at entry) result }
+    ensures { WritesText (K.state out.old) (K.state out.new)
+        (text.record_line capture at entry) result }
 {
     put_entry(line, entry);
     line.put_number(at);
@@ -237,7 +238,8 @@ fn write_capture<K: Sink>(
     entries: &[DocketEntry],
     end: CaptureEnd,
 ) -> Result<(), Failed>
-    ensures { WritesText (K.state out.old) (K.state out.new) (text.capture_text capture entries.now end) result }
+    ensures { WritesText (K.state out.old) (K.state out.new)
+        (text.capture_text capture entries.now end) result }
 {
     let mut line = Line::new();
     let mut at = 1u64;
@@ -254,7 +256,8 @@ pub(crate) fn write_captures<K: Sink>(
     dockets: &[Docket],
     ends: &[CaptureEnd],
 ) -> Result<(), Failed>
-    ensures { WritesText (K.state out.old) (K.state out.new) (text.captures_text 1 dockets.now ends.now) result }
+    ensures { WritesText (K.state out.old) (K.state out.new)
+        (text.captures_text 1 dockets.now ends.now) result }
 {
     let mut capture = 1u64;
     let mut rest = ends;

@@ -251,14 +251,6 @@ fn put_ask_end(line: &mut Line, flags: u8, reply: Reply)
     line.put_text(b" ");
 }
 
-fn second_of(op: &Op) -> u32
-    ensures { result ≡ text.asked_second op.now }
-{
-    match op {
-        Op::Lookup { second, .. } | Op::Install { second, .. } => *second,
-    }
-}
-
 fn flags_of(op: &Op) -> u8
     ensures { result ≡ text.asked_flags op.now }
 {
@@ -282,7 +274,7 @@ fn put_ask_front(line: &mut Line, lane: u32, at: u64, op: &Op)
     ensures items { line.new ≡ ask.ask_front lane at op.now ++ line.old }
 {
     put_question(line, op);
-    put_ask_start(line, lane, at, second_of(op));
+    put_ask_start(line, lane, at, op.second());
 }
 
 /// Puts the line of an ask behind the name.
@@ -306,7 +298,8 @@ fn write_long_ask<K: Sink>(
     name: &[u8],
     rest: &Line,
 ) -> Result<(), Failed>
-    ensures { WritesText (K.state out.old) (K.state out.new) (ask.ask_front lane at op.now ++ (name.now ++ rest.now)) result }
+    ensures { WritesText (K.state out.old) (K.state out.new)
+        (ask.ask_front lane at op.now ++ (name.now ++ rest.now)) result }
 {
     let mut front = Line::new();
     put_ask_front(&mut front, lane, at, op);
@@ -323,7 +316,8 @@ fn write_ask<K: Sink>(
     name: &[u8],
 ) -> Result<(), Failed>
     requires { length rest.old ≤ 135 }
-    ensures { WritesText (K.state out.old) (K.state out.new) (ask.ask_front lane at op.now ++ (name.now ++ rest.old)) result }
+    ensures { WritesText (K.state out.old) (K.state out.new)
+        (ask.ask_front lane at op.now ++ (name.now ++ rest.old)) result }
 {
     if name.len() <= LONGEST_NAME {
         rest.put_text(name);
@@ -352,7 +346,8 @@ fn write_entry<K: Sink>(
     names: &[Name],
     entry: &Entry,
 ) -> Result<(), Failed>
-    ensures { WritesText (K.state out.old) (K.state out.new) (text.entry_line names.now entry.now) result }
+    ensures { WritesText (K.state out.old) (K.state out.new)
+        (text.entry_line names.now entry.now) result }
 {
     match entry {
         Entry::Publish(number) => write_publication(out, line, *number),
@@ -369,7 +364,8 @@ fn write_entry<K: Sink>(
 }
 
 fn write_entries<K: Sink>(out: &mut K, names: &[Name], entries: &[Entry]) -> Result<(), Failed>
-    ensures { WritesText (K.state out.old) (K.state out.new) (flat_map (text.entry_line names.now) entries.now) result }
+    ensures { WritesText (K.state out.old) (K.state out.new)
+        (flat_map (text.entry_line names.now) entries.now) result }
 {
     let mut line = Line::new();
     for entry in entries {
@@ -381,7 +377,8 @@ fn write_entries<K: Sink>(out: &mut K, names: &[Name], entries: &[Entry]) -> Res
 /// Writes a lane's refused entries, and its tracker's word.
 #[tactic(auto, unfolding(crate::specs::JournalText::lane_line))]
 fn write_lane<K: Sink>(out: &mut K, lane: u64, refused: u64, tracker: u64) -> Result<(), Failed>
-    ensures { WritesText (K.state out.old) (K.state out.new) (text.lane_line lane refused tracker) result }
+    ensures { WritesText (K.state out.old) (K.state out.new)
+        (text.lane_line lane refused tracker) result }
 {
     let mut line = Line::new();
     line.put_text(b"\n");
@@ -395,7 +392,8 @@ fn write_lane<K: Sink>(out: &mut K, lane: u64, refused: u64, tracker: u64) -> Re
 }
 
 fn write_lanes<K: Sink>(out: &mut K, dockets: &[Docket], trackers: &[u64]) -> Result<(), Failed>
-    ensures { WritesText (K.state out.old) (K.state out.new) (text.lanes_text 1 dockets.now trackers.now) result }
+    ensures { WritesText (K.state out.old) (K.state out.new)
+        (text.lanes_text 1 dockets.now trackers.now) result }
 {
     let mut lane = 1u64;
     let mut rest = trackers;
@@ -429,7 +427,8 @@ pub(crate) fn write_journal<K: Sink>(
     dockets: &[Docket],
     trackers: &[u64],
 ) -> Result<(), Failed>
-    ensures { WritesText (K.state out.old) (K.state out.new) (text.journal_text names.now entries.now dockets.now trackers.now)
+    ensures { WritesText (K.state out.old) (K.state out.new)
+        (text.journal_text names.now entries.now dockets.now trackers.now)
         result }
 {
     write_heading(out, entries.len())?;

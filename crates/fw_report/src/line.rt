@@ -147,7 +147,8 @@ pub(crate) fn write_around<K: Sink>(
     text: &[u8],
     rest: &Line,
 ) -> Result<(), Failed>
-    ensures { WritesText (K.state out.old) (K.state out.new) (front.now ++ (text.now ++ rest.now)) result }
+    ensures { WritesText (K.state out.old) (K.state out.new)
+        (front.now ++ (text.now ++ rest.now)) result }
 {
     front.write(out)?;
     write_text(out, text)?;

@@ -30,7 +30,8 @@ pub(crate) fn last_of(editions: &[Arc<Edition>]) -> &Edition
 }
 
 fn write_live<K: Sink>(out: &mut K, names: &[Name], states: &States) -> Result<(), Failed>
-    ensures { WritesText (K.state out.old) (K.state out.new) (states_text names.now states.now.object) result }
+    ensures { WritesText (K.state out.old) (K.state out.new)
+        (states_text names.now states.now.object) result }
 {
     write_states(states, names, out).map_err(|_| Failed)
 }
@@ -42,7 +43,8 @@ fn write_last<K: Sink>(
     tallies: &[Tally],
     states: &States,
 ) -> Result<(), Failed>
-    ensures { WritesText (K.state out.old) (K.state out.new) (text.last_text config.now tallies.now states.now.object) result }
+    ensures { WritesText (K.state out.old) (K.state out.new)
+        (text.last_text config.now tallies.now states.now.object) result }
 {
     write_disabled(out, config.disabled())?;
     write_counted_rules(out, tallies, config.rules())?;
@@ -58,7 +60,8 @@ fn write_optional_journal<K: Sink>(
     dockets: &[Docket],
     trackers: &[u64],
 ) -> Result<(), Failed>
-    ensures { WritesText (K.state out.old) (K.state out.new) (optional_journal journal names.now entries.now dockets.now trackers.now)
+    ensures { WritesText (K.state out.old) (K.state out.new)
+        (optional_journal journal names.now entries.now dockets.now trackers.now)
         result }
 {
     if journal {
@@ -91,7 +94,8 @@ fn write_closing<K: Sink>(
     recorded: &Recorded<'_>,
     journal: bool,
 ) -> Result<(), Failed>
-    ensures { WritesText (K.state out.old) (K.state out.new) (text.closing_text recorded.now journal config.now) result }
+    ensures { WritesText (K.state out.old) (K.state out.new)
+        (text.closing_text recorded.now journal config.now) result }
 {
     let book = recorded.book;
     write_last(out, config, recorded.tallies, book.states())?;

@@ -72,7 +72,8 @@ fn write_rest<K: Sink>(out: &mut K, rule: &Rule) -> Result<(), Failed>
 /// Writes a rule's number and what was counted for it.
 #[tactic(auto, unfolding(crate::specs::RulesText::counts_text))]
 fn write_counts<K: Sink>(out: &mut K, tallies: &[Tally], rule: &Rule) -> Result<(), Failed>
-    ensures { WritesText (K.state out.old) (K.state out.new) (text.counts_text tallies.now rule.now) result }
+    ensures { WritesText (K.state out.old) (K.state out.new)
+        (text.counts_text tallies.now rule.now) result }
 {
     let counted = total(tallies, rule.counter);
     let mut line = Line::new();
@@ -86,7 +87,8 @@ fn write_counts<K: Sink>(out: &mut K, tallies: &[Tally], rule: &Rule) -> Result<
 
 /// Writes a rule's line with its counts.
 fn write_counted<K: Sink>(out: &mut K, tallies: &[Tally], rule: &Arc<Rule>) -> Result<(), Failed>
-    ensures { WritesText (K.state out.old) (K.state out.new) (text.counted_line tallies.now (arc_value rule.now)) result }
+    ensures { WritesText (K.state out.old) (K.state out.new)
+        (text.counted_line tallies.now (arc_value rule.now)) result }
 {
     write_counts(out, tallies, rule)?;
     write_rest(out, rule)?;
@@ -113,7 +115,8 @@ pub(crate) fn write_counted_rules<K: Sink>(
     tallies: &[Tally],
     rules: &[Arc<Rule>],
 ) -> Result<(), Failed>
-    ensures { WritesText (K.state out.old) (K.state out.new) (text.rules_text tallies.now (map arc_value rules.now)) result }
+    ensures { WritesText (K.state out.old) (K.state out.new)
+        (text.rules_text tallies.now (map arc_value rules.now)) result }
 {
     write_count(out, rules.len())?;
     write_counted_lines(out, tallies, rules)

@@ -98,7 +98,8 @@ fn write_totals<K: Sink>(
     entries: usize,
     states: usize,
 ) -> Result<(), Failed>
-    ensures { WritesText (K.state out.old) (K.state out.new) (text.summary_text dockets.now editions entries states) result }
+    ensures { WritesText (K.state out.old) (K.state out.new)
+        (text.summary_text dockets.now editions entries states) result }
 {
     let counted = add_up(dockets);
     let mut line = Line::new();

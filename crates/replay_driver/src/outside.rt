@@ -25,5 +25,8 @@ pub trait SinkView: Sink {
 }
 
 impl<K: Sink> SinkView for K {
-    ghost output = { record { written = λ k. (K.state k).written; faults = λ k. (K.state k).faults } };
+    ghost output = { record {
+      written = λ k. (K.state k).written;
+      faults = λ k. (K.state k).faults;
+    } };
 }

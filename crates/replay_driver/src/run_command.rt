@@ -165,7 +165,8 @@ where
         job library.old library.new out.old out.new result)) }
     ensures status_4_with_record { result.status ≡ 4
         → IfSome result.kept (λ _. HasFailedRead result.ends.captures) }
-    ensures status_5_cause { result.status ≡ 5 → Rose (K.state out.old).faults (K.state out.new).faults }
+    ensures status_5_cause { result.status ≡ 5
+        → Rose (K.state out.old).faults (K.state out.new).faults }
     ensures status_6_silent { result.status ≡ 6 → out.new ≡ out.old }
 
     // The names are opened in their order, once each, and no other is; with status 1 and for a load none.

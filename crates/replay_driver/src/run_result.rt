@@ -132,7 +132,8 @@ impl RunResult {
     #[tactic(auto, unfolding(crate::specs::RunResult::result_text))]
     pub(crate) fn write<K: Sink>(&self, out: &mut K) -> Result<(), Failed>
         requires { spec.IsWritable self.now }
-        ensures { WritesText (K.state out.old) (K.state out.new) (spec.result_text self.now) result }
+        ensures { WritesText (K.state out.old) (K.state out.new)
+            (spec.result_text self.now) result }
     {
         match self {
             RunResult::Usage => write_usage(out),
@@ -181,7 +182,8 @@ fn recorded_of(kept: &Record) -> Recorded<'_>
 /// Writes the report of a record.
 fn report<K: Sink>(out: &mut K, kept: &Record, ends: &Ends, journal: bool) -> Result<(), Failed>
     requires { 0 < length kept.now.editions }
-    ensures { WritesText (K.state out.old) (K.state out.new) (report_text (spec.report_record kept.now) ends.now.captures
+    ensures { WritesText (K.state out.old) (K.state out.new)
+        (report_text (spec.report_record kept.now) ends.now.captures
         ends.now.answers journal) result }
 {
     write_report(&recorded_of(kept), ends, journal, out).map_err(|_| Failed)

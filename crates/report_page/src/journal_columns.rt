@@ -2,18 +2,11 @@ use crate::column::Column;
 use fw_base::OutOfMemory;
 use report_reading::{AskLine, Reading, next_line, read_line};
 use report_values::{Journal, JournalColumns};
-use state_asks::{Op, Reply};
+use state_asks::Reply;
 use std::alloc::Global;
 
 /// How many columns the chart has at most.
 const MOST_COLUMNS: u64 = 200;
-
-/// The second of an ask.
-fn second_of(op: &Op) -> u32 {
-    match op {
-        Op::Lookup { second, .. } | Op::Install { second, .. } => *second,
-    }
-}
 
 /// Whether an ask made a state.
 fn is_made(reply: &Reply) -> bool {
@@ -34,7 +27,7 @@ fn seconds_in(lines: &[u8]) -> Option<(u32, u32)> {
     while let Some((line, behind)) = next_line(rest) {
         rest = behind;
         if let Some(Reading::Ask(told)) = read_line(line) {
-            let second = second_of(&told.op);
+            let second = told.op.second();
             found = match found {
                 None => Some((second, second)),
                 Some((first, last)) => Some((second.min(first), second.max(last))),
@@ -59,7 +52,7 @@ pub fn columns_of(journal: &Journal<'_>) -> Option<JournalColumns> {
 
 /// Counts an ask in the column of its second.
 fn count_ask(columns: &mut [Column], shown: &JournalColumns, told: &AskLine) {
-    let behind_first = second_of(&told.op).saturating_sub(shown.first);
+    let behind_first = told.op.second().saturating_sub(shown.first);
     let place = behind_first / shown.seconds.max(1);
     if let Some(column) = columns.get_mut(place as usize) {
         column.asks = column.asks.saturating_add(1);

@@ -15,7 +15,8 @@ pub enum Piece<'a> {
 }
 
 fn write_figure<K: Sink>(out: &mut K, figure: u64) -> Result<(), Failed>
-    ensures { WritesText (K.state out.old) (K.state out.new) (spec.piece_text (Piece.Figure figure)) result }
+    ensures { WritesText (K.state out.old) (K.state out.new)
+        (spec.piece_text (Piece.Figure figure)) result }
 {
     let mut digits = Buffer::new();
     write_text(out, digits.format(figure).as_bytes())

@@ -20,7 +20,8 @@ use Rattle.state_asks.specs.declared.reply.Reply.TheVariants.{Found, NotFound, C
 use Rattle.state_asks.specs.declared.reply.Way.{Way}
 use Rattle.state_asks.specs.declared.rule_ref.RuleRef.{RuleRef}
 use Rattle.state_asks.specs.declared.reply.Way.TheVariants.{Forward, Reverse}
-use Rattle.fw_report.specs.JournalText.{ask_line, ask_end, flags_word, way_word, reply_end, flow_of_ask, asked_flags, asked_second}
+use Rattle.fw_report.specs.JournalText.{ask_line, ask_end, flags_word, way_word, reply_end, flow_of_ask, asked_flags}
+use Rattle.state_asks.specs.Asked.{asked_second}
 use Rattle.fw_report.specs.AskText.{asked_name}
 use Rattle.report_reading.specs.Steps.{◌>>=◌, or_else}
 use Rattle.report_reading.specs.Parts.{Part, behind, told_by, told_where, positive_at, number_at}

@@ -9,11 +9,12 @@ use Rattle.dyn_states.specs.Slots.{held_states}
 use Rattle.dyn_states.specs.StateObject.{StateObject, after_ask, after_install, after_lookup, after_publication, install_reply, is_created, is_live, object_at_second}
 use Rattle.dyn_states.specs.declared.state.State.{State}
 use Rattle.state_asks.specs.declared.facts.Facts.{Facts}
+use Rattle.state_asks.specs.Asked.{asked_second}
 use Rattle.state_asks.specs.declared.op.Op.{Op}
 use Rattle.state_asks.specs.declared.op.Op.TheVariants.{Lookup, Install}
 use Rattle.state_journal.specs.declared.entry.Entry.{Entry}
 use Rattle.state_journal.specs.declared.entry.Entry.TheVariants.{Publish, Ask}
-use Rattle.report_states.specs.LiveCounts.{after_entry, after_next, facts_behind, objects_along, second_of}
+use Rattle.report_states.specs.LiveCounts.{after_entry, after_next, facts_behind, objects_along}
 
 -- a publication leaves the clock
 pub clock_published : (o : StateObject) (facts : List Facts) → (after_next o facts).clock ≡ o.clock
@@ -22,7 +23,7 @@ clock_published o [] = refl
 clock_published o (next ∷ facts) = refl
 
 -- an ask raises it to its second
-pub clock_asked : (o : StateObject) (op : Op) → (after_ask o op).clock ≡ max o.clock (second_of op)
+pub clock_asked : (o : StateObject) (op : Op) → (after_ask o op).clock ≡ max o.clock (asked_second op)
 unfolding object_at_second after_lookup after_install
 clock_asked o (Lookup flags flow second name) = refl
 clock_asked o (Install flags flow second rule limit name) = elim (cases_Bool (is_created (install_reply (object_at_second o second) flow rule limit name))) [

@@ -4,8 +4,6 @@ use Rattle.std.specs.Prelude.{ℕ, zero, suc, ◌+◌, ◌&&◌, Bool, nat_lt, n
 use Rattle.dyn_states.specs.StateObject.{StateObject, after_ask, is_live}
 use Rattle.report_values.specs.declared.journal_columns.JournalColumns.{JournalColumns}
 use Rattle.state_asks.specs.declared.facts.Facts.{Facts}
-use Rattle.state_asks.specs.declared.op.Op.{Op}
-use Rattle.state_asks.specs.declared.op.Op.TheVariants.{Lookup, Install}
 use Rattle.state_journal.specs.Journal.{Journal, no_states, object_after_publication}
 use Rattle.state_journal.specs.declared.entry.Entry.{Entry}
 use Rattle.state_journal.specs.declared.entry.Entry.TheVariants.{Publish, Ask}
@@ -19,11 +17,6 @@ after_next o (next ∷ facts) = object_after_publication o next
 abbrev pub after_entry : StateObject → List Facts → Entry → StateObject
 after_entry o facts (Publish number) = after_next o facts
 after_entry o facts (Ask lane op reply at) = after_ask o op
-
--- the second of an ask
-abbrev pub second_of : Op → ℕ
-second_of (Lookup flags flow second name) = second
-second_of (Install flags flow second rule limit name) = second
 
 -- the facts that are left behind an entry: a publication takes the first
 abbrev pub facts_behind : List Facts → Entry → List Facts

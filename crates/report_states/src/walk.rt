@@ -7,7 +7,7 @@ ghost use Rattle.state_journal.specs.Journal.{IsLawfulFrom, no_states};
 use dyn_states::{State, States};
 use fw_base::OutOfMemory;
 use fw_rule::{MOST_STATES, default_settings};
-use state_asks::{Facts, Op};
+use state_asks::Facts;
 use state_journal::{Book, Entry};
 use std::alloc::Global;
 
@@ -17,15 +17,6 @@ pub(crate) struct Walk<'a> {
     states: States,
     facts: &'a [Facts],
     entries: &'a [Entry],
-}
-
-/// The second of an ask.
-fn second_of(op: &Op) -> u32
-    ensures { result ≡ spec.second_of op.now }
-{
-    match op {
-        Op::Lookup { second, .. } | Op::Install { second, .. } => *second,
-    }
 }
 
 /// Whether the state lives at a second.
@@ -66,7 +57,7 @@ impl<'a> Walk<'a> {
     {
         match entry {
             Entry::Publish(_) => self.states.clock(),
-            Entry::Ask { op, .. } => self.states.clock().max(second_of(op)),
+            Entry::Ask { op, .. } => self.states.clock().max(op.second()),
         }
     }
 

@@ -94,7 +94,8 @@ fn longest_run(groups: &[u16]) -> Run
 /// Writes the groups with `::` in the run's place.
 fn write_shortened<K: Sink>(out: &mut K, groups: &[u16], run: Run) -> Result<(), Failed>
     requires { run.place + run.count ≤ length groups.now }
-    ensures { WritesText (K.state out.old) (K.state out.new) (text.shortened_text groups.now run.place run.count) result }
+    ensures { WritesText (K.state out.old) (K.state out.new)
+        (text.shortened_text groups.now run.place run.count) result }
 {
     write_joined(out, b':', &groups[..run.place])?;
     write_text(out, b"::")?;

@@ -9,7 +9,8 @@ use fw_rule::DEFAULT_FLOW;
 
 /// Writes the name behind a space and a colon, but for `default`.
 pub(crate) fn write_flow_name<K: Sink>(out: &mut K, name: &Name) -> Result<(), Failed>
-    ensures { WritesText (K.state out.old) (K.state out.new) (spaced_text (text.flow_words name.now)) result }
+    ensures { WritesText (K.state out.old) (K.state out.new)
+        (spaced_text (text.flow_words name.now)) result }
 {
     if name.bytes() == DEFAULT_FLOW {
         Ok(())

@@ -91,7 +91,8 @@ fn write_type_numbers<K: Sink>(out: &mut K, word: &[u8], types: &TypeSet) -> Res
 
 /// Writes the word, and behind it the interfaces.
 fn write_iface<'x, K: Sink>(out: &mut K, word: &'x [u8], iface: &'x Iface) -> Result<(), Failed>
-    ensures { WritesText (K.state out.old) (K.state out.new) (word.now ++ text.iface_text iface.now) result }
+    ensures { WritesText (K.state out.old) (K.state out.new)
+        (word.now ++ text.iface_text iface.now) result }
 {
     let word = Piece::Text(word);
     match iface {
@@ -128,7 +129,8 @@ fn mask_word(mask: LimitMask) -> &'static [u8]
 /// Writes a test, each word behind a space.
 #[tactic(auto, unfolding(fw_rule::specs::Names::flag_names, fw_rule::specs::Names::option_names))]
 fn write_test<K: Sink>(out: &mut K, test: &Test) -> Result<(), Failed>
-    ensures { WritesText (K.state out.old) (K.state out.new) (spaced_text (text.test_words test.now)) result }
+    ensures { WritesText (K.state out.old) (K.state out.new)
+        (spaced_text (text.test_words test.now)) result }
 {
     match test {
         Test::Inward => write_text(out, b" in"),
@@ -166,7 +168,8 @@ fn option_start(negated: bool) -> &'static [u8]
 
 /// Writes an option, each word behind a space.
 fn write_option<K: Sink>(out: &mut K, option: &Opt) -> Result<(), Failed>
-    ensures { WritesText (K.state out.old) (K.state out.new) (spaced_text (text.option_words option.now)) result }
+    ensures { WritesText (K.state out.old) (K.state out.new)
+        (spaced_text (text.option_words option.now)) result }
 {
     write_text(out, option_start(option.negated))?;
     write_test(out, &option.test)
@@ -174,7 +177,8 @@ fn write_option<K: Sink>(out: &mut K, option: &Opt) -> Result<(), Failed>
 
 /// Writes options, each word behind a space.
 pub(crate) fn write_options<K: Sink>(out: &mut K, options: &[Opt]) -> Result<(), Failed>
-    ensures { WritesText (K.state out.old) (K.state out.new) (spaced_text (flat_map text.option_words options.now)) result }
+    ensures { WritesText (K.state out.old) (K.state out.new)
+        (spaced_text (flat_map text.option_words options.now)) result }
 {
     for option in options {
         write_option(out, option)?;
@@ -184,7 +188,8 @@ pub(crate) fn write_options<K: Sink>(out: &mut K, options: &[Opt]) -> Result<(),
 
 /// Writes `limit` with its mask and number, each word behind a space.
 fn write_limit<K: Sink>(out: &mut K, mask: LimitMask, most: u16) -> Result<(), Failed>
-    ensures { WritesText (K.state out.old) (K.state out.new) (spaced_text (text.limit_words mask most)) result }
+    ensures { WritesText (K.state out.old) (K.state out.new)
+        (spaced_text (text.limit_words mask most)) result }
 {
     let mask = Piece::Text(mask_word(mask));
     let most = Piece::Number(u32::from(most));
@@ -196,7 +201,8 @@ fn write_limit<K: Sink>(out: &mut K, mask: LimitMask, most: u16) -> Result<(), F
 
 /// Writes how states are made, each word behind a space.
 fn write_state_option<K: Sink>(out: &mut K, state: &StateOpt) -> Result<(), Failed>
-    ensures { WritesText (K.state out.old) (K.state out.new) (spaced_text (text.state_option_words state.now)) result }
+    ensures { WritesText (K.state out.old) (K.state out.new)
+        (spaced_text (text.state_option_words state.now)) result }
 {
     match state {
         StateOpt::Keep(name) => {
@@ -212,7 +218,8 @@ fn write_state_option<K: Sink>(out: &mut K, state: &StateOpt) -> Result<(), Fail
 
 /// Writes how states are made where they are, each word behind a space.
 pub(crate) fn write_state<K: Sink>(out: &mut K, state: &Option<StateOpt>) -> Result<(), Failed>
-    ensures { WritesText (K.state out.old) (K.state out.new) (spaced_text (text.state_words state.now)) result }
+    ensures { WritesText (K.state out.old) (K.state out.new)
+        (spaced_text (text.state_words state.now)) result }
 {
     match state {
         None => Ok(()),

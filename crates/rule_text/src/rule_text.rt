@@ -47,7 +47,8 @@ fn unreach_piece(code: u8) -> Piece<'static>
 
 /// Writes `check-state` and which flows it looks up, each word behind a space.
 fn write_check_state<K: Sink>(out: &mut K, name: &Option<Name>) -> Result<(), Failed>
-    ensures { WritesText (K.state out.old) (K.state out.new) (spaced_text (text.check_state_words name.now)) result }
+    ensures { WritesText (K.state out.old) (K.state out.new)
+        (spaced_text (text.check_state_words name.now)) result }
 {
     write_text(out, b" check-state")?;
     match name {
@@ -58,7 +59,8 @@ fn write_check_state<K: Sink>(out: &mut K, name: &Option<Name>) -> Result<(), Fa
 
 /// Writes an action, each word behind a space.
 fn write_action<K: Sink>(out: &mut K, action: &Action) -> Result<(), Failed>
-    ensures { WritesText (K.state out.old) (K.state out.new) (spaced_text (text.action_words action.now)) result }
+    ensures { WritesText (K.state out.old) (K.state out.new)
+        (spaced_text (text.action_words action.now)) result }
 {
     match action {
         Action::Allow => write_text(out, b" allow"),
@@ -83,7 +85,8 @@ fn write_action<K: Sink>(out: &mut K, action: &Action) -> Result<(), Failed>
 
 /// Writes the set where it isn't 0.
 fn write_set<K: Sink>(out: &mut K, set: u8) -> Result<(), Failed>
-    ensures { WritesText (K.state out.old) (K.state out.new) (spaced_text (text.set_words set)) result }
+    ensures { WritesText (K.state out.old) (K.state out.new)
+        (spaced_text (text.set_words set)) result }
 {
     if set == 0 {
         Ok(())
@@ -94,7 +97,8 @@ fn write_set<K: Sink>(out: &mut K, set: u8) -> Result<(), Failed>
 
 /// Writes `log` and its amount where it isn't 0.
 fn write_amount<K: Sink>(out: &mut K, amount: u32) -> Result<(), Failed>
-    ensures { WritesText (K.state out.old) (K.state out.new) (spaced_text (text.amount_words amount)) result }
+    ensures { WritesText (K.state out.old) (K.state out.new)
+        (spaced_text (text.amount_words amount)) result }
 {
     if amount == 0 {
         write_text(out, b" log")
@@ -107,7 +111,8 @@ fn write_amount<K: Sink>(out: &mut K, amount: u32) -> Result<(), Failed>
 }
 
 fn write_log<K: Sink>(out: &mut K, log: Option<u32>) -> Result<(), Failed>
-    ensures { WritesText (K.state out.old) (K.state out.new) (spaced_text (text.log_words log)) result }
+    ensures { WritesText (K.state out.old) (K.state out.new)
+        (spaced_text (text.log_words log)) result }
 {
     match log {
         None => Ok(()),
@@ -119,7 +124,8 @@ fn write_log<K: Sink>(out: &mut K, log: Option<u32>) -> Result<(), Failed>
 /// written.
 #[tactic(auto, unfolding(crate::specs::Canonical::protocol_word))]
 pub fn write_protocol<K: Sink>(out: &mut K, protocol: u8) -> Result<(), Failed>
-    ensures { WritesText (K.state out.old) (K.state out.new) (spaced_text (text.one_word (text.protocol_word protocol))) result }
+    ensures { WritesText (K.state out.old) (K.state out.new)
+        (spaced_text (text.one_word (text.protocol_word protocol))) result }
 {
     match protocol {
         0 => write_text(out, b" ip"),
@@ -135,7 +141,8 @@ pub fn write_protocol<K: Sink>(out: &mut K, protocol: u8) -> Result<(), Failed>
 
 /// Writes the version of IP or the protocol behind a space.
 fn write_family<K: Sink>(out: &mut K, family: Family, protocol: u8) -> Result<(), Failed>
-    ensures { WritesText (K.state out.old) (K.state out.new) (spaced_text (text.one_word (text.family_word family protocol))) result }
+    ensures { WritesText (K.state out.old) (K.state out.new)
+        (spaced_text (text.one_word (text.family_word family protocol))) result }
 {
     match family {
         Family::AnyIp => write_protocol(out, protocol),
@@ -145,7 +152,8 @@ fn write_family<K: Sink>(out: &mut K, family: Family, protocol: u8) -> Result<()
 }
 
 fn write_ports<K: Sink>(out: &mut K, ports: &Option<PortList>) -> Result<(), Failed>
-    ensures { WritesText (K.state out.old) (K.state out.new) (spaced_text (text.port_words ports.now)) result }
+    ensures { WritesText (K.state out.old) (K.state out.new)
+        (spaced_text (text.port_words ports.now)) result }
 {
     match ports {
         None => Ok(()),
@@ -154,7 +162,8 @@ fn write_ports<K: Sink>(out: &mut K, ports: &Option<PortList>) -> Result<(), Fai
 }
 
 fn write_addresses<K: Sink>(out: &mut K, addresses: &AddrSpec) -> Result<(), Failed>
-    ensures { WritesText (K.state out.old) (K.state out.new) (spaced_text (text.addr_words addresses.now)) result }
+    ensures { WritesText (K.state out.old) (K.state out.new)
+        (spaced_text (text.addr_words addresses.now)) result }
 {
     write_list_words(out, addresses.negated, addresses.items.as_slice())
 }
@@ -181,7 +190,8 @@ fn write_placed<K: Sink>(
     state: &Option<StateOpt>,
     state_at: usize,
 ) -> Result<(), Failed>
-    ensures { WritesText (K.state out.old) (K.state out.new) (spaced_text (text.placed_words options.now state.now state_at)) result }
+    ensures { WritesText (K.state out.old) (K.state out.new)
+        (spaced_text (text.placed_words options.now state.now state_at)) result }
 {
     let (before, behind) = options.split_at(state_at.min(options.len()));
     write_options(out, before)?;
@@ -190,13 +200,15 @@ fn write_placed<K: Sink>(
 }
 
 fn write_body_options<K: Sink>(out: &mut K, body: &Body) -> Result<(), Failed>
-    ensures { WritesText (K.state out.old) (K.state out.new) (spaced_text (text.options_words body.now)) result }
+    ensures { WritesText (K.state out.old) (K.state out.new)
+        (spaced_text (text.options_words body.now)) result }
 {
     write_placed(out, body.options.as_slice(), &body.state, body.state_at)
 }
 
 fn write_body<K: Sink>(out: &mut K, body: &Body) -> Result<(), Failed>
-    ensures { WritesText (K.state out.old) (K.state out.new) (spaced_text (text.body_words body.now)) result }
+    ensures { WritesText (K.state out.old) (K.state out.new)
+        (spaced_text (text.body_words body.now)) result }
 {
     write_family(out, body.family, body.protocol)?;
     write_end(out, b" from", &body.source, &body.source_ports)?;
@@ -205,7 +217,8 @@ fn write_body<K: Sink>(out: &mut K, body: &Body) -> Result<(), Failed>
 }
 
 fn write_optional_body<K: Sink>(out: &mut K, body: &Option<Body>) -> Result<(), Failed>
-    ensures { WritesText (K.state out.old) (K.state out.new) (spaced_text (text.optional_body body.now)) result }
+    ensures { WritesText (K.state out.old) (K.state out.new)
+        (spaced_text (text.optional_body body.now)) result }
 {
     match body {
         None => Ok(()),

@@ -64,7 +64,8 @@ pub(crate) fn write_joined<T: Element, K: Sink>(
     between: u8,
     items: &[T],
 ) -> Result<(), Failed>
-    ensures { WritesText (K.state out.old) (K.state out.new) (join_with_byte between (map T.text items.now)) result }
+    ensures { WritesText (K.state out.old) (K.state out.new)
+        (join_with_byte between (map T.text items.now)) result }
 {
     let Some((first, others)) = items.split_first() else {
         return Ok(());
@@ -83,7 +84,8 @@ pub(crate) fn write_list_words<T: Element, K: Sink>(
     negated: bool,
     items: &[T],
 ) -> Result<(), Failed>
-    ensures { WritesText (K.state out.old) (K.state out.new) (spaced_text (list_words negated (map T.text items.now))) result }
+    ensures { WritesText (K.state out.old) (K.state out.new)
+        (spaced_text (list_words negated (map T.text items.now))) result }
 {
     write_text(out, list_start(negated))?;
     write_joined(out, b',', items)

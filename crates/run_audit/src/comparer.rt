@@ -11,7 +11,8 @@ use std::marker::Model;
 use std::mem;
 use std::snapshot::Snapshot;
 
-/// A sink that keeps nothing: it compares what is written with a text, which it is made with. Contracts see both.
+/// A sink that keeps nothing: it compares what is written with a text, which it is made with.
+/// Contracts see both.
 #[derive(Drop)]
 pub struct Comparer {
     text: Vec<u8>,

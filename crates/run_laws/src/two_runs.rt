@@ -49,7 +49,7 @@ where
         IsSerialJob job → HaveSameFiles job (L.pairs library.old) (M.pairs other_library.old)
         → result.0.status ≤ 3 → result.1.status ≤ 3
         → ComeToTheSame ⟦<K as SinkView>⟧.output.written ⟦<N as SinkView>⟧.output.written
-            result.0 result.1 out.old out.new other_out.old other_out.new) }
+        result.0 result.1 out.old out.new other_out.old other_out.new) }
 {
     let first = run(rt, alloc, words, library, out, gate);
     let second = run(rt, alloc, words, other_library, other_out, gate);

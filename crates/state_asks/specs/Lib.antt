@@ -3,3 +3,5 @@ pub mod Facts
 pub mod RuleLists
 -- what an ask has of a packet
 pub mod Flags
+-- what the states are asked
+pub mod Asked

@@ -1,3 +1,6 @@
+ghost use Rattle.std.specs.Prelude.{◌≡◌};
+ghost use Rattle.state_asks.specs.Asked.{asked_second};
+
 use crate::RuleRef;
 use fw_rule::LimitMask;
 use packet_headers::Flow;
@@ -22,6 +25,18 @@ pub enum Op {
         limit: Option<(LimitMask, u16)>,
         name: u8,
     },
+}
+
+impl Op {
+    /// The second of the ask.
+    #[inline]
+    pub fn second(&self) -> u32
+        ensures { result ≡ asked_second self.now }
+    {
+        match self {
+            Op::Lookup { second, .. } | Op::Install { second, .. } => *second,
+        }
+    }
 }
 
 /// The flow name that a lookup asks for (ipfw(8), "STATEFUL FIREWALL").

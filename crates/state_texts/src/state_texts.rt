@@ -13,7 +13,8 @@ use rule_text::{WriteFault, write_address, write_five_digits, write_protocol};
 
 /// Writes an address and a port, each behind a space.
 fn write_end<K: Sink>(out: &mut K, address: Addr, port: u16) -> Result<(), Failed>
-    ensures { WritesText (K.state out.old) (K.state out.new) (spaced_text (address_text address.0 ∷ decimal port ∷ [])) result }
+    ensures { WritesText (K.state out.old) (K.state out.new)
+        (spaced_text (address_text address.0 ∷ decimal port ∷ [])) result }
 {
     let mut digits = Buffer::new();
     write_text(out, b" ")?;
@@ -43,7 +44,8 @@ fn name_at(names: &[Name], name: u8) -> &[u8]
 /// Writes when a state expires, its flow name, and the line's end.
 #[tactic(auto, unfolding(crate::specs::StateTexts::expiry_text))]
 fn write_expiry<K: Sink>(out: &mut K, names: &[Name], state: &State) -> Result<(), Failed>
-    ensures { WritesText (K.state out.old) (K.state out.new) (text.expiry_text names.now state.now) result }
+    ensures { WritesText (K.state out.old) (K.state out.new)
+        (text.expiry_text names.now state.now) result }
 {
     let mut digits = Buffer::new();
     let expiry = digits.format(state.expiry).as_bytes();
@@ -56,7 +58,8 @@ fn write_expiry<K: Sink>(out: &mut K, names: &[Name], state: &State) -> Result<(
 
 /// Writes the line of a state.
 fn write_state<K: Sink>(out: &mut K, names: &[Name], state: &State) -> Result<(), Failed>
-    ensures { WritesText (K.state out.old) (K.state out.new) (text.state_line names.now state.now) result }
+    ensures { WritesText (K.state out.old) (K.state out.new)
+        (text.state_line names.now state.now) result }
 {
     write_five_digits(out, state.rule.number)?;
     write_flow(out, &state.flow)?;
@@ -66,7 +69,8 @@ fn write_state<K: Sink>(out: &mut K, names: &[Name], state: &State) -> Result<()
 /// Writes the line of the state that the slot holds, if it holds one.
 #[tactic(auto, unfolding(crate::specs::StateTexts::slot_text))]
 fn write_slot<K: Sink>(out: &mut K, names: &[Name], slot: &State) -> Result<(), Failed>
-    ensures { WritesText (K.state out.old) (K.state out.new) (text.slot_text names.now slot.now) result }
+    ensures { WritesText (K.state out.old) (K.state out.new)
+        (text.slot_text names.now slot.now) result }
 {
     if slot.expiry == 0 {
         return write_text(out, b"");
@@ -76,7 +80,8 @@ fn write_slot<K: Sink>(out: &mut K, names: &[Name], slot: &State) -> Result<(), 
 
 /// Writes the lines of the states that the slots hold.
 fn write_lines<K: Sink>(out: &mut K, names: &[Name], slots: &[State]) -> Result<(), Failed>
-    ensures { WritesText (K.state out.old) (K.state out.new) (flat_map (text.slot_text names.now) slots.now) result }
+    ensures { WritesText (K.state out.old) (K.state out.new)
+        (flat_map (text.slot_text names.now) slots.now) result }
 {
     for slot in slots {
         write_slot(out, names, slot)?;
@@ -87,7 +92,8 @@ fn write_lines<K: Sink>(out: &mut K, names: &[Name], slots: &[State]) -> Result<
 /// Writes the clock and the number of states, each on a line.
 #[tactic(auto, unfolding(crate::specs::StateTexts::states_heading))]
 fn write_heading<K: Sink>(out: &mut K, states: &States) -> Result<(), Failed>
-    ensures { WritesText (K.state out.old) (K.state out.new) (text.states_heading states.now.object) result }
+    ensures { WritesText (K.state out.old) (K.state out.new)
+        (text.states_heading states.now.object) result }
 {
     let mut clock_digits = Buffer::new();
     let mut count_digits = Buffer::new();
@@ -97,7 +103,8 @@ fn write_heading<K: Sink>(out: &mut K, states: &States) -> Result<(), Failed>
 }
 
 fn write_section<K: Sink>(out: &mut K, names: &[Name], states: &States) -> Result<(), Failed>
-    ensures { WritesText (K.state out.old) (K.state out.new) (text.states_text names.now states.now.object) result }
+    ensures { WritesText (K.state out.old) (K.state out.new)
+        (text.states_text names.now states.now.object) result }
 {
     write_heading(out, states)?;
     write_lines(out, names, states.slots())
@@ -106,7 +113,8 @@ fn write_section<K: Sink>(out: &mut K, names: &[Name], states: &States) -> Resul
 /// Writes the clock, the number of states, and a line for each in order of making, with the flow names by
 /// their numbers, of which one that isn't there has no bytes. It takes no memory. Where the sink fails, a front of the text was written.
 pub fn write_states<K: Sink>(states: &States, names: &[Name], out: &mut K) -> Result<(), WriteFault>
-    ensures { WritesText (K.state out.old) (K.state out.new) (text.states_text names.now states.now.object) result }
+    ensures { WritesText (K.state out.old) (K.state out.new)
+        (text.states_text names.now states.now.object) result }
 {
     write_section(out, names, states).map_err(|_| WriteFault)
 }

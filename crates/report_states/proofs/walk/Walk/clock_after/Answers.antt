@@ -6,4 +6,4 @@ pub returns-in-Publish : goal.returns-in-Publish
 returns-in-Publish c = rw c.in-Publish.is (c.clock.ensures ∙ sym (clock_published c.args.self.now.states.object c.args.self.now.facts.now))
 
 pub returns-in-Ask : goal.returns-in-Ask
-returns-in-Ask c = rw (c.in-Ask.is, clock_asked c.args.self.now.states.object c.in-Ask.op, ← c.clock-in-Ask.ensures, ← c.second_of.ensures) c.max.ensures
+returns-in-Ask c = rw (c.in-Ask.is, clock_asked c.args.self.now.states.object c.in-Ask.op, ← c.clock-in-Ask.ensures, ← c.second.ensures) c.max.ensures
