@@ -26,6 +26,7 @@ judged_editions-judged entries judgement =
     judged_editions-append entries (judged_entry judgement ∷ [])
     ∙ ap (λ (all : List Judgement). judged_editions entries ++ map (λ (one : Judgement). one.edition) all) (judgements-judged (judged_entry judgement) [] judgement refl)
 
+-- what holds at each place holds along the list
 pub AllByRecursion-from_All : (P : ℕ → Type 0) (xs : List ℕ) → All P xs → AllByRecursion P xs
 AllByRecursion-from_All P [] all = tt
 AllByRecursion-from_All P (x ∷ xs) all = (all 0 x (omega arith), AllByRecursion-from_All P xs (λ k d within. all (suc k) d (omega arith)))

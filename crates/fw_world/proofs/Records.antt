@@ -68,6 +68,7 @@ record_asks-other k after at (op ∷ ops) (reply ∷ replies) other = decided (a
     decided true is rest = absurd (other (sym (eqb_yes (subst T is tt))))
     decided false is rest = rest
 
+-- those of the record itself are all of them
 pub record_asks-own : (after at : ℕ) (ops : List Op) (replies : List Reply) → asks_of_record at (record_asks after at ops replies) ≡ record_asks after at ops replies
 record_asks-own after at [] replies = refl
 record_asks-own after at (op ∷ ops) [] = refl
