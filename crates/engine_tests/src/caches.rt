@@ -58,10 +58,10 @@ fn count_hits(rt: &impl Abort, alloc: Global, row: &Row) -> Result<u32, OutOfMem
     assert!(rt; 1 <= row.capacity && row.capacity <= MOST_VERDICTS);
     let mut cache = VerdictCache::open(alloc, row.capacity)?;
     let mut hits: u32 = 0;
-    for visited in row.visits {
-        let key = key_of(rt, visited.packet);
-        if let Some(value) = visit(&mut cache, visited.edition, key, visited.rule)? {
-            assert_eq!(rt; value, visited.rule, "{}", row.name);
+    for (edition, packet, rule) in row.visits {
+        let key = key_of(rt, packet);
+        if let Some(value) = visit(&mut cache, *edition, key, *rule)? {
+            assert_eq!(rt; value, *rule, "{}", row.name);
             hits = hits.saturating_add(1);
         }
     }

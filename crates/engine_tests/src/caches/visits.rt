@@ -2,18 +2,12 @@
 use super::changes::ECHO;
 use crate::frames::{DATAGRAM, SYN};
 
-/// A packet in an edition, and the number of the rule that decides on it.
-pub struct Visit {
-    pub edition: u64,
-    pub packet: &'static [u8],
-    pub rule: u32,
-}
-
 /// Visits to a cache of a capacity, and how many of them find a verdict.
 pub struct Row {
     pub name: &'static str,
     pub capacity: u32,
-    pub visits: &'static [Visit],
+    /// Of each the edition, the packet, and the number of the rule that decides on it there.
+    pub visits: &'static [(u64, &'static [u8], u32)],
     pub hits: u32,
 }
 
@@ -22,26 +16,10 @@ pub static ROWS: [Row; 5] = [
         name: "cache_of_one",
         capacity: 1,
         visits: &[
-            Visit {
-                edition: 1,
-                packet: SYN,
-                rule: 100,
-            },
-            Visit {
-                edition: 1,
-                packet: SYN,
-                rule: 100,
-            },
-            Visit {
-                edition: 1,
-                packet: DATAGRAM,
-                rule: 65535,
-            },
-            Visit {
-                edition: 1,
-                packet: SYN,
-                rule: 100,
-            },
+            (1, SYN, 100),
+            (1, SYN, 100),
+            (1, DATAGRAM, 65535),
+            (1, SYN, 100),
         ],
         hits: 1,
     },
@@ -49,26 +27,10 @@ pub static ROWS: [Row; 5] = [
         name: "cache_of_two",
         capacity: 2,
         visits: &[
-            Visit {
-                edition: 1,
-                packet: SYN,
-                rule: 100,
-            },
-            Visit {
-                edition: 1,
-                packet: SYN,
-                rule: 100,
-            },
-            Visit {
-                edition: 1,
-                packet: DATAGRAM,
-                rule: 65535,
-            },
-            Visit {
-                edition: 1,
-                packet: SYN,
-                rule: 100,
-            },
+            (1, SYN, 100),
+            (1, SYN, 100),
+            (1, DATAGRAM, 65535),
+            (1, SYN, 100),
         ],
         hits: 2,
     },
@@ -76,100 +38,31 @@ pub static ROWS: [Row; 5] = [
         name: "a hit becomes the most recent",
         capacity: 2,
         visits: &[
-            Visit {
-                edition: 1,
-                packet: SYN,
-                rule: 100,
-            },
-            Visit {
-                edition: 1,
-                packet: DATAGRAM,
-                rule: 65535,
-            },
-            Visit {
-                edition: 1,
-                packet: SYN,
-                rule: 100,
-            },
-            Visit {
-                edition: 1,
-                packet: ECHO,
-                rule: 200,
-            },
-            Visit {
-                edition: 1,
-                packet: SYN,
-                rule: 100,
-            },
-            Visit {
-                edition: 1,
-                packet: DATAGRAM,
-                rule: 65535,
-            },
+            (1, SYN, 100),
+            (1, DATAGRAM, 65535),
+            (1, SYN, 100),
+            (1, ECHO, 200),
+            (1, SYN, 100),
+            (1, DATAGRAM, 65535),
         ],
         hits: 2,
     },
     Row {
         name: "another edition empties the cache",
         capacity: 2,
-        visits: &[
-            Visit {
-                edition: 1,
-                packet: SYN,
-                rule: 100,
-            },
-            Visit {
-                edition: 2,
-                packet: SYN,
-                rule: 100,
-            },
-            Visit {
-                edition: 2,
-                packet: SYN,
-                rule: 100,
-            },
-            Visit {
-                edition: 1,
-                packet: SYN,
-                rule: 100,
-            },
-        ],
+        visits: &[(1, SYN, 100), (2, SYN, 100), (2, SYN, 100), (1, SYN, 100)],
         hits: 1,
     },
     Row {
         name: "a large cache loses nothing",
         capacity: 65536,
         visits: &[
-            Visit {
-                edition: 1,
-                packet: SYN,
-                rule: 100,
-            },
-            Visit {
-                edition: 1,
-                packet: DATAGRAM,
-                rule: 65535,
-            },
-            Visit {
-                edition: 1,
-                packet: ECHO,
-                rule: 200,
-            },
-            Visit {
-                edition: 1,
-                packet: SYN,
-                rule: 100,
-            },
-            Visit {
-                edition: 1,
-                packet: DATAGRAM,
-                rule: 65535,
-            },
-            Visit {
-                edition: 1,
-                packet: ECHO,
-                rule: 200,
-            },
+            (1, SYN, 100),
+            (1, DATAGRAM, 65535),
+            (1, ECHO, 200),
+            (1, SYN, 100),
+            (1, DATAGRAM, 65535),
+            (1, ECHO, 200),
         ],
         hits: 3,
     },
