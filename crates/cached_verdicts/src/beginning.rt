@@ -21,7 +21,7 @@ use eval_engine::{Judgement, Paused, Question, begin};
 use fw_base::OutOfMemory;
 use generation_store::Edition;
 use ip6_headers::AnyIp;
-use rule_chain::is_configuration;
+use rule_chain::law_of_configuration;
 use verdict_cache::{Key, VerdictCache};
 
 /// What an evaluation that began comes to, if it ends with no ask, and whether the cache told it.
@@ -58,7 +58,7 @@ pub(crate) fn begin_by_cache(
         });
     };
     let edition = question.edition();
-    is_configuration(edition.config());
+    law_of_configuration(edition.config());
     let key = Key::of(ip);
     match kept.look(edition.number(), key) {
         Some(verdict) => {

@@ -12,7 +12,7 @@ use eval_engine::Judgement;
 use fw_base::{OutOfMemory, Port};
 use generation_store::Edition;
 use ip6_headers::AnyIp;
-use rule_chain::is_configuration;
+use rule_chain::law_of_configuration;
 use state_asks::{Op, Reply};
 use std::alloc::Global;
 use std::collections::LinkedList;
@@ -65,7 +65,7 @@ pub fn evaluate(
         second,
         alloc,
     };
-    is_configuration(edition.config());
+    law_of_configuration(edition.config());
     let story = meet(&question, 0, &Searched::none(), 0, replies)?;
     let outcome = outcome_by(&story.ending);
     Ok(Evaluation {

@@ -9,7 +9,7 @@ use counter_book::Tally;
 use eval_engine::{Docket, DocketEntry, Judgement};
 use fw_base::{OutOfMemory, Port};
 use ip6_headers::AnyIp;
-use rule_chain::is_configuration;
+use rule_chain::law_of_configuration;
 use std::alloc::Global;
 
 /// What a lane does with its records, in whatever world.
@@ -92,7 +92,7 @@ impl LaneWork {
         // it has failed until its entry is made
         self.failed = true;
         let config = book.edition().config();
-        is_configuration(config);
+        law_of_configuration(config);
         self.tally.fit(config.counters())?;
         let judgement = self.evaluate(book, lane, packet, port, second)?;
         self.docket.push(DocketEntry::judged(judgement))?;

@@ -70,7 +70,7 @@ impl Record {
             → EachLane LaneRises 1 inputs result.dockets result.tallies result.trackers
             → IsLegalButSections first commands inputs result }
     {
-        is_journal(&book);
+        law_of_journal(&book);
         let (dockets, tallies, trackers, hits) = columns.into_parts();
         Record {
             editions,
@@ -128,7 +128,7 @@ impl Record {
 }
 
 /// Does nothing, and says that the journal is lawful and leaves the states that there are.
-fn is_journal(book: &Book)
+fn law_of_journal(book: &Book)
     ensures { IsJournal book.now }
 {
     let _entries = book.entries();

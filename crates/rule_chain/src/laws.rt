@@ -4,7 +4,7 @@ ghost use Rattle.rule_chain.specs.Chain.{IsConfiguration, StandInOrder, HaveOwnI
 use crate::Config;
 
 /// Its rules, sets, tables, settings and names are those of a configuration (ipfw(8)), as an evaluation requires.
-pub fn is_configuration(config: &Config)
+pub fn law_of_configuration(config: &Config)
     ensures { IsConfiguration config.now }
 {
     // This call's clause `lawful` tells it.

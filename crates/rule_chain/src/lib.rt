@@ -5,7 +5,7 @@
 
 pub use config::{Config, LAST_NUMBER, LAST_SET, MOST_COUNTERS, MOST_RULES};
 pub use config_parts::ConfigParts;
-pub use laws::{is_configuration, places_tell_rules_apart};
+pub use laws::{law_of_configuration, places_tell_rules_apart};
 pub use names::{MOST_NAMES, flow_name_of};
 pub use rule_list::RuleList;
 

@@ -14,7 +14,7 @@ use eval_engine::{DocketEntry, Judgement};
 use fw_base::{OutOfMemory, Port};
 use generation_store::Edition;
 use ip6_headers::AnyIp;
-use rule_chain::is_configuration;
+use rule_chain::law_of_configuration;
 use state_asks::{Op, Reply, RuleRef};
 
 /// A rule by its number alone, as a line tells it.
@@ -101,7 +101,7 @@ pub(crate) fn judged_under(
         → ComesTo (question_under edition.now packet.now port.now second) asked.now judgement → ⊥ }
 {
     let config = edition.config();
-    is_configuration(config);
+    law_of_configuration(config);
     tally.fit(config.counters())?;
     Ok(evaluate_told(edition, packet, port, second, asked, tally))
 }

@@ -26,7 +26,7 @@ impl SerialWorld {
         ensures of_world { IsLaneOf self.new lane.new }
         ensures kept { IsLane 1 lane.old → IsLane (pending_of (is_ok result)) lane.new }
     {
-        self.held.is_world();
+        self.held.law_of_world();
         let place = lane.place();
         lane.work()
             .judge(&mut self.held, place, packet, port, second)

@@ -57,7 +57,7 @@ impl SerialBook {
     }
 
     /// Does nothing, and says that editions and book are a world, and the book lawful.
-    pub(crate) fn is_world(&self)
+    pub(crate) fn law_of_world(&self)
         ensures world { IsWorld self.now }
         ensures journal { IsJournal self.now.journal }
     {

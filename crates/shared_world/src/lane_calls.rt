@@ -24,7 +24,7 @@ impl World {
         work.loosen(processor.is_refused());
         match self.lock.enter(processor) {
             Entry::In(reading) => {
-                is_edition(reading.edition());
+                law_of_edition(reading.edition());
                 LaneEntry::In(Inside {
                     reading,
                     place,
@@ -83,7 +83,7 @@ impl World {
 }
 
 /// Does nothing, and says that the edition has the facts of its configuration.
-fn is_edition(edition: &Edition)
+fn law_of_edition(edition: &Edition)
     ensures { IsEdition edition.now }
 {
     let _config = edition.config();

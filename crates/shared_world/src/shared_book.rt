@@ -43,7 +43,7 @@ impl SharedBook {
     }
 
     /// Does nothing, and says that it is a journal, whose entries a u64 counts.
-    fn is_journal(&self)
+    fn law_of_journal(&self)
         ensures journal { IsJournal self.now }
         ensures counted { length self.now.entries < 2 ^ 64 }
     {
@@ -63,9 +63,9 @@ impl SharedBook {
         ensures journal { IsJournal self.old }
         ensures counted { length self.new.entries < 2 ^ 64 }
     {
-        self.is_journal();
+        self.law_of_journal();
         let reply = self.book.ask(lane, at, op);
-        self.is_journal();
+        self.law_of_journal();
         reply
     }
 
@@ -82,7 +82,7 @@ impl SharedBook {
         ensures value { result ≡ self }
         ensures journal { IsJournal result }
     {
-        self.is_journal();
+        self.law_of_journal();
         Box::into_inner(self.book)
     }
 }

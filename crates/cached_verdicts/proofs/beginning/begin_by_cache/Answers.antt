@@ -21,7 +21,7 @@ hit-requires c =
     let numbered = c.number.ensures ∙ ap (λ (e : Published). e.number) c.edition-edition.ensures in
     let once = hit_once q.edition q.port q.packet c.in-Four.ip q.second c.of-key.result c.number.result c.args.kept.now four c.of-key.ensures numbered c.in-Some.verdict c.requires.kept
     (sym c.in-Some.is ∙ c.look.ensures.value) in
-    let lawful = subst (λ (config : Configuration). IsConfiguration config) (c.config.ensures.value ∙ ap (λ (e : Published). e.config) c.edition-edition.ensures) c.is_configuration.ensures in
+    let lawful = subst (λ (config : Configuration). IsConfiguration config) (c.config.ensures.value ∙ ap (λ (e : Published). e.config) c.edition-edition.ensures) c.law_of_configuration.ensures in
     let bound = hit_is_given_out q c.in-Some.verdict lawful once in
     let fitted = c.requires.fitted in
     omega arith

@@ -15,7 +15,7 @@ returns-clause-asks c =
     let story = story_of c.in_ok-story.story in
     let run = c.in_ok-story.ensures in
     let runs = subst (λ (seen : Seen). Runs q 0 seen (Meets q.edition.config.rules) c.args.replies.now story) c.none.ensures run.runs in
-    let lawful = subst (λ (config : Configuration). IsConfiguration config) c.config.ensures.value c.is_configuration.ensures in
+    let lawful = subst (λ (config : Configuration). IsConfiguration config) c.config.ensures.value c.law_of_configuration.ensures in
     let is = runs_are_evaluations q c.args.replies.now story lawful.ordered runs in
     ap (λ (e : Evaluated). e.asks) is
 
@@ -25,7 +25,7 @@ returns-clause-hits c =
     let story = story_of c.in_ok-story.story in
     let run = c.in_ok-story.ensures in
     let runs = subst (λ (seen : Seen). Runs q 0 seen (Meets q.edition.config.rules) c.args.replies.now story) c.none.ensures run.runs in
-    let lawful = subst (λ (config : Configuration). IsConfiguration config) c.config.ensures.value c.is_configuration.ensures in
+    let lawful = subst (λ (config : Configuration). IsConfiguration config) c.config.ensures.value c.law_of_configuration.ensures in
     let is = runs_are_evaluations q c.args.replies.now story lawful.ordered runs in
     ap (λ (e : Evaluated). e.hits) is
 
@@ -35,6 +35,6 @@ returns-clause-outcome c =
     let story = story_of c.in_ok-story.story in
     let run = c.in_ok-story.ensures in
     let runs = subst (λ (seen : Seen). Runs q 0 seen (Meets q.edition.config.rules) c.args.replies.now story) c.none.ensures run.runs in
-    let lawful = subst (λ (config : Configuration). IsConfiguration config) c.config.ensures.value c.is_configuration.ensures in
+    let lawful = subst (λ (config : Configuration). IsConfiguration config) c.config.ensures.value c.law_of_configuration.ensures in
     let is = runs_are_evaluations q c.args.replies.now story lawful.ordered runs in
     c.outcome_by-outcome.ensures ∙ ap (λ (e : Evaluated). e.outcome) is

@@ -9,7 +9,7 @@ use Rattle.run_audit.proofs.told_entries.judged_under.Goals as goal
 pub returns-clause-counted : goal.returns-clause-counted
 returns-clause-counted c =
     let same = c.config-config.ensures.value in
-    let lawful : IsConfiguration c.args.edition.now.config = subst (λ (config : Configuration). IsConfiguration config) same c.is_configuration.ensures in
+    let lawful : IsConfiguration c.args.edition.now.config = subst (λ (config : Configuration). IsConfiguration config) same c.law_of_configuration.ensures in
     let counted = c.counters.ensures in
     let greatest = subst (λ (config : Configuration). c.counters.result ≡ config.greatest_counter + 1) same counted in
     let within : c.args.edition.now.config.greatest_counter < length c.fit.new.self = omega (arith, greatest, c.in_ok-fit.ensures.fitted) in

@@ -33,10 +33,10 @@ judges : (c : After-lane-1)
 judges c = rw (c.self.view_is, c.place-place.ensures, c.work.ensures.value) at c.judge.ensures
 
 is_world : (c : After-lane-1) → IsWorld c.args.self.now
-is_world c = rw c.self.view_is at c.is_world.ensures.world
+is_world c = rw c.self.view_is at c.law_of_world.ensures.world
 
 is_journal : (c : After-lane-1) → IsJournal c.args.self.now.journal
-is_journal c = rw c.self.view_is at c.is_world.ensures.journal
+is_journal c = rw c.self.view_is at c.law_of_world.ensures.journal
 
 begun : (c : After-lane-1) → BeginsJudging c.args.self.now c.judge.new.book c.args.lane.now.place (length c.args.lane.now.docket.entries + 1) c.args.packet.now c.args.port.now c.args.second
 begun c = BeginsJudging-run c.args.self.now c.judge.new.book c.args.lane.now.place (length c.args.lane.now.docket.entries + 1) c.args.packet.now c.args.port.now c.args.second (is_world c) (judges c).evaluated.asked
@@ -65,7 +65,7 @@ found world is = last_is_found world.editions (last_published world.editions) is
 
 pub judge-requires-clause-kept : goal.judge-requires-clause-kept
 judge-requires-clause-kept c =
-    rw (c.work.ensures.value, c.self.view_is) (IsTrueFor-among c.args.self.now.editions (last_published c.args.self.now.editions) c.args.lane.now.cache (found c.args.self.now (rw c.self.view_is at c.is_world.ensures.world)) c.requires.of_world.cached)
+    rw (c.work.ensures.value, c.self.view_is) (IsTrueFor-among c.args.self.now.editions (last_published c.args.self.now.editions) c.args.lane.now.cache (found c.args.self.now (rw c.self.view_is at c.law_of_world.ensures.world)) c.requires.of_world.cached)
 
 stands : (c : After-lane-1) → OnOk c.judge.result ((inputs : List Input) → LaneStandsFor c.args.self.now c.args.lane.now inputs → LaneStandsFor c.judge.new.book (after c) (inputs ++ Packet c.args.packet.now c.args.port.now c.args.second ∷ []))
 stands c =

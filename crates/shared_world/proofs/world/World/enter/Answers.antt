@@ -6,13 +6,13 @@ use Rattle.fw_world.specs.declared.lane_work.LaneWork.{LaneWork}
 use Rattle.generation_store.specs.Published.{Published, IsEdition}
 use Rattle.shared_world.proofs.Sections.{entered, entered-kept, entered-reads, refused, inside_of}
 use Rattle.shared_world.proofs.world.World.enter.Goals as goal
-use Rattle.shared_world.proofs.world.World.enter.Goals.{After-is_edition, After-refuse}
+use Rattle.shared_world.proofs.world.World.enter.Goals.{After-law_of_edition, After-refuse}
 use Rattle.shared_world.specs.Known.{Known}
 use Rattle.shared_world.specs.LaneCalls.{EntersIn, IsRefused}
 use Rattle.shared_world.specs.LaneKept.{IsSharedLane, ReadsSeen}
 use Rattle.shared_world.specs.SharedLane.{SharedLane, lane_of}
 
-counted : (c : After-is_edition) → c.loosen.new.self ≡ work_after_section (is_some c.lane.inside.processor.view.part.refusal) c.lane.inside.work
+counted : (c : After-law_of_edition) → c.loosen.new.self ≡ work_after_section (is_some c.lane.inside.processor.view.part.refusal) c.lane.inside.work
 counted c = rw (c.deref_mut.ensures.value, c.is_refused.ensures) at c.loosen.ensures
 
 pub invariant_of-result : goal.invariant_of-result
@@ -22,7 +22,7 @@ invariant_of-result c =
     let view = c.in-In.ensures.entry.1.1 in
     let number = c.in-In.ensures.entry.1.2 in
     let kept = subst (λ (u : Known). IsSharedLane 1 u (work_after_section (is_some v.part.refusal) c.lane.inside.work)) (sym view) (entered-kept v c.lane.inside.work e c.lane.invariant) in
-    let lawful = subst (λ (p : Published). IsEdition p) c.deref.ensures c.is_edition.ensures in
+    let lawful = subst (λ (p : Published). IsEdition p) c.deref.ensures c.law_of_edition.ensures in
     let reads = entered-reads v e c.edition.result.now number (sym (ap (λ (u : Known). u.part.reading) view) ∙ c.edition.ensures) lawful c.in-In.ensures.entry.1.4 in (
       subst (λ (w : LaneWork). IsSharedLane 1 c.in-In.reading.view w) (sym (counted c)) kept,
       subst (λ (u : Known). ReadsSeen u) (sym view) reads,
