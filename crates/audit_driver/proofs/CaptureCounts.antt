@@ -4,7 +4,7 @@ use Rattle.std.specs.Option.{option_map}
 use Rattle.std.specs.Prelude.{option_and_then}
 use Rattle.std.proofs.lemmas.Bool.{and_parts, leb-true}
 use Rattle.command_words.specs.Bytes.{is_empty, is_same}
-use Rattle.command_words.specs.Chain.{◌>>=◌}
+use Rattle.fw_base.specs.Chain.{◌>>=◌}
 use Rattle.command_words.specs.Words.{Arguments, Audit, CaptureNames, CommandWords, Load, Replay, arguments_of, audit_of, capture_of, captures_of, command_by, command_of, load_of, replay_of}
 use Rattle.command_words.specs.declared.invocation.Mode.{Mode}
 use Rattle.command_words.specs.declared.invocation.Mode.TheVariants.{Serial, Live}

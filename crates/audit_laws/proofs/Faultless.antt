@@ -12,7 +12,7 @@ use Rattle.generation_store.specs.Published.{Published}
 use Rattle.rule_chain.specs.Configuration.{Configuration}
 use Rattle.state_journal.specs.Journal.{Journal}
 use Rattle.run_audit.specs.Audit.{AreEditionsOf, FailsAtInput, FailsAtOpening, FailsBehind, IsFirstWrong, IsOpened, told_value, AuditValue, IsAuditOf, StandsFor}
-use Rattle.run_audit.specs.Composition.{entries_of_each}
+use Rattle.run_audit.specs.JudgingValues.{entries_of_each}
 use Rattle.run_audit.specs.JournalTold.{Lawful, no_journal, replay}
 use Rattle.run_audit.specs.Judging.{ToldValue, AreToldSo, FailsAtRecord, IsToldSo}
 use Rattle.run_audit.specs.Opening.{opening_fault}

@@ -4,7 +4,7 @@ use Rattle.std.specs.List.{find}
 use Rattle.std.specs.Prelude.{IsSomeAnd, if◌then◌else◌}
 use Rattle.std.proofs.lemmas.Bool.{cases_Bool}
 use Rattle.report_reading.specs.Readings.{LineValue, OfRecord, OfPublication, OfAsk, OfLane, OfOther}
-use Rattle.report_reading.specs.Steps.{or_else}
+use Rattle.fw_base.specs.Chain.{or_else}
 use Rattle.report_reading.specs.declared.lane_lines.LaneLine.{LaneLine}
 use Rattle.report_reading.specs.declared.record_lines.RecordLine.{RecordLine}
 use Rattle.run_audit.specs.Judging.{names_record}

@@ -26,7 +26,7 @@ use Rattle.run_audit.proofs.JournalLines.{lane_values}
 use Rattle.run_audit.proofs.LaneAsks.{some_within}
 use Rattle.run_audit.proofs.RecordTexts.{record_values}
 use Rattle.run_audit.specs.Audit.{told_value}
-use Rattle.run_audit.specs.Composition.{entries_of_each}
+use Rattle.run_audit.specs.JudgingValues.{entries_of_each}
 use Rattle.run_audit.specs.Judging.{ToldValue}
 use Rattle.run_audit.specs.OtherLines.{HasSections, IsLeftOver, IsWrongBehind, LacksLane, LeftOver, Lacks, entry_at, judgement_at, lane_naming}
 use Rattle.run_audit.specs.PrintedJournals.{entry_value}

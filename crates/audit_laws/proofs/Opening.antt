@@ -16,7 +16,7 @@ use Rattle.fw_world.specs.Lanes.{LaneStands}
 use Rattle.fw_world.specs.RecordValue.{RecordValue}
 use Rattle.generation_store.specs.Published.{Published}
 use Rattle.report_reading.specs.Readings.{LineValue}
-use Rattle.report_reading.specs.Steps.{or_else}
+use Rattle.fw_base.specs.Chain.{or_else}
 use Rattle.rule_chain.specs.Chain.{IsConfiguration}
 use Rattle.rule_chain.specs.Configuration.{Configuration}
 use Rattle.state_journal.specs.Journal.{Journal, no_states}

@@ -19,7 +19,7 @@ use Rattle.report_reading.specs.declared.lane_lines.LaneLine.{LaneLine}
 use Rattle.rule_chain.specs.Configuration.{Configuration}
 use Rattle.state_journal.specs.declared.entry.Entry.{Entry}
 use Rattle.run_audit.specs.Audit.{AreSectionsTold, IsRebuilt, entries_rebuilt, rebuilt_record, told_by_rebuilt}
-use Rattle.run_audit.specs.Composition.{entries_of_each}
+use Rattle.run_audit.specs.JudgingValues.{entries_of_each}
 use Rattle.run_audit.specs.Judging.{ToldValue}
 use Rattle.run_audit.specs.OtherLines.{lane_naming}
 use Rattle.run_audit.specs.ToldReport.{lines_told}

@@ -22,7 +22,7 @@ use Rattle.report_reading.specs.declared.record_lines.RecordLine.{RecordLine}
 use Rattle.state_journal.specs.Journal.{Journal}
 use Rattle.state_journal.specs.declared.entry.Entry.{Entry}
 use Rattle.run_audit.specs.Audit.{told_value}
-use Rattle.run_audit.specs.Composition.{entries_of_each}
+use Rattle.run_audit.specs.JudgingValues.{entries_of_each}
 use Rattle.run_audit.specs.Judging.{ToldValue, AreTimely, AreToldSo, IsToldSo, asks_told, line_naming}
 use Rattle.run_audit.specs.ToldReport.{lines_told}
 use Rattle.audit_laws.proofs.Naming.{first_record, record_found}

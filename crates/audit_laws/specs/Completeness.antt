@@ -9,7 +9,7 @@ use Rattle.fw_world.specs.Legal.{IsLegal}
 use Rattle.fw_world.specs.RecordValue.{RecordValue}
 use Rattle.rule_chain.specs.Configuration.{Configuration}
 use Rattle.run_audit.specs.Audit.{AuditValue, FailsAtInput, FailsAtOpening, IsAuditOf, IsFirstWrong, IsRebuilt, rebuilt_record, told_value}
-use Rattle.run_audit.specs.Composition.{entries_of_each}
+use Rattle.run_audit.specs.JudgingValues.{entries_of_each}
 use Rattle.run_audit.specs.JournalTold.{Lawful, no_journal, replay}
 use Rattle.run_audit.specs.Judging.{AreToldSo}
 use Rattle.run_audit.specs.Opening.{opening_fault}

@@ -7,10 +7,10 @@ use crate::KeptVerdict;
 use crate::beginning::begin_by_cache;
 use counter_book::Tally;
 use eval_engine::{Judgement, Paused, Question};
-use fw_base::{OutOfMemory, Port};
+use fw_base::{MOST_VERDICTS, OutOfMemory, Port};
 use std::alloc::Global;
 use std::marker::Model;
-use verdict_cache::{MOST_VERDICTS, VerdictCache};
+use verdict_cache::VerdictCache;
 
 /// The cache of one lane, whose packets are captured at one port, and how many of its packets were hits.
 #[derive(Drop)]

@@ -6,7 +6,7 @@
 
 pub use listing::{Listing, answer_listing, listing_of};
 pub use open_track::OpenTrack;
-pub use opened::{MOST_RECORDS_OF_ALL, OpenedCapture, limit_for};
+pub use opened::{OpenedCapture, limit_for};
 pub use replayed::Replayed;
 pub use track::Track;
 

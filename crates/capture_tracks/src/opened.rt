@@ -1,11 +1,8 @@
 ghost use Rattle.std.specs.Prelude.{◌≡◌, ◌≤◌};
 ghost use Rattle.capture_tracks.specs.Replay as replay;
 
-use fw_base::Port;
+use fw_base::{MOST_RECORDS_OF_ALL, Port};
 use pcap_read::MOST_RECORDS;
-
-/// How many records all captures together may have.
-pub const MOST_RECORDS_OF_ALL: u32 = 33_554_432;
 
 /// How many records each of so many captures may have: together 33,554,432, and at most 4,194,304.
 pub fn limit_for(captures: u32) -> u32

@@ -16,7 +16,7 @@ use Rattle.clap.specs.declared.error.kind.ErrorKind.{ErrorKind}
 use Rattle.clap.specs.declared.error.kind.ErrorKind.TheVariants.{UnknownArgument, TooManyValues}
 use Rattle.command_words.specs.CommandLine.{command_app, journal_rule, cache_rule, positional_rule}
 use Rattle.command_words.specs.Bytes.{is_same}
-use Rattle.command_words.specs.Chain.{◌>>=◌}
+use Rattle.fw_base.specs.Chain.{◌>>=◌}
 use Rattle.command_words.specs.Words.{is_option, stripped, Given, with_journal, with_value, by_option}
 
 -- the command as the library builds it

@@ -1,7 +1,5 @@
 -- cutting a string of bytes
 pub mod Bytes
--- one step after another
-pub mod Chain
 -- which words are a command
 pub mod Words
 -- what the code names, as the definition says it

@@ -23,7 +23,7 @@ use Rattle.fw_base.specs.declared.port.Direction.{Direction}
 use Rattle.fw_base.specs.declared.port.Direction.TheVariants.{In, Out}
 use Rattle.command_words.specs.declared.invocation.Mode.{Mode}
 use Rattle.command_words.specs.declared.invocation.Mode.TheVariants.{Serial, Live}
-use Rattle.command_words.specs.Chain.{◌>>=◌}
+use Rattle.fw_base.specs.Chain.{◌>>=◌}
 use Rattle.command_words.specs.Bytes.{is_same, is_empty, cut_at}
 
 -- ---- what a command names

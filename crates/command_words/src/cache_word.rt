@@ -2,12 +2,10 @@ ghost use Rattle.std.specs.Prelude.{◌≡◌, ◌≤◌, IfSome};
 ghost use Rattle.command_words.specs.Words as spec;
 
 use crate::bytes::are_digits;
+use fw_base::MOST_VERDICTS;
 
 /// How many digits the number of `--cache` has at most.
 const MOST_DIGITS: usize = 5;
-
-/// How many verdicts a cache may hold at most.
-const MOST_VERDICTS: u32 = 65_536;
 
 /// How many verdicts a cache may hold, as `--cache` says it.
 #[tactic(auto, unfolding(crate::specs::Words::cache_number))]

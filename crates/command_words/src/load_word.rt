@@ -2,12 +2,10 @@ ghost use Rattle.std.specs.Prelude.{◌≡◌, ◌≤◌, IfSome};
 ghost use Rattle.command_words.specs.Words as spec;
 
 use crate::bytes::are_digits;
+use fw_base::MOST_LOAD_RECORDS;
 
 /// How many digits a load's number has at most.
 const MOST_DIGITS: usize = 7;
-
-/// How many records a load has at most.
-const MOST_RECORDS: u32 = 1_000_000;
 
 /// A load's number of records.
 #[tactic(auto, unfolding(crate::specs::Words::load_number))]
@@ -19,7 +17,7 @@ pub(crate) fn load_number(word: &str) -> Option<u32>
         return None;
     }
     match word.parse::<u32>() {
-        Ok(records) if 1 <= records && records <= MOST_RECORDS => Some(records),
+        Ok(records) if 1 <= records && records <= MOST_LOAD_RECORDS => Some(records),
         _ => None,
     }
 }

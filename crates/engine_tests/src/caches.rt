@@ -2,12 +2,12 @@ mod changes;
 mod visits;
 
 use changes::{CHANGES, Change};
-use fw_base::{Link, OutOfMemory};
+use fw_base::{Link, MOST_VERDICTS, OutOfMemory};
 use packet_headers::{Packet, read_packet};
 use std::alloc::{AllocError, Global};
 use std::process::Abort;
 use std::test::Fail;
-use verdict_cache::{Key, MOST_VERDICTS, VerdictCache};
+use verdict_cache::{Key, VerdictCache};
 use visits::{ROWS, Row};
 
 /// The key of a packet without a link header.

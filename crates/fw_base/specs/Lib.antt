@@ -3,6 +3,8 @@ pub mod Faults
 pub mod Memory
 pub mod Pairs
 pub mod Texts
+-- one step after another
+pub mod Chain
 -- addresses, prefixes, ports, names
 pub mod Addr
 pub mod Prefix

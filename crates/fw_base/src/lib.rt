@@ -10,7 +10,7 @@ pub use failure::{Failed, OutOfMemory};
 pub use gate::{FreeGate, Gate};
 pub use kept::Kept;
 pub use library::Library;
-pub use limits::MOST_CAPTURES;
+pub use limits::{MOST_CAPTURES, MOST_LOAD_RECORDS, MOST_RECORDS_OF_ALL, MOST_VERDICTS};
 pub use link::Link;
 pub use memory_library::MemoryLibrary;
 pub use memory_sink::MemorySink;

@@ -7,6 +7,7 @@ ghost use Rattle.fw_command.specs.Statements as spec;
 use crate::commands::command;
 use crate::ends::{finished, first_number};
 use crate::statement::Statement;
+use fw_base::MOST_RECORDS_OF_ALL;
 use fw_lex::{LexFault, Token, tokens};
 use fw_rule::Command;
 use ipfw_parser::{Kind, ParseFault, Word, Words, line_end, parse_rule, words_of};
@@ -27,7 +28,7 @@ fn live_statement<'a>(live: bool, word: Word<'a>, words: Words<'a>) -> Result<St
 fn after_count(column: u32, end: u32, words: Words<'_>) -> Result<Statement, ParseFault>
     ensures { ReadsAs (λ s. s) result (spec.after_count column end (list_of words.entry)) }
 {
-    let (count, words) = first_number(0, 33_554_432, end, words)?;
+    let (count, words) = first_number(0, MOST_RECORDS_OF_ALL as u64, end, words)?;
     finished(Statement::After { column, count }, words)
 }
 

@@ -6,7 +6,8 @@ use Rattle.state_asks.specs.declared.op.Op.{Op}
 use Rattle.state_asks.specs.declared.op.Op.TheVariants.{Lookup, Install}
 use Rattle.state_asks.specs.declared.reply.Reply.{Reply}
 use Rattle.state_texts.specs.StateTexts.{flow_text}
-use Rattle.fw_report.specs.JournalText.{name_numbered, name_word, ask_line, ask_start, ask_end, flow_of_ask, asked_flags}
+use Rattle.state_asks.specs.Flags.{asked_flags}
+use Rattle.fw_report.specs.JournalText.{name_numbered, name_word, ask_line, ask_start, ask_end, flow_of_ask}
 use Rattle.state_asks.specs.Asked.{asked_second}
 
 -- the name of the flow that is asked for

@@ -6,6 +6,8 @@ use Rattle.fw_rule.specs.Bits.{has_bit}
 use Rattle.rule_text.specs.Canonical.{mask_word}
 use Rattle.fw_rule.specs.declared.state_opt.LimitMask.{LimitMask}
 use Rattle.state_texts.specs.StateTexts.{flow_text}
+use Rattle.state_asks.specs.Asked.{asked_second}
+use Rattle.state_asks.specs.Flags.{asked_flags}
 use Rattle.state_asks.specs.declared.op.FlowName.{FlowName}
 use Rattle.state_asks.specs.declared.op.FlowName.TheVariants.{Any, Named}
 use Rattle.state_asks.specs.declared.op.Op.{Op}
@@ -87,11 +89,6 @@ ask_end flags reply = codes " " ++ (flags_word flags ++ (codes " " ++ reply_end 
 abbrev pub flow_of_ask : Op → Flow
 flow_of_ask (Lookup flags flow second name) = flow
 flow_of_ask (Install flags flow second rule limit name) = flow
-
--- the flags that are asked with
-abbrev pub asked_flags : Op → ℕ
-asked_flags (Lookup flags flow second name) = flags
-asked_flags (Install flags flow second rule limit name) = flags
 
 -- what is asked
 abbrev pub op_text : List (List ℕ) → Op → List ℕ

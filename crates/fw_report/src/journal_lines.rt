@@ -251,14 +251,6 @@ fn put_ask_end(line: &mut Line, flags: u8, reply: Reply)
     line.put_text(b" ");
 }
 
-fn flags_of(op: &Op) -> u8
-    ensures { result ≡ text.asked_flags op.now }
-{
-    match op {
-        Op::Lookup { flags, .. } | Op::Install { flags, .. } => *flags,
-    }
-}
-
 fn flow_of(op: &Op) -> &Flow
     ensures { result.now ≡ text.flow_of_ask op.now }
 {
@@ -284,7 +276,7 @@ fn put_ask_rest(line: &mut Line, op: &Op, reply: Reply)
     ensures room { length line.new ≤ 135 }
 {
     line.clear();
-    put_ask_end(line, flags_of(op), reply);
+    put_ask_end(line, op.flags(), reply);
     put_flow(line, flow_of(op));
 }
 

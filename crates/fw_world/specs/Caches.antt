@@ -5,7 +5,7 @@ use Rattle.fw_base.specs.declared.port.Port.{Port}
 use Rattle.rule_chain.specs.Configuration.{Configuration}
 use Rattle.generation_store.specs.Published.{Published, IsBuilt}
 use Rattle.eval_engine.specs.Question.{Question}
-use Rattle.verdict_cache.specs.declared.cache.TheConstants.{MOST_VERDICTS}
+use Rattle.fw_base.specs.declared.limits.TheConstants.{MOST_VERDICTS}
 use Rattle.cached_verdicts.specs.LaneCache.{LaneCacheValue, empty_lane_cache, IsPortOf, IsTrueUnder, IsLookedInto, SeesPacket}
 use Rattle.cached_verdicts.specs.Verdicts.{KeepsVerdicts}
 use Rattle.fw_world.specs.Editions.{edition_numbered}

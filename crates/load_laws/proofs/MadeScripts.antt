@@ -16,13 +16,13 @@ use Rattle.fw_command.specs.declared.script.Pace.TheVariants.{Serial}
 use Rattle.fw_command.specs.declared.script.Script.{Script}
 use Rattle.fw_command.specs.declared.script.Step.TheVariants.{Run}
 use Rattle.fw_rule.specs.declared.command.Command.TheVariants.{Delete}
-use Rattle.load_maker.specs.declared.load.TheConstants.{MOST_RECORDS}
+use Rattle.fw_base.specs.declared.limits.TheConstants.{MOST_LOAD_RECORDS}
 use Rattle.load_maker.specs.Load as load
 use Rattle.load_laws.specs.Laws.{MadeScriptsAreRead}
 use Rattle.load_laws.proofs.MadeLines.{rule_lines, lines_behind, line_before, last_line, rules_read}
 use Rattle.load_laws.proofs.WaitLine.{wait_line, wait_free, wait_read}
 
-made_lines_are : (n : ℕ) → n ≤ MOST_RECORDS → lines_of (load.load_script n) ≡ rule_lines (wait_line (n / 2) ∷ codes "delete 300" ∷ [])
+made_lines_are : (n : ℕ) → n ≤ MOST_LOAD_RECORDS → lines_of (load.load_script n) ≡ rule_lines (wait_line (n / 2) ∷ codes "delete 300" ∷ [])
 unfolding load.load_script
 made_lines_are n few =
     let free = wait_free (n / 2) (omega (arith, few)) in
@@ -32,7 +32,7 @@ start_length : length load.script_start ≡ 230
 unfolding load.script_start
 start_length = refl
 
-short : (n : ℕ) → n ≤ MOST_RECORDS → length (load.load_script n) ≤ 1048576
+short : (n : ℕ) → n ≤ MOST_LOAD_RECORDS → length (load.load_script n) ≤ 1048576
 unfolding load.load_script
 short n few =
     omega (

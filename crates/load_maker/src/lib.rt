@@ -3,7 +3,7 @@
 //! Tests: `record_tests`, src/loads.
 #![tactic(auto)]
 
-pub use load::{Load, MOST_RECORDS, make};
+pub use load::{Load, make};
 pub use made_capture::MadeCapture;
 
 mod generator;

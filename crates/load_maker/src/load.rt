@@ -2,12 +2,9 @@ ghost use Rattle.std.specs.Prelude.{◌≡◌, ◌≤◌, IfOk};
 ghost use Rattle.load_maker.specs.Load as load;
 
 use crate::made_capture::MadeCapture;
-use fw_base::OutOfMemory;
+use fw_base::{MOST_LOAD_RECORDS, OutOfMemory};
 use itoa::Buffer;
 use std::alloc::Global;
-
-/// The most records of a load.
-pub const MOST_RECORDS: u32 = 1_000_000;
 
 /// More than a script has.
 const SCRIPT_BYTES: usize = 256;
@@ -38,7 +35,7 @@ fn script(alloc: Global, n: u32) -> Result<Vec<u8>, OutOfMemory>
 
 /// The load of so many records, 1 to 1,000,000. Only its script takes memory.
 pub fn make(alloc: Global, n: u32) -> Result<Load, OutOfMemory>
-    requires { (1 ≤ n) × (n ≤ MOST_RECORDS) }
+    requires { (1 ≤ n) × (n ≤ MOST_LOAD_RECORDS) }
     ensures script { IfOk result (λ made. made.script.items ≡ load.load_script n) }
     ensures capture { IfOk result (λ made. made.capture ≡ load.load_capture n) }
 {

@@ -3,10 +3,9 @@ ghost use Rattle.load_maker.specs.Load as load;
 ghost use Rattle.load_maker.specs.Packets.{load_record, packet_of};
 
 use crate::generator::Generator;
-use crate::load::MOST_RECORDS;
 use crate::packets::{RECORD_BYTES, packet_length, put, put_packet};
 use arrayvec::ArrayVec;
-use fw_base::{Failed, Source};
+use fw_base::{Failed, MOST_LOAD_RECORDS, Source};
 use std::marker::Model;
 
 /// The header of a raw capture, pcap 2.4, little-endian, in microseconds.
@@ -29,7 +28,7 @@ pub struct MadeCapture {
 impl Model for MadeCapture {
     ghost use Rattle.std.specs.Prelude.{◌+◌, ◌≤◌, ◌++◌, List, ℕ, drop, length};
     ghost use Rattle.load_maker.specs.Load.{records_from};
-    ghost use Rattle.load_maker.specs.declared.load.TheConstants.{MOST_RECORDS};
+    ghost use Rattle.fw_base.specs.declared.limits.TheConstants.{MOST_LOAD_RECORDS};
 
     ghost Value = { List ℕ };
 
@@ -37,14 +36,14 @@ impl Model for MadeCapture {
         ++ records_from c.more c.number c.generator.state };
 
     ghost invariant = { λ c. (c.taken ≤ length c.piece.items) × (1 ≤ c.number)
-        × (c.number + c.more ≤ MOST_RECORDS + 1) };
+        × (c.number + c.more ≤ MOST_LOAD_RECORDS + 1) };
 }
 
 impl MadeCapture {
     /// The capture of so many records.
     #[tactic(auto, unfolding(crate::specs::Load::load_capture))]
     pub(crate) fn new(records: u32) -> MadeCapture
-        requires { records ≤ MOST_RECORDS }
+        requires { records ≤ MOST_LOAD_RECORDS }
         ensures { result ≡ load.load_capture records }
     {
         let mut piece = ArrayVec::new();

@@ -6,7 +6,7 @@
 
 use crate::replays::{print_live, print_serial};
 use anyhow::Result;
-use load_maker::MOST_RECORDS;
+use fw_base::MOST_LOAD_RECORDS;
 use std::env;
 
 mod captures;
@@ -28,7 +28,7 @@ fn main(rt: HostRuntime) -> Result<()> {
         println!(rt; "usage: replay_bench RECORDS")?;
         return Ok(());
     };
-    if records < 1 || records > MOST_RECORDS {
+    if records < 1 || records > MOST_LOAD_RECORDS {
         println!(rt; "usage: replay_bench RECORDS")?;
         return Ok(());
     }

@@ -3,9 +3,8 @@ ghost use Rattle.std.specs.Prelude.{◌≤◌};
 use crate::captures::four;
 use crate::configuration::configured;
 use anyhow::{Result, bail};
-use fw_base::FreeGate;
+use fw_base::{FreeGate, MOST_LOAD_RECORDS};
 use live_replay::{Runner, replay_live};
-use load_maker::MOST_RECORDS;
 use serial_replay::replay_serial;
 use std::alloc::Global;
 use std::io::Print;
@@ -29,7 +28,7 @@ pub fn print_serial<R: Clock + Print>(
     rules: &str,
     records: u32,
 ) -> Result<()>
-    requires { (1 ≤ records) × (records ≤ MOST_RECORDS) }
+    requires { (1 ≤ records) × (records ≤ MOST_LOAD_RECORDS) }
 {
     let config = configured(alloc, rules)?;
     let captures = four(alloc, records)?;
@@ -49,7 +48,7 @@ pub fn print_live<R: Threads + Wait + Clock + Print + Sync>(
     rules: &str,
     records: u32,
 ) -> Result<()>
-    requires { (1 ≤ records) × (records ≤ MOST_RECORDS) }
+    requires { (1 ≤ records) × (records ≤ MOST_LOAD_RECORDS) }
 {
     let config = configured(alloc, rules)?;
     let captures = four(alloc, records)?;

@@ -5,7 +5,7 @@ use Rattle.fw_command.specs.declared.script.Line.{Line}
 use Rattle.fw_command.specs.declared.script.Pace.TheVariants.{Serial}
 use Rattle.fw_command.specs.declared.script.Script.{Script}
 use Rattle.load_maker.specs.Load as load
-use Rattle.load_maker.specs.declared.load.TheConstants.{MOST_RECORDS}
+use Rattle.fw_base.specs.declared.limits.TheConstants.{MOST_LOAD_RECORDS}
 use Rattle.load_laws.specs.Acceptance.{AreAccepted}
 use Rattle.load_laws.specs.MadeScript.{made_script}
 use Rattle.load_laws.proofs.Acceptance.{scripts_accepted}
@@ -54,7 +54,7 @@ none_answered s (line ∷ lines) unlisted (next, applied, more) =
     ap (λ (t : Standing). (after_lines t lines).answers) is ∙ none_answered made lines unlisted.1 more
 
 -- a load's script gives an edition, and each of its lines behind `live` is accepted
-pub load_accepted : (n : ℕ) → n ≤ MOST_RECORDS → IsAccepted Serial (load.load_script n)
+pub load_accepted : (n : ℕ) → n ≤ MOST_LOAD_RECORDS → IsAccepted Serial (load.load_script n)
 unfolding first_edition
 load_accepted n few =
     let script : Script = made_script n in
@@ -68,5 +68,5 @@ load_accepted n few =
     }
 
 -- so it has no error
-pub load_ready : (n : ℕ) → n ≤ MOST_RECORDS → (error : ScriptError) → first_edition Serial (load.load_script n) ≡ Err error → ⊥
+pub load_ready : (n : ℕ) → n ≤ MOST_LOAD_RECORDS → (error : ScriptError) → first_edition Serial (load.load_script n) ≡ Err error → ⊥
 load_ready n few error failed = let ok = (load_accepted n few).first in cc

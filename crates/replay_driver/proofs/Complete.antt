@@ -22,7 +22,7 @@ use Rattle.fw_report.specs.declared.ends.Ends.{Ends}
 use Rattle.fw_report.specs.declared.ends.LineAnswer.{LineAnswer}
 use Rattle.fw_world.specs.RecordValue.{RecordValue}
 use Rattle.load_maker.specs.Load as load
-use Rattle.load_maker.specs.declared.load.TheConstants.{MOST_RECORDS}
+use Rattle.fw_base.specs.declared.limits.TheConstants.{MOST_LOAD_RECORDS}
 use Rattle.load_laws.proofs.MadeCaptures.{captures_whole}
 use Rattle.pcap_read.specs.Reading.{Captured, Place, Open, Closed, AtBoundary, HasFront, Stops, at_end}
 use Rattle.pcap_read.specs.declared.capture_fault.CaptureFault.{CaptureFault}
@@ -266,7 +266,7 @@ module _ {K S L : Type 0} (output : Output K) (files : Files L S)
       (subst (λ (n : ℕ). AllByRecursion (IsWhole files.left files.failures (limit_for n)) found.opened) (sym many) whole) found.replay quiet.1
   replay_status names complete (Summed kept ends) finds = absurd finds
 
-  load_status : (n : ℕ) → n ≤ MOST_RECORDS → (result : RunResult) → FindsLoad n result → result_status result ≡ 0
+  load_status : (n : ℕ) → n ≤ MOST_LOAD_RECORDS → (result : RunResult) → FindsLoad n result → result_status result ≡ 0
   load_status n few Usage finds = absurd finds
   load_status n few (Unread name) finds = absurd finds
   load_status n few (Unready error) found = absurd (load_ready n few error found)

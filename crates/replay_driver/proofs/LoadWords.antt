@@ -7,36 +7,36 @@ use Rattle.std.specs.Option.{option_map}
 use Rattle.std.specs.Str.Parse.{digits_value}
 use Rattle.std.proofs.lemmas.Bool.{and_parts, leb-true}
 use Rattle.command_words.specs.Bytes.{is_same, is_empty}
-use Rattle.command_words.specs.Chain.{◌>>=◌}
+use Rattle.fw_base.specs.Chain.{◌>>=◌}
 use Rattle.command_words.specs.Words.{CommandWords, CaptureNames, Replay, Load, Audit, Arguments, arguments_of, captures_of, load_number, load_of, audit_of, replay_of, command_by, command_of}
 use Rattle.command_words.specs.declared.invocation.Mode.{Mode}
 use Rattle.command_words.specs.declared.invocation.Mode.TheVariants.{Serial, Live}
-use Rattle.load_maker.specs.declared.load.TheConstants.{MOST_RECORDS}
+use Rattle.fw_base.specs.declared.limits.TheConstants.{MOST_LOAD_RECORDS}
 use Rattle.replay_driver.specs.Served.{Job, Replays, Loads, job_of_command, job_of}
 
 -- the number of records of a load can be made
 abbrev pub CanBeMade : Job → Type 0
 CanBeMade (Replays names) = ⊤
-CanBeMade (Loads n) = n ≤ MOST_RECORDS
+CanBeMade (Loads n) = n ≤ MOST_LOAD_RECORDS
 
 -- the same of words
 abbrev IsWithin : CommandWords → Type 0
 IsWithin (Replay mode journal cache script captures) = ⊤
-IsWithin (Load n) = n ≤ MOST_RECORDS
+IsWithin (Load n) = n ≤ MOST_LOAD_RECORDS
 IsWithin (Audit report script captures) = ⊤
 
 either_within : (test : Bool) (found other : Option CommandWords) → IfSome found IsWithin → IfSome other IsWithin → IfSome (if test then found else other) IsWithin
 either_within true found other p q = p
 either_within false found other p q = q
 
-number_within : (word : List ℕ) → IfSome (load_number word) (λ n. n ≤ MOST_RECORDS)
+number_within : (word : List ℕ) → IfSome (load_number word) (λ n. n ≤ MOST_LOAD_RECORDS)
 unfolding load_number
 number_within word =
     let n : ℕ = digits_value 10 word in
     by_tests ((nat_le 1 (length word) && nat_le (length word) 7) && list_all is_ascii_digit word) (nat_le 1 n && nat_le n 1000000) n
     (λ told. leb-true n 1000000 (and_parts (nat_le 1 n) (nat_le n 1000000) told).1)
   where
-    by_tests : (digits within : Bool) (n : ℕ) → (within ≡ true → n ≤ MOST_RECORDS) → IfSome (if digits then (if within then Some n else None) else None) (λ m. m ≤ MOST_RECORDS)
+    by_tests : (digits within : Bool) (n : ℕ) → (within ≡ true → n ≤ MOST_LOAD_RECORDS) → IfSome (if digits then (if within then Some n else None) else None) (λ m. m ≤ MOST_LOAD_RECORDS)
     by_tests true true n few = few refl
     by_tests true false n few = tt
     by_tests false within n few = tt
@@ -46,7 +46,7 @@ unfolding load_of
 load_within [] = tt
 load_within (number ∷ []) = by_number (load_number number) (number_within number)
   where
-    by_number : (found : Option ℕ) → IfSome found (λ n. n ≤ MOST_RECORDS) → IfSome (option_map Load found) IsWithin
+    by_number : (found : Option ℕ) → IfSome found (λ n. n ≤ MOST_LOAD_RECORDS) → IfSome (option_map Load found) IsWithin
     by_number None few = tt
     by_number (Some n) few = few
 load_within (number ∷ other ∷ more) = tt

@@ -7,9 +7,9 @@ use crate::edition_replay::replay_in_turn;
 use crate::first_edition::read_first_edition;
 use crate::run_result::RunResult;
 use capture_tracks::OpenedCapture;
-use fw_base::{Direction, Name, OutOfMemory, Port};
+use fw_base::{Direction, MOST_LOAD_RECORDS, Name, OutOfMemory, Port};
 use fw_command::Pace;
-use load_maker::{Load, MOST_RECORDS, MadeCapture, make};
+use load_maker::{Load, MadeCapture, make};
 use std::alloc::Global;
 
 /// The made capture, as it would be taken at `in:em0`.
@@ -28,7 +28,7 @@ fn open_made(alloc: Global, capture: MadeCapture) -> Result<OpenedCapture<MadeCa
 
 /// Replays the load of so many records, 1 to 1,000,000. Its source is dropped.
 pub(crate) fn replay_load(alloc: Global, records: u32) -> Result<RunResult, OutOfMemory>
-    requires { (1 ≤ records) × (records ≤ MOST_RECORDS) }
+    requires { (1 ≤ records) × (records ≤ MOST_LOAD_RECORDS) }
     ensures writable { IfOk result IsWritable }
     ensures finds { IfOk result (FindsLoad records) }
 {

@@ -12,14 +12,14 @@ use Rattle.fw_rule.specs.declared.state_opt.LimitMask.TheVariants.{SrcAddr, SrcP
 use Rattle.rule_text.specs.Canonical.{mask_word}
 use Rattle.packet_headers.specs.declared.flows.Flow.{Flow}
 use Rattle.state_texts.specs.StateTexts.{flow_text}
-use Rattle.state_asks.specs.Flags.{HasKeptFlags}
+use Rattle.state_asks.specs.Flags.{asked_flags, HasKeptFlags}
 use Rattle.state_asks.specs.declared.op.FlowName.TheVariants.{Any, Named}
 use Rattle.state_asks.specs.declared.op.Op.{Op}
 use Rattle.state_asks.specs.declared.op.Op.TheVariants as op
 use Rattle.state_asks.specs.declared.reply.Reply.{Reply}
 use Rattle.state_asks.specs.declared.reply.Reply.TheVariants.{Found, NotFound, Created, Exists, LimitReached, TableFull}
 use Rattle.state_asks.specs.declared.reply.Way.TheVariants.{Forward, Reverse}
-use Rattle.fw_report.specs.JournalText.{ask_line, ask_start, ask_end, lookup_text, install_text, op_text, name_numbered, flags_word, reply_end, flow_of_ask, asked_flags}
+use Rattle.fw_report.specs.JournalText.{ask_line, ask_start, ask_end, lookup_text, install_text, op_text, name_numbered, flags_word, reply_end, flow_of_ask}
 use Rattle.state_asks.specs.Asked.{asked_second}
 use Rattle.fw_report.specs.AskText.{asked_name}
 use Rattle.report_reading.specs.Parts.{behind}

@@ -11,7 +11,7 @@ use Rattle.fw_rule.specs.declared.state_opt.LimitMask.{LimitMask}
 use Rattle.fw_rule.specs.declared.state_opt.LimitMask.TheVariants.{SrcAddr, SrcPort, DstAddr, DstPort}
 use Rattle.rule_text.specs.Canonical.{mask_word}
 use Rattle.packet_headers.specs.declared.flows.Flow.{Flow}
-use Rattle.state_asks.specs.Flags.{HasKeptFlags}
+use Rattle.state_asks.specs.Flags.{asked_flags, HasKeptFlags}
 use Rattle.state_asks.specs.declared.op.FlowName.TheVariants.{Any, Named}
 use Rattle.state_asks.specs.declared.op.Op.{Op}
 use Rattle.state_asks.specs.declared.op.Op.TheVariants as op
@@ -20,10 +20,10 @@ use Rattle.state_asks.specs.declared.reply.Reply.TheVariants.{Found, NotFound, C
 use Rattle.state_asks.specs.declared.reply.Way.{Way}
 use Rattle.state_asks.specs.declared.rule_ref.RuleRef.{RuleRef}
 use Rattle.state_asks.specs.declared.reply.Way.TheVariants.{Forward, Reverse}
-use Rattle.fw_report.specs.JournalText.{ask_line, ask_end, flags_word, way_word, reply_end, flow_of_ask, asked_flags}
+use Rattle.fw_report.specs.JournalText.{ask_line, ask_end, flags_word, way_word, reply_end, flow_of_ask}
 use Rattle.state_asks.specs.Asked.{asked_second}
 use Rattle.fw_report.specs.AskText.{asked_name}
-use Rattle.report_reading.specs.Steps.{◌>>=◌, or_else}
+use Rattle.fw_base.specs.Chain.{◌>>=◌, or_else}
 use Rattle.report_reading.specs.Parts.{Part, behind, told_by, told_where, positive_at, number_at}
 use Rattle.report_reading.specs.RecordLines.{named_code_at, count_in}
 use Rattle.report_reading.specs.FlowTexts.{IsFlow, IsNameText, name_at, flow_at}

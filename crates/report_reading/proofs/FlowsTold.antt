@@ -10,7 +10,7 @@ use Rattle.fw_base.specs.Addr.{address_text}
 use Rattle.fw_base.specs.declared.address.Addr.{Addr}
 use Rattle.rule_text.specs.Canonical.{protocol_word}
 use Rattle.packet_headers.specs.declared.flows.Flow.{Flow}
-use Rattle.report_reading.specs.Steps.{◌>>=◌, or_else}
+use Rattle.fw_base.specs.Chain.{◌>>=◌, or_else}
 use Rattle.report_reading.specs.Parts.{Part, behind, told_by, number_at}
 use Rattle.report_reading.specs.FlowTexts.{IsFlow, octets_at, address_at, port_at, is_named_protocol, plain_protocol, protocol_at, flow_at}
 use Rattle.report_reading.proofs.Words.{behind_told, then_found, one_found, by_word}

@@ -15,7 +15,7 @@ use Rattle.state_asks.specs.Flags.{HasKeptFlags}
 use Rattle.fw_report.specs.JournalText.{name_numbered, flow_of_ask}
 use Rattle.state_asks.specs.Asked.{asked_second}
 use Rattle.fw_report.specs.AskText.{asked_name}
-use Rattle.report_reading.specs.Steps.{◌>>=◌}
+use Rattle.fw_base.specs.Chain.{◌>>=◌}
 use Rattle.report_reading.specs.Parts.{behind, positive_at, number_at}
 use Rattle.report_reading.specs.FlowTexts.{IsFlow, IsNameText, name_at, flow_at}
 use Rattle.report_reading.specs.AskParts.{question_at, flags_at, reply_in}

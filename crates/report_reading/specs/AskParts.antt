@@ -6,7 +6,7 @@ use Rattle.state_asks.specs.declared.reply.Reply.{Reply}
 use Rattle.state_asks.specs.declared.reply.Reply.TheVariants.{Found, NotFound, Created, Exists, LimitReached, TableFull}
 use Rattle.state_asks.specs.declared.reply.Way.TheVariants.{Forward, Reverse}
 use Rattle.fw_report.specs.JournalText.{flags_word}
-use Rattle.report_reading.specs.Steps.{◌>>=◌, or_else}
+use Rattle.fw_base.specs.Chain.{◌>>=◌, or_else}
 use Rattle.report_reading.specs.Parts.{Part, behind, told_by, told_where, number_at, positive_at}
 use Rattle.report_reading.specs.RecordLines.{named_code_at, count_in}
 use Rattle.report_reading.specs.declared.ask_parts.Question.{Question}

@@ -5,7 +5,7 @@ use Rattle.std.specs.Int.{w32, from_be_bytes}
 use Rattle.fw_base.specs.Name.{is_name_byte}
 use Rattle.fw_base.specs.declared.address.Addr.{Addr}
 use Rattle.packet_headers.specs.declared.flows.Flow.{Flow}
-use Rattle.report_reading.specs.Steps.{◌>>=◌, or_else}
+use Rattle.fw_base.specs.Chain.{◌>>=◌, or_else}
 use Rattle.report_reading.specs.Parts.{Part, behind, told_by, number_at}
 
 -- ---- what a text of a flow can tell

@@ -1,6 +1,6 @@
 -- The lines of lanes and of publications, read back.
 use Rattle.std.specs.Prelude.{ℕ, ◌^◌, ◌≤◌, ◌<◌, Option, List, codes}
-use Rattle.report_reading.specs.Steps.{◌>>=◌}
+use Rattle.fw_base.specs.Chain.{◌>>=◌}
 use Rattle.report_reading.specs.Parts.{behind, ended, positive_at, number_at}
 use Rattle.report_reading.specs.declared.lane_lines.LaneLine.{LaneLine}
 

@@ -1,7 +1,6 @@
 -- the lines of a text
 pub mod Lines
--- what the kinds of lines are made of, and one step after another
-pub mod Steps
+-- what the kinds of lines are made of
 pub mod Parts
 -- the lines of records
 pub mod RecordLines

@@ -1,7 +1,7 @@
 -- The lines of a report of which only the whole text counts: ends of captures, answers, rules, states and headings. They
 -- need no more form than tells them from the line of a record, an entry or a lane.
 use Rattle.std.specs.Prelude.{ℕ, ◌-◌, Bool, ◌==◌, ◌||◌, ◌&&◌, nat_le, is_some, Option, List, [], ◌∷◌, length, slice_index, codes}
-use Rattle.report_reading.specs.Steps.{◌>>=◌}
+use Rattle.fw_base.specs.Chain.{◌>>=◌}
 use Rattle.report_reading.specs.Parts.{behind, ended, number_at, rule_number_at}
 use Rattle.report_reading.specs.RecordLines.{named_code_at}
 use Rattle.report_reading.specs.FlowTexts.{octets_at}

@@ -2,7 +2,7 @@
 use Rattle.std.specs.Prelude.{ℕ, ◌+◌, ◌-◌, ◌*◌, ◌==◌, nat_le, if◌then◌else◌, Option, Some, None, List, [], ◌∷◌, take, drop, length, codes, nat_eq}
 use Rattle.std.specs.Cmp.Lexicographic.{pointwise}
 use Rattle.std.specs.Char.{is_ascii_digit}
-use Rattle.report_reading.specs.Steps.{◌>>=◌}
+use Rattle.fw_base.specs.Chain.{◌>>=◌}
 
 -- a value and the text behind it, where a text begins with such a part
 abbrev pub Part : Type 0 → Type 0

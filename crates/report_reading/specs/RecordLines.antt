@@ -9,7 +9,7 @@ use Rattle.eval_engine.specs.declared.judgement.Cause.{Cause}
 use Rattle.eval_engine.specs.declared.judgement.Cause.TheVariants.{Rule, Limit, Full}
 use Rattle.eval_engine.specs.declared.judgement.Verdict.{Verdict}
 use Rattle.eval_engine.specs.declared.judgement.Verdict.TheVariants.{Allow, Deny, Reset, Unreach}
-use Rattle.report_reading.specs.Steps.{◌>>=◌, or_else}
+use Rattle.fw_base.specs.Chain.{◌>>=◌, or_else}
 use Rattle.report_reading.specs.Parts.{Part, behind, told_by, told_where, ended, positive_at, number_at, rule_number_at}
 use Rattle.report_reading.specs.declared.record_lines.RecordLine.{RecordLine}
 

@@ -27,7 +27,8 @@ use Rattle.state_journal.specs.declared.entry.Entry.{Entry}
 use Rattle.state_journal.specs.declared.entry.Entry.TheVariants.{Publish, Ask}
 use Rattle.run_audit.proofs.LaneAsks.{IsOfJudged, lane_asked}
 use Rattle.run_audit.specs.Audit.{AreTalliesOf}
-use Rattle.run_audit.specs.Composition.{entries_of_each, IsOfJudgedRecord, HaveSections}
+use Rattle.run_audit.specs.Composition.{IsOfJudgedRecord, HaveSections}
+use Rattle.run_audit.specs.JudgingValues.{entries_of_each}
 use Rattle.run_audit.specs.Judging.{ToldValue, AreToldSo, IsToldSo, asks_told}
 use Rattle.run_audit.specs.OtherLines.{judgement_at}
 

@@ -4,7 +4,7 @@ use Rattle.std.specs.Prelude.{is_some, unwrap_or}
 use Rattle.std.proofs.lemmas.Bool.{cases_Bool}
 use Rattle.report_reading.specs.Lines.{lines_with_ends}
 use Rattle.report_reading.specs.Readings.{reading_of}
-use Rattle.report_reading.specs.Steps.{or_else}
+use Rattle.fw_base.specs.Chain.{or_else}
 use Rattle.run_audit.specs.AuditFaults.{IfWrong, NamesLine}
 use Rattle.run_audit.specs.Forms.{first_unformed}
 use Rattle.run_audit.specs.declared.audit_fault.AuditFault.{AuditFault}

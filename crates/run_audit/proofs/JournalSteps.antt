@@ -7,7 +7,7 @@ use Rattle.fw_world.specs.Publications.{facts_of}
 use Rattle.generation_store.specs.Published.{Published}
 use Rattle.report_reading.specs.AskLines.{AskValue}
 use Rattle.report_reading.specs.Readings.{LineValue, OfRecord, OfPublication, OfAsk, OfLane, OfOther}
-use Rattle.report_reading.specs.Steps.{◌>>=◌}
+use Rattle.fw_base.specs.Chain.{◌>>=◌}
 use Rattle.state_asks.specs.declared.facts.Facts.{Facts}
 use Rattle.state_asks.specs.declared.op.Op.{Op}
 use Rattle.state_journal.specs.Journal.{Journal, last_rules, with_ask, with_publication}

@@ -10,7 +10,8 @@ use Rattle.fw_world.specs.Sections.{AreSections, judged_editions, tracker_after}
 use Rattle.report_reading.specs.Readings.{LineValue, OfRecord, OfPublication, OfAsk, OfLane, OfOther}
 use Rattle.report_reading.specs.declared.lane_lines.LaneLine.{LaneLine}
 use Rattle.run_audit.specs.Audit.{AreSectionsTold}
-use Rattle.run_audit.specs.Composition.{HaveSections, entries_of_each}
+use Rattle.run_audit.specs.Composition.{HaveSections}
+use Rattle.run_audit.specs.JudgingValues.{entries_of_each}
 use Rattle.run_audit.specs.Indexes.{is_line_of_lane}
 use Rattle.run_audit.specs.Judging.{ToldValue}
 use Rattle.run_audit.specs.LeftOver.{first_behind, has_sections}

@@ -7,7 +7,7 @@ use Rattle.eval_engine.specs.Dockets.{DocketValue}
 use Rattle.fw_command.specs.declared.script.Step.{Step}
 use Rattle.fw_world.specs.Inputs.{Input}
 use Rattle.generation_store.specs.Published.{Published}
-use Rattle.report_reading.specs.Steps.{or_else}
+use Rattle.fw_base.specs.Chain.{or_else}
 use Rattle.rule_chain.specs.Configuration.{Configuration}
 use Rattle.state_journal.specs.Journal.{Journal}
 use Rattle.run_audit.specs.Audit.{AreEditionsOf, IsOpened, FailsAtOpening, AuditValue, AreTalliesOf, IsAuditOf, no_docket, told_value}

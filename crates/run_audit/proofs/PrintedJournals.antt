@@ -5,7 +5,7 @@ use Rattle.std.specs.List.{flat_map, AllByRecursion}
 use Rattle.std.proofs.lemmas.List.{append-nil}
 use Rattle.eval_engine.specs.Dockets.{DocketValue}
 use Rattle.fw_report.specs.JournalText.{entry_line, journal_heading, journal_text, lanes_text}
-use Rattle.report_reading.specs.Steps.{or_else}
+use Rattle.fw_base.specs.Chain.{or_else}
 use Rattle.fw_world.specs.Publications.{facts_of}
 use Rattle.generation_store.specs.Published.{Published}
 use Rattle.report_reading.specs.Lines.{lines_with_ends}

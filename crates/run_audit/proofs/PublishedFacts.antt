@@ -10,7 +10,7 @@ use Rattle.fw_world.specs.Publications.{IsPublished, facts_of}
 use Rattle.generation_store.specs.Published.{Published}
 use Rattle.report_reading.specs.AskLines.{AskValue}
 use Rattle.report_reading.specs.Readings.{LineValue, OfRecord, OfPublication, OfAsk, OfLane, OfOther}
-use Rattle.report_reading.specs.Steps.{◌>>=◌}
+use Rattle.fw_base.specs.Chain.{◌>>=◌}
 use Rattle.rule_chain.specs.Configuration.{Configuration}
 use Rattle.state_asks.specs.declared.facts.Facts.{Facts}
 use Rattle.state_asks.specs.declared.op.Op.{Op}

@@ -19,7 +19,8 @@ use Rattle.state_journal.specs.Journal.{Journal, IsJournal}
 use Rattle.run_audit.specs.Audit.{AuditValue, IsAuditOf, IsFirstWrong, IsOpened, IsRebuilt, AreSectionsTold, AreTalliesOf, StandsFor, entries_rebuilt, rebuilt_record, told_by_rebuilt, told_value}
 use Rattle.run_audit.specs.AuditFaults.{IfWrong, NamesLine}
 use Rattle.run_audit.specs.Closing.{IsMadeOf}
-use Rattle.run_audit.specs.Composition.{HaveSections, IsOfJudgedRecord, entries_of_each}
+use Rattle.run_audit.specs.Composition.{HaveSections, IsOfJudgedRecord}
+use Rattle.run_audit.specs.JudgingValues.{entries_of_each}
 use Rattle.run_audit.specs.Judging.{ToldValue, AreToldSo}
 use Rattle.run_audit.specs.LeftOver.{first_behind}
 use Rattle.run_audit.specs.OtherLines.{IsLeftOver, IsWrongBehind, LeftOver}

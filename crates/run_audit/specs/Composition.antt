@@ -1,6 +1,6 @@
 -- What makes a record that a report tells of legal: the second pass says that its journal is lawful, the third that its
 -- records, asks and sections are as the report tells them.
-use Rattle.std.specs.Prelude.{◌≡◌, ℕ, ⊤, ◌≤◌, IsSome, Some, None, List, [], ◌∷◌, length, map}
+use Rattle.std.specs.Prelude.{◌≡◌, ℕ, ⊤, ◌≤◌, IsSome, Some, None, List, [], ◌∷◌, length}
 use Rattle.std.specs.List.{AllByRecursion}
 use Rattle.eval_engine.specs.Dockets.{DocketValue}
 use Rattle.eval_engine.specs.declared.docket_entry.DocketEntry.{DocketEntry}
@@ -18,12 +18,9 @@ use Rattle.state_journal.specs.declared.entry.Entry.{Entry}
 use Rattle.state_journal.specs.declared.entry.Entry.TheVariants.{Publish, Ask}
 use Rattle.run_audit.specs.Audit.{AreTalliesOf}
 use Rattle.run_audit.specs.Judging.{ToldValue, AreToldSo}
+use Rattle.run_audit.specs.JudgingValues.{entries_of_each}
 use Rattle.run_audit.specs.LeftOver.{first_behind}
 use Rattle.run_audit.specs.OtherLines.{judgement_at, IsWrongBehind, IsFirstBehind}
-
--- the entries of each docket
-abbrev pub entries_of_each : List DocketValue → List (List DocketEntry)
-entries_of_each dockets = map (λ docket. docket.entries) dockets
 
 -- an ask of the journal is of a judged record
 abbrev pub IsOfJudgedRecord : List (List DocketEntry) → Entry → Type 0

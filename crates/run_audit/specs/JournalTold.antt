@@ -7,7 +7,7 @@ use Rattle.dyn_states.specs.StateObject.{reply_of}
 use Rattle.generation_store.specs.Published.{Published}
 use Rattle.report_reading.specs.AskLines.{AskValue}
 use Rattle.report_reading.specs.Readings.{LineValue, OfRecord, OfPublication, OfAsk, OfLane, OfOther}
-use Rattle.report_reading.specs.Steps.{◌>>=◌}
+use Rattle.fw_base.specs.Chain.{◌>>=◌}
 use Rattle.state_asks.specs.declared.op.Op.{Op}
 use Rattle.state_journal.specs.Journal.{Journal, no_states, with_ask, with_publication}
 use Rattle.run_audit.specs.ToldAsks.{op_under, are_told_alike}

@@ -6,7 +6,7 @@ use Rattle.report_reading.specs.Readings.{LineValue, OfRecord, OfPublication, Of
 use Rattle.report_reading.specs.declared.lane_lines.LaneLine.{LaneLine}
 use Rattle.run_audit.specs.Judging.{ToldValue}
 use Rattle.run_audit.specs.OtherLines.{entry_at, judgement_at, lane_naming}
-use Rattle.report_reading.specs.Steps.{or_else}
+use Rattle.fw_base.specs.Chain.{or_else}
 use Rattle.run_audit.specs.declared.told_report.ToldLane.{ToldLane}
 
 -- these don't fall, from this number on

@@ -2,7 +2,7 @@
 use Rattle.std.specs.Prelude.{ℕ, Option, List}
 use Rattle.generation_store.specs.Published.{Published}
 use Rattle.report_reading.specs.Lines.{lines_with_ends}
-use Rattle.report_reading.specs.Steps.{or_else}
+use Rattle.fw_base.specs.Chain.{or_else}
 use Rattle.run_audit.specs.Forms.{first_unformed}
 use Rattle.run_audit.specs.JournalTold.{no_journal, replay, wrong_line}
 use Rattle.run_audit.specs.ToldReport.{lines_told}

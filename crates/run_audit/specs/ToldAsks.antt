@@ -12,7 +12,7 @@ use Rattle.state_asks.specs.declared.op.Op.TheVariants.{Lookup, Install}
 use Rattle.state_asks.specs.declared.reply.Reply.{Reply}
 use Rattle.state_asks.specs.declared.reply.Reply.TheVariants.{Found, NotFound, Created, Exists, LimitReached, TableFull}
 use Rattle.state_asks.specs.declared.reply.Way.TheVariants.{Forward, Reverse}
-use Rattle.report_reading.specs.Steps.{◌>>=◌}
+use Rattle.fw_base.specs.Chain.{◌>>=◌}
 
 -- the number of a name, where it is one of these
 abbrev pub number_among : List (List ℕ) → List ℕ → Option ℕ

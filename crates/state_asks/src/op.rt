@@ -1,5 +1,6 @@
 ghost use Rattle.std.specs.Prelude.{◌≡◌};
 ghost use Rattle.state_asks.specs.Asked.{asked_second};
+ghost use Rattle.state_asks.specs.Flags.{asked_flags};
 
 use crate::RuleRef;
 use fw_rule::LimitMask;
@@ -28,6 +29,16 @@ pub enum Op {
 }
 
 impl Op {
+    /// The flags with which is asked.
+    #[inline]
+    pub fn flags(&self) -> u8
+        ensures { result ≡ asked_flags self.now }
+    {
+        match self {
+            Op::Lookup { flags, .. } | Op::Install { flags, .. } => *flags,
+        }
+    }
+
     /// The second of the ask.
     #[inline]
     pub fn second(&self) -> u32

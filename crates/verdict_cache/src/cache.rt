@@ -5,14 +5,11 @@ ghost use Rattle.verdict_cache.specs.Key.{same_key};
 ghost use Rattle.verdict_cache.specs.Cache.{is_given, empty_cache, at_number, kept_value_of, with_key_first, with_pair, WasMissed};
 
 use crate::Key;
-use fw_base::OutOfMemory;
+use fw_base::{MOST_VERDICTS, OutOfMemory};
 use lru::LruCache;
 use std::alloc::Global;
 use std::marker::Model;
 use std::num::NonZeroUsize;
-
-/// The most verdicts that a cache may be opened for.
-pub const MOST_VERDICTS: u32 = 65_536;
 
 /// The most recent verdicts of one edition. A clause sees the capacity, the edition's number that was
 /// given last, and the list of keys with their values, most recent first.

@@ -4,7 +4,7 @@
 //! Tests: `engine_tests`, src/caches.
 #![tactic(auto)]
 
-pub use cache::{MOST_VERDICTS, VerdictCache};
+pub use cache::VerdictCache;
 pub use key::Key;
 pub use present_options::PresentOptions;
 

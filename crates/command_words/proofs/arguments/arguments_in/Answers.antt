@@ -6,7 +6,7 @@ use Rattle.clap.specs.Walk.{Row, rows_of, all_of, one_of}
 use Rattle.clap.specs.Simple.{App, is_simple, matches_of}
 use Rattle.clap.specs.Faults.{fault_of, is_simple_and_free}
 use Rattle.clap.proofs.WalkLemmas.{one_text-rows}
-use Rattle.command_words.specs.Chain.{◌>>=◌}
+use Rattle.fw_base.specs.Chain.{◌>>=◌}
 use Rattle.command_words.specs.CommandLine.{command_app}
 use Rattle.command_words.specs.Words.{Arguments, Given, arguments_from, cache_of}
 use Rattle.command_words.proofs.Ends.{refused_words, taken_words, flag_is}

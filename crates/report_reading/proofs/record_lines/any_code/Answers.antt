@@ -1,6 +1,6 @@
 use Rattle.std.proofs.Common.{ℕ, ap, ◌∙◌}
 use Rattle.fw_rule.specs.Names.{unreach_names}
-use Rattle.report_reading.specs.Steps.{or_else}
+use Rattle.fw_base.specs.Chain.{or_else}
 use Rattle.report_reading.specs.Parts.{Part, positive_at}
 use Rattle.report_reading.specs.RecordLines.{plain_code, any_code_at}
 use Rattle.report_reading.proofs.record_lines.any_code.Goals as goal
