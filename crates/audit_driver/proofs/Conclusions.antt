@@ -16,7 +16,7 @@ use Rattle.fw_report.specs.Report.{report_text}
 use Rattle.fw_world.specs.Inputs.{Input}
 use Rattle.fw_world.specs.Legal.{IsLegal}
 use Rattle.fw_world.specs.RecordValue.{RecordValue}
-use Rattle.replay_driver.specs.RunResult.{report_record}
+use Rattle.capture_tracks.specs.Reported.{report_record}
 use Rattle.replay_driver.specs.declared.first_edition.FirstEdition.{FirstEdition}
 use Rattle.run_audit.specs.Audit.{AuditValue, IsAuditOf, IsFirstWrong, IsRebuilt, FailsAtInput, StandsFor, rebuilt_record}
 use Rattle.run_audit.specs.Comparison.{line_of_first_other}

@@ -48,7 +48,8 @@ use Rattle.replay_driver.specs.Found.{known_left, no_failures}
 use Rattle.replay_driver.specs.Openings.{OpensAll, port_of}
 use Rattle.replay_driver.specs.Outside.{Files, Output}
 use Rattle.replay_driver.specs.Promises.{IsReported}
-use Rattle.replay_driver.specs.RunResult.{is_refused, is_stopped, report_record, report_status}
+use Rattle.capture_tracks.specs.Reported.{report_record}
+use Rattle.replay_driver.specs.RunResult.{is_refused, is_stopped, report_status}
 use Rattle.replay_driver.specs.Served.{ReplayNames, pace_of}
 use Rattle.replay_driver.specs.declared.outcome.Outcome.{Outcome}
 use Rattle.replay_driver.specs.declared.first_edition.FirstEdition.{FirstEdition}

@@ -7,7 +7,7 @@ use Rattle.fw_report.specs.declared.capture_end.CaptureEnd.{CaptureEnd}
 use Rattle.fw_report.specs.declared.ends.Ends.{Ends}
 use Rattle.fw_report.specs.declared.ends.LineAnswer.{LineAnswer}
 use Rattle.fw_world.specs.Inputs.{Input}
-use Rattle.replay_driver.specs.RunResult.{report_record}
+use Rattle.capture_tracks.specs.Reported.{report_record}
 use Rattle.rule_chain.specs.Configuration.{Configuration}
 use Rattle.run_audit.specs.Audit.{AuditValue, IsAuditOf, IsFirstWrong, IsRebuilt, rebuilt_record}
 use Rattle.run_audit.specs.Comparison.{line_of_first_other}

@@ -20,7 +20,7 @@ use Rattle.replay_driver.specs.FirstEdition.{first_edition}
 use Rattle.replay_driver.specs.Found.{FailsEarly, ReadsNamed, ReadsNames, IsUnreadable, HasNoEdition}
 use Rattle.replay_driver.specs.Openings.{Opens, RefusesToOpen, sources_of}
 use Rattle.replay_driver.specs.Outside.{Files}
-use Rattle.replay_driver.specs.RunResult.{report_record}
+use Rattle.capture_tracks.specs.Reported.{report_record}
 use Rattle.replay_driver.specs.Served.{pace_of}
 use Rattle.replay_driver.specs.declared.first_edition.FirstEdition.{FirstEdition}
 use Rattle.run_audit.specs.Audit.{FailsAtInput, FailsAtOpening, IsFirstWrong, IsOpened, IsRebuilt, rebuilt_record, told_value}

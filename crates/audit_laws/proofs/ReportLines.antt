@@ -24,7 +24,8 @@ use Rattle.audit_laws.proofs.Configs.{of_last}
 use Rattle.audit_laws.proofs.Judgements.{IsDocketInRange}
 use Rattle.audit_laws.proofs.LastLines.{nothing_of_last}
 use Rattle.audit_laws.proofs.ToldNothing.{TellsNothing, nothing_of_both, nothing_of_none, others, others-append, tells_same}
-use Rattle.audit_laws.specs.Printable.{IsPrintableConfig, IsPrintableRecord, last_names, names_of, report_of, reported}
+use Rattle.capture_tracks.specs.Reported.{report_record}
+use Rattle.audit_laws.specs.Printable.{IsPrintableConfig, IsPrintableRecord, last_names, names_of, report_of}
 
 -- what the lines of a journal's entries and of its lanes tell
 abbrev pub journal_values : List (List ℕ) → RecordValue → List LineValue
@@ -71,7 +72,7 @@ record ClosingTells (r : RecordValue) (names : List (List ℕ)) (text : List ℕ
   tells : TellsAs text (others lines ++ journal_values names r)
 
 closing_tells : (r : RecordValue) (config : Configuration) → r.hits ≡ [] → IsPrintableConfig config → AllByRecursion (λ state. state.rule.number ≤ 65535) r.journal.object.states
-    → AllByRecursion (IsPrintable config.names) r.journal.entries → ArePrintableLanes 1 r.dockets r.trackers → ClosingTells r config.names (closing_text (reported r) true config)
+    → AllByRecursion (IsPrintable config.names) r.journal.entries → ArePrintableLanes 1 r.dockets r.trackers → ClosingTells r config.names (closing_text (report_record r) true config)
 unfolding closing_text journal_text
 closing_tells r config none is states entries lanes =
     let body : List ℕ = flat_map (entry_line config.names) r.journal.entries ++ lanes_text 1 r.dockets r.trackers in
@@ -92,7 +93,7 @@ closing_tells r config none is states entries lanes =
 -- What the whole closing tells, by the last edition.
 by_last : (r : RecordValue) (last : Option Published) → (edition : Published) × (last ≡ Some edition) → r.hits ≡ [] → IfSome last (λ one. IsPrintableConfig one.config)
     → AllByRecursion (λ state. state.rule.number ≤ 65535) r.journal.object.states → AllByRecursion (IsPrintable (names_of last)) r.journal.entries → ArePrintableLanes 1 r.dockets r.trackers
-    → ClosingTells r (names_of last) (last_closing (reported r) true last)
+    → ClosingTells r (names_of last) (last_closing (report_record r) true last)
 by_last r None some none is states entries lanes = absurd (cc)
 by_last r (Some edition) some none is states entries lanes = closing_tells r edition.config none is states entries lanes
 
@@ -107,7 +108,7 @@ report_tells r ends answers inputs is some dockets states entries lanes =
     let nothing : TellsNothing middle = nothing_of_both (answers_text r.editions answers) (editions_line (length r.editions)) (nothing_of_answers r.editions answers is.editions is.listings) (editions_nothing (length r.editions)) in
     let closing = by_last r (last_edition r.editions) some is.uncached (of_last (λ (edition : Published). IsPrintableConfig edition.config) r.editions is.editions) states entries lanes in
     let values : List LineValue = journal_values (last_names r) r in
-    let rest : List ℕ = last_closing (reported r) true (last_edition r.editions) in
+    let rest : List ℕ = last_closing (report_record r) true (last_edition r.editions) in
     let behind : TellsAs (middle ++ rest) (others nothing.lines ++ (others closing.lines ++ values)) = before_told middle rest _ nothing closing.tells in
     let all : TellsAs (captures_text 1 r.dockets ends ++ (middle ++ rest)) (captures_values 1 r.dockets ends ++ (others nothing.lines ++ (others closing.lines ++ values))) =
     tells_both (captures_text 1 r.dockets ends) (middle ++ rest) (captures_values 1 r.dockets ends) _ captures behind in

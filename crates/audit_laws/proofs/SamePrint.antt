@@ -20,7 +20,8 @@ use Rattle.rule_chain.specs.Configuration.{Configuration}
 use Rattle.rule_text.specs.Canonical.{five_digits, rest_text}
 use Rattle.state_journal.specs.declared.entry.Entry.{Entry}
 use Rattle.state_texts.specs.StateTexts.{states_text}
-use Rattle.audit_laws.specs.Printable.{report_of, reported}
+use Rattle.capture_tracks.specs.Reported.{report_record}
+use Rattle.audit_laws.specs.Printable.{report_of}
 
 -- ---- totals
 
@@ -82,7 +83,7 @@ module _ (a b : RecordValue) (same : SayAlike a b) where
   closing_of config rules object entries dockets trackers hits =
       (disabled_text config.disabled ++ (rules ++ states_text config.names object)) ++ (hits_text 1 hits ++ journal_text config.names entries dockets trackers)
 
-  same_closing : (config : Configuration) → closing_text (reported a) true config ≡ closing_text (reported b) true config
+  same_closing : (config : Configuration) → closing_text (report_record a) true config ≡ closing_text (report_record b) true config
   unfolding closing_text last_text closing_of
   same_closing config =
       let rules = same_rules a.tallies b.tallies same.counted config.rules in
@@ -93,7 +94,7 @@ module _ (a b : RecordValue) (same : SayAlike a b) where
       let hits = same.hits in
       λ i. closing_of config (rules i) (object i) (entries i) (dockets i) (trackers i) (hits i)
 
-  same_last : (last : Option Published) → last_closing (reported a) true last ≡ last_closing (reported b) true last
+  same_last : (last : Option Published) → last_closing (report_record a) true last ≡ last_closing (report_record b) true last
   same_last None = refl
   same_last (Some edition) = same_closing edition.config
 
@@ -104,4 +105,4 @@ module _ (a b : RecordValue) (same : SayAlike a b) where
       let editions = same.editions in
       let dockets = same.dockets in
       ap (λ (text : List ℕ). start_text a.editions a.dockets ends answers ++ text) (same_last (last_edition a.editions))
-      ∙ λ i. start_text (editions i) (dockets i) ends answers ++ last_closing (reported b) true (last_edition (editions i))
+      ∙ λ i. start_text (editions i) (dockets i) ends answers ++ last_closing (report_record b) true (last_edition (editions i))

@@ -3,7 +3,7 @@ use Rattle.std.specs.Prelude.{◌≡◌, ⊤, ℕ, ◌^◌, ◌<◌, ◌≤◌, 
 use Rattle.std.specs.List.{AllByRecursion}
 use Rattle.eval_engine.specs.Encounter.{any_flow_of}
 use Rattle.fw_base.specs.Prefix.{Network}
-use Rattle.fw_report.specs.Recorded.{Recorded}
+use Rattle.capture_tracks.specs.Reported.{report_record}
 use Rattle.fw_report.specs.Report.{last_edition, report_text}
 use Rattle.fw_report.specs.declared.capture_end.CaptureEnd.{CaptureEnd}
 use Rattle.fw_report.specs.declared.ends.Answer.{Answer}
@@ -20,13 +20,9 @@ use Rattle.rule_chain.specs.Chain.{IsConfiguration}
 use Rattle.rule_chain.specs.Configuration.{Configuration}
 use Rattle.audit_laws.specs.RuleNames.{HasNameBytes, names_in_rule}
 
--- a record as what is reported
-abbrev pub reported : RecordValue → Recorded
-reported r = record { editions = r.editions; journal = r.journal; dockets = r.dockets; tallies = r.tallies; trackers = r.trackers; hits = r.hits }
-
 -- its report, with the journal
 abbrev pub report_of : RecordValue → List CaptureEnd → List LineAnswer → List ℕ
-report_of r ends answers = report_text (reported r) ends answers true
+report_of r ends answers = report_text (report_record r) ends answers true
 
 -- the flow names of an edition, where there is one
 abbrev pub names_of : Option Published → List (List ℕ)

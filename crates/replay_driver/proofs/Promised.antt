@@ -20,7 +20,8 @@ use Rattle.replay_driver.specs.Found.{FindsJob, FindsWords, FindsReplay, IsRepla
 use Rattle.replay_driver.specs.Openings.{pairs_without, sources_of}
 use Rattle.replay_driver.specs.Promises.{IsKept, IsReported, IsSummed, IsUnreadJob, IsUnreadyJob, IsQuiet, HasRefusedCommand, IsFaulty, HasFailedRead, opening_order}
 use Rattle.replay_driver.specs.Run.{Writes, WritesResult, IsUsage, IsNoCommand, IsRunOf, IsFoundRun}
-use Rattle.replay_driver.specs.RunResult.{result_status, result_text, usage_text, report_record, report_status, is_stopped, is_refused}
+use Rattle.capture_tracks.specs.Reported.{report_record}
+use Rattle.replay_driver.specs.RunResult.{result_status, result_text, usage_text, report_status, is_stopped, is_refused}
 use Rattle.replay_driver.specs.Served.{ReplayNames, Job, Replays, Loads}
 use Rattle.replay_driver.specs.declared.run_result.Found.{Found}
 use Rattle.replay_driver.specs.declared.outcome.Outcome.{Outcome}

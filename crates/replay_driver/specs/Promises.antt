@@ -20,7 +20,8 @@ use Rattle.replay_driver.specs.FirstEdition.{first_edition}
 use Rattle.replay_driver.specs.Found.{ReadsNames, HasNoEdition, FindsReplay, IsReplayOf, ReplaysLoad}
 use Rattle.replay_driver.specs.Openings.{file_names}
 use Rattle.replay_driver.specs.Run.{Writes}
-use Rattle.replay_driver.specs.RunResult.{report_record, summary_of, report_status, unread_text, is_stopped, is_refused}
+use Rattle.capture_tracks.specs.Reported.{report_record}
+use Rattle.replay_driver.specs.RunResult.{summary_of, report_status, unread_text, is_stopped, is_refused}
 use Rattle.replay_driver.specs.ScriptTexts.{error_text}
 use Rattle.replay_driver.specs.Served.{ReplayNames, Job, Replays, Loads, pace_of}
 use Rattle.replay_driver.specs.declared.first_edition.FirstEdition.{FirstEdition}

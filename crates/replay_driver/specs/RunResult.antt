@@ -1,8 +1,8 @@
 -- What a run comes to: its status and its text.
 use Rattle.std.specs.Prelude.{ℕ, ◌<◌, ⊤, Bool, true, false, if◌then◌else◌, List, [], ◌++◌, length, codes, Option, None, Some}
 use Rattle.std.specs.List.{list_any}
+use Rattle.capture_tracks.specs.Reported.{report_record}
 use Rattle.fw_report.specs.CaptureEnds.{is_unread}
-use Rattle.fw_report.specs.Recorded.{Recorded}
 use Rattle.fw_report.specs.Report.{report_text}
 use Rattle.fw_report.specs.Summary.{summary_text}
 use Rattle.fw_report.specs.declared.ends.Answer.{Answer}
@@ -22,10 +22,6 @@ usage_text = codes "usage: ipfw_replay serial|live [--journal] SCRIPT in|out:IF:
 -- which name could not be opened or read
 unfoldable pub unread_text : List ℕ → List ℕ
 unread_text name = codes "cannot read " ++ (name ++ codes "\n")
-
--- what a report is written of
-abbrev pub report_record : RecordValue → Recorded
-report_record r = record { editions = r.editions; journal = r.journal; dockets = r.dockets; tallies = r.tallies; trackers = r.trackers; hits = r.hits }
 
 -- the summary of a record: its dockets, and how many editions, entries of the journal and live states there are
 abbrev pub summary_of : RecordValue → List ℕ

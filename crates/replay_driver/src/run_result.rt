@@ -1,6 +1,7 @@
 ghost use Rattle.std.specs.Prelude.{◌≡◌, ◌<◌, [], length};
 ghost use Rattle.std.specs.List.{list_any};
 ghost use Rattle.fw_base.specs.Texts.{WritesText};
+ghost use Rattle.capture_tracks.specs.Reported.{report_record};
 ghost use Rattle.fw_report.specs.CaptureEnds as end_spec;
 ghost use Rattle.fw_report.specs.Report.{report_text};
 ghost use Rattle.replay_driver.specs.RunResult as spec;
@@ -167,7 +168,7 @@ impl RunResult {
 
 /// A record as what is reported.
 fn recorded_of(kept: &Record) -> Recorded<'_>
-    ensures { result ≡ spec.report_record kept.now }
+    ensures { result ≡ report_record kept.now }
 {
     Recorded {
         editions: kept.editions(),
@@ -183,7 +184,7 @@ fn recorded_of(kept: &Record) -> Recorded<'_>
 fn report<K: Sink>(out: &mut K, kept: &Record, ends: &Ends, journal: bool) -> Result<(), Failed>
     requires { 0 < length kept.now.editions }
     ensures { WritesText (K.state out.old) (K.state out.new)
-        (report_text (spec.report_record kept.now) ends.now.captures
+        (report_text (report_record kept.now) ends.now.captures
         ends.now.answers journal) result }
 {
     write_report(&recorded_of(kept), ends, journal, out).map_err(|_| Failed)

@@ -14,7 +14,8 @@ use Rattle.command_words.specs.declared.invocation.Mode.{Mode}
 use Rattle.replay_driver.specs.Found.{IsReplayOf, made_capture, known_left, no_failures}
 use Rattle.replay_driver.specs.Promises.{IsKept, IsUnreadyJob}
 use Rattle.replay_driver.specs.Run.{Writes}
-use Rattle.replay_driver.specs.RunResult.{summary_of, report_record}
+use Rattle.capture_tracks.specs.Reported.{report_record}
+use Rattle.replay_driver.specs.RunResult.{summary_of}
 use Rattle.replay_driver.specs.ScriptTexts.{error_text}
 use Rattle.replay_driver.specs.Served.{Job, Replays, Loads, IsSerialJob, pace_of}
 use Rattle.replay_driver.specs.declared.outcome.Outcome.{Outcome}

@@ -16,7 +16,8 @@ use Rattle.record_laws.proofs.OneReplay.{contents_determine_reports}
 use Rattle.replay_driver.proofs.Statuses.{status_by, by_tests}
 use Rattle.replay_driver.specs.FirstEdition.{first_edition}
 use Rattle.replay_driver.specs.Found.{IsReplayOf}
-use Rattle.replay_driver.specs.RunResult.{summary_of, report_status, is_stopped, is_refused, report_record}
+use Rattle.capture_tracks.specs.Reported.{report_record}
+use Rattle.replay_driver.specs.RunResult.{summary_of, report_status, is_stopped, is_refused}
 use Rattle.command_words.specs.declared.invocation.Mode.TheVariants.{Serial}
 use Rattle.serial_replay.specs.Replay.{IsSerialReplay}
 use Rattle.replay_driver.specs.Served.{pace_of}
