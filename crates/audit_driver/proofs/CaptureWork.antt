@@ -19,7 +19,7 @@ use Rattle.rule_chain.specs.Configuration.{Configuration}
 use Rattle.run_audit.specs.Audit.{AuditValue, IsAuditOf, Meets, with_input}
 use Rattle.run_audit.specs.declared.audit_fault.AuditFault.{AuditFault}
 use Rattle.audit_driver.specs.CaptureAudit.{Subject, Place, IsOf, HasTrack, IsAtWork, HasMet, HasStopped, ComesTo, MeetsMore, TakesMore, MeetsAll, MeetsCapture, StopsAtCapture, ComesThrough, AuditsCapture, inputs_at, own_inputs}
-use Rattle.audit_driver.specs.Taken.{held_input}
+use Rattle.capture_tracks.specs.Taken.{held_input}
 use Rattle.audit_driver.specs.declared.capture_audit.CaptureAudit.{CaptureAudit}
 use Rattle.audit_driver.specs.declared.capture_audit.Work.{Work}
 

@@ -1,7 +1,6 @@
 -- which words ask for an audit
 pub mod AuditNames
 -- the records of captures
-pub mod Taken
 pub mod CaptureAudit
 pub mod Examined
 -- what an audit comes to

@@ -4,10 +4,9 @@ ghost use Rattle.rule_chain.specs.Configuration.{Configuration};
 ghost use Rattle.run_audit.specs.Audit.{Meets};
 ghost use Rattle.run_audit.specs.AuditAnswers.{answer_of};
 ghost use Rattle.audit_driver.specs.CaptureAudit.{HasTrack, MeetsAll, AuditsCapture};
-ghost use Rattle.audit_driver.specs.Taken.{taken_input};
+ghost use Rattle.capture_tracks.specs.Taken.{taken_input};
 
-use crate::taken::{Taken, held};
-use capture_tracks::{OpenedCapture, Track};
+use capture_tracks::{OpenedCapture, Taken, Track, held};
 use fw_base::{OutOfMemory, Source};
 use fw_report::CaptureEnd;
 use fw_world::Skipped;
@@ -45,7 +44,12 @@ fn meet(audit: &mut Audit, lane: u32, taken: Taken<'_>) -> Result<(), AuditFault
     ensures captures { length audit.new.dockets ≡ length audit.old.dockets }
     ensures lane { audit.new.lane ≡ lane }
 {
-    let Taken { link, port, record } = taken;
+    let Taken {
+        link,
+        port,
+        record,
+        ..
+    } = taken;
     match read_any(link, record.bytes) {
         AnyPacket::Ip(packet) => audit.judge(lane, &packet, port, record.second),
         AnyPacket::Other => audit.skip(lane, Skipped::Other),

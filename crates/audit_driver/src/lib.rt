@@ -15,4 +15,3 @@ mod concluding;
 mod examined;
 mod laws;
 mod run_command;
-mod taken;

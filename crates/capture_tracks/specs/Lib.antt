@@ -1,6 +1,7 @@
 -- what is read of a capture
 pub mod Reading
 pub mod Tracks
+pub mod Taken
 -- what becomes of the commands, and who runs them
 pub mod Commands
 pub mod Operator

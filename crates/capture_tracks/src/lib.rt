@@ -8,10 +8,12 @@ pub use listing::{Listing, answer_listing, listing_of};
 pub use open_track::OpenTrack;
 pub use opened::{OpenedCapture, limit_for};
 pub use replayed::Replayed;
+pub use taken::{Taken, held};
 pub use track::Track;
 
 mod listing;
 mod open_track;
 mod opened;
 mod replayed;
+mod taken;
 mod track;

@@ -9,7 +9,7 @@ use crate::flows::is_matching;
 use crate::lifetimes::lifetime;
 use fw_rule::{LimitMask, Settings};
 use packet_headers::Flow;
-use state_asks::{Facts, FlowName, RuleRef, Way, kept_flags};
+use state_asks::{Facts, FlowName, LAST_RULE, Way, kept_flags};
 
 /// Whether the flow name asked for is the state's.
 fn is_named(asked: FlowName, name: u8) -> bool
@@ -114,10 +114,7 @@ fn handed_over(rules: &[u32], state: State) -> State
         state
     } else {
         State {
-            rule: RuleRef {
-                id: 0,
-                number: 65_535,
-            },
+            rule: LAST_RULE,
             ..state
         }
     }

@@ -23,13 +23,7 @@ use counter_book::Tally;
 use fw_rule::{Action, Rule, StateOpt};
 use packet_headers::Flow;
 use rule_gates::{GateKey, is_check_state, is_exact, next_admitted, state_of};
-use state_asks::RuleRef;
-
-/// The rule that each list ends with.
-const LAST: RuleRef = RuleRef {
-    id: 0,
-    number: u16::MAX,
-};
+use state_asks::LAST_RULE;
 
 /// Goes on behind the rule in that place.
 fn leave(question: &Question<'_, '_, '_>, at: &mut Position)
@@ -324,7 +318,7 @@ pub(crate) fn judgement_at(
 {
     let (verdict, rule, cause) = match rule_at(question, place) {
         Some(rule) => (verdict, rule_ref(rule), cause),
-        None => (Verdict::Deny, LAST, Cause::Rule),
+        None => (Verdict::Deny, LAST_RULE, Cause::Rule),
     };
     Judgement {
         edition: question.edition.number(),

@@ -12,7 +12,7 @@ use crate::story::{Ending, Story, asked, hit, plainly};
 use eval_engine::{Cause, Judgement, Verdict};
 use fw_base::OutOfMemory;
 use fw_rule::Rule;
-use state_asks::{Op, Reply, RuleRef};
+use state_asks::{LAST_RULE, Op, Reply, RuleRef};
 
 fn judgement_of(
     question: &Question<'_, '_>,
@@ -34,11 +34,7 @@ fn judgement_of(
 pub(crate) fn last_judgement(question: &Question<'_, '_>) -> Judgement
     ensures { result ≡ runs.last_judgement (viewed_question question.now) }
 {
-    let last = RuleRef {
-        id: 0,
-        number: u16::MAX,
-    };
-    judgement_of(question, Verdict::Deny, last, Cause::Rule)
+    judgement_of(question, Verdict::Deny, LAST_RULE, Cause::Rule)
 }
 
 /// An ask with no reply left.

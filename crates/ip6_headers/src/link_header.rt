@@ -4,7 +4,7 @@ ghost use Rattle.fw_base.specs.declared.link.Link.TheVariants.{Null, Ethernet, R
 ghost use Rattle.ip6_headers.specs.Reading as spec;
 
 use fw_base::Link;
-use packet_headers::{four_octets, two_octets};
+use packet_headers::{VLAN, four_octets, two_octets};
 
 // The address families of IPv6, each also as a machine of the other byte order writes it.
 
@@ -23,9 +23,6 @@ const INET6_MACOS_SWAPPED: u32 = 0x1e00_0000;
 
 /// The Ethernet type of IPv6.
 const IPV6: u16 = 0x86dd;
-
-/// The Ethernet type of a VLAN tag (IEEE 802.1Q).
-const VLAN: u16 = 0x8100;
 
 fn is_ipv6_family(family: u32) -> bool
     ensures { result ≡ spec.is_ipv6_family family }

@@ -21,7 +21,7 @@ use Rattle.pcap_read.specs.Reading.{Captured}
 use Rattle.shared_world.specs.SharedLane.{SharedLane}
 use Rattle.shared_world.specs.Standing.{LaneStandsFor}
 use Rattle.live_replay.specs.Posted.{IsPosted, TakesInput, IsCapturedAt}
-use Rattle.live_replay.specs.Taken.{IsTakenAt, held_input}
+use Rattle.capture_tracks.specs.Taken.{IsTakenAt, held_input}
 use Rattle.live_replay.specs.Work.{IsReady, Assigned, IsAtWork, HasWork, MeetsMore, TakesMore, TakesAll, Finishes}
 use Rattle.live_replay.specs.declared.task.Finished.{Finished}
 use Rattle.live_replay.specs.declared.task.Post.{Post}

@@ -1,6 +1,5 @@
 -- a lane and its records
 pub mod Posted
-pub mod Taken
 -- a worker, from its task to its end
 pub mod Work
 -- who runs the lines behind `live`

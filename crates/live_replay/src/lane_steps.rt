@@ -3,9 +3,9 @@ ghost use Rattle.fw_world.specs.Caches.{IsPortFor};
 ghost use Rattle.fw_world.specs.Inputs.{Packet};
 ghost use Rattle.fw_world.specs.Skips.{skipped_input};
 ghost use Rattle.live_replay.specs.Posted.{IsPosted, AdmitsLane, TakesInput};
-ghost use Rattle.live_replay.specs.Taken.{taken_input};
+ghost use Rattle.capture_tracks.specs.Taken.{taken_input};
 
-use crate::taken::Taken;
+use capture_tracks::Taken;
 use fw_base::{Gate, OutOfMemory, Port};
 use fw_world::Skipped;
 use ip6_headers::{AnyIp, AnyPacket, read_any};

@@ -12,5 +12,4 @@ mod lane_steps;
 mod operator;
 mod replay;
 mod runner;
-mod taken;
 mod task;

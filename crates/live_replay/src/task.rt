@@ -2,8 +2,7 @@ ghost use Rattle.std.specs.Prelude.{◌≤◌, IfOk};
 ghost use Rattle.live_replay.specs.Work.{HasWork, IsReady, Finishes, TakesAll};
 
 use crate::lane_steps::meet;
-use crate::taken::held;
-use capture_tracks::{OpenedCapture, Track};
+use capture_tracks::{OpenedCapture, Track, held};
 use fw_base::{Gate, OutOfMemory, Source};
 use fw_report::CaptureEnd;
 use pcap_read::MOST_RECORDS;

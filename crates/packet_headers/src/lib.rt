@@ -9,7 +9,7 @@ pub use ip4::{Ip4, flow};
 pub use octets::{four_octets, two_octets};
 pub use packet::Packet;
 pub use protocols::{TCP, UDP};
-pub use read::read_packet;
+pub use read::{VLAN, read_packet};
 
 mod defect;
 mod flows;

@@ -18,7 +18,7 @@ const INET_SWAPPED: u32 = 0x0200_0000;
 const IPV4: u16 = 0x0800;
 
 /// The Ethernet type of a VLAN tag (IEEE 802.1Q).
-const VLAN: u16 = 0x8100;
+pub const VLAN: u16 = 0x8100;
 
 /// Reads the frame of a capture with that link type. What it answers is lent from the bytes.
 pub fn read_packet(link: Link, bytes: &[u8]) -> Packet<'_>

@@ -8,7 +8,7 @@ pub use flags::kept_flags;
 pub use identities::Identities;
 pub use op::{FlowName, Op};
 pub use reply::{Reply, Way};
-pub use rule_ref::RuleRef;
+pub use rule_ref::{LAST_RULE, RuleRef};
 
 mod facts;
 mod flags;

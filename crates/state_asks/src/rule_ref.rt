@@ -1,3 +1,9 @@
+/// Rule 65535, which each list ends with (ipfw(8)).
+pub const LAST_RULE: RuleRef = RuleRef {
+    id: 0,
+    number: 65_535,
+};
+
 /// A rule, as a state and a verdict name it.
 #[derive(Clone, Copy, Debug, PartialEq, Eq, PartialOrd, Ord, Hash)]
 pub struct RuleRef {

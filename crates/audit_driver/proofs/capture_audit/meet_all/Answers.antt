@@ -1,6 +1,6 @@
 use Rattle.std.proofs.Common.{◌∙◌, ap, arith, refl, sym}
 use Rattle.std.specs.Option.{option_map}
-use Rattle.audit_driver.specs.Taken.{taken_input}
+use Rattle.capture_tracks.specs.Taken.{taken_input}
 use Rattle.audit_driver.proofs.CaptureWork.{takes_none, takes_one, tracks_on, all_met, all_stopped, no_fault, some_fault}
 use Rattle.audit_driver.proofs.capture_audit.meet_all.Goals as goal
 

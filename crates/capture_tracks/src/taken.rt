@@ -1,23 +1,23 @@
 ghost use Rattle.std.specs.Prelude.{◌≡◌, ◌≤◌, IfSome, length};
 ghost use Rattle.std.specs.Option.{option_map};
-ghost use Rattle.live_replay.specs.Taken.{IsTakenAt, held_input, taken_input};
+ghost use Rattle.capture_tracks.specs.Taken.{IsTakenAt, held_input, taken_input};
 
-use capture_tracks::Track;
+use crate::Track;
 use fw_base::{Link, Port, Source};
 use pcap_read::{MOST_RECORD_BYTES, Record};
 
-/// A record of a capture, as its lane meets it.
+/// A record of a capture that is read and that nothing met yet.
 #[derive(Drop)]
-pub(crate) struct Taken<'a> {
+pub struct Taken<'a> {
     /// Which record of the capture it is, from 1.
-    pub(crate) at: u64,
-    pub(crate) link: Link,
-    pub(crate) port: &'a Port,
-    pub(crate) record: Record<'a>,
+    pub at: u64,
+    pub link: Link,
+    pub port: &'a Port,
+    pub record: Record<'a>,
 }
 
-/// The record that a track holds: it was read, and no lane has met it yet.
-pub(crate) fn held<S: Source>(track: &Track<S>) -> Option<Taken<'_>>
+/// The record that a track holds.
+pub fn held<S: Source>(track: &Track<S>) -> Option<Taken<'_>>
     ensures input { option_map taken_input result ≡ held_input track.now }
     ensures port { IfSome result (λ taken. IsTakenAt track.now taken.port.now) }
     ensures small { IfSome result (λ taken.
