@@ -55,6 +55,7 @@ pub record IsPlaced {X : Type 0} (p : X → Bool) (xs : List X) (x : X) : Type 0
   pub within : position_or_len p xs < length xs
   pub read : (d : X) → get_or xs (position_or_len p xs) d ≡ x
 
+-- where an element is found, it is placed: at the place of the first that passes
 pub placed : {X : Type 0} (p : X → Bool) (xs : List X) (x : X) → find p xs ≡ Some x → IsPlaced p xs x
 placed {X} p xs x is =
     let there : slice_get xs (position_or_len p xs) ≡ Some x = sym (find_at p xs) ∙ is in

@@ -52,9 +52,11 @@ pub faulty_back : (front back : Kinds) → IsFaulty back → IsFaulty (or_else f
 faulty_back [] back fault = fault
 faulty_back (k ∷ ks) back fault = (k, ks, refl)
 
+-- texts that are the same byte by byte are equal
 pub same_text : (x y : Text) → is_same x y ≡ true → x ≡ y
 same_text x y e = (bytes_eq-Decides x y).0 e
 
+-- equal texts are the same byte by byte
 pub same_itself : (x y : Text) → x ≡ y → is_same x y ≡ true
 same_itself x y e = (bytes_eq-Decides x y).1 e
 

@@ -30,12 +30,14 @@ awaits (words vs) = false
 awaits wants = true
 awaits (has value) = false
 
+-- what is pending, as the walk holds it: the argument and its values so far
 abbrev pub pending_at : Pending → Option (Text × List Text)
 pending_at (words []) = None
 pending_at (words (v ∷ vs)) = Some (codes "positional", v ∷ vs)
 pending_at wants = Some (codes "cache", [])
 pending_at (has value) = Some (codes "cache", value ∷ [])
 
+-- what the walk waits for, where that is pending
 abbrev pub waiting_at : Pending → Waiting
 waiting_at (words []) = idle
 waiting_at (words (v ∷ vs)) = positional
@@ -85,9 +87,11 @@ flag_same : (seen : Bool) (rows more : List Row) → row_of_name (codes "journal
 flag_same false rows more same flag = same ∙ flag
 flag_same true rows more same flag = subst (λ o. IsSomeAnd o (λ row. row_text row ≡ Some (codes "true"))) (sym same) flag
 
+-- what was given, with more operands
 abbrev pub more_operands : Given → List Text → Given
 more_operands given vs = record given { positional = given.positional ++ vs }
 
+-- what was given, with more values of `--cache`
 abbrev pub more_values : Given → List Text → Given
 more_values given vs = record given { caches = given.caches ++ vs }
 
@@ -97,6 +101,7 @@ closed given (words vs) = more_operands given vs
 closed given wants = more_values given ([] ∷ [])
 closed given (has value) = more_values given (value ∷ [])
 
+-- a use of `--cache` tells one value more
 pub value_tells : (rows : List Row) (given : Given) (value : Text) → Tells rows given → Tells (used cache (value ∷ []) rows) (more_values given (value ∷ []))
 value_tells rows given value tells = record {
   positional = ap (option_map (λ (row : Row). row.values)) (other_row (codes "cache") _ _ (value ∷ []) (codes "positional") refl rows) ∙ tells.positional;
@@ -108,6 +113,7 @@ value_tells rows given value tells = record {
   journal = flag_same given.journal rows _ (other_row (codes "cache") _ _ (value ∷ []) (codes "journal") refl rows) tells.journal;
 }
 
+-- rows tell what was given also once what is pending is used, which is then given too
 pub settled_tells : (rows : List Row) (given : Given) (pending : Pending) → Tells rows given → Tells (settled_at rows pending) (closed given pending)
 settled_tells rows given (words []) tells = record { positional = tells.positional ∙ ap shown (sym (append-nil given.positional)); caches = tells.caches; journal = tells.journal }
 settled_tells rows given (words (v ∷ vs)) tells = record {
@@ -135,16 +141,19 @@ journal_tells rows given unseen tells =
 
 -- ---- behind `--` each word is an operand
 
+-- the rows behind a word: what is pending is used, unless it is operands, which the word joins
 abbrev pub rows_behind : List Row → Pending → List Row
 rows_behind rows (words vs) = rows
 rows_behind rows wants = settled_at rows wants
 rows_behind rows (has value) = settled_at rows (has value)
 
+-- what is pending behind a word, which is an operand
 abbrev pub pending_behind : Pending → Text → Pending
 pending_behind (words vs) word = words (vs ++ word ∷ [])
 pending_behind wants word = words (word ∷ [])
 pending_behind (has value) word = words (word ∷ [])
 
+-- the walk takes a word behind `--` as an operand
 pub walked_behind : (rows : List Row) (pending : Pending) (word : Text) → walked rules [] (walk_at true rows pending) word ≡ walk_at true (rows_behind rows pending) (pending_behind pending word)
 unfolding walked
 walked_behind rows (words []) word = refl
@@ -158,6 +167,7 @@ no_turn_fault_behind rows (words (v ∷ vs)) word = refl
 no_turn_fault_behind rows wants word = refl
 no_turn_fault_behind rows (has value) word = refl
 
+-- words behind `--` have no fault
 pub fault_behind : (rows : List Row) (pending : Pending) (ws : List Text) → walk_fault shape [] (walk_at true rows pending) ws ≡ []
 unfolding walk_fault
 fault_behind rows pending [] = refl
@@ -182,6 +192,7 @@ count_at (words vs) = length vs
 count_at wants = 0
 count_at (has value) = 0
 
+-- what is pending is used without a fault, where its operands can be counted
 pub no_settle_fault : (rows : List Row) (pending : Pending) → count_at pending ≤ usize_max → settle_fault rules shape.args_override_self (held_at rows pending) ≡ []
 no_settle_fault rows (words []) few = refl
 no_settle_fault rows (words (v ∷ vs)) few = ap (λ k. or_else k (values_kinds false String_parser (v ∷ vs))) (range_ok (length (v ∷ vs)) few) ∙ values_ok (v ∷ vs)
@@ -208,10 +219,12 @@ met_divider : (rows : List Row) (pending : Pending) (word : Text) → is_divider
 met_divider rows pending word same =
     met_is rows pending word ∙ ap (λ t. if t then (held_at rows pending, trailing 1) else long_or_other rules (waiting_at pending) word (long_of word) (held_at rows pending)) same
 
+-- behind the first `--` the walk stands as before it, with operands alone to come
 pub walked_divider : (rows : List Row) (pending : Pending) (word : Text) → is_divider word ≡ true → walked rules [] (walk_at false rows pending) word ≡ walk_at true rows pending
 unfolding walked
 walked_divider rows pending word same = ap (λ met. after_step rules word (walk_at false rows pending) met.0 met.1) (met_divider rows pending word same)
 
+-- the first `--` has no fault
 pub fault_divider : (rows : List Row) (pending : Pending) (word : Text) → is_divider word ≡ true → turn_fault shape [] (walk_at false rows pending) word ≡ []
 fault_divider rows pending word same =
     ap₂ or_else (fault_is rows pending word ∙ ap (λ t. let k : Kinds = if t then [] else flag_word_fault rules shape.args_override_self (long_of word) word (held_at rows pending) in k) same)
@@ -219,11 +232,13 @@ fault_divider rows pending word same =
 
 -- ---- an operand in front of `--`
 
+-- the rows behind a word that is no option: a `--cache` that has its value is used
 abbrev pub rows_plain : List Row → Pending → List Row
 rows_plain rows (words vs) = rows
 rows_plain rows wants = rows
 rows_plain rows (has value) = settled_at rows (has value)
 
+-- what is pending behind such a word: the value that was awaited, or else an operand
 abbrev pub pending_plain : Pending → Text → Pending
 pending_plain (words vs) word = words (vs ++ word ∷ [])
 pending_plain wants word = has word
@@ -245,6 +260,7 @@ after_plain rows (words (v ∷ vs)) word = refl
 after_plain rows wants word = refl
 after_plain rows (has value) word = refl
 
+-- the walk takes a word that is no option as the awaited value, or else as an operand
 pub walked_plain : (rows : List Row) (pending : Pending) (word : Text) → is_divider word ≡ false → long_of word ≡ None → short_of word ≡ None
     → walked rules [] (walk_at false rows pending) word ≡ walk_at false (rows_plain rows pending) (pending_plain pending word)
 unfolding walked
@@ -258,6 +274,7 @@ step_plain rows (words (v ∷ vs)) word = refl
 step_plain rows wants word = refl
 step_plain rows (has value) word = refl
 
+-- a word that is no option has no fault
 pub fault_plain : (rows : List Row) (pending : Pending) (word : Text) → is_divider word ≡ false → long_of word ≡ None → short_of word ≡ None → turn_fault shape [] (walk_at false rows pending) word ≡ []
 fault_plain rows pending word other no_long no_short =
     ap₂ or_else
@@ -269,6 +286,7 @@ fault_plain rows pending word other no_long no_short =
 
 -- ---- an option in front of `--`
 
+-- `--journal` uses what is pending, and then itself
 pub walked_journal : (rows : List Row) (pending : Pending) → walked rules [] (walk_at false rows pending) (codes "--journal") ≡ walk_at false (used journal [] (settled_at rows pending)) (words [])
 unfolding walked
 walked_journal rows (words []) = refl
@@ -288,14 +306,17 @@ fault_journal_is rows (words (v ∷ vs)) = refl
 fault_journal_is rows wants = refl
 fault_journal_is rows (has value) = refl
 
+-- the first `--journal` has no fault
 pub fault_journal : (rows : List Row) (pending : Pending) → count_at pending ≤ usize_max → has_row (codes "journal") (settled_at rows pending) ≡ false → turn_fault shape [] (walk_at false rows pending) (codes "--journal") ≡ []
 unfolding journal_kinds
 fault_journal rows pending few unseen = fault_journal_is rows pending ∙ ap₂ journal_kinds (no_settle_fault rows pending few) unseen
 
+-- a second `--journal` is a fault
 pub fault_second : (rows : List Row) (pending : Pending) → count_at pending ≤ usize_max → has_row (codes "journal") (settled_at rows pending) ≡ true → IsFaulty (turn_fault shape [] (walk_at false rows pending) (codes "--journal"))
 unfolding journal_kinds
 fault_second rows pending few seen = (ArgumentConflict, [], fault_journal_is rows pending ∙ ap₂ journal_kinds (no_settle_fault rows pending few) seen)
 
+-- behind `--cache` what was pending is used, and a value is awaited
 pub walked_cache : (rows : List Row) (pending : Pending) → walked rules [] (walk_at false rows pending) (codes "--cache") ≡ walk_at false (settled_at rows pending) wants
 unfolding walked
 walked_cache rows (words []) = refl
@@ -303,6 +324,7 @@ walked_cache rows (words (v ∷ vs)) = refl
 walked_cache rows wants = refl
 walked_cache rows (has value) = refl
 
+-- a `--cache` has no fault, whatever was pending
 pub fault_cache : (rows : List Row) (pending : Pending) → count_at pending ≤ usize_max → turn_fault shape [] (walk_at false rows pending) (codes "--cache") ≡ []
 fault_cache rows pending few = is rows pending ∙ ap (λ k. or_else k []) (no_settle_fault rows pending few)
   where
@@ -312,6 +334,7 @@ fault_cache rows pending few = is rows pending ∙ ap (λ k. or_else k []) (no_s
     is rows wants = refl
     is rows (has value) = refl
 
+-- `--cache=` with a value uses what is pending, and then itself
 pub walked_value : (rows : List Row) (pending : Pending) (value : Text) → walked rules [] (walk_at false rows pending) (codes "--cache=" ++ value) ≡ walk_at false (used cache (value ∷ []) (settled_at rows pending)) (words [])
 unfolding walked
 walked_value rows (words []) value = refl
@@ -319,6 +342,7 @@ walked_value rows (words (v ∷ vs)) value = refl
 walked_value rows wants value = refl
 walked_value rows (has other) value = refl
 
+-- a `--cache=` with a value has no fault, whatever was pending
 pub fault_value : (rows : List Row) (pending : Pending) (value : Text) → count_at pending ≤ usize_max → turn_fault shape [] (walk_at false rows pending) (codes "--cache=" ++ value) ≡ []
 fault_value rows pending value few = is rows pending ∙ ap (λ k. or_else (or_else k []) []) (no_settle_fault rows pending few)
   where

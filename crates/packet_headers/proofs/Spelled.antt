@@ -47,6 +47,7 @@ payload-of front options payload padding m n e d =
 version-spelled : (h : Header) (payload padding : List ℕ) → IsHeader h payload → version (packet_bytes h payload ++ padding) ≡ 4
 version-spelled h payload padding is = omega (arith, is.words, is.most)
 
+-- a spelled packet is read as its own fields, whatever padding stands behind it
 pub spelled-is-read : (h : Header) (payload padding : List ℕ) → IsHeader h payload → read_ipv4 (packet_bytes h payload ++ padding) ≡ Ip (fields_of h payload)
 spelled-is-read h payload padding is =
     let packet : List ℕ = packet_bytes h payload ++ padding in

@@ -3,6 +3,10 @@ use fw_base::{Failed, Sink, write_pieces, write_text};
 use itoa::Buffer;
 use pcap_read::CaptureFault;
 
+/// How the program is called.
+const USAGE: &[u8] = b"usage: report_view moves OLD NEW [in|out:IF:CAPTURE ..] \
+    | page [--script SCRIPT] REPORT [NEW] | script SCRIPT [in|out:IF:CAPTURE ..]\n";
+
 /// What stands between the counts of two reports.
 const IN_BOTH: &[u8] = b" in the first report, in the second ";
 
@@ -60,52 +64,70 @@ fn write_fault<K: Sink>(
     write_text(out, b"\n")
 }
 
+/// Writes at which line a report is none.
+fn write_no_report<K: Sink>(out: &mut K, name: &[u8], line: u64) -> Result<(), Failed> {
+    write_line_of(out, name, line)?;
+    write_text(out, b" is none that a report has there\n")
+}
+
+/// Writes that a report has no journal.
+fn write_no_journal<K: Sink>(out: &mut K, name: &[u8]) -> Result<(), Failed> {
+    write_text(out, name)?;
+    write_text(
+        out,
+        b": has no journal, which ipfw_replay prints with --journal\n",
+    )
+}
+
+/// Writes at which line a report is not of its script.
+fn write_other_script<K: Sink>(
+    out: &mut K,
+    report: &[u8],
+    line: u64,
+    script: &[u8],
+) -> Result<(), Failed> {
+    write_line_of(out, report, line)?;
+    write_text(out, b" is not what ")?;
+    write_text(out, script)?;
+    write_text(out, b" gives\n")
+}
+
+/// Writes that a capture hasn't the records that its reports tell.
+fn write_other_records<K: Sink>(
+    out: &mut K,
+    name: &[u8],
+    told: u64,
+    read: u64,
+) -> Result<(), Failed> {
+    write_text(out, name)?;
+    write_counts(
+        out,
+        b": records: ",
+        told,
+        b" in the reports, in the capture ",
+        read,
+    )
+}
+
 /// Writes why there is nothing to show.
 pub(crate) fn write_trouble<K: Sink>(out: &mut K, trouble: Trouble<'_>) -> Result<(), Failed> {
     match trouble {
-        Trouble::Usage => write_text(
-            out,
-            b"usage: report_view moves OLD NEW [in|out:IF:CAPTURE ..] \
-              | page [--script SCRIPT] REPORT [NEW] | script SCRIPT [in|out:IF:CAPTURE ..]\n",
-        ),
+        Trouble::Usage => write_text(out, USAGE),
         Trouble::Unread(name) => write_unread(out, name),
-        Trouble::NoReport(name, line) => {
-            write_line_of(out, name, line)?;
-            write_text(out, b" is none that a report has there\n")
-        }
+        Trouble::NoReport(name, line) => write_no_report(out, name, line),
         Trouble::Script(error) => error.write(out),
-        Trouble::NoJournal(name) => {
-            write_text(out, name)?;
-            write_text(
-                out,
-                b": has no journal, which ipfw_replay prints with --journal\n",
-            )
-        }
+        Trouble::NoJournal(name) => write_no_journal(out, name),
         Trouble::OtherScript {
             report,
             line,
             script,
-        } => {
-            write_line_of(out, report, line)?;
-            write_text(out, b" is not what ")?;
-            write_text(out, script)?;
-            write_text(out, b" gives\n")
-        }
+        } => write_other_script(out, report, line, script),
         Trouble::Captures { old, new } => write_counts(out, b"captures: ", old, IN_BOTH, new),
         Trouble::Records { capture, old, new } => write_other_count(out, capture, old, new),
         Trouble::Named { told, named } => {
             write_counts(out, b"captures: ", told, b" in the reports, named ", named)
         }
-        Trouble::OtherRecords { name, told, read } => {
-            write_text(out, name)?;
-            write_counts(
-                out,
-                b": records: ",
-                told,
-                b" in the reports, in the capture ",
-                read,
-            )
-        }
+        Trouble::OtherRecords { name, told, read } => write_other_records(out, name, told, read),
         Trouble::Capture {
             name,
             record,

@@ -54,13 +54,6 @@ impl Comparer {
     {
         first_difference(&self.text, self.met, self.other)
     }
-
-    /// The text.
-    pub fn into_text(self) -> Vec<u8>
-        ensures { result.items ≡ self.text }
-    {
-        self.text
-    }
 }
 
 impl Sink for Comparer {

@@ -114,27 +114,18 @@ fn judged_over(
     judgement
 }
 
-/// A packet of the row comes to its judgement.
-fn check_packet(
+/// What a packet comes to at its second.
+fn judgement_of(
     rt: &impl Abort,
-    row: &Worked,
     edition: &Edition,
     port: &Port,
     states: &mut States,
     tally: &mut Tally,
-    (second, frame, verdict, rule): Timed,
-) -> Result<(), Fail> {
+    (second, frame, _, _): Timed,
+) -> Result<Option<Judgement>, Fail> {
     let packet = packet_of(rt, frame)?;
     tally.fit(edition.config().counters())?;
-    let judgement = judged_over(edition, &packet, port, second, states, tally);
-    let wanted = Judgement {
-        edition: 7,
-        verdict,
-        rule,
-        cause: Cause::Rule,
-    };
-    assert_eq!(rt; judgement, Some(wanted), "{} at {second}", row.name);
-    Ok(())
+    Ok(judged_over(edition, &packet, port, second, states, tally))
 }
 
 /// Each packet of the row comes to its judgement.
@@ -148,7 +139,15 @@ fn check_packets(
 ) -> Result<(), Fail> {
     let port = incoming(alloc)?;
     for packet in row.packets {
-        check_packet(rt, row, edition, &port, states, tally, *packet)?;
+        let (second, _, verdict, rule) = *packet;
+        let judgement = judgement_of(rt, edition, &port, states, tally, *packet)?;
+        let wanted = Judgement {
+            edition: 7,
+            verdict,
+            rule,
+            cause: Cause::Rule,
+        };
+        assert_eq!(rt; judgement, Some(wanted), "{} at {second}", row.name);
     }
     Ok(())
 }
