@@ -5,7 +5,7 @@ use Rattle.ipfw_parser.proofs.Steps.Options.{option_goes, option_breaks, state_g
 use Rattle.ipfw_parser.proofs.placed.options.Goals as goal
 
 pub returns-in_default : goal.returns-in_default
-returns-in_default c = rw c.placed.ensures (ends _ _ _ _ _ c.loop-step.invariant (inr (no_words_is _ c.in_default.ensures)))
+returns-in_default c = rw c.placed.ensures (ends _ _ _ _ _ _ _ c.loop-step.invariant (inr (no_words_is _ c.in_default.ensures)))
 
 pub returns-in_err-one : goal.returns-in_err-one
 returns-in_err-one c =
@@ -45,4 +45,4 @@ loop-step-preserved c =
 pub returns : goal.returns
 returns c =
     let done : length c.args.words.tokens.now - c.loop-step.step ≡ 0 = omega (arith, c.loop-step-test.false) in
-    rw c.placed-2.ensures (ends _ _ _ _ _ c.loop-step.invariant (inl done))
+    rw c.placed-2.ensures (ends _ _ _ _ _ _ _ c.loop-step.invariant (inl done))
