@@ -14,6 +14,7 @@ use Rattle.fw_command.specs.Lines.{lines_of}
 use Rattle.fw_command.specs.Statements.{says}
 use Rattle.fw_command.specs.Scripts.{script_of}
 use Rattle.fw_command.specs.declared.script.Pace.{Pace}
+use Rattle.fw_command.specs.declared.script.Pace.TheVariants.{Serial, Live as LivePace}
 use Rattle.fw_command.specs.declared.script.Line.{Line}
 use Rattle.fw_command.specs.declared.statement.Statement.{Statement}
 use Rattle.fw_command.specs.declared.statement.Statement.TheVariants.{Nothing, Order, Live, After}
@@ -111,15 +112,24 @@ IsFaultColumn line fault None = IsColumn (end_column (length (before_comment lin
 abbrev pub FaultsHaveTheirColumns : Type 0
 FaultsHaveTheirColumns = (live : Bool) (line : List ℕ) → IfErr (says live line) (λ fault. IsFaultColumn line fault (first_bad (before_comment line)))
 
+-- at pace Live no `after` may stand
+abbrev pub MayStand : Pace → Statement → Type 0
+MayStand pace Nothing = ⊤
+MayStand pace (Order command) = ⊤
+MayStand pace Live = ⊤
+MayStand Serial (After column count) = ⊤
+MayStand LivePace (After column count) = ⊥
+
 -- the line of this number says something without a fault, and where it says `live`, this is the one that stands there
-pub record IsFaultless (live_at : Option ℕ) (number : ℕ) (text : List ℕ) : Type 0 where
+pub record IsFaultless (pace : Pace) (live_at : Option ℕ) (number : ℕ) (text : List ℕ) : Type 0 where
   pub statement : Statement
   pub statement_is : says (is_behind live_at number) text ≡ Ok statement
+  pub may_stand : MayStand pace statement
   pub live : statement ≡ Live → live_at ≡ Some number
 
 -- The line of this number is there, this holds of it on its side of `live`, and no line before it has a fault; the
 -- first of the lines has the number `from`.
-pub record IsFirstFaulty (from : ℕ) (lines : List (List ℕ)) (number : ℕ) (P : Bool → List ℕ → Type 0) : Type 0 where
+pub record IsFirstFaulty (pace : Pace) (from : ℕ) (lines : List (List ℕ)) (number : ℕ) (P : Bool → List ℕ → Type 0) : Type 0 where
   pub place : ℕ
   pub text : List ℕ
   pub live_at : Option ℕ
@@ -127,7 +137,7 @@ pub record IsFirstFaulty (from : ℕ) (lines : List (List ℕ)) (number : ℕ) (
   pub there : slice_get lines place ≡ Some text
   pub live : LiveStands from lines live_at
   pub holds : P (is_behind live_at number) text
-  pub earlier : (k : ℕ) (other : List ℕ) → k < place → slice_get lines k ≡ Some other → IsFaultless live_at (from + k) other
+  pub earlier : (k : ℕ) (other : List ℕ) → k < place → slice_get lines k ≡ Some other → IsFaultless pace live_at (from + k) other
 
 -- the first of the words is this one, and begins in this column
 abbrev pub IsFirstWord : List ℕ → ℕ → List Word → Type 0
@@ -147,19 +157,19 @@ abbrev pub SaysAfter : ℕ → Bool → List ℕ → Type 0
 SaysAfter column live line = ((count : ℕ) × (says live line ≡ Ok (After column count))) × IsAfterColumn column line
 
 -- Where the fault of a script stands: the fault of a line on the first line that has one, in a column of it; an
--- `after` in a live run on its line, where the word begins, with no fault before it. The other faults are the whole
+-- `after` at pace Live on its line, where the word begins, with no fault before it. The other faults are the whole
 -- script's.
-abbrev pub IsFaultPlace : ℕ → List (List ℕ) → ScriptFault → Type 0
-IsFaultPlace from lines TooLong = ⊤
-IsFaultPlace from lines TooManyLines = ⊤
-IsFaultPlace from lines (Parse number column kind) = IsFirstFaulty from lines number (SaysFault (record { column = column; kind = kind }))
-IsFaultPlace from lines (PaceInLive number column) = IsFirstFaulty from lines number (SaysAfter column)
-IsFaultPlace from lines TooManyLive = ⊤
-IsFaultPlace from lines OutOfMemory = ⊤
+abbrev pub IsFaultPlace : Pace → ℕ → List (List ℕ) → ScriptFault → Type 0
+IsFaultPlace pace from lines TooLong = ⊤
+IsFaultPlace pace from lines TooManyLines = ⊤
+IsFaultPlace pace from lines (Parse number column kind) = IsFirstFaulty pace from lines number (SaysFault (record { column = column; kind = kind }))
+IsFaultPlace pace from lines (PaceInLive number column) = (pace ≡ LivePace) × IsFirstFaulty pace from lines number (SaysAfter column)
+IsFaultPlace pace from lines TooManyLive = ⊤
+IsFaultPlace pace from lines OutOfMemory = ⊤
 
 -- each fault of a script that a line has is that of its first line with one, in its column
 abbrev pub ScriptFaultsHaveTheirPlaces : Type 0
-ScriptFaultsHaveTheirPlaces = (pace : Pace) (bytes : List ℕ) → IfErr (script_of pace bytes) (IsFaultPlace 1 (lines_of bytes))
+ScriptFaultsHaveTheirPlaces = (pace : Pace) (bytes : List ℕ) → IfErr (script_of pace bytes) (IsFaultPlace pace 1 (lines_of bytes))
 
 -- wherever the line `add` with a rule's canonical text stands in a script, it is the command that adds this rule
 abbrev pub AddLinesAreReadAgain : Type 0

@@ -129,7 +129,7 @@ pub fn parse_script(alloc: Global, bytes: &[u8], pace: Pace) -> Result<Script, S
     ensures lines { IfOk result (IsOfItsLines (lines_of bytes.now)) }
 
     // The fault of a line is that of the first line with one, in a column of it.
-    ensures fault { IfErr result (IsFaultPlace 1 (lines_of bytes.now)) }
+    ensures fault { IfErr result (IsFaultPlace pace 1 (lines_of bytes.now)) }
 
     // Exactly the grammar's script or its first fault, line after line, unless memory runs out.
     ensures exact { Reads result (spec.script_of pace bytes.now) }
