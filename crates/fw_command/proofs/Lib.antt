@@ -1,6 +1,6 @@
 -- lines, words and results
-pub mod LineEnds
 pub mod Pieces
+pub mod LineEnds
 pub mod WordLists
 pub mod OnResults
 -- what the loops of the code keep from step to step

@@ -1,9 +1,9 @@
--- The lines of a script are the pieces between bytes 10.
-use Rattle.std.proofs.Common.{◌≡◌, ℕ, ◌==◌, List, [], ◌∷◌, refl, sym, ap, ◌∙◌, inl, inr}
+-- The lines of a script, byte after byte.
+use Rattle.std.proofs.Common.{◌≡◌, ℕ, ◌==◌, if◌then◌else◌, List, [], ◌∷◌, refl, sym, ap, inl, inr}
 use Rattle.std.specs.List.{slice_split, onto_first}
 use Rattle.std.proofs.lemmas.Bool.{cases_Bool}
-use Rattle.fw_command.specs.Lines.{lines_of}
-use Rattle.fw_command.specs.Laws.{LinesArePieces, without_empty_end}
+use Rattle.fw_command.specs.Lines.{lines_of, without_empty_end}
+use Rattle.fw_command.specs.Laws.{LinesGoByBytes}
 
 abbrev split : List ℕ → List (List ℕ)
 split bytes = slice_split (λ byte. byte == 10) bytes
@@ -32,17 +32,21 @@ onto_end b [] [] = refl
 onto_end b [] (second ∷ others) = refl
 onto_end b (c ∷ first) others = refl
 
--- the lines are the pieces between bytes 10, without an empty last one
-pub pieces_are : LinesArePieces
+-- no bytes have no line
+pub lines_of-nil : lines_of [] ≡ []
 unfolding lines_of
-pieces_are [] = refl
-pieces_are (b ∷ bytes) =
+lines_of-nil = refl
+
+-- a byte 10 ends a line, and every other byte stands before the first line of those behind it
+pub lines_of-cons : (byte : ℕ) (bytes : List ℕ) → lines_of (byte ∷ bytes) ≡ (if byte == 10 then [] ∷ lines_of bytes else onto_first byte (lines_of bytes))
+unfolding lines_of
+lines_of-cons byte bytes =
     let some = split_first bytes in
-    elim (cases_Bool (b == 10)) [
-      | inl is ↦
-          let rest = rw some.is at (pieces_are bytes) in
-          rw (is, some.is) (ap (λ lines. [] ∷ lines) rest ∙ sym (end_behind some.first some.others))
-      | inr isn't ↦
-          let rest = rw some.is at (pieces_are bytes) in
-          rw (isn't, some.is) (ap (onto_first b) rest ∙ onto_end b some.first some.others)
+    elim (cases_Bool (byte == 10)) [
+      | inl is ↦ rw (is, some.is) (end_behind some.first some.others)
+      | inr isn't ↦ rw (isn't, some.is) (sym (onto_end byte some.first some.others))
     ]
+
+-- the same as the law says it
+pub lines_go_by_bytes : LinesGoByBytes
+lines_go_by_bytes = record { none = lines_of-nil; more = lines_of-cons }

@@ -1,6 +1,6 @@
 -- Each number of a script's commands is in its range.
 use Rattle.std.proofs.Common.{◌≤◌, ℕ, Bool, true, false, Option, Some, None, List, [], ◌∷◌, Result, Ok, Err, length, map}
-use Rattle.std.specs.Prelude.{IfOk, is_some, codes, ◌&&◌, nat_le}
+use Rattle.std.specs.Prelude.{IfOk, IfErr, is_some, codes, ◌&&◌, nat_le}
 use Rattle.fw_lex.specs.Words.{before_comment, first_bad, tokens_of}
 use Rattle.fw_rule.specs.WellFormed.{IsFromTo, IsDraft, IsWellFormed}
 use Rattle.ipfw_parser.specs.Reading.{Word, Fault, same, word_at}
@@ -20,6 +20,7 @@ use Rattle.fw_command.specs.declared.statement.Statement.{Statement}
 use Rattle.fw_command.specs.declared.statement.Statement.TheVariants.{Nothing, Order, Live, After}
 use Rattle.fw_command.specs.declared.script.Script.{Script}
 use Rattle.fw_command.specs.declared.script_fault.ScriptFault.{ScriptFault}
+use Rattle.fw_command.specs.declared.script_fault.ScriptFault.TheVariants.{TooLong, TooManyLines, Parse, PaceInLive, TooManyLive, OutOfMemory}
 use Rattle.ipfw_parser.proofs.Forms.Following.{on_bind}
 use Rattle.fw_command.proofs.OnResults.{on_if, finished_on}
 use Rattle.fw_command.proofs.InRange.{first_number_on, command_on}
@@ -114,3 +115,13 @@ script_from_on pace place (line ∷ lines) =
 pub on_reads : {X : Type 0} (result script : Result X ScriptFault) (P : X → Type 0) → Reads result script → IfOk script P → IfOk result P
 on_reads (Ok x) script P reads p = rw (← reads) at p
 on_reads (Err e) script P reads p = tt
+
+-- what holds of the definition's fault holds of the one that was answered, where it holds of want of memory
+pub on_faults : {X : Type 0} (result script : Result X ScriptFault) (P : ScriptFault → Type 0) → P OutOfMemory → Reads result script → IfErr script P → IfErr result P
+on_faults (Ok x) script P memory reads p = tt
+on_faults (Err TooLong) script P memory reads p = rw (← reads) at p
+on_faults (Err TooManyLines) script P memory reads p = rw (← reads) at p
+on_faults (Err (Parse line column kind)) script P memory reads p = rw (← reads) at p
+on_faults (Err (PaceInLive line column)) script P memory reads p = rw (← reads) at p
+on_faults (Err TooManyLive) script P memory reads p = rw (← reads) at p
+on_faults (Err OutOfMemory) script P memory reads p = memory

@@ -1,8 +1,7 @@
 -- A script is its lines: what it has stands on them, and it has what they say.
-use Rattle.std.proofs.Common.{◌≡◌, ℕ, zero, suc, ◌+◌, ◌<◌, Bool, true, false, ◌&&◌, nat_le, nat_lt, Option, Some, None, List, [], ◌∷◌, Result, Ok, Err, length, map, codes, refl, sym, ap, ◌∙◌, subst, arith}
+use Rattle.std.proofs.Common.{◌≡◌, ℕ, zero, suc, ◌+◌, ◌<◌, ◌≤◌, Bool, true, false, ◌&&◌, nat_le, nat_lt, Option, Some, None, List, [], ◌∷◌, Result, Ok, Err, length, map, codes, refl, sym, ap, ◌∙◌, subst, arith}
 use Rattle.std.specs.Prelude.{IfOk, IfSome, is_some, slice_get}
 use Rattle.std.proofs.lemmas.Bool.{lt-ltb, le-ltb}
-use Rattle.fw_base.proofs.Lists.{all_weaker}
 use Rattle.fw_lex.specs.Words.{before_comment, first_bad, tokens_of}
 use Rattle.ipfw_parser.specs.Reading.{Word, Fault, same, word_at}
 use Rattle.ipfw_parser.specs.Rules.{rule_in, end_column}
@@ -12,7 +11,7 @@ use Rattle.fw_command.specs.Lines.{lines_of}
 use Rattle.fw_command.specs.Statements.{live_statement, after_count, after_statement, statement, addition, words_say, says_unless, says}
 use Rattle.fw_command.specs.Scripts as scripts
 use Rattle.fw_command.specs.Scripts.{with_line_number, allowed_statement, statement_at, next_place, with_command, with_statement, script_from, script_of, first_place}
-use Rattle.fw_command.specs.Laws.{Says, Stands, StepStands, LiveStands, AreOnTheirLines, is_behind, HasOrder, IsHeld, Holds, IsOfItsLines, CommandsStandOnTheirLines}
+use Rattle.fw_command.specs.Laws.{Says, Stands, CommandsStand, StepStands, StepsStand, LiveStands, AreOnTheirLines, is_behind, HasOrder, IsHeld, Holds, IsOfItsLines, CommandsStandOnTheirLines}
 use Rattle.fw_command.specs.declared.script.Pace.{Pace}
 use Rattle.fw_command.specs.declared.script.Pace.TheVariants.{Serial, Live as LivePace}
 use Rattle.fw_command.specs.declared.statement.Place.{Place}
@@ -29,7 +28,7 @@ use Rattle.fw_command.proofs.ScriptSteps.{next_line}
 use Rattle.fw_command.proofs.ScriptInRange.{on_then}
 
 -- `live` stands where it didn't stand before, and `after` behind it
-abbrev IsPlaced : Bool → Statement → Type 0
+abbrev pub IsPlaced : Bool → Statement → Type 0
 IsPlaced live Nothing = Unit {0}
 IsPlaced live (Order found) = Unit {0}
 IsPlaced live Live = live ≡ false
@@ -75,20 +74,51 @@ of_said : (live : Bool) (r : Result Statement Fault) (s : Statement) → IfOk r 
 of_said live (Ok t) s placed e = let is : t ≡ s = cc in subst (IsPlaced live) is placed
 of_said live (Err f) s placed e = cc
 
+-- a statement that was read stands where it may
+pub placed_at : (place : Place) (line : List ℕ) (s : Statement) → says (is_some place.live) line ≡ Ok s → IsPlaced (is_some place.live) s
+placed_at place line s said = of_said (is_some place.live) (says (is_some place.live) line) s (says_placed (is_some place.live) line) said
+
 -- one line more in front
 says_behind : (live : Bool) (from next : ℕ) (first : List ℕ) (lines : List (List ℕ)) (number : ℕ) (s : Statement) → next ≡ from + 1 → Says live next lines number s → Says live from (first ∷ lines) number s
 says_behind live from next first lines number s is told =
     record { place = suc told.place; text = told.text; number_is = omega (arith, told.number_is); there = told.there; statement_is = told.statement_is }
 
-step_behind : (from next : ℕ) (first : List ℕ) (lines : List (List ℕ)) (step : Step) → next ≡ from + 1 → StepStands next lines step → StepStands from (first ∷ lines) step
-step_behind from next first lines (Run line) is told = says_behind true from next first lines line.line (Order line.command) is told
-step_behind from next first lines (Wait count) is told =
-    record { number = told.number; column = told.column; line = says_behind true from next first lines told.number (After told.column count) is told.line }
+stands_behind : (live_at : Option ℕ) (live : Bool) (from next : ℕ) (first : List ℕ) (lines : List (List ℕ)) (number : ℕ) (s : Statement) → next ≡ from + 1 → Stands live_at live next lines number s → Stands live_at live from (first ∷ lines) number s
+stands_behind live_at live from next first lines number s is told = (told.0, says_behind live from next first lines number s is told.1)
 
-all_behind : (from next : ℕ) (first : List ℕ) (lines : List (List ℕ)) (script : Script) → next ≡ from + 1 → AreOnTheirLines next lines script → AreOnTheirLines from (first ∷ lines) script
-all_behind from next first lines script is all = record {
-  before = all_weaker (Stands false next lines) (Stands false from (first ∷ lines)) (λ line told. says_behind false from next first lines line.line (Order line.command) is told) script.before all.before;
-  live = all_weaker (StepStands next lines) (StepStands from (first ∷ lines)) (λ step told. step_behind from next first lines step is told) script.live all.live;
+commands_behind : (live_at : Option ℕ) (from next : ℕ) (first : List ℕ) (lines : List (List ℕ)) (least : ℕ) (commands : List Line) → next ≡ from + 1 → CommandsStand live_at next lines least commands → CommandsStand live_at from (first ∷ lines) least commands
+commands_behind live_at from next first lines least [] is told = tt
+commands_behind live_at from next first lines least (line ∷ commands) is told =
+    (told.0, (stands_behind live_at false from next first lines line.line (Order line.command) is told.1.0, commands_behind live_at from next first lines (line.line + 1) commands is told.1.1))
+
+step_behind : (live_at : Option ℕ) (from next : ℕ) (first : List ℕ) (lines : List (List ℕ)) (number : ℕ) (step : Step) → next ≡ from + 1 → StepStands live_at next lines number step → StepStands live_at from (first ∷ lines) number step
+step_behind live_at from next first lines number (Run line) is told = (told.0, stands_behind live_at true from next first lines number (Order line.command) is told.1)
+step_behind live_at from next first lines number (Wait count) is told = (told.0, stands_behind live_at true from next first lines number (After told.0 count) is told.1)
+
+steps_behind : (live_at : Option ℕ) (from next : ℕ) (first : List ℕ) (lines : List (List ℕ)) (least : ℕ) (steps : List Step) → next ≡ from + 1 → StepsStand live_at next lines least steps → StepsStand live_at from (first ∷ lines) least steps
+steps_behind live_at from next first lines least [] is told = tt
+steps_behind live_at from next first lines least (step ∷ steps) is told =
+    (told.0, (told.1.0, (step_behind live_at from next first lines told.0 step is told.1.1.0, steps_behind live_at from next first lines (told.0 + 1) steps is told.1.1.1)))
+
+all_behind : (from next : ℕ) (first : List ℕ) (lines : List (List ℕ)) (least : ℕ) (script : Script) → next ≡ from + 1 → AreOnTheirLines next lines least script → AreOnTheirLines from (first ∷ lines) least script
+all_behind from next first lines least script is all = record {
+  before = commands_behind script.live_at from next first lines least script.before is all.before;
+  live = steps_behind script.live_at from next first lines least script.live is all.live;
+}
+
+-- what stands behind one line stands behind each earlier one
+commands_earlier : (live_at : Option ℕ) (from : ℕ) (lines : List (List ℕ)) (less least : ℕ) (commands : List Line) → less ≤ least → CommandsStand live_at from lines least commands → CommandsStand live_at from lines less commands
+commands_earlier live_at from lines less least [] lower told = tt
+commands_earlier live_at from lines less least (line ∷ commands) lower told = (omega (arith, lower, told.0), told.1)
+
+steps_earlier : (live_at : Option ℕ) (from : ℕ) (lines : List (List ℕ)) (less least : ℕ) (steps : List Step) → less ≤ least → StepsStand live_at from lines least steps → StepsStand live_at from lines less steps
+steps_earlier live_at from lines less least [] lower told = tt
+steps_earlier live_at from lines less least (step ∷ steps) lower told = (told.0, (omega (arith, lower, told.1.0), told.1.1))
+
+all_earlier : (from : ℕ) (lines : List (List ℕ)) (less least : ℕ) (script : Script) → less ≤ least → AreOnTheirLines from lines least script → AreOnTheirLines from lines less script
+all_earlier from lines less least script lower all = record {
+  before = commands_earlier script.live_at from lines less least script.before lower all.before;
+  live = steps_earlier script.live_at from lines less least script.live lower all.live;
 }
 
 allowed_statement_same : (pace : Pace) (place : Place) (s : Statement) → IfOk (allowed_statement pace place s) (λ t. s ≡ t)
@@ -109,7 +139,8 @@ placed_says : (pace : Pace) (place : Place) (said : Result Statement Fault) → 
 placed_says pace place (Ok s) = ok_same (allowed_statement pace place s) s (allowed_statement_same pace place s)
 placed_says pace place (Err fault) = tt
 
-statement_at_says : (pace : Pace) (place : Place) (line : List ℕ) → IfOk (statement_at pace place line) (λ s. says (is_some place.live) line ≡ Ok s)
+-- a statement that may stand at its place is what the line says
+pub statement_at_says : (pace : Pace) (place : Place) (line : List ℕ) → IfOk (statement_at pace place line) (λ s. says (is_some place.live) line ≡ Ok s)
 unfolding statement_at
 statement_at_says pace place line = placed_says pace place (says (is_some place.live) line)
 
@@ -117,23 +148,30 @@ statement_at_says pace place line = placed_says pace place (says (is_some place.
 first_says : (live : Bool) (from : ℕ) (text : List ℕ) (lines : List (List ℕ)) (s : Statement) → says live text ≡ Ok s → Says live from (text ∷ lines) from s
 first_says live from text lines s said = record { place = 0; text = text; number_is = omega arith; there = refl; statement_is = said }
 
-with_command_stands : (live : Bool) (from : ℕ) (lines : List (List ℕ)) (line : Line) (script : Script) → Stands live from lines line → AreOnTheirLines from lines script → AreOnTheirLines from lines (with_command live line script)
-with_command_stands false from lines line script told all = record { before = (told, all.before); live = all.live }
-with_command_stands true from lines line script told all = record { before = all.before; live = (told, all.live) }
+with_command_stands : (live : Bool) (from : ℕ) (lines : List (List ℕ)) (line : Line) (script : Script) → Stands script.live_at live from lines line.line (Order line.command) → AreOnTheirLines from lines (line.line + 1) script
+    → AreOnTheirLines from lines line.line (with_command live line script)
+with_command_stands false from lines line script told all = record {
+  before = (omega arith, (told, all.before));
+  live = steps_earlier script.live_at from lines line.line (line.line + 1) script.live (omega arith) all.live;
+}
+with_command_stands true from lines line script told all = record {
+  before = commands_earlier script.live_at from lines line.line (line.line + 1) script.before (omega arith) all.before;
+  live = (line.line, (omega arith, ((refl, told), all.live)));
+}
 
-with_statement_stands : (place : Place) (s : Statement) (text : List ℕ) (lines : List (List ℕ)) (script : Script) → says (is_some place.live) text ≡ Ok s → IsPlaced (is_some place.live) s → AreOnTheirLines place.line (text ∷ lines) script
-    → AreOnTheirLines place.line (text ∷ lines) (with_statement place s script)
-with_statement_stands place Nothing text lines script said placed all = all
-with_statement_stands place (Order found) text lines script said placed all =
-    with_command_stands (is_some place.live) place.line (text ∷ lines) (record { line = place.line; command = found }) script (first_says (is_some place.live) place.line text lines (Order found) said) all
-with_statement_stands place Live text lines script said placed all = all
-with_statement_stands place (After column count) text lines script said placed all = record {
-  before = all.before;
-  live = (record { number = place.line; column = column; line = first_says true place.line text lines (After column count) (ap (λ live. says live text) (sym placed) ∙ said) }, all.live);
+with_statement_stands : (place : Place) (s : Statement) (text : List ℕ) (lines : List (List ℕ)) (script : Script) → says (is_some place.live) text ≡ Ok s → IsPlaced (is_some place.live) s
+    → is_behind script.live_at place.line ≡ is_some place.live → AreOnTheirLines place.line (text ∷ lines) (place.line + 1) script → AreOnTheirLines place.line (text ∷ lines) place.line (with_statement place s script)
+with_statement_stands place Nothing text lines script said placed behind all = all_earlier place.line (text ∷ lines) place.line (place.line + 1) script (omega arith) all
+with_statement_stands place (Order found) text lines script said placed behind all =
+    with_command_stands (is_some place.live) place.line (text ∷ lines) (record { line = place.line; command = found }) script (behind, first_says (is_some place.live) place.line text lines (Order found) said) all
+with_statement_stands place Live text lines script said placed behind all = all_earlier place.line (text ∷ lines) place.line (place.line + 1) script (omega arith) all
+with_statement_stands place (After column count) text lines script said placed behind all = record {
+  before = commands_earlier script.live_at place.line (text ∷ lines) place.line (place.line + 1) script.before (omega arith) all.before;
+  live = (place.line, (omega arith, ((column, (behind ∙ placed, first_says true place.line text lines (After column count) (ap (λ live. says live text) (sym placed) ∙ said))), all.live)));
 }
 
 -- the line of `live`, where it stood before the first of the lines, or stands among them
-abbrev LiveFrom : Option ℕ → ℕ → List (List ℕ) → Option ℕ → Type 0
+abbrev pub LiveFrom : Option ℕ → ℕ → List (List ℕ) → Option ℕ → Type 0
 LiveFrom (Some at) from lines live_at = live_at ≡ Some at
 LiveFrom None from lines live_at = LiveStands from lines live_at
 
@@ -150,7 +188,8 @@ live_here : (live : Option ℕ) (from : ℕ) (text : List ℕ) (lines : List (Li
 live_here None from text lines live_at said none is = subst (LiveStands from (text ∷ lines)) (sym is) (first_says false from text lines Live said)
 live_here (Some at) from text lines live_at said none is = cc
 
-next_live : (place : Place) (s : Statement) (text : List ℕ) (lines : List (List ℕ)) (live_at : Option ℕ) → says (is_some place.live) text ≡ Ok s → IsPlaced (is_some place.live) s
+-- the line of `live` for the lines from a place on, where it is so for those behind it
+pub next_live : (place : Place) (s : Statement) (text : List ℕ) (lines : List (List ℕ)) (live_at : Option ℕ) → says (is_some place.live) text ≡ Ok s → IsPlaced (is_some place.live) s
     → LiveFrom (next_place place s).live (next_place place s).line lines live_at → LiveFrom place.live place.line (text ∷ lines) live_at
 next_live place Nothing text lines live_at said placed told = from_behind place.live place.line (place.line + 1) text lines live_at refl told
 next_live place (Order found) text lines live_at said placed told = from_behind place.live place.line (place.line + 1) text lines live_at refl told
@@ -158,7 +197,7 @@ next_live place Live text lines live_at said placed told = live_here place.live 
 next_live place (After column count) text lines live_at said placed told = from_behind place.live place.line (place.line + 1) text lines live_at refl told
 
 -- whether `live` stands on an earlier line is whether it stood before these lines
-behind_is : (live : Option ℕ) (from : ℕ) (lines : List (List ℕ)) (live_at : Option ℕ) → IfSome live (λ at. at < from) → LiveFrom live from lines live_at → is_behind live_at from ≡ is_some live
+pub behind_is : (live : Option ℕ) (from : ℕ) (lines : List (List ℕ)) (live_at : Option ℕ) → IfSome live (λ at. at < from) → LiveFrom live from lines live_at → is_behind live_at from ≡ is_some live
 behind_is (Some at) from lines live_at less told = ap (λ o. is_behind o from) told ∙ lt-ltb at from less
 behind_is None from lines None less told = refl
 behind_is None from lines (Some number) less told = le-ltb number from (omega (arith, told.number_is))
@@ -213,7 +252,8 @@ held_here place (Order found) script behind live =
 held_here place Live script behind live = live refl
 held_here place (After column count) script behind live = (0, refl)
 
-live_next : (place : Place) (s : Statement) (lines : List (List ℕ)) (live_at : Option ℕ) → LiveFrom (next_place place s).live (next_place place s).line lines live_at → s ≡ Live → live_at ≡ Some place.line
+-- where the line in front is `live`, it is the one
+pub live_next : (place : Place) (s : Statement) (lines : List (List ℕ)) (live_at : Option ℕ) → LiveFrom (next_place place s).live (next_place place s).line lines live_at → s ≡ Live → live_at ≡ Some place.line
 live_next place Nothing lines live_at told e = cc
 live_next place (Order found) lines live_at told e = cc
 live_next place Live lines live_at told e = told
@@ -221,7 +261,7 @@ live_next place (After column count) lines live_at told e = cc
 
 -- what is read from this place on
 record IsRead (place : Place) (lines : List (List ℕ)) (script : Script) : Type 0 where
-  stands : AreOnTheirLines place.line lines script
+  stands : AreOnTheirLines place.line lines place.line script
   live : LiveFrom place.live place.line lines script.live_at
   holds : (k : ℕ) (text : List ℕ) → slice_get lines k ≡ Some text → Holds script (place.line + k) text
 
@@ -237,7 +277,8 @@ holds_first place s text lines script less said placed read =
       held = held_here place s script behind (live_next place s lines script.live_at read.live);
     })
 
-some_text : {P : Type 0} (text other : List ℕ) → Some text ≡ Some other → (text ≡ other → P) → P
+-- what holds where two texts are the same
+pub some_text : {P : Type 0} (text other : List ℕ) → Some text ≡ Some other → (text ≡ other → P) → P
 some_text text other e then_so = then_so cc
 
 holds_each : (place : Place) (s : Statement) (first : List ℕ) (lines : List (List ℕ)) (script : Script) → IfSome place.live (λ at. at < place.line) → says (is_some place.live) first ≡ Ok s → IsPlaced (is_some place.live) s
@@ -252,28 +293,33 @@ later : (live : Option ℕ) (line : ℕ) → IfSome live (λ at. at < line) → 
 later None line less = tt
 later (Some at) line less = omega (arith, less)
 
-next_less : (place : Place) (s : Statement) → IfSome place.live (λ at. at < place.line) → IfSome (next_place place s).live (λ at. at < (next_place place s).line)
+-- `live` stood before the next line too
+pub next_less : (place : Place) (s : Statement) → IfSome place.live (λ at. at < place.line) → IfSome (next_place place s).live (λ at. at < (next_place place s).line)
 next_less place Nothing less = later place.live place.line less
 next_less place (Order found) less = later place.live place.line less
 next_less place Live less = omega arith
 next_less place (After column count) less = later place.live place.line less
 
-none_left : (live : Option ℕ) (from : ℕ) → LiveFrom live from [] live
-none_left None from = tt
-none_left (Some at) from = refl
+-- `live` may stand on no line behind those before
+pub none_left : (live : Option ℕ) (from : ℕ) (lines : List (List ℕ)) → LiveFrom live from lines live
+none_left None from lines = tt
+none_left (Some at) from lines = refl
 
 no_line : (script : Script) (number k : ℕ) (text : List ℕ) → slice_get [] k ≡ Some text → Holds script number text
 no_line script number k text e = cc
 
 from_read : (pace : Pace) (place : Place) (lines : List (List ℕ)) → IfSome place.live (λ at. at < place.line) → IfOk (script_from pace place lines) (IsRead place lines)
 unfolding script_from
-from_read pace place [] less = record { stands = record { before = tt; live = tt }; live = none_left place.live place.line; holds = λ k text e. no_line _ (place.line + k) k text e }
+from_read pace place [] less = record { stands = record { before = tt; live = tt }; live = none_left place.live place.line []; holds = λ k text e. no_line _ (place.line + k) k text e }
 from_read pace place (line ∷ lines) less =
     on_then (statement_at pace place line) _ (λ s. says (is_some place.live) line ≡ Ok s) (IsRead place (line ∷ lines)) (statement_at_says pace place line) (λ s said.
-    let placed = of_said (is_some place.live) (says (is_some place.live) line) s (says_placed (is_some place.live) line) said in
+    let placed = placed_at place line s said in
     on_then (script_from pace (next_place place s) lines) _ (IsRead (next_place place s) lines) (IsRead place (line ∷ lines)) (from_read pace (next_place place s) lines (next_less place s less)) (λ script read.
+    let stands : AreOnTheirLines place.line (line ∷ lines) (place.line + 1) script =
+    subst (λ n. AreOnTheirLines place.line (line ∷ lines) n script) (next_line place s) (all_behind place.line (next_place place s).line line lines (next_place place s).line script (next_line place s) read.stands) in
+    let behind = behind_is place.live place.line (line ∷ lines) script.live_at less (next_live place s line lines script.live_at said placed read.live) in
     record {
-      stands = with_statement_stands place s line lines script said placed (all_behind place.line (next_place place s).line line lines script (next_line place s) read.stands);
+      stands = with_statement_stands place s line lines script said placed behind stands;
       live = subst (LiveFrom place.live place.line (line ∷ lines)) (sym (with_statement_extends place s script).live_at) (next_live place s line lines script.live_at said placed read.live);
       holds = holds_each place s line lines script less said placed read;
     }))
@@ -285,9 +331,13 @@ read_first : (lines : List (List ℕ)) (r : Result Script ScriptFault) → IfOk 
 read_first lines (Ok script) read = of_first lines script read
 read_first lines (Err e) read = tt
 
+-- the script of a file's lines is its lines
+pub all_read : (pace : Pace) (lines : List (List ℕ)) → IfOk (script_from pace first_place lines) (IsOfItsLines lines)
+all_read pace lines = read_first lines (script_from pace first_place lines) (from_read pace first_place lines tt)
+
 -- what a script has stands on its lines, and what each line says is in the script
 pub commands_stand : CommandsStandOnTheirLines
 unfolding script_of
 commands_stand pace bytes =
     on_if (nat_lt 1048576 (length bytes)) _ _ (IsOfItsLines (lines_of bytes)) tt
-    (on_if (nat_lt 65536 (length (lines_of bytes))) _ _ (IsOfItsLines (lines_of bytes)) tt (read_first (lines_of bytes) (script_from pace first_place (lines_of bytes)) (from_read pace first_place (lines_of bytes) tt)))
+    (on_if (nat_lt 65536 (length (lines_of bytes))) _ _ (IsOfItsLines (lines_of bytes)) tt (all_read pace (lines_of bytes)))

@@ -1,8 +1,13 @@
 -- The lines of a script.
-use Rattle.std.specs.Prelude.{ℕ, List, [], ◌∷◌, ◌==◌, if◌then◌else◌}
-use Rattle.std.specs.List.{onto_first}
+use Rattle.std.specs.Prelude.{ℕ, List, [], ◌∷◌, ◌==◌}
+use Rattle.std.specs.List.{slice_split}
 
--- the pieces between bytes 10; a last one counts where it isn't empty
+-- all pieces but a last one that is empty
+abbrev pub without_empty_end : List (List ℕ) → List (List ℕ)
+without_empty_end [] = []
+without_empty_end ([] ∷ []) = []
+without_empty_end (piece ∷ pieces) = piece ∷ without_empty_end pieces
+
+-- the pieces between bytes 10, a last one only where it isn't empty
 unfoldable pub lines_of : List ℕ → List (List ℕ)
-lines_of [] = []
-lines_of (byte ∷ bytes) = if byte == 10 then [] ∷ lines_of bytes else onto_first byte (lines_of bytes)
+lines_of bytes = without_empty_end (slice_split (λ byte. byte == 10) bytes)

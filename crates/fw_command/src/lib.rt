@@ -5,7 +5,7 @@
 
 pub use laws::{
     add_lines_are_read_again, commands_stand_on_their_lines, faults_have_their_columns,
-    lines_are_pieces,
+    lines_go_by_bytes,
 };
 pub use script::{Line, Pace, Script, Step};
 pub use script_fault::ScriptFault;

@@ -1,6 +1,7 @@
-ghost use Rattle.std.specs.Prelude.{◌≡◌, ◌≤◌, ◌<◌, ◌+◌, ◌^◌, IfOk, length};
+ghost use Rattle.std.specs.Prelude.{◌≡◌, ◌≤◌, ◌<◌, ◌+◌, ◌^◌, IfOk, IfErr, length};
 ghost use Rattle.fw_command.specs.Scripts as spec;
 ghost use Rattle.fw_command.specs.Scripts.{Reads, IsOnLine};
+ghost use Rattle.fw_command.specs.Laws.{IsFaultPlace, IsOfItsLines};
 ghost use Rattle.fw_command.specs.Lines.{lines_of};
 ghost use Rattle.fw_command.specs.WellFormed.{IsScript};
 
@@ -124,7 +125,13 @@ fn read_lines(alloc: Global, pace: Pace, bytes: &[u8]) -> Result<Script, ScriptF
 /// behind `live`: its commands, or the first fault. Time grows with the bytes; memory is taken for the
 /// words of one line and for what the commands keep.
 pub fn parse_script(alloc: Global, bytes: &[u8], pace: Pace) -> Result<Script, ScriptFault>
-    // Exactly the grammar's script or its first fault, unless memory runs out.
+    // A script is its lines: what it has stands on them in their order, and it has what each says.
+    ensures lines { IfOk result (IsOfItsLines (lines_of bytes.now)) }
+
+    // The fault of a line is that of the first line with one, in a column of it.
+    ensures fault { IfErr result (IsFaultPlace pace 1 (lines_of bytes.now)) }
+
+    // Exactly the grammar's script or its first fault, line after line, unless memory runs out.
     ensures exact { Reads result (spec.script_of pace bytes.now) }
 
     // Each number of each command is in its range.

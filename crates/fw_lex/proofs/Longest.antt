@@ -4,14 +4,15 @@ use Rattle.std.proofs.Math.Seq.{drop-length}
 use Rattle.std.proofs.lemmas.Bool.{cases_order}
 use Rattle.std.specs.List.{AllByRecursion}
 use Rattle.fw_lex.specs.declared.token.Token.{Token}
-use Rattle.fw_lex.specs.Words.{tokens_from, tokens_in, is_blank, IsLongestRun, AreInOrder, IsInSome, AreLongestRuns}
+use Rattle.fw_lex.specs.Words.{tokens_from, tokens_in, is_blank, IsLongestRun, AreInOrder, IsInSome}
+use Rattle.fw_lex.specs.Laws.{ScannedAreLongestRuns}
 use Rattle.fw_lex.proofs.Steps.{closed-blank, closed-solid, open-blank, open-solid}
 
 -- the same as AreLongestRuns, from a byte on
-record AreRunsFrom (part : List ℕ) (from : ℕ) (tokens : List Token) : Type 0 where
-  each : AllByRecursion (IsLongestRun part) tokens
-  in_order : AreInOrder from tokens
-  whole : (k : ℕ) → from ≤ k → k < length part → is_blank (get_or part k 0) ≡ false → IsInSome k tokens
+pub record AreRunsFrom (part : List ℕ) (from : ℕ) (tokens : List Token) : Type 0 where
+  pub each : AllByRecursion (IsLongestRun part) tokens
+  pub in_order : AreInOrder from tokens
+  pub whole : (k : ℕ) → from ≤ k → k < length part → is_blank (get_or part k 0) ≡ false → IsInSome k tokens
 
 -- the bytes from start up to i aren't blank, and the one before them is
 record IsOpen (part : List ℕ) (start i : ℕ) : Type 0 where
@@ -32,7 +33,8 @@ data Place (k i : ℕ) : Type 0 where
 place : (k i : ℕ) → Place k i
 place k i = elim (cases_order k i) [ inl e ↦ same e | inr h ↦ elim h [ inl g ↦ below g | inr g ↦ above g ] ]
 
-clash : {A : Type 0} (part : List ℕ) (k i : ℕ) → k ≡ i → is_blank (get_or part i 0) ≡ true → is_blank (get_or part k 0) ≡ false → A
+-- a byte is not both blank and not
+pub clash : {A : Type 0} (part : List ℕ) (k i : ℕ) → k ≡ i → is_blank (get_or part i 0) ≡ true → is_blank (get_or part k 0) ≡ false → A
 clash part k i here blank solid = cc
 
 finished : (part : List ℕ) (start i : ℕ) → i ≡ length part → IsOpen part start i → AreRunsFrom part start (record { start = start; end = i } ∷ [])
@@ -112,7 +114,7 @@ runs_at zero part i e = at_end part i (omega (arith, e))
 runs_at (suc n) part i e = step part i (is_blank (get_or part i 0)) (omega (arith, e)) refl (runs_at n part (i + 1) (omega (arith, e)))
 
 -- the words of a line are its longest runs of bytes that aren't blank, all of them in order
-pub words_are_longest : (part : List ℕ) → AreLongestRuns part (tokens_in part)
+pub words_are_longest : ScannedAreLongestRuns
 unfolding tokens_in
 words_are_longest part =
     let runs : AreRunsFrom part 0 (tokens_from None 0 part) = (runs_at (length part) part 0 (omega arith)).closed (λ h. absurd (omega arith)) in

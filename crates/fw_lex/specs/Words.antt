@@ -1,5 +1,5 @@
 -- The words of a script line (ipfw(8)): what stands before a comment, which bytes part words, and
--- where each word begins and ends.
+-- which spans the words are; then where a scan finds them.
 use Rattle.std.specs.Prelude.{◌≡◌, ℕ, ◌+◌, ◌-◌, ◌<◌, ◌≤◌, Bool, true, false, not, ◌&&◌, ◌||◌, ◌==◌, nat_le, if◌then◌else◌, Option, Some, None, List, [], ◌∷◌, length, slice_index, take, unwrap_or, position, ⊤, ◌⊎◌}
 use Rattle.std.specs.List.{AllByRecursion}
 use Rattle.fw_lex.specs.declared.token.Token.{Token}
@@ -19,23 +19,6 @@ before_comment line = take (unwrap_or (position (λ byte. byte == 35) line) (len
 -- where the first byte stands that may not
 unfoldable pub first_bad : List ℕ → Option ℕ
 first_bad part = position (λ byte. not (is_readable byte)) part
-
--- The words from the byte at `at` on, where `begun` says where a word began that is still open.
-unfoldable pub tokens_from : Option ℕ → ℕ → List ℕ → List Token
-tokens_from None at [] = []
-tokens_from (Some start) at [] = record { start = start; end = at } ∷ []
-tokens_from None at (byte ∷ bytes) =
-    if is_blank byte then tokens_from None (at + 1) bytes else tokens_from (Some at) (at + 1) bytes
-tokens_from (Some start) at (byte ∷ bytes) =
-    if is_blank byte then record { start = start; end = at } ∷ tokens_from None (at + 1) bytes else tokens_from (Some start) (at + 1) bytes
-
--- the words of a line's part before the comment, each as the span from its first byte to past its last
-unfoldable pub tokens_in : List ℕ → List Token
-tokens_in part = tokens_from None 0 part
-
--- the words of a line
-unfoldable pub tokens_of : List ℕ → List Token
-tokens_of line = tokens_in (before_comment line)
 
 -- the span is a longest run of bytes that aren't blank
 pub record IsLongestRun (part : List ℕ) (token : Token) : Type 0 where
@@ -60,3 +43,23 @@ pub record AreLongestRuns (part : List ℕ) (tokens : List Token) : Type 0 where
   pub each : AllByRecursion (IsLongestRun part) tokens
   pub in_order : AreInOrder 0 tokens
   pub whole : (k : ℕ) → k < length part → is_blank (slice_index part k) ≡ false → IsInSome k tokens
+
+-- The same words by a scan, as a function: for definitions that go on from a line's words. The law
+-- LongestRunsAreScanned says that they are the same.
+
+-- The words from the byte at `at` on, where `begun` says where a word began that is still open.
+unfoldable pub tokens_from : Option ℕ → ℕ → List ℕ → List Token
+tokens_from None at [] = []
+tokens_from (Some start) at [] = record { start = start; end = at } ∷ []
+tokens_from None at (byte ∷ bytes) =
+    if is_blank byte then tokens_from None (at + 1) bytes else tokens_from (Some at) (at + 1) bytes
+tokens_from (Some start) at (byte ∷ bytes) =
+    if is_blank byte then record { start = start; end = at } ∷ tokens_from None (at + 1) bytes else tokens_from (Some start) (at + 1) bytes
+
+-- the words of a line's part before the comment, each as the span from its first byte to past its last
+unfoldable pub tokens_in : List ℕ → List Token
+tokens_in part = tokens_from None 0 part
+
+-- the words of a line
+unfoldable pub tokens_of : List ℕ → List Token
+tokens_of line = tokens_in (before_comment line)

@@ -79,10 +79,12 @@ fn words(alloc: Global, part: &[u8]) -> Result<Vec<Token>, OutOfMemory>
 pub fn tokens(alloc: Global, line: &[u8]) -> Result<Vec<Token>, LexFault>
     requires { length line.now ≤ 1048576 }
 
-    // The words, in order.
-    ensures words { IfOk result (λ tokens. tokens.items ≡ tokens_of line.now) }
+    // The longest runs of bytes that aren't blank, before the comment, in order.
     ensures longest { IfOk result (λ tokens.
         AreLongestRuns (words.before_comment line.now) tokens.items) }
+
+    // The same by a scan, as a function.
+    ensures words { IfOk result (λ tokens. tokens.items ≡ tokens_of line.now) }
 
     // The first byte that may not stand, exactly where there is one.
     ensures bad { IfSome (first_bad (words.before_comment line.now)) (λ at. result

@@ -3,8 +3,10 @@
 //! Tests: `language_tests`, src/words.
 #![tactic(auto)]
 
+pub use laws::longest_runs_are_scanned;
 pub use lexer::{before_comment, is_blank, tokens};
 pub use token::{LexFault, Token};
 
+mod laws;
 mod lexer;
 mod token;

@@ -26,6 +26,7 @@ use Rattle.rule_chain.specs.LastRule.{any_body}
 use Rattle.load_maker.specs.Load as load
 use Rattle.load_laws.specs.MadeScript.{lookup_draft, draft, connection_body, question_body, echo_body}
 use Rattle.rule_round_trip.proofs.Numbers.Digits.{IsFree}
+use Rattle.fw_command.proofs.Pieces.{lines_of-cons}
 
 -- the lines of rules, the line `live`, and others
 unfoldable pub rule_lines : List (List ℕ) → List (List ℕ)
@@ -45,10 +46,10 @@ lines_behind more = refl
 
 -- a text without line ends before one is a line
 pub line_before : (text rest : List ℕ) → IsFree 10 text → lines_of (text ++ 10 ∷ rest) ≡ text ∷ lines_of rest
-unfolding lines_of
-line_before [] rest free = refl
+line_before [] rest free = lines_of-cons 10 rest
 line_before (b ∷ text) rest free =
-    ap (λ t. if t then [] ∷ lines_of (text ++ 10 ∷ rest) else onto_first b (lines_of (text ++ 10 ∷ rest))) free.0 ∙ ap (onto_first b) (line_before text rest free.1)
+    lines_of-cons b (text ++ 10 ∷ rest)
+    ∙ ap (λ t. if t then [] ∷ lines_of (text ++ 10 ∷ rest) else onto_first b (lines_of (text ++ 10 ∷ rest))) free.0 ∙ ap (onto_first b) (line_before text rest free.1)
 
 -- the last line
 pub last_line : lines_of (codes "delete 300\n") ≡ codes "delete 300" ∷ []

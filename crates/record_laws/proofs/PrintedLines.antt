@@ -16,6 +16,7 @@ use Rattle.eval_engine.specs.declared.docket_entry.DocketEntry.TheVariants as en
 use Rattle.eval_engine.specs.declared.judgement.Cause.TheVariants.{Rule, Limit, Full}
 use Rattle.eval_engine.specs.declared.judgement.Judgement.{Judgement}
 use Rattle.fw_command.specs.Lines.{lines_of}
+use Rattle.fw_command.proofs.Pieces.{lines_of-cons}
 use Rattle.fw_report.specs.AnswerText.{answers_text}
 use Rattle.fw_report.specs.DocketText.{verdict_word, verdict_code, cause_word, cause_count, judged_text, entry_text, record_line, record_lines, end_line, captures_text}
 use Rattle.fw_report.specs.Lines.{lines_in}
@@ -50,13 +51,14 @@ before front text silent line = record {
 
 -- bytes with no line's end and one before a text are its first line
 silent_line : (body rest : List ℕ) → lines_in body ≡ 0 → lines_of (body ++ 10 ∷ rest) ≡ body ∷ lines_of rest
-unfolding lines_in lines_of
-silent_line [] rest silent = refl
+unfolding lines_in
+silent_line [] rest silent = lines_of-cons 10 rest
 silent_line (x ∷ body) rest silent =
-    elim (nat_eq x 10) as (λ b. cond b (1 + lines_in body) (lines_in body) ≡ 0 → cond b ([] ∷ lines_of (body ++ 10 ∷ rest)) (onto_first x (lines_of (body ++ 10 ∷ rest))) ≡ (x ∷ body) ∷ lines_of rest) [
+    lines_of-cons x (body ++ 10 ∷ rest)
+    ∙ (elim (nat_eq x 10) as (λ b. cond b (1 + lines_in body) (lines_in body) ≡ 0 → cond b ([] ∷ lines_of (body ++ 10 ∷ rest)) (onto_first x (lines_of (body ++ 10 ∷ rest))) ≡ (x ∷ body) ∷ lines_of rest) [
       | true ↦ λ some. absurd (omega arith)
       | false ↦ λ none. ap (onto_first x) (silent_line body rest none)
-    ] silent
+    ] silent)
 
 -- a line before a text is its first line
 first_line : (text rest : List ℕ) (line : IsLine text) → lines_of (text ++ rest) ≡ line.body ∷ lines_of rest

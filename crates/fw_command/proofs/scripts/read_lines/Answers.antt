@@ -2,7 +2,7 @@ use Rattle.std.proofs.Common.{◌≡◌, [], sym, ◌∙◌, ap, arith, rules, d
 use Rattle.std.proofs.lemmas.Result.{err_from_is_err_and}
 use Rattle.fw_command.specs.Lines.{lines_of}
 use Rattle.fw_command.specs.declared.statement.Place.{Place}
-use Rattle.fw_command.proofs.LineEnds.{lines_of_none}
+use Rattle.fw_command.proofs.Pieces.{lines_of-nil}
 use Rattle.fw_command.proofs.ScriptSteps.{goes, breaks, ends, fails_on, next_line, next_ran}
 use Rattle.fw_command.proofs.scripts.read_lines.Goals as goal
 
@@ -25,4 +25,4 @@ loop-rest-preserved c =
 pub returns : goal.returns
 returns c =
     let none : c.loop-rest.rest.now ≡ [] = drop_of_length-le c.loop-rest.rest.now {i = 0} (search rules) in
-    rw c.script.ensures (sym (ends _ _ _ _ _ c.loop-rest.invariant.read (ap lines_of none ∙ lines_of_none)))
+    rw c.script.ensures (sym (ends _ _ _ _ _ c.loop-rest.invariant.read (ap lines_of none ∙ lines_of-nil)))
