@@ -4,7 +4,8 @@
 It knows of the language only how lines begin in this repository: a declaration is a line NAME : .., with words
 such as `pub` or `abbrev` before the name, and a comment stands on the line above; a type is a line `pub struct NAME`,
 or with `enum`, `trait` or `type`. A sentence of a page ends at a full stop, a question mark or a colon before a blank
-and a capital letter; each item of a list and each cell of a table begins one."""
+and a capital letter; each item of a list and each cell of a table begins one. So it is with a manual page's, where the
+end of a line ends a sentence whatever comes then. Its synopsis and its examples are left out."""
 
 import collections
 import os
@@ -13,11 +14,15 @@ import sys
 
 REPOSITORY = sys.argv[1] if len(sys.argv) > 1 else os.path.join(os.path.dirname(os.path.abspath(__file__)), "..")
 TOP = os.path.join(REPOSITORY, "crates")
+MANUALS = ["docs/ipfw_replay.1", "docs/report_view.1"]
 PAGES = ["README.md", "CHANGELOG.md"] + [f"docs/{name}.md" for name in ("DECISIONS", "LOCK", "MAP", "MEASURED", "RECIPES", "RULES")]
 DECLARED = re.compile(r"^( *)(?:(abbrev|unfoldable) )?(pub )?(record |data )?([^\s:(){}.\\]+)((?: [({].*?[)}])*) : ?(.*)$")
 TYPE = re.compile(r"^ *pub (?:struct|enum|trait|type) (\w+)")
 SENTENCE_END = re.compile(r"(?<=[.?!:])[\"')*]*\s+(?=[A-Z`*\"(0-9])")
 ITEM = re.compile(r"\s*(\d+\. |- )")
+# Macros of mdoc(7) that stand within a sentence; each other one ends what stands before it.
+WITHIN = {"Ar", "Cm", "Fl", "Fx", "Ic", "Nm", "Pa", "Pq", "Ql", "Sx", "Sy", "Xr"}
+NAME_ALONE = {"Fx": "FreeBSD", "Nm": "NAME"}
 CLAUSE = re.compile(r"\s*(requires|ensures|invariant|decreases)\b")
 WIDEST_CLAUSE = 100
 SMALL_FILE = 12
@@ -163,11 +168,45 @@ def paragraphs(page):
     return [" ".join(part) for part in parts if part]
 
 
+def spoken(words):
+    """A line of macros within a sentence, as it is read."""
+    read = []
+    for place, word in enumerate(words):
+        if word in WITHIN:
+            if word in NAME_ALONE and (place + 1 == len(words) or not re.search(r"\w", words[place + 1])):
+                read.append(NAME_ALONE[word])
+        elif word != "Ns":
+            read.append(word)
+    if words[0] == "Xr" and len(read) > 1:
+        read[:2] = [f"{read[0]}({read[1]})"]
+    return " ".join(read)
+
+
+def manual_paragraphs(page):
+    """The paragraphs and items of a manual page, cut behind each line that ends a sentence."""
+    parts, is_left_out = [[]], False
+    with open(os.path.join(REPOSITORY, page), encoding="utf-8") as file:
+        for line in file:
+            words = line.lstrip(".").split()
+            if line.startswith(".Sh"):
+                is_left_out = "SYNOPSIS" in words
+            elif line.startswith((".Bd", ".Ed")):
+                is_left_out = line.startswith(".Bd")
+            if is_left_out or not words or line.startswith(".") and words[0] not in WITHIN:
+                parts.append([])
+                continue
+            parts[-1].append(spoken(words) if line.startswith(".") else line.strip())
+            if parts[-1][-1].endswith((".", "?")):
+                parts.append([])
+    return [" ".join(part) for part in parts if part]
+
+
 def sentences():
-    for page in PAGES:
+    for page in PAGES + MANUALS:
         if os.path.exists(os.path.join(REPOSITORY, page)):
+            parts = manual_paragraphs(page) if page in MANUALS else paragraphs(page)
             counts = [sum(1 for word in sentence.split() if re.search(r"\w", word))
-                      for part in paragraphs(page) for sentence in SENTENCE_END.split(part)]
+                      for part in parts for sentence in SENTENCE_END.split(part)]
             long = sum(1 for count in counts if count > LONGEST_SENTENCE)
             print(f"sentences of more than {LONGEST_SENTENCE} words in {page}: {long} of {len(counts)}")
 

@@ -5,7 +5,7 @@ use std::{env, io};
 pub const OUT_OF_MEMORY: u8 = 6;
 
 /// The words of the command line behind the program's name; none where one of them is no text in UTF-8.
-/// It fails where the words couldn't be had from the system, or memory ran out.
+/// It fails where memory ran out.
 pub fn words_given<R: Env + AllocGlobal>(rt: &R) -> io::Result<Vec<String>> {
     let mut words = Vec::new(rt.alloc());
     match env::args(rt) {
