@@ -10,7 +10,6 @@ use load_maker::MOST_RECORDS;
 use std::env;
 
 mod captures;
-mod configuration;
 mod replays;
 
 /// Rules that ask the states nothing.
