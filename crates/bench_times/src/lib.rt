@@ -1,4 +1,4 @@
-//! What the benches print of the times that they take.
+//! The times that the benches take, and what they print of them.
 //!
 //! Tests: none.
 #![tactic(auto)]
@@ -8,9 +8,22 @@ use std::io;
 use std::io::Print;
 use std::time::{Clock, Instant};
 
+/// Between two publications of an operator beside what is timed, in milliseconds.
+pub const PAUSE: u64 = 10;
+
 /// The nanoseconds since the start; 2^64 - 1 where they are more. It fails where the clock can't be read.
 pub fn nanoseconds(clock: &impl Clock, start: Instant) -> io::Result<u64> {
     Ok(u64::try_from(start.elapsed(clock)?.as_nanos()).unwrap_or(u64::MAX))
+}
+
+/// The milliseconds in so many nanoseconds.
+pub fn milliseconds(time: u64) -> u64 {
+    time / 1_000_000
+}
+
+/// How many were done in a second, where so many took this time, in nanoseconds.
+pub fn rate(count: u64, time: u64) -> u128 {
+    u128::from(count) * 1_000_000_000 / u128::from(time.max(1))
 }
 
 /// Prints a line with the mean time of a round, in nanoseconds and tenths, where so many rounds took this time together.
@@ -46,15 +59,14 @@ pub fn print_rate_of_threads<R: Print>(
     rounds: u32,
     what: &str,
 ) -> Result<()> {
-    let mut rate = 0u128;
+    let mut all = 0u128;
     for time in times {
         let Some(time) = *time else {
             bail!("a thread has no time: it wanted memory, or the clock can't be read");
         };
-        let share = u128::from(rounds) * 1_000_000_000 / u128::from(time.max(1));
-        rate = rate.wrapping_add(share);
+        all = all.wrapping_add(rate(u64::from(rounds), time));
     }
-    println!(rt; "{name:44} {rate:>12} {what} a second")?;
+    println!(rt; "{name:44} {all:>12} {what} a second")?;
     Ok(())
 }
 

@@ -3,25 +3,13 @@ ghost use Rattle.fw_command.specs.WellFormed.{IsLine};
 use crate::kind::EditKind;
 use crate::scripts::{edits, rules, tables};
 use anyhow::{Result, bail};
+use bench_configurations::{behind_script, configured};
 use fw_command::{Line, Pace, parse_script};
 use rule_chain::Config;
-use rule_edits::{apply, apply_owned, is_changing};
+use rule_edits::{apply, is_changing};
 use std::alloc::Global;
 
-/// The configuration behind the command of a line, which isn't a listing.
-fn behind_line(alloc: Global, config: Config, line: &Line) -> Result<Config>
-    requires { IsLine line.now }
-{
-    if !is_changing(&line.command) {
-        bail!("a listing");
-    }
-    match apply_owned(alloc, config, &line.command) {
-        Ok(next) => Ok(next),
-        Err(_) => bail!("a refused command"),
-    }
-}
-
-/// The same, the configuration kept.
+/// The configuration behind the command of a line, which isn't a listing, beside the one before it.
 fn beside_line(alloc: Global, config: &Config, line: &Line) -> Result<Config>
     requires { IsLine line.now }
 {
@@ -34,21 +22,9 @@ fn beside_line(alloc: Global, config: &Config, line: &Line) -> Result<Config>
     }
 }
 
-/// The configuration behind the commands of a script.
-fn behind_script(alloc: Global, first: Config, text: &str) -> Result<Config> {
-    let Ok(script) = parse_script(alloc, text.as_bytes(), Pace::Serial) else {
-        bail!("a script's fault");
-    };
-    let mut config = first;
-    for line in script.before.as_slice() {
-        config = behind_line(alloc, config, line)?;
-    }
-    Ok(config)
-}
-
 /// The configuration with all rules and both tables.
 pub fn first_configuration(alloc: Global) -> Result<Config> {
-    let mut config = behind_script(alloc, Config::new(alloc)?, rules(alloc)?.as_str())?;
+    let mut config = configured(alloc, rules(alloc)?.as_str())?;
     for table in tables(alloc)? {
         config = behind_script(alloc, config, table.as_str())?;
     }

@@ -7,6 +7,7 @@
 use crate::configurations::{edited, first_configuration};
 use crate::kind::EditKind;
 use anyhow::Result;
+use bench_times::{milliseconds, nanoseconds};
 use std::env;
 use std::time::Instant;
 
@@ -23,7 +24,7 @@ fn main(rt: HostRuntime) -> Result<()> {
     let first = first_configuration(alloc)?;
     let (rules, start) = (first.rules().len(), Instant::now(&rt)?);
     let kept = edited(alloc, first, kind)?;
-    let time = start.elapsed(&rt)?.as_millis();
+    let time = milliseconds(nanoseconds(&rt, start)?);
     println!(rt;
         "{} configurations kept, {rules} rules each, edited in {time} ms",
         kept.len()

@@ -4,7 +4,7 @@ ghost use Rattle.fw_rule.specs.WellFormed.{IsBody, IsState, IsWellFormed};
 mod numbers;
 
 use crate::drafts::{applied, body, checking, name, rule};
-use crate::frames::{SYN, incoming, packet_of};
+use crate::frames::{incoming, packet_of};
 use counter_book::Tally;
 use eval_engine::{Judgement, Paused, Question, begin, is_reply_to, resume};
 use evaluation_laws::{Evaluation, Outcome, evaluate};
@@ -20,6 +20,7 @@ use std::collections::LinkedList;
 use std::process::Abort;
 use std::sync::Arc;
 use std::test::Fail;
+use test_frames::SYN;
 
 /// How many lists of rules are tried.
 const LISTS: u32 = 3_000;

@@ -1,10 +1,11 @@
 //! Worked captures, in every cut.
-use crate::frames::{SYN, behind};
+use crate::frames::behind;
 use fw_base::{Link, MemorySource, Source};
 use pcap_read::{Capture, CaptureFault, count_records};
 use std::alloc::{AllocError, Global};
 use std::process::Abort;
 use std::test::Fail;
+use test_frames::SYN;
 
 /// The sizes in which sources give their bytes.
 const PIECES: [&[usize]; 3] = [&[1], &[7, 16], &[]];

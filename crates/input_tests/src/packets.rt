@@ -3,7 +3,7 @@ mod links;
 mod made;
 mod malformed;
 
-use crate::frames::{SYN, behind};
+use crate::frames::behind;
 use frames::CAPTURED;
 use fw_base::{Addr, Link};
 use links::{READ_AS_IP, READ_AS_OTHER};
@@ -13,6 +13,7 @@ use packet_headers::{Flow, Ip4, Packet, flow, read_packet};
 use std::alloc::{AllocError, Global};
 use std::process::Abort;
 use std::test::Fail;
+use test_frames::SYN;
 
 /// A frame, and what it tells as `told_by` writes it; `other` for one that is no IPv4.
 pub type Row = (Link, &'static [u8], &'static str);

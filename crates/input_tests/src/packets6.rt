@@ -1,13 +1,14 @@
 mod links;
 mod made;
 
-use crate::frames::{DATAGRAM, DATAGRAM6, behind};
+use crate::frames::behind;
 use fw_base::{Addr6, Link};
 use ip6_headers::{AnyIp, AnyPacket, Ip6, read_any};
 use links::{FRAMES, HEADERS};
 use made::{PACKETS, SHORT};
 use std::process::Abort;
 use std::test::Fail;
+use test_frames::{DATAGRAM, DATAGRAM6};
 
 /// A packet and what it is to be read as.
 pub struct Captured6 {

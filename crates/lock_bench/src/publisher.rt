@@ -3,6 +3,7 @@ ghost use Rattle.std.specs.Prelude.{◌≡◌, IfOk};
 use crate::book::Book;
 use crate::edition::Edition;
 use crate::reader::Lock;
+use bench_times::PAUSE;
 use fw_base::Kept;
 use rm_lock::Operator;
 use std::alloc::{AllocError, Global};
@@ -10,9 +11,6 @@ use std::sync::Wait;
 use std::sync::atomic::{AtomicBool, Ordering};
 use std::thread;
 use std::time::{Clock, Duration};
-
-/// Between two publications, in milliseconds.
-const PAUSE: u64 = 10;
 
 /// Publishes about 100 times a second until the readers are done. Answers how often.
 pub fn publish_until<R: Clock + Wait>(

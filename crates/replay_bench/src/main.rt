@@ -10,7 +10,6 @@ use fw_base::MOST_LOAD_RECORDS;
 use std::env;
 
 mod captures;
-mod configuration;
 mod replays;
 
 /// Rules that ask the states nothing.

@@ -1,8 +1,9 @@
 ghost use Rattle.std.specs.Prelude.{◌≤◌};
 
 use crate::captures::four;
-use crate::configuration::configured;
 use anyhow::{Result, bail};
+use bench_configurations::configured;
+use bench_times::{milliseconds, nanoseconds, rate};
 use fw_base::{FreeGate, MOST_LOAD_RECORDS};
 use live_replay::{Runner, replay_live};
 use serial_replay::replay_serial;
@@ -10,14 +11,15 @@ use std::alloc::Global;
 use std::io::Print;
 use std::sync::Wait;
 use std::thread::Threads;
-use std::time::{Clock, Duration, Instant};
+use std::time::{Clock, Instant};
 
-/// Prints a line with the records of four captures in a second.
-fn print_rate<R: Print>(rt: &R, name: &str, records: u32, time: Duration) -> Result<()> {
-    let nanoseconds = time.as_nanos().max(1);
-    let rate = u128::from(records) * 4_000_000_000 / nanoseconds;
-    let milliseconds = time.as_millis();
-    println!(rt; "{name:12} {rate:>12} records a second, {milliseconds} ms")?;
+/// Prints a line with the records of four captures in a second. The time is in nanoseconds.
+fn print_rate<R: Print>(rt: &R, name: &str, records: u32, time: u64) -> Result<()> {
+    println!(rt;
+        "{name:12} {:>12} records a second, {} ms",
+        rate(4 * u64::from(records), time),
+        milliseconds(time)
+    )?;
     Ok(())
 }
 
@@ -34,7 +36,7 @@ pub fn print_serial<R: Clock + Print>(
     let captures = four(alloc, records)?;
     let start = Instant::now(rt)?;
     let replayed = replay_serial(alloc, config, &[], None, captures);
-    let time = start.elapsed(rt)?;
+    let time = nanoseconds(rt, start)?;
     if replayed.is_err() {
         bail!("memory was wanted");
     }
@@ -56,7 +58,7 @@ pub fn print_live<R: Threads + Wait + Clock + Print + Sync>(
     let start = Instant::now(rt)?;
     let runner = Runner { rt, gate: &gate };
     let replayed = replay_live(runner, alloc, config, &[], None, captures);
-    let time = start.elapsed(rt)?;
+    let time = nanoseconds(rt, start)?;
     if replayed.is_err() {
         bail!("memory was wanted");
     }

@@ -1,17 +1,13 @@
-ghost use Rattle.std.specs.Prelude.{ℕ, List};
-ghost use Rattle.state_asks.specs.Flags.{HasKeptFlags};
-ghost use Rattle.state_journal.specs.Journal.{NamesRuleOf};
-
 use anyhow::{Result, bail};
+use bench_asks::{host_of, lookup};
 use counter_book::Tally;
 use eval_engine::{Cause, Docket, DocketEntry, Judgement, Verdict};
-use fw_base::{Addr, OutOfMemory};
+use fw_base::OutOfMemory;
 use fw_report::{CaptureEnd, Ends};
 use fw_rule::Items;
 use generation_store::Edition;
-use packet_headers::Flow;
 use rule_chain::Config;
-use state_asks::{FlowName, Op, RuleRef};
+use state_asks::{FlowName, RuleRef};
 use state_journal::Book;
 use std::alloc::Global;
 use std::sync::Arc;
@@ -49,29 +45,14 @@ fn docket(alloc: Global, records: u32) -> Result<Docket, OutOfMemory> {
     Ok(docket)
 }
 
-/// Whether there is a state for a datagram of one of a thousand hosts to a name server.
-fn lookup(record: u32) -> Op
-    ensures rule { (rules : List ℕ) → NamesRuleOf rules result }
-    ensures flags { HasKeptFlags result }
-{
-    Op::Lookup {
-        flow: Flow {
-            source: Addr(0x0a00_0000 + record % 1000),
-            destination: Addr(0xc000_0201),
-            source_port: 1024,
-            destination_port: 53,
-            protocol: 17,
-        },
-        flags: 0,
-        second: record,
-        name: FlowName::Named(0),
-    }
-}
-
 /// Enters an ask of the first lane, if there is one.
 fn enter(book: &mut Book, record: u32) -> Result<(), OutOfMemory> {
     if 1 <= book.lanes() {
-        book.ask(1, u64::from(record) + 1, &lookup(record))?;
+        book.ask(
+            1,
+            u64::from(record) + 1,
+            &lookup(host_of(record), record, FlowName::Named(0)),
+        )?;
     }
     Ok(())
 }

@@ -1,12 +1,14 @@
 ghost use Rattle.std.specs.Prelude.{◌<◌, ◌≤◌};
 ghost use Rattle.fw_rule.specs.Settings.{IsLifetime};
 
-use crate::flows::{install, lookup, settings};
+use crate::flows::{install, settings};
 use anyhow::Result;
+use bench_asks::lookup;
 use bench_times::{nanoseconds, print_mean};
 use dyn_states::{ScannedStates, States};
 use fw_base::OutOfMemory;
 use fw_rule::MOST_STATES;
+use state_asks::FlowName;
 use std::alloc::Global;
 use std::io;
 use std::io::Print;
@@ -49,7 +51,7 @@ fn time_lookups<R: Clock>(rt: &R, states: &mut States, live: u32, asks: u32) -> 
 {
     let start = Instant::now(rt)?;
     for turn in 0..asks {
-        states.step(&lookup(nth_host(turn, live), START));
+        states.step(&lookup(nth_host(turn, live), START, FlowName::Named(0)));
     }
     nanoseconds(rt, start)
 }
@@ -89,7 +91,7 @@ fn time_scans<R: Clock>(rt: &R, alloc: Global, live: u32, asks: u32) -> Result<u
     }
     let start = Instant::now(rt)?;
     for turn in 0..asks {
-        states.step(&lookup(nth_host(turn, live), START));
+        states.step(&lookup(nth_host(turn, live), START, FlowName::Named(0)));
     }
     Ok(nanoseconds(rt, start)?)
 }

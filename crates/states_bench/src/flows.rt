@@ -1,12 +1,8 @@
-ghost use Rattle.std.specs.Prelude.{ℕ, List};
 ghost use Rattle.fw_rule.specs.Settings.{IsLifetime};
-ghost use Rattle.state_asks.specs.Flags.{HasKeptFlags};
-ghost use Rattle.state_journal.specs.Journal.{NamesRuleOf};
 
-use fw_base::Addr;
+use bench_asks::flow;
 use fw_rule::{LimitMask, MOST_STATES, Settings};
-use packet_headers::Flow;
-use state_asks::{FlowName, Op, RuleRef};
+use state_asks::{Op, RuleRef};
 
 const RULE: RuleRef = RuleRef { id: 1, number: 100 };
 
@@ -23,30 +19,6 @@ pub fn settings(udp: u32) -> Settings
         short: 5,
         max: MOST_STATES,
         keep: false,
-    }
-}
-
-/// A datagram of that host to one name server.
-fn flow(host: u32) -> Flow {
-    Flow {
-        source: Addr(host),
-        destination: Addr(0xc000_0201),
-        source_port: 1024,
-        destination_port: 53,
-        protocol: 17,
-    }
-}
-
-/// Whether there is a state for a datagram of that host.
-pub fn lookup(host: u32, second: u32) -> Op
-    ensures rule { (rules : List ℕ) → NamesRuleOf rules result }
-    ensures flags { HasKeptFlags result }
-{
-    Op::Lookup {
-        flow: flow(host),
-        flags: 0,
-        second,
-        name: FlowName::Named(0),
     }
 }
 

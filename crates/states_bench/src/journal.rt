@@ -1,8 +1,9 @@
-use crate::flows::{lookup, settings};
+use crate::flows::settings;
 use anyhow::{Result, bail};
+use bench_asks::lookup;
 use bench_times::{nanoseconds, print_mean};
 use fw_base::OutOfMemory;
-use state_asks::{Facts, Identities, is_ordered};
+use state_asks::{Facts, FlowName, Identities, is_ordered};
 use state_journal::{Book, Entry};
 use std::alloc::Global;
 use std::io::Print;
@@ -12,7 +13,11 @@ use std::time::{Clock, Instant};
 /// Enters an ask of the first lane, if there is one.
 fn enter(book: &mut Book, record: u32) -> Result<(), OutOfMemory> {
     if 1 <= book.lanes() {
-        book.ask(1, u64::from(record), &lookup(record % 1000, record))?;
+        book.ask(
+            1,
+            u64::from(record),
+            &lookup(record % 1000, record, FlowName::Named(0)),
+        )?;
     }
     Ok(())
 }

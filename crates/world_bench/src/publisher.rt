@@ -2,15 +2,13 @@ ghost use Rattle.std.specs.Prelude.{◌≡◌, IfOk};
 
 use crate::configuration::edit;
 use anyhow::{Result, bail};
+use bench_times::PAUSE;
 use shared_world::{Desk, World};
 use std::alloc::Global;
 use std::sync::Wait;
 use std::sync::atomic::{AtomicBool, Ordering};
 use std::thread;
 use std::time::{Clock, Duration};
-
-/// Between two publications, in milliseconds.
-const PAUSE: u64 = 10;
 
 /// Publishes about 100 times a second until the lanes are done. Answers how often.
 pub fn publish_until<R: Clock + Wait>(

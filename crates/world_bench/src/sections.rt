@@ -1,11 +1,11 @@
 ghost use Rattle.std.specs.Prelude.{◌≡◌, ◌≤◌, None, All, IfOk};
 ghost use Rattle.std.specs.Thread.{IsSync};
 
-use crate::configuration::configured;
 use crate::lanes::sections;
 use crate::publisher::publish_until;
 use crate::traffic::Traffic;
 use anyhow::Result;
+use bench_configurations::configured;
 use bench_times::print_rate_of_threads;
 use shared_world::{Lane, OpenWorld, World};
 use std::alloc::{AllocError, Global};

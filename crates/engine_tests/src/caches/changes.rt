@@ -1,5 +1,5 @@
 //! Packets without a link header, each with one byte of it changed, and whether the key stays the same.
-use crate::frames::{DATAGRAM, SYN};
+use test_frames::{DATAGRAM, ECHO, FRAGMENT, SYN};
 
 /// A packet, and the same with another byte at a place.
 pub struct Change {
@@ -13,14 +13,6 @@ pub struct Change {
 /// A datagram of UDP from port 0 to port 0.
 pub const PORTLESS: &[u8] =
     b"\x45\x00\x00\x1c\x00\x00\x00\x00\x40\x11\x00\x00\x0a\x00\x00\x01\xc0\x00\x02\x01\x00\x00\x00\x00\x00\x08\x00\x00";
-
-/// An echo request.
-pub const ECHO: &[u8] =
-    b"\x45\x00\x00\x1c\x00\x00\x00\x00\x40\x01\x00\x00\x0a\x00\x00\x01\xc0\x00\x02\x01\x08\x00\x00\x00\x00\x00\x00\x00";
-
-/// A later fragment.
-pub const FRAGMENT: &[u8] =
-    b"\x45\x00\x00\x1c\x00\x00\x00\xb9\x40\x11\x00\x00\x0a\x00\x00\x01\xc0\x00\x02\x01\x00\x05\x00\x06\x00\x08\x00\x00";
 
 /// A datagram with the option to record the route, and the end of the options.
 pub const ROUTED: &[u8] =

@@ -1,6 +1,5 @@
 //! Packets in the order of their visits to a cache.
-use super::changes::ECHO;
-use crate::frames::{DATAGRAM, SYN};
+use test_frames::{DATAGRAM, ECHO, SYN};
 
 /// Visits to a cache of a capacity, and how many of them find a verdict.
 pub struct Row {

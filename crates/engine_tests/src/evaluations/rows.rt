@@ -1,11 +1,11 @@
 use super::Turn;
 use crate::drafts::{Deed, Parts};
-use crate::frames::{DATAGRAM, FIN_ACK, FRAGMENT, SIX, SYN};
 use eval_engine::{Cause, Verdict};
 use fw_base::Addr;
 use fw_rule::LimitMask;
 use packet_headers::Flow;
 use state_asks::{FlowName, Op, Reply, RuleRef, Way};
+use test_frames::{DATAGRAM, FIN_ACK, FRAGMENT, SIX, SYN};
 
 /// A row: the rules by number, set and deed, the packet, the asks with their replies; then the judgement,
 /// and how many packets each rule counted, in list order.

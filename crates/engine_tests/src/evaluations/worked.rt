@@ -2,10 +2,7 @@ ghost use Rattle.std.specs.Prelude.{◌<◌, length};
 
 use super::edition;
 use crate::drafts::{Deed, Parts};
-use crate::frames::{
-    ACK, DATAGRAM6, FIN_ACK, FIN_ACK_BACK, FIRST_FRAGMENT6, OPTIONS6, SYN, SYN_ACK, incoming,
-    packet_of,
-};
+use crate::frames::{incoming, packet_of};
 use counter_book::Tally;
 use dyn_states::States;
 use eval_engine::{Cause, Judgement, Paused, Question, Verdict, begin, is_reply_to, resume};
@@ -16,6 +13,7 @@ use state_asks::RuleRef;
 use std::alloc::Global;
 use std::process::Abort;
 use std::test::Fail;
+use test_frames::{ACK, DATAGRAM6, FIN_ACK, FIN_ACK_BACK, FIRST_FRAGMENT6, OPTIONS6, SYN, SYN_ACK};
 
 /// A packet by its second, with its verdict.
 type Timed = (u32, &'static [u8], Verdict, RuleRef);

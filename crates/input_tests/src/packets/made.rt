@@ -1,6 +1,6 @@
 use super::Row;
-use crate::frames::{DATAGRAM, SYN};
 use fw_base::Link;
+use test_frames::{DATAGRAM, ECHO, SYN};
 
 /// Packets made by hand, without a link header, with what each tells.
 #[rattlefmt::skip]
@@ -12,7 +12,7 @@ pub static PACKETS: [Row; 23] = [
     (Link::Raw, DATAGRAM,
         "10.0.0.1 > 192.0.2.1 protocol 17 total 28 offset 0 ports 5 6 flow"),
     // An echo request.
-    (Link::Raw, b"\x45\x00\x00\x1c\x00\x00\x00\x00\x40\x01\x00\x00\x0a\x00\x00\x01\xc0\x00\x02\x01\x08\x00\x00\x00\x00\x00\x00\x00",
+    (Link::Raw, ECHO,
         "10.0.0.1 > 192.0.2.1 protocol 1 total 28 offset 0 icmp 8 flow"),
     // A later fragment has no transport header.
     (Link::Raw, b"\x45\x00\x00\x1c\x00\x00\x00\xb9\x40\x11\x00\x00\x0a\x00\x00\x01\xc0\x00\x02\x01\x00\x00\x00\x00\x00\x08\x00\x00",

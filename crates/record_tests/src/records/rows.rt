@@ -1,3 +1,5 @@
+use test_frames::{ACK, DATAGRAM, FIN_ACK, FIN_ACK_BACK, SYN, SYN_ACK};
+
 /// A packet of a capture and the second of its record.
 pub type Timed = (u32, &'static [u8]);
 
@@ -10,42 +12,6 @@ pub struct Row {
     pub behind: &'static [Timed],
     pub text: &'static str,
 }
-
-/// UDP from 10.0.0.1, port 5, to 192.0.2.1, port 6.
-const DATAGRAM: &[u8] = &[
-    0x45, 0, 0, 0x1c, 0, 0, 0, 0, 0x40, 17, 0, 0, 10, 0, 0, 1, 0xc0, 0, 2, 1, 0, 5, 0, 6, 0, 8, 0,
-    0,
-];
-
-/// A SYN from 10.0.0.1, port 1025, to 192.0.2.1, port 80.
-const SYN: &[u8] = &[
-    0x45, 0, 0, 0x28, 0, 0, 0, 0, 0x40, 6, 0, 0, 10, 0, 0, 1, 0xc0, 0, 2, 1, 4, 1, 0, 0x50, 0, 0,
-    0, 0, 0, 0, 0, 0, 0x50, 2, 0xff, 0xff, 0, 0, 0, 0,
-];
-
-/// The SYN and ACK that answer it.
-const SYN_ACK_BACK: &[u8] = &[
-    0x45, 0, 0, 0x28, 0, 0, 0, 0, 0x40, 6, 0, 0, 0xc0, 0, 2, 1, 10, 0, 0, 1, 0, 0x50, 4, 1, 0, 0,
-    0, 0, 0, 0, 0, 0, 0x50, 0x12, 0xff, 0xff, 0, 0, 0, 0,
-];
-
-/// A FIN with ACK, as the SYN went.
-const FIN_ACK: &[u8] = &[
-    0x45, 0, 0, 0x28, 0, 0, 0, 0, 0x40, 6, 0, 0, 10, 0, 0, 1, 0xc0, 0, 2, 1, 4, 1, 0, 0x50, 0, 0,
-    0, 0, 0, 0, 0, 0, 0x50, 0x11, 0xff, 0xff, 0, 0, 0, 0,
-];
-
-/// The FIN and ACK that answer it.
-const FIN_ACK_BACK: &[u8] = &[
-    0x45, 0, 0, 0x28, 0, 0, 0, 0, 0x40, 6, 0, 0, 0xc0, 0, 2, 1, 10, 0, 0, 1, 0, 0x50, 4, 1, 0, 0,
-    0, 0, 0, 0, 0, 0, 0x50, 0x11, 0xff, 0xff, 0, 0, 0, 0,
-];
-
-/// An ACK, as the SYN went.
-const ACK: &[u8] = &[
-    0x45, 0, 0, 0x28, 0, 0, 0, 0, 0x40, 6, 0, 0, 10, 0, 0, 1, 0xc0, 0, 2, 1, 4, 1, 0, 0x50, 0, 0,
-    0, 0, 0, 0, 0, 0, 0x50, 0x10, 0xff, 0xff, 0, 0, 0, 0,
-];
 
 pub const ROWS: &[Row] = &[
     Row {
@@ -70,7 +36,7 @@ pub const ROWS: &[Row] = &[
         script: "add 100 check-state\nadd 200 allow tcp from any to any setup keep-state\n",
         first: &[
             (100, SYN),
-            (101, SYN_ACK_BACK),
+            (101, SYN_ACK),
             (102, FIN_ACK),
             (103, FIN_ACK_BACK),
             (104, ACK),

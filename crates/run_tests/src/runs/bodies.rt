@@ -1,48 +1,32 @@
-use super::captures::{Packet, SYN, raw};
+use super::captures::{Packet, raw};
 use super::{A, B, ROOM, Row, SERIAL, Seen, T, check as check_rows, library_of, run_over};
 use std::alloc::Global;
 use std::process::Abort;
 use std::sync::Wait;
 use std::test::Fail;
 use std::thread::Threads;
-
-/// 192.0.2.1, port 80, answers that SYN.
-const SYN_ACK: [u8; 40] = [
-    0x45, 0, 0, 0x28, 0, 0, 0, 0, 0x40, 6, 0, 0, 0xc0, 0, 2, 1, 10, 0, 0, 1, 0, 0x50, 4, 1, 0, 0,
-    0, 0, 0, 0, 0, 0, 0x50, 0x12, 0xff, 0xff, 0, 0, 0, 0,
-];
+use test_frames::{ECHO, FRAGMENT, SYN, SYN_ACK};
 
 /// A reset from 10.1.2.3, port 5000, to 10.2.2.3, port 443.
-const RESET: [u8; 40] = [
+const RESET: &[u8] = &[
     0x45, 0, 0, 0x28, 0, 0, 0, 0, 0x40, 6, 0, 0, 10, 1, 2, 3, 10, 2, 2, 3, 0x13, 0x88, 1, 0xbb, 0,
     0, 0, 0, 0, 0, 0, 0, 0x50, 4, 0xff, 0xff, 0, 0, 0, 0,
 ];
 
 /// UDP from 10.0.0.1, port 5, to 192.0.2.1, port 53.
-const DATAGRAM: [u8; 28] = [
+const QUERY: &[u8] = &[
     0x45, 0, 0, 0x1c, 0, 0, 0, 0, 0x40, 17, 0, 0, 10, 0, 0, 1, 0xc0, 0, 2, 1, 0, 5, 0, 53, 0, 8, 0,
     0,
 ];
 
-/// An ICMP echo request from 10.0.0.1 to 192.0.2.1.
-pub const ECHO: [u8; 28] = [
-    0x45, 0, 0, 0x1c, 0, 0, 0, 0, 0x40, 1, 0, 0, 10, 0, 0, 1, 0xc0, 0, 2, 1, 8, 0, 0, 0, 0, 0, 0, 0,
-];
-
-/// A later fragment of UDP from 10.0.0.1 to 192.0.2.1: its bytes would be the ports 5 and 53.
-const FRAGMENT: [u8; 28] = [
-    0x45, 0, 0, 0x1c, 0, 0, 0, 0xb9, 0x40, 17, 0, 0, 10, 0, 0, 1, 0xc0, 0, 2, 1, 0, 5, 0, 53, 0, 8,
-    0, 0,
-];
-
 /// The SYN, of which 19 bytes of TCP's header were captured.
-const SHORT_SYN: [u8; 39] = [
+const SHORT_SYN: &[u8] = &[
     0x45, 0, 0, 0x28, 0, 0, 0, 0, 0x40, 6, 0, 0, 10, 0, 0, 1, 0xc0, 0, 2, 1, 4, 1, 0, 0x50, 0, 0,
     0, 0, 0, 0, 0, 0, 0x50, 2, 0xff, 0xff, 0, 0, 0,
 ];
 
 /// GRE from 10.2.2.3 to 10.0.0.1, with a record route option of three bytes.
-const RECORDED: [u8; 24] = [
+const RECORDED: &[u8] = &[
     0x46, 0, 0, 0x18, 0, 0, 0, 0, 0x40, 47, 0, 0, 10, 2, 2, 3, 10, 0, 0, 1, 7, 3, 4, 0,
 ];
 
@@ -57,7 +41,7 @@ const BEFORE: &[u8] = b"local 10.0.0.1\n\
 /// A rule's body, and of which of the packets it holds: `+` where it does.
 pub type Held = (&'static str, &'static str);
 
-/// For the SYN, its answer, the reset, the datagram, the echo request, the fragment, the short SYN and GRE,
+/// For the SYN, its answer, the reset, the query, the echo request, the fragment, the short SYN and GRE,
 /// which come in by em0.
 const INCOMING: [Held; 57] = [
     ("ip from any to any", "++++++++"),
@@ -154,7 +138,7 @@ fn packets(alloc: Global) -> Result<Vec<u8>, Fail> {
     raw(
         alloc,
         &[
-            &SYN, &SYN_ACK, &RESET, &DATAGRAM, &ECHO, &FRAGMENT, &SHORT_SYN, &RECORDED,
+            SYN, SYN_ACK, RESET, QUERY, ECHO, FRAGMENT, SHORT_SYN, RECORDED,
         ],
     )
 }

@@ -1,5 +1,6 @@
 use std::alloc::Global;
 use std::test::Fail;
+use test_frames::SYN;
 
 /// The header of a little-endian capture of Ethernet frames, in microseconds.
 pub const ETHERNET_HEADER: [u8; 24] = [
@@ -13,12 +14,6 @@ pub const RAW_HEADER: [u8; 24] = [
 
 /// An Ethernet header of IPv4.
 pub const ETHERNET: [u8; 14] = [2, 0, 0, 0, 0, 1, 2, 0, 0, 0, 0, 2, 8, 0];
-
-/// A SYN from 10.0.0.1, port 1025, to 192.0.2.1, port 80.
-pub const SYN: [u8; 40] = [
-    0x45, 0, 0, 0x28, 0, 0, 0, 0, 0x40, 6, 0, 0, 10, 0, 0, 1, 0xc0, 0, 2, 1, 4, 1, 0, 0x50, 0, 0,
-    0, 0, 0, 0, 0, 0, 0x50, 2, 0xff, 0xff, 0, 0, 0, 0,
-];
 
 /// A nanosecond capture of Linux cooked frames, big-endian, up to the same SYN.
 pub const COOKED: [u8; 56] = [
@@ -130,7 +125,7 @@ pub fn capture_of(alloc: Global, packets: &[(u32, Packet)]) -> Result<Vec<u8>, F
 pub fn syns(alloc: Global, count: usize) -> Result<Vec<u8>, Fail> {
     let mut capture = Vec::from_slice(alloc, &ETHERNET_HEADER)?;
     for _ in 0..count {
-        push_record(&mut capture, 100, &[&ETHERNET, &SYN])?;
+        push_record(&mut capture, 100, &[&ETHERNET, SYN])?;
     }
     Ok(capture)
 }

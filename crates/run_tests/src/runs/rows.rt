@@ -1,10 +1,11 @@
-use super::captures::{COOKED, ETHERNET, ETHERNET_HEADER, SYN, push_record, raw, syns};
+use super::captures::{COOKED, ETHERNET, ETHERNET_HEADER, push_record, raw, syns};
 use super::{MODES, ROOM, SERIAL, assert_seen, library_of, run_over};
 use std::alloc::Global;
 use std::process::Abort;
 use std::sync::Wait;
 use std::test::Fail;
 use std::thread::Threads;
+use test_frames::SYN;
 
 /// The piece lists that each row is run with.
 const PIECE_LISTS: [&[usize]; 3] = [&[], &[1], &[7, 16]];
@@ -51,15 +52,25 @@ fn too_long(alloc: Global) -> Result<Vec<u8>, Fail> {
 pub fn arp_and_tagged(alloc: Global) -> Result<Vec<u8>, Fail> {
     let (ends, kind) = ETHERNET.split_at(12);
     let mut capture = Vec::from_slice(alloc, &ETHERNET_HEADER)?;
-    push_record(&mut capture, 100, &[ends, &[8, 6], &SYN])?;
-    push_record(&mut capture, 100, &[ends, &[0x81, 0, 0, 5], kind, &SYN])?;
+    push_record(&mut capture, 100, &[ends, &[8, 6], SYN])?;
+    push_record(&mut capture, 100, &[ends, &[0x81, 0, 0, 5], kind, SYN])?;
     Ok(capture)
 }
 
 fn cooked(alloc: Global) -> Result<Vec<u8>, Fail> {
     let mut capture = Vec::from_slice(alloc, &COOKED)?;
-    capture.extend_from_slice(&SYN)?;
+    capture.extend_from_slice(SYN)?;
     Ok(capture)
+}
+
+/// The SYN with a total length of 0.
+fn syn_without_total(alloc: Global) -> Result<Vec<u8>, Fail> {
+    let mut syn = Vec::from_slice(alloc, SYN)?;
+    let Some(total) = syn.get_mut(3) else {
+        return Err(Fail::from("a SYN without a total length"));
+    };
+    *total = 0;
+    Ok(syn)
 }
 
 fn unreadable(alloc: Global) -> Result<Vec<u8>, Fail> {
@@ -71,8 +82,7 @@ fn unreadable(alloc: Global) -> Result<Vec<u8>, Fail> {
     starts[3][3] = 0x13;
     starts[4][0] = 0x60;
     let [version, words, short, total, six] = &starts;
-    let mut unsized_syn = SYN;
-    unsized_syn[3] = 0;
+    let unsized_syn = syn_without_total(alloc)?;
     let packets: [&[u8]; 7] = [&[], version, words, short, total, six, &unsized_syn];
     raw(alloc, &packets)
 }
