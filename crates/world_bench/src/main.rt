@@ -10,7 +10,6 @@ use crate::traffic::Traffic;
 use anyhow::Result;
 use std::{env, thread};
 
-mod configuration;
 mod lanes;
 mod publisher;
 mod sections;

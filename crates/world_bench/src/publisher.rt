@@ -1,14 +1,27 @@
 ghost use Rattle.std.specs.Prelude.{◌≡◌, IfOk};
+ghost use Rattle.fw_rule.specs.WellFormed.{IsWellFormed};
+ghost use Rattle.rule_edits.specs.Changing.{IsChanging};
 
-use crate::configuration::edit;
 use anyhow::{Result, bail};
 use bench_times::PAUSE;
+use fw_rule::Command;
 use shared_world::{Desk, World};
 use std::alloc::Global;
 use std::sync::Wait;
 use std::sync::atomic::{AtomicBool, Ordering};
 use std::thread;
 use std::time::{Clock, Duration};
+
+/// An edit that enables an enabled set: it makes an edition of the same rules.
+fn edit() -> Command
+    ensures well_formed { IsWellFormed result }
+    ensures changing { IsChanging result }
+{
+    Command::SetMask {
+        disable: 0,
+        enable: 2,
+    }
+}
 
 /// Publishes about 100 times a second until the lanes are done. Answers how often.
 pub fn publish_until<R: Clock + Wait>(
