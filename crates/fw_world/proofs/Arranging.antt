@@ -1,13 +1,12 @@
 -- Lanes in the order of their places.
-use Rattle.std.proofs.Common.{◌≡◌, ◌≢◌, ℕ, zero, suc, ◌+◌, ◌<◌, ◌≤◌, Bool, true, false, cond, nat_le, nat_lt, ◌==◌, Option, Some, None, List, [], ◌∷◌, length, sum_by, unwrap_or, refl, sym, ap, ◌∙◌, arith, IsPermutation, leb-false, leb-true, ltb-true, ltb-false, eq-eqb, ne_eqb, inl, inr}
-use Rattle.std.specs.Prelude.{⊤, ◌⊎◌}
+use Rattle.std.proofs.Common.{◌≡◌, ◌≢◌, ℕ, zero, suc, ◌+◌, ◌<◌, ◌≤◌, Bool, true, false, cond, nat_lt, ◌==◌, Option, Some, None, List, [], ◌∷◌, length, sum_by, unwrap_or, refl, sym, ap, ◌∙◌, arith, IsPermutation, ltb-true, ltb-false, eq-eqb, ne_eqb}
+use Rattle.std.specs.Prelude.{⊤, slice_get}
 use Rattle.std.specs.List.{AllByRecursion}
 use Rattle.std.specs.List.Sorted.{IsNonDecreasingBy}
-use Rattle.std.proofs.lemmas.Bool.Decides.{eqb_tells}
 use Rattle.std.proofs.lemmas.List.Elements.{recursion_from_All, All-from_recursion}
-use Rattle.std.proofs.lemmas.List.Sorted.{IsPermutation-refl, IsPermutation-cons, IsPermutation-trans, IsPermutation-middle, IsPermutation-sym, All-permutation, length_permutation, sum_by-IsPermutation}
+use Rattle.std.proofs.lemmas.List.Sorted.{IsPermutation-refl, IsPermutation-trans, IsPermutation-sym, All-permutation, length_permutation, sum_by-IsPermutation}
 use Rattle.std.proofs.lemmas.List.Sums.{sum_by-cons}
-use Rattle.fw_world.specs.ByPlace.{AreOrderedBy, HaveOwnPlaces, HavePlacesFrom, ordered_with, ordered_by}
+use Rattle.fw_world.specs.ByPlace.{HavePlacesFrom, StandFrom}
 
 module _ {A : Type 0} where
   -- what holds of each lane holds of each when they are moved
@@ -22,29 +21,11 @@ module _ {A : Type 0} where
   all_weaker : (P R : A → Type 0) → ((lane : A) → P lane → R lane) → (lanes : List A) → AllByRecursion P lanes → AllByRecursion R lanes
   all_weaker P R one lanes all = all_both P P R (λ lane p q. one lane p) lanes all all
 
+  all_tt : (lanes : List A) → AllByRecursion (λ (lane : A). ⊤) lanes
+  all_tt [] = tt
+  all_tt (lane ∷ lanes) = (tt, all_tt lanes)
+
   module _ (place : A → ℕ) where
-    -- putting the lanes in order only moves them
-    among-permutation : (lane : A) (others : List A) → IsPermutation (lane ∷ others) (ordered_with place lane others)
-    among-permutation lane [] = IsPermutation-refl (lane ∷ [])
-    among-permutation lane (first ∷ others) = decided (nat_le (place lane) (place first)) (among-permutation lane others)
-      where
-        decided : (b : Bool) → IsPermutation (lane ∷ others) (ordered_with place lane others) → IsPermutation (lane ∷ first ∷ others) (cond b (lane ∷ first ∷ others) (first ∷ ordered_with place lane others))
-        decided true rest = IsPermutation-refl (lane ∷ first ∷ others)
-        decided false rest = IsPermutation-trans _ _ _ (IsPermutation-middle (lane ∷ []) first others) (IsPermutation-cons first _ _ rest)
-
-    -- the lanes in order are the same lanes
-    pub ordered-permutation : (lanes : List A) → IsPermutation lanes (ordered_by place lanes)
-    ordered-permutation [] = IsPermutation-refl []
-    ordered-permutation (lane ∷ lanes) = IsPermutation-trans _ _ _ (IsPermutation-cons lane _ _ (ordered-permutation lanes)) (among-permutation lane (ordered_by place lanes))
-
-    -- what holds of each lane holds of each when they are put in order
-    pub all-by_place : (P : A → Type 0) (lanes : List A) → AllByRecursion P lanes → AllByRecursion P (ordered_by place lanes)
-    all-by_place P lanes = all_moved P lanes (ordered_by place lanes) (ordered-permutation lanes)
-
-    -- there are as many
-    pub length-by_place : (lanes : List A) → length (ordered_by place lanes) ≡ length lanes
-    length-by_place lanes = length_permutation lanes (ordered_by place lanes) (ordered-permutation lanes)
-
     -- places never fall along the lanes
     abbrev Rises : List A → Type 0
     Rises [] = ⊤
@@ -57,33 +38,17 @@ module _ {A : Type 0} where
       rises-from_sort lanes (λ i j d order within. sorted (suc i) (suc j) d (omega arith) (omega arith)),
     )
 
-    rises-sort : (lanes : List A) → Rises lanes → IsNonDecreasingBy place lanes
-    rises-sort [] up i j d order within = absurd (omega (arith, within))
-    rises-sort (lane ∷ lanes) up zero zero d order within = omega arith
-    rises-sort (lane ∷ lanes) up zero (suc j) d order within = All-from_recursion (λ other. place lane ≤ place other) lanes up.0 j d (omega (arith, within))
-    rises-sort (lane ∷ lanes) up (suc i) zero d order within = absurd (omega (arith, order))
-    rises-sort (lane ∷ lanes) up (suc i) (suc j) d order within = rises-sort lanes up.1 i j d (omega (arith, order)) (omega (arith, within))
-
-    rises-among : (lane : A) (others : List A) → Rises others → Rises (ordered_with place lane others)
-    rises-among lane [] up = (tt, tt)
-    rises-among lane (first ∷ others) up = decided (nat_le (place lane) (place first)) refl (rises-among lane others up.1)
-      where
-        decided : (b : Bool) → nat_le (place lane) (place first) ≡ b → Rises (ordered_with place lane others) → Rises (cond b (lane ∷ first ∷ others) (first ∷ ordered_with place lane others))
-        decided true is rest =
-            let below : place lane ≤ place first = leb-true _ _ is in
-            ((below, all_weaker (λ other. place first ≤ place other) (λ other. place lane ≤ place other) (λ other h. omega (arith, below, h)) others up.0), up)
-        decided false is rest =
-            let above : place first < place lane = leb-false _ _ is in
-            (all_moved (λ other. place first ≤ place other) (lane ∷ others) (ordered_with place lane others) (among-permutation lane others) (omega (arith, above), up.0), rest)
-
-    rises-ordered : (lanes : List A) → Rises (ordered_by place lanes)
-    rises-ordered [] = tt
-    rises-ordered (lane ∷ lanes) = rises-among lane (ordered_by place lanes) (rises-ordered lanes)
-
     -- places rise along the lanes
     abbrev Climbs : List A → Type 0
     Climbs [] = ⊤
     Climbs (lane ∷ lanes) = AllByRecursion (λ other. place lane < place other) lanes × Climbs lanes
+
+    rises-climbing : (lanes : List A) → Climbs lanes → Rises lanes
+    rises-climbing [] climbs = tt
+    rises-climbing (lane ∷ lanes) climbs = (
+      all_weaker (λ other. place lane < place other) (λ other. place lane ≤ place other) (λ other h. omega (arith, h)) lanes climbs.0,
+      rises-climbing lanes climbs.1,
+    )
 
     -- lanes from a place on have no smaller place
     above_place : (IsOne : A → Type 0) (first : ℕ) (lanes : List A) → HavePlacesFrom place IsOne first lanes → AllByRecursion (λ lane. first ≤ place lane) lanes
@@ -170,58 +135,57 @@ module _ {A : Type 0} where
         let own = seated lanes climbs in
         same_lanes lanes lanes moved climbs own (all_moved (λ lane. seat lanes (place lane) ≡ Some lane) lanes moved same own) up (λ k. sum_by-IsPermutation (one_at k) lanes moved same)
 
-    -- a sort by place gives the lanes of a world in order
-    pub by_place-sorted : (IsOne : A → Type 0) (first : ℕ) (lanes sorted : List A) → HavePlacesFrom place IsOne first (ordered_by place lanes) → IsPermutation lanes sorted → IsNonDecreasingBy place sorted → sorted ≡ ordered_by place lanes
-    by_place-sorted IsOne first lanes sorted are same up =
-        moved-same (ordered_by place lanes) sorted (climbs-from IsOne first (ordered_by place lanes) are) (IsPermutation-trans _ _ _ (IsPermutation-sym _ _ (ordered-permutation lanes)) same) (rises-from_sort sorted up)
+    -- what has its places from one on has each lane at its place
+    each-placed : (IsOne : A → Type 0) (first : ℕ) (ordered : List A) → HavePlacesFrom place IsOne first ordered → (i : ℕ) (lane : A) → slice_get ordered i ≡ Some lane → place lane ≡ first + i
+    each-placed IsOne first [] are i lane at = absurd cc
+    each-placed IsOne first (other ∷ ordered) are zero lane at = let same : other ≡ lane = cc in omega (arith, are.0, ap place same)
+    each-placed IsOne first (other ∷ ordered) are (suc i) lane at = omega (arith, each-placed IsOne (first + 1) ordered are.2 i lane at)
 
-    -- lanes of a world that stand in whatever order: in order they are the world's
-    pub by_place-moved : (IsOne : A → Type 0) (first : ℕ) (lanes moved : List A) → HavePlacesFrom place IsOne first lanes → IsPermutation lanes moved → ordered_by place moved ≡ lanes
-    by_place-moved IsOne first lanes moved are same =
-        moved-same lanes (ordered_by place moved) (climbs-from IsOne first lanes are) (IsPermutation-trans _ _ _ same (ordered-permutation moved)) (rises-ordered moved)
+    -- and the other way round
+    placed-each : (IsOne : A → Type 0) (first : ℕ) (ordered : List A) → AllByRecursion IsOne ordered → ((i : ℕ) (lane : A) → slice_get ordered i ≡ Some lane → place lane ≡ first + i) → HavePlacesFrom place IsOne first ordered
+    placed-each IsOne first [] each placed = tt
+    placed-each IsOne first (lane ∷ ordered) each placed =
+        (omega (arith, placed 0 lane refl), each.0, placed-each IsOne (first + 1) ordered each.1 (λ i other at. omega (arith, placed (suc i) other at)))
 
-    -- lanes of a world that stand in order stay as they are
-    pub by_place-same : (IsOne : A → Type 0) (first : ℕ) (lanes : List A) → HavePlacesFrom place IsOne first lanes → ordered_by place lanes ≡ lanes
-    by_place-same IsOne first lanes are = by_place-moved IsOne first lanes lanes are (IsPermutation-refl lanes)
+    each-one : (IsOne : A → Type 0) (first : ℕ) (ordered : List A) → HavePlacesFrom place IsOne first ordered → AllByRecursion IsOne ordered
+    each-one IsOne first [] are = tt
+    each-one IsOne first (lane ∷ ordered) are = (are.1, each-one IsOne (first + 1) ordered are.2)
 
-    -- the lanes in order are those lanes, each once, in the order of their places
-    pub are_ordered : (lanes : List A) → AreOrderedBy place lanes (ordered_by place lanes)
-    are_ordered lanes = record { same = ordered-permutation lanes; rising = rises-sort (ordered_by place lanes) (rises-ordered lanes) }
+    module _ (first : ℕ) (lanes ordered : List A) (stand : StandFrom place first lanes ordered) where
+      -- what holds of each lane holds of each in order
+      pub all-stand : (P : A → Type 0) → AllByRecursion P lanes → AllByRecursion P ordered
+      all-stand P all = all_moved P lanes ordered stand.same all
 
-    -- of lanes with places of their own no place is that of two
-    once : (lanes : List A) → HaveOwnPlaces place lanes → (k : ℕ) → sum_by (one_at k) lanes ≤ 1
-    once [] own k = let none : sum_by (one_at k) [] ≡ 0 = refl in omega (arith, none)
-    once (lane ∷ lanes) own k = decided (eqb_tells (place lane) k) (once lanes (λ i j d order within. own (suc i) (suc j) d (omega arith) (omega arith)) k)
-      where
-        decided : ((place lane == k ≡ true) × (place lane ≡ k)) ⊎ ((place lane == k ≡ false) × (place lane ≢ k)) → sum_by (one_at k) lanes ≤ 1 → sum_by (one_at k) (lane ∷ lanes) ≤ 1
-        decided (inl is) rest =
-            let others = recursion_from_All (λ other. place other ≢ k) lanes (λ j d within same. own 0 (suc j) d (omega arith) (omega arith) (is.1 ∙ sym same)) in
-            omega (arith, sum_by-cons (one_at k) lane lanes, one_at-own lane k is.1, none_at k lanes others)
-        decided (inr is) rest =
-            let none : one_at k lane ≡ 0 = ap (λ b. cond b 1 0) is.0 in
-            omega (arith, sum_by-cons (one_at k) lane lanes, none, rest)
+      -- in order they are as many
+      pub length-stand : length ordered ≡ length lanes
+      length-stand = length_permutation lanes ordered stand.same
 
-    -- lanes of no smaller place than this, of which none has this, have greater ones
-    past : (n : ℕ) (lanes : List A) → sum_by (one_at n) lanes ≡ 0 → AllByRecursion (λ lane. n ≤ place lane) lanes → AllByRecursion (λ lane. n < place lane) lanes
-    past n [] none least = tt
-    past n (lane ∷ lanes) none least =
-        let sum = sum_by-cons (one_at n) lane lanes in
-        let other : place lane ≢ n = (λ (same : place lane ≡ n). omega (arith, sum, none, one_at-own lane n same)) in
-        (omega (arith, least.0, other), past n lanes (omega (arith, sum, none)) least.1)
+      -- in order such lanes have their places
+      pub stand-places : (IsOne : A → Type 0) → AllByRecursion IsOne lanes → HavePlacesFrom place IsOne first ordered
+      stand-places IsOne each = placed-each IsOne first ordered (all-stand IsOne each) stand.placed
 
-    -- places that don't fall rise where none is that of two lanes
-    climbs-once : (lanes : List A) → Rises lanes → ((k : ℕ) → sum_by (one_at k) lanes ≤ 1) → Climbs lanes
-    climbs-once [] up one = tt
-    climbs-once (lane ∷ lanes) up one = (
-      past (place lane) lanes (omega (arith, sum_by-cons (one_at (place lane)) lane lanes, one_at-own lane (place lane) refl, one (place lane))) up.0,
-      climbs-once lanes up.1 (λ k. omega (arith, sum_by-cons (one_at k) lane lanes, one k)),
+      climbs-stand : Climbs ordered
+      climbs-stand = climbs-from (λ lane. ⊤) first ordered (placed-each (λ lane. ⊤) first ordered (all_tt ordered) stand.placed)
+
+      -- lanes moved until their places don't fall stand in order
+      stand-risen : (moved : List A) → IsPermutation lanes moved → Rises moved → moved ≡ ordered
+      stand-risen moved same up = moved-same ordered moved climbs-stand (IsPermutation-trans _ _ _ (IsPermutation-sym _ _ stand.same) same) up
+
+      -- a sort by place gives the lanes in order
+      pub stand-sorted : (sorted : List A) → IsPermutation lanes sorted → IsNonDecreasingBy place sorted → sorted ≡ ordered
+      stand-sorted sorted same up = stand-risen sorted same (rises-from_sort sorted up)
+
+    -- lanes stand in one order at most
+    pub stand-once : (first : ℕ) (lanes one other : List A) → StandFrom place first lanes one → StandFrom place first lanes other → one ≡ other
+    stand-once first lanes one other stand again = stand-risen first lanes other again one stand.same (rises-climbing one (climbs-stand first lanes one stand))
+
+    -- lanes that have their places in an order are such ones, and stand in it
+    pub places-stand : (IsOne : A → Type 0) (first : ℕ) (lanes ordered : List A) → HavePlacesFrom place IsOne first ordered → IsPermutation lanes ordered → AllByRecursion IsOne lanes × StandFrom place first lanes ordered
+    places-stand IsOne first lanes ordered are same = (
+      all_moved IsOne ordered lanes (IsPermutation-sym _ _ same) (each-one IsOne first ordered are),
+      record { same = same; placed = each-placed IsOne first ordered are },
     )
 
-    -- where lanes have places of their own, nothing else is so
-    pub are_ordered-once : (lanes others : List A) → HaveOwnPlaces place lanes → AreOrderedBy place lanes others → others ≡ ordered_by place lanes
-    are_ordered-once lanes others own are =
-        moved-same (ordered_by place lanes) others (climbs-once (ordered_by place lanes) (rises-ordered lanes) one)
-        (IsPermutation-trans _ _ _ (IsPermutation-sym _ _ (ordered-permutation lanes)) are.same) (rises-from_sort others are.rising)
-      where
-        one : (k : ℕ) → sum_by (one_at k) (ordered_by place lanes) ≤ 1
-        one k = omega (arith, sum_by-IsPermutation (one_at k) lanes (ordered_by place lanes) (ordered-permutation lanes), once lanes own k)
+    -- lanes that have their places stand as they are
+    pub stand-own : (IsOne : A → Type 0) (first : ℕ) (lanes : List A) → HavePlacesFrom place IsOne first lanes → AllByRecursion IsOne lanes × StandFrom place first lanes lanes
+    stand-own IsOne first lanes are = places-stand IsOne first lanes lanes are (IsPermutation-refl lanes)

@@ -1,30 +1,17 @@
 -- Lanes in the order of their places, of whatever type: a record has what each lane leaves in this order.
-use Rattle.std.specs.Prelude.{◌≡◌, ◌≢◌, ℕ, ◌+◌, ◌<◌, ⊤, nat_le, if◌then◌else◌, List, [], ◌∷◌, length, slice_index_or}
-use Rattle.std.specs.List.Sorted.{IsPermutation, IsNonDecreasingBy}
+use Rattle.std.specs.Prelude.{◌≡◌, ℕ, ◌+◌, ⊤, Some, List, [], ◌∷◌, slice_get}
+use Rattle.std.specs.List.Sorted.{IsPermutation}
 use Rattle.fw_world.specs.Inputs.{Input}
 
 module _ {A : Type 0} where
   module _ (place : A → ℕ) where
-    -- These are those lanes, each once, in the order of their places.
-    pub record AreOrderedBy (lanes ordered : List A) : Type 0 where
+    -- This order has those lanes, each once, and the lane at index i has the place `first` + i. At most one order is
+    -- so: a law (src/laws.rt).
+    pub record StandFrom (first : ℕ) (lanes ordered : List A) : Type 0 where
       pub same : IsPermutation lanes ordered
-      pub rising : IsNonDecreasingBy place ordered
+      pub placed : (i : ℕ) (lane : A) → slice_get ordered i ≡ Some lane → place lane ≡ first + i
 
-    -- two lanes of a list have two places
-    abbrev pub HaveOwnPlaces : List A → Type 0
-    HaveOwnPlaces lanes = (i j : ℕ) (d : A) → i < j → j < length lanes → place (slice_index_or lanes i d) ≢ place (slice_index_or lanes j d)
-
-    -- a lane among these: before the first whose place isn't below its own
-    abbrev pub ordered_with : A → List A → List A
-    ordered_with lane [] = lane ∷ []
-    ordered_with lane (first ∷ others) = if nat_le (place lane) (place first) then lane ∷ first ∷ others else first ∷ ordered_with lane others
-
-    -- these lanes in the order of their places
-    abbrev pub ordered_by : List A → List A
-    ordered_by [] = []
-    ordered_by (lane ∷ lanes) = ordered_with lane (ordered_by lanes)
-
-    -- the lanes are such ones from this place on, each once, in the order of their places
+    -- the lanes are such ones, the first has this place, and each other one the next place
     abbrev pub HavePlacesFrom : (A → Type 0) → ℕ → List A → Type 0
     HavePlacesFrom IsOne first [] = ⊤
     HavePlacesFrom IsOne first (lane ∷ lanes) = (place lane ≡ first) × IsOne lane × HavePlacesFrom IsOne (first + 1) lanes

@@ -1,19 +1,20 @@
 -- What closing a world leaves.
 use Rattle.std.specs.Prelude.{ℕ, List, map}
-use Rattle.fw_world.specs.ByPlace.{ordered_by, HavePlacesFrom, EachWith}
+use Rattle.std.specs.List.{AllByRecursion}
+use Rattle.fw_world.specs.ByPlace.{HavePlacesFrom, StandFrom, EachWith}
 use Rattle.fw_world.specs.Inputs.{Input}
 use Rattle.fw_world.specs.Lane.{LaneValue}
 use Rattle.fw_world.specs.RecordValue.{RecordValue}
 use Rattle.fw_world.specs.RecordedHits.{counted_by}
 use Rattle.fw_world.specs.World.{WorldValue, IsLaneOf, LaneStandsFor}
 
--- these lanes in the order of their places
-abbrev pub by_place : List LaneValue → List LaneValue
-by_place lanes = ordered_by (λ lane. lane.place) lanes
-
 -- the lanes are those of this world from this place on, each once, in the order of their places
 abbrev pub AreLanesFrom : WorldValue → ℕ → List LaneValue → Type 0
 AreLanesFrom world place lanes = HavePlacesFrom (λ lane. lane.place) (IsLaneOf world) place lanes
+
+-- the lanes are this world's, each once, and this is their order from place 1 on
+abbrev pub AreLanesOf : WorldValue → List LaneValue → List LaneValue → Type 0
+AreLanesOf world lanes ordered = AllByRecursion (IsLaneOf world) lanes × StandFrom (λ lane. lane.place) 1 lanes ordered
 
 -- each lane stands for its inputs
 abbrev pub EachStandsFor : WorldValue → List LaneValue → List (List Input) → Type 0

@@ -8,7 +8,7 @@ pub use columns::Columns;
 pub use commit_fault::CommitFault;
 pub use editions::{last_edition, next_edition, share_edition, store_of};
 pub use lane_work::LaneWork;
-pub use laws::lanes_stand_by_place;
+pub use laws::lanes_stand_once;
 pub use opening::open_cache;
 pub use record::Record;
 pub use skipped::{Skipped, skipped_entry};

@@ -3,12 +3,14 @@ ghost use Rattle.std.specs.List.{list_any, AllByRecursion};
 ghost use Rattle.fw_rule.specs.declared.command.Command.{Command};
 ghost use Rattle.rule_chain.specs.Configuration.{Configuration};
 ghost use Rattle.fw_world.specs.RecordedHits.{TellsHits, EachHasRoom, counted_by};
-ghost use Rattle.fw_world.specs.Closing.{AreLanesFrom, by_place, EachStandsFor, record_of_world};
+ghost use Rattle.fw_world.specs.ByPlace.{StandFrom};
+ghost use Rattle.fw_world.specs.Closing.{AreLanesOf, EachStandsFor, record_of_world};
 ghost use Rattle.fw_world.specs.Legal.{IsLegalButSections, IsLegal};
 ghost use Rattle.fw_world.specs.Columns.{no_columns, with_lane};
 ghost use Rattle.fw_world.specs.Inputs.{Input};
+ghost use Rattle.fw_world.specs.Lane.{LaneValue};
 ghost use Rattle.fw_world.specs.LaneKept.{IsLane};
-ghost use Rattle.fw_world.specs.World.{WorldValue, DeskStandsFor};
+ghost use Rattle.fw_world.specs.World.{DeskStandsFor};
 
 use crate::serial_book::SerialBook;
 use crate::{SerialDesk, SerialLane, SerialWorld};
@@ -20,23 +22,28 @@ impl SerialWorld {
     /// words come in the order of the lanes' places, and so do hits where the lanes have a cache. Want of
     /// memory comes exactly where a lane has failed.
     pub fn close(self, lanes: Vec<SerialLane>, desk: SerialDesk) -> Result<Record, OutOfMemory>
-        requires lanes { AreLanesFrom self 1 (by_place lanes.items) }
+        requires lanes { (ordered : List LaneValue) × AreLanesOf self lanes.items ordered }
         requires all { length lanes.items ≡ self.journal.lanes }
         requires desk { desk ≡ self.editions }
         ensures failed { is_err result ≡ list_any (λ lane. lane.failed) lanes.items }
-        ensures exact { IfOk result (λ r. r ≡ record_of_world self (by_place lanes.items)) }
-        ensures legal { OnOk result
-            ((first : Configuration) (commands : List Command) (inputs : List (List Input))
-            → DeskStandsFor desk first commands → EachStandsFor self (by_place lanes.items) inputs
+        ensures exact { IfOk result (λ r. (ordered : List LaneValue)
+            → AreLanesOf self lanes.items ordered → r ≡ record_of_world self ordered) }
+        ensures legal { OnOk result ((ordered : List LaneValue)
+            (first : Configuration) (commands : List Command) (inputs : List (List Input))
+            → AreLanesOf self lanes.items ordered
+            → DeskStandsFor desk first commands → EachStandsFor self ordered inputs
             → AllByRecursion (λ lane. lane.loose ≡ 0) lanes.items
-            → IsLegal first commands inputs (record_of_world self (by_place lanes.items))) }
-        ensures nearly { OnOk result
-            ((first : Configuration) (commands : List Command) (inputs : List (List Input))
-            → DeskStandsFor desk first commands → EachStandsFor self (by_place lanes.items) inputs
-            → IsLegalButSections first commands inputs (record_of_world self (by_place lanes.items))) }
-        ensures hits { OnOk result ((cache : Option ℕ) (inputs : List (List Input))
-            → EachHasRoom cache lanes.items → EachStandsFor self (by_place lanes.items) inputs
-            → TellsHits cache inputs (record_of_world self (by_place lanes.items))) }
+            → IsLegal first commands inputs (record_of_world self ordered)) }
+        ensures nearly { OnOk result ((ordered : List LaneValue)
+            (first : Configuration) (commands : List Command) (inputs : List (List Input))
+            → AreLanesOf self lanes.items ordered
+            → DeskStandsFor desk first commands → EachStandsFor self ordered inputs
+            → IsLegalButSections first commands inputs (record_of_world self ordered)) }
+        ensures hits { OnOk result ((ordered : List LaneValue)
+            (cache : Option ℕ) (inputs : List (List Input))
+            → AreLanesOf self lanes.items ordered
+            → EachHasRoom cache lanes.items → EachStandsFor self ordered inputs
+            → TellsHits cache inputs (record_of_world self ordered)) }
     {
         if any_failed(&lanes) {
             return Err(OutOfMemory);
@@ -50,8 +57,8 @@ impl SerialWorld {
 
 /// The lanes of a world in the order of their places.
 fn ordered(mut lanes: Vec<SerialLane>) -> Vec<SerialLane>
-    ensures lanes { (world : WorldValue) (place : ℕ)
-        → AreLanesFrom world place (by_place lanes.items) → result.items ≡ by_place lanes.items }
+    ensures lanes { (ordered : List LaneValue)
+        → StandFrom (λ lane. lane.place) 1 lanes.items ordered → result.items ≡ ordered }
     ensures all { length result.items ≡ length lanes.items }
 {
     lanes.sort_unstable_by_key(|lane| lane.place());

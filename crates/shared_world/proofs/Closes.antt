@@ -7,8 +7,9 @@ use Rattle.atomic_table.specs.Seated.{TableId}
 use Rattle.counter_book.specs.declared.tally.Count.{Count}
 use Rattle.eval_engine.specs.Dockets.{DocketValue}
 use Rattle.fw_rule.specs.declared.command.Command.{Command}
-use Rattle.fw_world.proofs.Arranging.{length-by_place}
+use Rattle.fw_world.proofs.Arranging.{length-stand, stand-places}
 use Rattle.fw_world.proofs.Recording.{as_many, lanes-stand, lanes-count, lanes-rise, TellsHits-world}
+use Rattle.fw_world.specs.ByPlace.{StandFrom}
 use Rattle.fw_world.specs.Closing.{record_of_world}
 use Rattle.fw_world.specs.Editions.{AreEditions}
 use Rattle.fw_world.specs.Inputs.{Input}
@@ -29,7 +30,7 @@ use Rattle.shared_world.proofs.Apart.{column, counted-are, placed, works-many}
 use Rattle.shared_world.proofs.LastBook as last_book
 use Rattle.shared_world.proofs.LastLanes.{each_seat, last_world, are-lanes, are-kept, each-stands, each-asks, trackers-are}
 use Rattle.shared_world.specs.Apart.{AreApart, Seat, counted_in}
-use Rattle.shared_world.specs.Closing.{AreLanesFrom, EachStandsFor, IsRecordOf, by_place}
+use Rattle.shared_world.specs.Closing.{AreLanesFrom, AreLanesOf, EachStandsFor, IsRecordOf}
 use Rattle.shared_world.specs.DeskKept.{IsSharedDesk}
 use Rattle.shared_world.specs.Known.{Known, SharedEdition, means}
 use Rattle.shared_world.specs.SharedDesk.{SharedDesk}
@@ -45,14 +46,18 @@ plain_loose : (all : List SharedLane) → AllByRecursion (λ (lane : SharedLane)
 plain_loose [] none = tt
 plain_loose (lane ∷ all) none = (none.0, plain_loose all none.1)
 
--- the lanes that were taken apart are those in order
-pub in_order : (world : TableId) (given ordered : List SharedLane) (seats : List Seat) (works : List LaneWork) → ((w : TableId) (place : ℕ) → AreLanesFrom w place (by_place given) → ordered ≡ by_place given) → AreLanesFrom world 1 (by_place given) → AreApart ordered seats works
-    → AreApart (by_place given) seats works
-in_order world given ordered seats works same are apart = subst (λ (all : List SharedLane). AreApart all seats works) (same world 1 are) apart
+module _ (world : TableId) (given ordered : List SharedLane) (are : AreLanesOf world given ordered) where
+  -- the lanes that were taken apart are those in order
+  pub in_order : (taken : List SharedLane) (seats : List Seat) (works : List LaneWork) → ((all : List SharedLane) → StandFrom (λ (lane : SharedLane). lane.place) 1 given all → taken ≡ all) → AreApart taken seats works → AreApart ordered seats works
+  in_order taken seats works same apart = subst (λ (all : List SharedLane). AreApart all seats works) (same ordered are.1) apart
 
--- they are as many as the desk knows
-pub as_known : (given : List SharedLane) (shown inside : SharedDesk) → length given ≡ shown.lanes → inside ≡ shown → length (by_place given) ≡ inside.lanes
-as_known given shown inside many same = length-by_place (λ (lane : SharedLane). lane.place) given ∙ many ∙ sym (ap (λ (d : SharedDesk). d.lanes) same)
+  -- they have their places
+  pub in_places : AreLanesFrom world 1 ordered
+  in_places = stand-places (λ (lane : SharedLane). lane.place) 1 given ordered are.1 (λ (lane : SharedLane). lane.world ≡ world) are.0
+
+  -- they are as many as the desk knows
+  pub as_known : (shown inside : SharedDesk) → length given ≡ shown.lanes → inside ≡ shown → length ordered ≡ inside.lanes
+  as_known shown inside many same = length-stand (λ (lane : SharedLane). lane.place) 1 given ordered are.1 ∙ many ∙ sym (ap (λ (d : SharedDesk). d.lanes) same)
 
 plain_rooms : (cache : Option ℕ) (all : List SharedLane) → AllByRecursion (λ (lane : SharedLane). capacity_of lane.cache ≡ cache) all → EachHasRoom cache (map plain_lane all)
 plain_rooms cache [] rooms = tt

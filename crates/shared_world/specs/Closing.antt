@@ -3,7 +3,7 @@ use Rattle.std.specs.Prelude.{◌≡◌, ℕ, ◌+◌, ⊤, Option, List, [], �
 use Rattle.std.specs.List.{AllByRecursion}
 use Rattle.atomic_table.specs.Seated.{TableId}
 use Rattle.fw_world.specs.Asks.{lane_asks}
-use Rattle.fw_world.specs.ByPlace.{ordered_by, HavePlacesFrom, EachWith}
+use Rattle.fw_world.specs.ByPlace.{HavePlacesFrom, StandFrom, EachWith}
 use Rattle.fw_world.specs.Caches.{capacity_of}
 use Rattle.fw_world.specs.Inputs.{Input}
 use Rattle.fw_world.specs.RecordValue.{RecordValue}
@@ -19,13 +19,13 @@ abbrev pub AreNewLanes : TableId → Option ℕ → ℕ → List SharedLane → 
 AreNewLanes world cache place [] = ⊤
 AreNewLanes world cache place (lane ∷ lanes) = (lane ≡ new_lane world cache place) × LaneStandsFor lane [] × AreNewLanes world cache (place + 1) lanes
 
--- these lanes in the order of their places
-abbrev pub by_place : List SharedLane → List SharedLane
-by_place lanes = ordered_by (λ lane. lane.place) lanes
-
 -- the lanes are those of this world from this place on, each once, in the order of their places
 abbrev pub AreLanesFrom : TableId → ℕ → List SharedLane → Type 0
 AreLanesFrom world place lanes = HavePlacesFrom (λ lane. lane.place) (λ lane. lane.world ≡ world) place lanes
+
+-- the lanes are this world's, each once, and this is their order from place 1 on
+abbrev pub AreLanesOf : TableId → List SharedLane → List SharedLane → Type 0
+AreLanesOf world lanes ordered = AllByRecursion (λ lane. lane.world ≡ world) lanes × StandFrom (λ lane. lane.place) 1 lanes ordered
 
 -- each lane stands for its inputs
 abbrev pub EachStandsFor : List SharedLane → List (List Input) → Type 0

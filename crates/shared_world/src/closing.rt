@@ -1,14 +1,15 @@
 ghost use Rattle.std.specs.Prelude.{◌≡◌, ℕ, ◌≤◌, Option, List, [], length, map, is_err, IfOk, vec_capacity};
 ghost use Rattle.std.specs.List.{list_any, AllByRecursion};
-ghost use Rattle.atomic_table.specs.Seated.{TableId};
 ghost use Rattle.fw_rule.specs.declared.command.Command.{Command};
+ghost use Rattle.fw_world.specs.ByPlace.{StandFrom};
 ghost use Rattle.fw_world.specs.Columns.{no_columns};
 ghost use Rattle.fw_world.specs.Inputs.{Input};
 ghost use Rattle.fw_world.specs.Legal.{IsLegalButSections, IsLegal};
 ghost use Rattle.fw_world.specs.RecordedHits.{TellsHits};
 ghost use Rattle.rule_chain.specs.Configuration.{Configuration};
 ghost use Rattle.shared_world.specs.Apart.{AreApart, counted_in};
-ghost use Rattle.shared_world.specs.Closing.{AreLanesFrom, by_place, EachHasRoom, EachStandsFor, IsRecordOf};
+ghost use Rattle.shared_world.specs.Closing.{AreLanesOf, EachHasRoom, EachStandsFor, IsRecordOf};
+ghost use Rattle.shared_world.specs.SharedLane.{SharedLane};
 ghost use Rattle.shared_world.specs.Standing.{DeskStandsFor};
 
 use crate::closing_room::ClosingRoom;
@@ -25,22 +26,26 @@ impl World {
     /// and tracker words come in the order of the lanes' places, and so do hits where the lanes have a cache.
     /// It takes no memory; want of memory comes exactly where a lane has failed.
     pub fn close(self, lanes: Vec<Lane>, desk: Desk) -> Result<Record, OutOfMemory>
-        requires lanes { AreLanesFrom self 1 (by_place lanes.items) }
+        requires lanes { (ordered : List SharedLane) × AreLanesOf self lanes.items ordered }
         requires all { length lanes.items ≡ desk.lanes }
         requires desk { desk.world ≡ self }
         ensures failed { is_err result ≡ list_any (λ lane. lane.failed) lanes.items }
-        ensures exact { IfOk result (IsRecordOf desk (by_place lanes.items)) }
-        ensures legal { IfOk result (λ r.
+        ensures exact { IfOk result (λ r. (ordered : List SharedLane)
+            → AreLanesOf self lanes.items ordered → IsRecordOf desk ordered r) }
+        ensures legal { IfOk result (λ r. (ordered : List SharedLane)
             (first : Configuration) (commands : List Command) (inputs : List (List Input))
-            → DeskStandsFor desk first commands → EachStandsFor (by_place lanes.items) inputs
+            → AreLanesOf self lanes.items ordered
+            → DeskStandsFor desk first commands → EachStandsFor ordered inputs
             → AllByRecursion (λ lane. lane.loose ≡ 0) lanes.items → IsLegal first commands inputs r) }
-        ensures nearly { IfOk result (λ r.
+        ensures nearly { IfOk result (λ r. (ordered : List SharedLane)
             (first : Configuration) (commands : List Command) (inputs : List (List Input))
-            → DeskStandsFor desk first commands → EachStandsFor (by_place lanes.items) inputs
+            → AreLanesOf self lanes.items ordered
+            → DeskStandsFor desk first commands → EachStandsFor ordered inputs
             → IsLegalButSections first commands inputs r) }
-        ensures hits { IfOk result (λ r. (cache : Option ℕ) (inputs : List (List Input))
-            → EachHasRoom cache lanes.items
-            → EachStandsFor (by_place lanes.items) inputs → TellsHits cache inputs r) }
+        ensures hits { IfOk result (λ r. (ordered : List SharedLane)
+            (cache : Option ℕ) (inputs : List (List Input))
+            → AreLanesOf self lanes.items ordered → EachHasRoom cache lanes.items
+            → EachStandsFor ordered inputs → TellsHits cache inputs r) }
     {
         if any_failed(&lanes) {
             return Err(OutOfMemory);
@@ -70,8 +75,8 @@ impl World {
 
 /// The lanes in the order of their places.
 fn ordered(mut lanes: Vec<Lane>) -> Vec<Lane>
-    ensures lanes { (world : TableId) (place : ℕ) → AreLanesFrom world place (by_place lanes.items)
-        → result.items ≡ by_place lanes.items }
+    ensures lanes { (ordered : List SharedLane)
+        → StandFrom (λ lane. lane.place) 1 lanes.items ordered → result.items ≡ ordered }
     ensures all { length result.items ≡ length lanes.items }
 {
     lanes.sort_unstable_by_key(|lane| lane.place());
