@@ -1,11 +1,11 @@
 -- Searches by hulls.
 use Rattle.std.proofs.Common.{◌≡◌, ℕ, zero, suc, ◌+◌, ◌-◌, ◌*◌, ◌/◌, ◌<◌, ◌≤◌, Bool, true, false, nat_lt, List, [], ◌∷◌, length, get_or, drop, refl, sym, ap, ◌∙◌, arith}
 use Rattle.std.proofs.lemmas.Bool.Decides.{nat_tests}
-use Rattle.std.proofs.lemmas.List.{get_or-drop, length-drop}
+use Rattle.std.proofs.lemmas.List.{get_or-drop, get_or-take, length-drop}
 use Rattle.std.proofs.lemmas.List.Sums.{position_or_len_is}
 use Rattle.std.specs.List.{position_or_len}
 use Rattle.rule_gates.specs.Gates.{admits}
-use Rattle.rule_gates.specs.Hulls.{AreHulls, AreShut, IsUnder}
+use Rattle.rule_gates.specs.Hulls.{AreHulls, AreShut, IsUnder, covered}
 use Rattle.rule_gates.specs.declared.gate.Gate.{Gate}
 use Rattle.rule_gates.specs.declared.gate_key.GateKey.{GateKey}
 
@@ -68,3 +68,9 @@ shut_on key gates from middle to first second = record {
     go : (at : ℕ) (any : Gate) → from ≤ at → at < to → (b : Bool) → nat_lt at middle ≡ b → admits (get_or gates at any) key ≡ false
     go at any low high true is = first.shut at any low (grind (arith, nat_tests))
     go at any low high false is = second.shut at any (grind (arith, nat_tests)) high
+
+-- of all gates, what is said of those but the last one
+pub shut_whole : (key : GateKey) (gates : List Gate) (from to : ℕ) → to - from ≤ length gates - 1 - from → AreShut key (covered gates) from to → AreShut key gates from to
+shut_whole key gates from to most shut = record {
+  shut = λ at any low high. ap (λ g. admits g key) (sym (get_or-take (length gates - 1) gates at any (omega arith))) ∙ shut.shut at any low high;
+}

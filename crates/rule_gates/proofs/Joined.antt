@@ -1,5 +1,5 @@
 -- Gates that admit what several gates admit.
-use Rattle.std.proofs.Common.{◌≡◌, ℕ, ◌+◌, ◌-◌, ◌*◌, ◌/◌, ◌<◌, ◌≤◌, true, false, Bool, nat_lt, List, [], ◌∷◌, ◌++◌, length, get_or, take, drop, slice_index, refl, sym, ap, ◌∙◌, arith}
+use Rattle.std.proofs.Common.{◌≡◌, ℕ, ◌+◌, ◌-◌, ◌*◌, ◌/◌, ◌<◌, ◌≤◌, true, false, Bool, nat_lt, List, [], ◌∷◌, ◌++◌, length, get_or, take, drop, slice_index, refl, ap, ◌∙◌, arith}
 use Rattle.std.proofs.lemmas.Bool.Decides.{nat_tests}
 use Rattle.std.proofs.lemmas.Bool.{and_parts}
 use Rattle.std.proofs.lemmas.List.{get_or-drop, get_or-take, get_or_append_left, get_or_push, length-drop, length-take}
@@ -7,7 +7,6 @@ use Rattle.rule_gates.specs.Gates.{admits}
 use Rattle.rule_gates.specs.Hulls.{IsPart, IsPartOfFamily, IsPartOfProtocol, IsUnder}
 use Rattle.rule_gates.specs.Within.{is_within, AreWords}
 use Rattle.rule_gates.specs.declared.gate.Gate.{Gate}
-use Rattle.rule_gates.specs.declared.gate_key.GateKey.{GateKey}
 use Rattle.rule_gates.proofs.Admitted.{admits_by}
 
 -- addresses that have a word of the first gate have one of the second

@@ -1,5 +1,5 @@
 -- Hulls: over some gates in a row one gate that admits whatever any of them admits.
-use Rattle.std.specs.Prelude.{◌≡◌, ℕ, ◌/◌, ◌<◌, ◌≤◌, Bool, true, false, List, length, get_or, slice_index}
+use Rattle.std.specs.Prelude.{◌≡◌, ℕ, ◌-◌, ◌/◌, ◌<◌, ◌≤◌, Bool, true, false, List, length, take, get_or, slice_index}
 use Rattle.fw_rule.specs.declared.body.Family.{Family}
 use Rattle.rule_match.specs.Holds.{holds_protocol}
 use Rattle.rule_gates.specs.Gates.{admits, admits_version}
@@ -29,6 +29,10 @@ IsPartOfFamily asked other = (is_six : Bool) → admits_version asked is_six ≡
 -- the hull admits each key that the gate admits
 abbrev pub IsUnder : Gate → Gate → Type 0
 IsUnder gate hull = (key : GateKey) → admits gate key ≡ true → admits hull key ≡ true
+
+-- all gates but the last one
+abbrev pub covered : List Gate → List Gate
+covered gates = take (length gates - 1) gates
 
 -- each gate is under the hull that stands over its thirty-two
 pub record AreHulls (gates hulls : List Gate) : Type 0 where

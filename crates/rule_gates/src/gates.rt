@@ -1,6 +1,7 @@
-ghost use Rattle.std.specs.Prelude.{◌≡◌, IfOk, map};
+ghost use Rattle.std.specs.Prelude.{◌≡◌, ◌-◌, IfOk, length, map};
 ghost use Rattle.std.specs.Arc.{arc_value};
 ghost use Rattle.rule_gates.specs.Gates.{AreGates};
+ghost use Rattle.rule_gates.specs.Hulls.{covered};
 
 use crate::Gate;
 use crate::gate_making::gate_of;
@@ -18,7 +19,7 @@ pub(crate) const BLOCK: usize = 32;
 #[derive(Drop)]
 pub struct Gates {
     pub(crate) gates: Vec<Gate>,
-    /// Over each thirty-two gates a gate that admits whatever any of them admits.
+    /// Over each thirty-two gates, all but the last one, a gate that admits whatever any of them admits.
     pub(crate) hulls: Vec<Gate>,
     /// The same over each thirty-two hulls.
     pub(crate) tops: Vec<Gate>,
@@ -26,7 +27,7 @@ pub struct Gates {
 
 impl Model for Gates {
     ghost use Rattle.std.specs.Prelude.{List};
-    ghost use Rattle.rule_gates.specs.Hulls.{AreHulls};
+    ghost use Rattle.rule_gates.specs.Hulls.{AreHulls, covered};
     ghost use Rattle.rule_gates.specs.declared.gate.Gate.{Gate};
 
     ghost Value = { List Gate };
@@ -34,7 +35,7 @@ impl Model for Gates {
     ghost view = { λ g. g.gates.items };
 
     ghost invariant = { λ g.
-        AreHulls g.gates.items g.hulls.items × AreHulls g.hulls.items g.tops.items };
+        AreHulls (covered g.gates.items) g.hulls.items × AreHulls g.hulls.items g.tops.items };
 }
 
 impl Gates {
@@ -42,7 +43,7 @@ impl Gates {
     pub fn over(alloc: Global, gates: Vec<Gate>) -> Result<Gates, OutOfMemory>
         ensures { IfOk result (λ made. made ≡ gates.items) }
     {
-        let hulls = hulls_of(alloc, &gates)?;
+        let hulls = hulls_of(alloc, all_but_last(&gates))?;
         let tops = hulls_of(alloc, &hulls)?;
         Ok(Gates { gates, hulls, tops })
     }
@@ -53,6 +54,23 @@ impl Gates {
     {
         &self.gates
     }
+
+    /// Those that stand under hulls.
+    pub(crate) fn covered(&self) -> &[Gate]
+        ensures are { result.now ≡ covered self.now }
+        ensures fewer { length result.now ≡ length self.now - 1 }
+    {
+        all_but_last(&self.gates)
+    }
+}
+
+/// The gates under hulls. The last one is that of the last rule, which holds of every packet: the hulls over it
+/// would admit all that the others shut out.
+fn all_but_last(gates: &[Gate]) -> &[Gate]
+    ensures are { result.now ≡ covered gates.now }
+    ensures fewer { length result.now ≡ length gates.now - 1 }
+{
+    &gates[..gates.len().saturating_sub(1)]
 }
 
 /// The gates of the rules, in their order.

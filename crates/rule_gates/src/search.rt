@@ -8,8 +8,14 @@ use crate::admission::admits;
 use crate::gates::BLOCK;
 use crate::{Gate, GateKey, Gates};
 
-/// So many gates are looked through before a hull is asked: in a list that is no longer no hull is.
-const NEAR: usize = 64;
+/// In a list of so many gates or fewer no hull is asked.
+const FEW: usize = 64;
+
+/// In a longer list so many gates are looked through before a hull is asked.
+const FIRST: usize = 8;
+
+/// So many where the search goes on behind a gate that admitted the key: where one does, others near it may.
+const NEAR: usize = 32;
 
 /// At most so many blocks are looked through before the next hull is asked.
 const FAR: usize = 32;
@@ -18,7 +24,7 @@ const FAR: usize = 32;
 fn scan(gates: &[Gate], from: usize, end: usize, key: &GateKey) -> usize
     requires within { end ≤ length gates.now }
     ensures least { from ≤ result }
-    ensures most { from ≤ end → result ≤ end }
+    ensures most { result - from ≤ end - from }
     ensures shut { AreShut key.now gates.now from result }
     ensures open { result < end → (any : Gate)
         → spec.admits (get_or gates.now result any) key.now ≡ true }
@@ -79,22 +85,21 @@ fn widened(blocks: usize, is_skipped: bool) -> usize
     }
 }
 
-/// The first place from this one on whose gate admits the key, found by the hulls; else the number of gates.
-fn next_by_hulls(gates: &Gates, from: usize, key: &GateKey) -> usize
-    requires { from ≤ length gates.now }
+/// A place from this one on before which no gate admits the key, found by the hulls.
+fn next_covered(gates: &Gates, from: usize, key: &GateKey) -> usize
     ensures least { from ≤ result }
-    ensures most { result ≤ length gates.now }
+    ensures most { result - from ≤ length gates.now - 1 - from }
     ensures shut { AreShut key.now gates.now from result }
-    ensures open { result < length gates.now → (any : Gate)
+    ensures open { result < length gates.now - 1 → (any : Gate)
         → spec.admits (get_or gates.now result any) key.now ≡ true }
 {
-    let all = gates.as_slice();
+    let covered = gates.covered();
     let mut place = from;
     let mut blocks = 1;
-    while place < all.len() {
+    while place < covered.len() {
         let block = next_hull(&gates.hulls, &gates.tops, place / BLOCK, key);
-        let (start, end) = stretch(place, block, blocks, all.len());
-        let found = scan(all, start, end, key);
+        let (start, end) = stretch(place, block, blocks, covered.len());
+        let found = scan(covered, start, end, key);
         if found < end {
             return found;
         }
@@ -106,11 +111,15 @@ fn next_by_hulls(gates: &Gates, from: usize, key: &GateKey) -> usize
 
 /// Where the gates end that are looked through before a hull is asked.
 fn near_end(from: usize, len: usize) -> usize
-    requires { from < len }
-    ensures further { from < result }
-    ensures end { result ≤ len }
+    ensures { result ≤ len }
 {
-    from.saturating_add(NEAR).min(len)
+    if len <= FEW {
+        len
+    } else if from == 0 {
+        FIRST
+    } else {
+        from.saturating_add(NEAR).min(len)
+    }
 }
 
 /// The first place from this one on whose gate admits the key; the number of gates where none does.
@@ -119,13 +128,14 @@ pub fn next_admitted(gates: &Gates, from: usize, key: &GateKey) -> usize
         (drop from gates.now) }
 {
     let all = gates.as_slice();
-    if from >= all.len() {
-        return from;
-    }
     let end = near_end(from, all.len());
     let found = scan(all, from, end, key);
     if found < end {
         return found;
     }
-    next_by_hulls(gates, found, key)
+    let place = next_covered(gates, found, key);
+    if place < gates.covered().len() {
+        return place;
+    }
+    scan(all, place, all.len(), key)
 }

@@ -1,4 +1,3 @@
-use Rattle.std.proofs.Common.{sym}
 use Rattle.rule_gates.proofs.Admitted.{every_has}
 use Rattle.rule_gates.proofs.hull_making.joined_words.Goals as goal
 
