@@ -8,10 +8,9 @@ use Rattle.atomic_table.specs.Seated.{TableId}
 use Rattle.capture_tracks.specs.declared.opened.OpenedCapture.{OpenedCapture}
 use Rattle.fw_base.specs.declared.failure.OutOfMemory.{OutOfMemory}
 use Rattle.fw_base.specs.declared.port.Port.{Port}
-use Rattle.fw_world.proofs.Arranging.{by_place-same}
+use Rattle.fw_world.proofs.Arranging.{stand-own}
 use Rattle.fw_world.specs.Caches.{IsPortFor, capacity_of, first_cache}
-use Rattle.fw_world.specs.Inputs.{Input}
-use Rattle.shared_world.specs.Closing.{AreNewLanes, AreLanesFrom, EachHasRoom, EachStandsFor, by_place}
+use Rattle.shared_world.specs.Closing.{AreNewLanes, AreLanesFrom, AreLanesOf, EachHasRoom}
 use Rattle.shared_world.specs.SharedLane.{SharedLane}
 use Rattle.live_replay.specs.Crew.{ArePostedFrom, EachFinishes, tasks_of, lanes_of}
 use Rattle.live_replay.specs.Work.{IsReady, Finishes}
@@ -49,15 +48,9 @@ none_loose world place [] posted = tt
 none_loose world place (lane ∷ lanes) posted = (posted.1.clean, none_loose world (place + 1) lanes posted.2)
 
 -- such lanes can be closed
-pub closing_lanes : (world : TableId) (lanes own : List SharedLane) → own ≡ lanes → ArePostedFrom world 1 lanes → AreLanesFrom world 1 (by_place own)
+pub closing_lanes : (world : TableId) (lanes own : List SharedLane) → own ≡ lanes → ArePostedFrom world 1 lanes → AreLanesOf world own lanes
 closing_lanes world lanes own same posted =
-    let are = posted_lanes world 1 lanes posted in
-    subst (λ (ls : List SharedLane). AreLanesFrom world 1 ls) (sym (ap by_place same ∙ by_place-same (λ (lane : SharedLane). lane.place) (λ (lane : SharedLane). lane.world ≡ world) 1 lanes are)) are
-
--- and stand for the same when they are put in order
-pub closing_stands : (world : TableId) (lanes own : List SharedLane) (inputs : List (List Input)) → own ≡ lanes → ArePostedFrom world 1 lanes → EachStandsFor lanes inputs → EachStandsFor (by_place own) inputs
-closing_stands world lanes own inputs same posted stands =
-    subst (λ (ls : List SharedLane). EachStandsFor ls inputs) (sym (ap by_place same ∙ by_place-same (λ (lane : SharedLane). lane.place) (λ (lane : SharedLane). lane.world ≡ world) 1 lanes (posted_lanes world 1 lanes posted))) stands
+    subst (λ (ls : List SharedLane). AreLanesOf world ls lanes) (sym same) (stand-own (λ (lane : SharedLane). lane.place) (λ (lane : SharedLane). lane.world ≡ world) 1 lanes (posted_lanes world 1 lanes posted))
 
 -- they have as much room
 pub closing_room : (cache : Option ℕ) (lanes own : List SharedLane) → own ≡ lanes → EachHasRoom cache lanes → EachHasRoom cache own

@@ -1,10 +1,12 @@
 -- A world of one lane goes on.
-use Rattle.std.proofs.Common.{◌≡◌, ℕ, List, sym, ap, ◌∙◌, subst}
+use Rattle.std.proofs.Common.{◌≡◌, ℕ, List, [], ◌∷◌, sym, ap, ◌∙◌, subst}
 use Rattle.std.specs.Prelude.{Option, Some, None, Result, Ok, Err, OnOk, OnErr}
 use Rattle.fw_rule.specs.declared.command.Command.{Command}
 use Rattle.cached_verdicts.specs.LaneCache.{LaneCacheValue}
 use Rattle.fw_base.specs.declared.port.Port.{Port}
 use Rattle.fw_world.specs.Caches.{capacity_of, IsPortFor}
+use Rattle.fw_world.proofs.Arranging.{stand-own}
+use Rattle.fw_world.specs.Closing.{AreLanesFrom, AreLanesOf}
 use Rattle.fw_world.specs.Lane.{LaneValue}
 use Rattle.serial_world.specs.Steps.{Publishes}
 use Rattle.fw_world.specs.World.{WorldValue, IsLaneOf}
@@ -35,3 +37,8 @@ committed old new desk shown lane command (Err fault) one publishes unchanged sh
 pub any_port : (cache : Option LaneCacheValue) (port : Port) → capacity_of cache ≡ None → IsPortFor cache port
 any_port None port none = tt
 any_port (Some own) port none = cc
+
+-- it can be closed
+pub one_closes : (world : WorldValue) (desk : List Published) (lane : LaneValue) (lanes : List LaneValue) → IsOneLane world desk lane → lanes ≡ lane ∷ [] → (ordered : List LaneValue) × AreLanesOf world lanes ordered
+one_closes world desk lane lanes one are =
+    (lanes, stand-own (λ (l : LaneValue). l.place) (IsLaneOf world) 1 lanes (subst (λ (ls : List LaneValue). AreLanesFrom world 1 ls) (sym are) (one.first, one.of_world, tt)))

@@ -1,6 +1,8 @@
 -- A world of two lanes goes on.
-use Rattle.std.proofs.Common.{◌≡◌, None, List, sym, ◌∙◌}
+use Rattle.std.proofs.Common.{◌≡◌, None, List, [], ◌∷◌, sym, subst, ◌∙◌}
 use Rattle.fw_world.specs.Caches.{capacity_of}
+use Rattle.fw_world.proofs.Arranging.{stand-own}
+use Rattle.fw_world.specs.Closing.{AreLanesFrom, AreLanesOf}
 use Rattle.fw_world.specs.Lane.{LaneValue}
 use Rattle.serial_world.specs.Steps.{ChangesAsksOf}
 use Rattle.fw_world.specs.World.{WorldValue, IsLaneOf}
@@ -35,3 +37,8 @@ second_judged old new desk first second after two of_world place none changes = 
   both = changes.lanes ∙ two.both;
   cacheless = (two.cacheless.0, none);
 }
+
+-- they can be closed
+pub two_close : (world : WorldValue) (desk : List Published) (first second : LaneValue) (lanes : List LaneValue) → AreTwoLanes world desk first second → lanes ≡ first ∷ second ∷ [] → (ordered : List LaneValue) × AreLanesOf world lanes ordered
+two_close world desk first second lanes two are =
+    (lanes, stand-own (λ (l : LaneValue). l.place) (IsLaneOf world) 1 lanes (subst (λ (ls : List LaneValue). AreLanesFrom world 1 ls) (sym are) two.lanes))

@@ -1,10 +1,11 @@
 -- What callers of a world of one lane or of two know of its lanes.
-use Rattle.std.proofs.Common.{◌≡◌, ℕ, false, Option, Some, None, List, [], ◌∷◌, ◌++◌, length, length-append, sym, ◌∙◌, ap, subst, if◌then◌else◌, arith}
-use Rattle.std.specs.Prelude.{nat_le}
+use Rattle.std.proofs.Common.{◌≡◌, ℕ, Option, Some, None, List, [], ◌∷◌, ◌++◌, length, length-append, sym, ◌∙◌, ap, subst, arith, IsPermutation}
+use Rattle.std.proofs.lemmas.List.Sorted.{IsPermutation-middle}
 use Rattle.atomic_table.specs.Seated.{TableId}
 use Rattle.fw_base.specs.declared.port.Port.{Port}
 use Rattle.fw_world.specs.Caches.{IsPortFor, first_cache}
-use Rattle.shared_world.specs.Closing.{AreNewLanes, AreLanesFrom, by_place}
+use Rattle.fw_world.proofs.Arranging.{places-stand, stand-own}
+use Rattle.shared_world.specs.Closing.{AreNewLanes, AreLanesFrom, AreLanesOf}
 use Rattle.shared_world.specs.SharedLane.{SharedLane, new_lane}
 use Rattle.world_tests.specs.Lanes.{IsLaneAt}
 
@@ -45,12 +46,13 @@ both_lanes world cache port (a ∷ b ∷ []) left others first second new two po
 both_lanes world cache port (a ∷ b ∷ c ∷ more) left others first second new two popped again = absurd (omega arith)
 
 -- a list of the lane of place 1 has each lane of a world of one lane once
-pub one_each : (world : TableId) (port : Port) (lane : SharedLane) (lanes : List SharedLane) → lanes ≡ lane ∷ [] → IsLaneAt world 1 port lane → AreLanesFrom world 1 (by_place lanes)
-one_each world port lane lanes are at = subst (λ (ls : List SharedLane). AreLanesFrom world 1 (by_place ls)) (sym are) (at.1, at.0, tt)
+pub one_each : (world : TableId) (port : Port) (lane : SharedLane) (lanes : List SharedLane) → lanes ≡ lane ∷ [] → IsLaneAt world 1 port lane → (ordered : List SharedLane) × AreLanesOf world lanes ordered
+one_each world port lane lanes are at =
+    (lanes, stand-own (λ (l : SharedLane). l.place) (λ (l : SharedLane). l.world ≡ world) 1 lanes (subst (λ (ls : List SharedLane). AreLanesFrom world 1 ls) (sym are) (at.1, at.0, tt)))
 
 -- a list of the lanes of places 2 and 1 has each lane of a world of two lanes once
-pub two_each : (world : TableId) (port : Port) (first second : SharedLane) (lanes : List SharedLane) → lanes ≡ second ∷ first ∷ [] → IsLaneAt world 1 port first → IsLaneAt world 2 port second → AreLanesFrom world 1 (by_place lanes)
+pub two_each : (world : TableId) (port : Port) (first second : SharedLane) (lanes : List SharedLane) → lanes ≡ second ∷ first ∷ [] → IsLaneAt world 1 port first → IsLaneAt world 2 port second → (ordered : List SharedLane) × AreLanesOf world lanes ordered
 two_each world port first second lanes are at behind =
-    let late : nat_le second.place first.place ≡ false = ap (λ (n : ℕ). nat_le n first.place) behind.1 ∙ ap (λ (n : ℕ). nat_le 2 n) at.1 in
-    let is : by_place lanes ≡ first ∷ second ∷ [] = ap by_place are ∙ ap (λ b. if b then second ∷ first ∷ [] else first ∷ second ∷ []) late in
-    subst (λ (ls : List SharedLane). AreLanesFrom world 1 ls) (sym is) (at.1, at.0, (behind.1, behind.0, tt))
+    let ordered : List SharedLane = first ∷ second ∷ [] in
+    let turned : IsPermutation lanes ordered = subst (λ (ls : List SharedLane). IsPermutation ls ordered) (sym are) (IsPermutation-middle (second ∷ []) first []) in
+    (ordered, places-stand (λ (l : SharedLane). l.place) (λ (l : SharedLane). l.world ≡ world) 1 lanes ordered (at.1, at.0, (behind.1, behind.0, tt)) turned)

@@ -1,12 +1,12 @@
 use Rattle.std.proofs.Common.{◌≡◌, None, List, [], ◌∷◌, length, get_or, slice_set, IsPermutation, refl, sym, ap, ◌∙◌, subst, arith}
-use Rattle.std.proofs.lemmas.List.Sorted.{IsPermutation-refl}
+use Rattle.std.proofs.lemmas.List.Sorted.{IsPermutation-refl, IsPermutation-sym}
 use Rattle.eval_engine.specs.declared.docket_entry.DocketEntry.TheVariants.{Other}
-use Rattle.fw_world.specs.Closing.{AreLanesFrom, by_place}
+use Rattle.fw_world.specs.Closing.{AreLanesFrom, AreLanesOf}
 use Rattle.fw_world.specs.Lane.{LaneValue, with_docket_entry}
 use Rattle.serial_world.specs.SerialLane.{first_lane}
 use Rattle.fw_world.specs.World.{WorldValue, IsLaneOf, published_count}
 use Rattle.serial_world.specs.WorldKept.{IsNewWorld}
-use Rattle.fw_world.proofs.Arranging.{by_place-moved}
+use Rattle.fw_world.proofs.Arranging.{places-stand}
 use Rattle.rule_chain.specs.Configuration.{Configuration}
 use Rattle.record_tests.proofs.records.entered_by_two.Goals as goal
 use Rattle.record_tests.proofs.records.entered_by_two.Goals.{then-turned, else-turned}
@@ -28,11 +28,10 @@ are-pair config world opened =
       ),
     )
 
-close_in : (config : Configuration) (world after : WorldValue) (lanes moved : List LaneValue) → IsNewWorld config 2 world → after ≡ world → lanes ≡ pair → IsPermutation lanes moved → AreLanesFrom after 1 (by_place moved)
+close_in : (config : Configuration) (world after : WorldValue) (lanes moved : List LaneValue) → IsNewWorld config 2 world → after ≡ world → lanes ≡ pair → IsPermutation lanes moved → (ordered : List LaneValue) × AreLanesOf after moved ordered
 close_in config world after lanes moved opened unchanged is same =
-    let are = are-pair config world opened in
-    let ordered : by_place moved ≡ pair = by_place-moved (λ (lane : LaneValue). lane.place) (IsLaneOf world) 1 pair moved are (subst (λ (l : List LaneValue). IsPermutation l moved) is same) in
-    subst (λ (w : WorldValue). AreLanesFrom w 1 (by_place moved)) (sym unchanged) (subst (λ (l : List LaneValue). AreLanesFrom world 1 l) (sym ordered) are)
+    let are = subst (λ (w : WorldValue). AreLanesFrom w 1 pair) (sym unchanged) (are-pair config world opened) in
+    (pair, places-stand (λ (lane : LaneValue). lane.place) (IsLaneOf after) 1 moved pair are (IsPermutation-sym _ _ (subst (λ (l : List LaneValue). IsPermutation l moved) is same)))
 
 pub close-requires-clause-lanes : goal.close-requires-clause-lanes
 close-requires-clause-lanes c =
