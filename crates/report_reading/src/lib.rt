@@ -6,6 +6,7 @@
 pub use ask_lines::AskLine;
 pub use lane_lines::LaneLine;
 pub use lines::next_line;
+pub use parts::{behind, number_on};
 pub use readings::{Reading, read_line};
 pub use record_lines::{RecordLine, read_record};
 

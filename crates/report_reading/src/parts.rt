@@ -5,7 +5,7 @@ ghost use Rattle.report_reading.specs.Parts as spec;
 
 /// The text behind a word that the text begins with. It goes byte by byte: most words differ in the
 /// first, and std's comparison of slices is made for long ones.
-pub(crate) fn behind<'a>(word: &[u8], text: &'a [u8]) -> Option<&'a [u8]>
+pub fn behind<'a>(word: &[u8], text: &'a [u8]) -> Option<&'a [u8]>
     ensures { option_map (λ rest. rest.now) result ≡ spec.behind word.now text.now }
 {
     if text.len() < word.len() {
@@ -50,7 +50,7 @@ fn with_digit(value: u64, digit: u8, most: u64) -> Option<u64>
 }
 
 /// The number that the digits at the front write, where it is at most so great, and the text behind them.
-pub(crate) fn number_on(text: &[u8], most: u64) -> Option<(u64, &[u8])>
+pub fn number_on(text: &[u8], most: u64) -> Option<(u64, &[u8])>
     ensures value { option_map (λ found. (found.0, found.1.now)) result ≡ spec.number_on most 0 text.now }
     ensures within { IfSome result (λ found. found.0 ≤ most) }
 {

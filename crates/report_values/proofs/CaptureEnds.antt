@@ -1,16 +1,32 @@
 -- The line that tells how a capture ended.
-use Rattle.std.proofs.Common.{◌≡◌, ℕ, suc, ◌+◌, ◌<◌, true, List, [], ◌∷◌, ◌++◌, Option, None, Some, length, take, refl, sym, subst, arith, nat_lt, ◌==◌, inl, inr}
-use Rattle.std.specs.Prelude.{IfSome, MatchOption, position}
+use Rattle.std.proofs.Common.{◌≡◌, ℕ, suc, ◌+◌, ◌<◌, true, List, [], ◌∷◌, ◌++◌, codes, decimal, Option, None, Some, Bor, ◌≢◌, ap, ◌∙◌, length, take, refl, sym, subst, arith, nat_lt, ◌==◌, inl, inr}
+use Rattle.std.specs.Prelude.{MatchOption, position}
 use Rattle.std.specs.List.{position_or_len}
 use Rattle.std.proofs.lemmas.Bool.{cases_Bool, ltb-true}
+use Rattle.std.proofs.lemmas.List.{append_cancel_left}
 use Rattle.std.proofs.lemmas.Option.{cond_some}
-use Rattle.report_values.specs.Captures.{is_line, IsEnd, HaveEnds}
+use Rattle.report_values.specs.Captures.{begins_capture_line, captures_lines, count_text, is_line, IsCutOff, IsEnd, IsUnfitCapture, HaveEnds}
 use Rattle.report_values.specs.declared.capture.Capture.{Capture}
 
--- what is said of a value that may be there
-pub some_of : {A : Type 0} (found : Option A) (No : Type 0) (Holds : A → Type 0) → MatchOption found No Holds → IfSome found Holds
-some_of None No Holds said = tt
-some_of (Some value) No Holds said = said
+-- what stands behind more, where the front of a text is known
+pub match_behind : (result : Option (Bor (List ℕ))) (front behind text : List ℕ) (form : List ℕ → List ℕ) → text ≡ front ++ behind
+    → MatchOption result ((rest : List ℕ) → behind ≢ form rest) (λ rest. behind ≡ form rest.now)
+    → MatchOption result ((rest : List ℕ) → text ≢ front ++ form rest) (λ rest. text ≡ front ++ form rest.now)
+match_behind None front behind text form is found = λ rest also. found rest (append_cancel_left front behind (form rest) (sym is ∙ also))
+match_behind (Some rest) front behind text form is found = is ∙ ap (λ t. front ++ t) found
+
+-- and where it isn't, there is nothing behind it
+pub none_behind : (front text : List ℕ) (form : List ℕ → List ℕ) → ((rest : List ℕ) → text ≢ front ++ rest) → (rest : List ℕ) → text ≢ front ++ form rest
+none_behind front text form isn't rest is = isn't (form rest) is
+
+-- what stands behind the same count is the same
+pub count_same : (number records : ℕ) (a b : List ℕ) → count_text number records a ≡ count_text number records b → a ≡ b
+count_same number records a b is =
+    append_cancel_left (decimal records) a b
+    (append_cancel_left (codes " records ") (decimal records ++ a) (decimal records ++ b)
+    (append_cancel_left (decimal number) (codes " records " ++ (decimal records ++ a)) (codes " records " ++ (decimal records ++ b))
+    (append_cancel_left (codes "end ") (decimal number ++ (codes " records " ++ (decimal records ++ a)))
+    (decimal number ++ (codes " records " ++ (decimal records ++ b))) is)))
 
 -- where the first byte 10 stands, or the length
 abbrev first_end : List ℕ → ℕ
@@ -50,3 +66,15 @@ pub ends_more : (number : ℕ) (captures news : List Capture) (capture : Capture
 ends_more number captures news capture so_far place end more =
     subst (HaveEnds 1) (sym more)
     (ends_push 1 captures capture so_far (subst (λ (n : ℕ). IsEnd n (length capture.records) capture.end) (sym place) end))
+
+-- Captures are whole, and behind them one is cut off.
+pub unfit_capture : (text rest at : List ℕ) (captures : List Capture) (number : ℕ) → text ≡ captures_lines 1 captures ++ rest → HaveEnds 1 captures
+    → begins_capture_line rest ≡ true → number ≡ 1 + length captures → IsCutOff number rest at → IsUnfitCapture text at
+unfit_capture text rest at captures number is ends begins place cut = record {
+  captures = captures;
+  behind = rest;
+  lines = is;
+  ends = ends;
+  more = begins;
+  cut = subst (λ (n : ℕ). IsCutOff n rest at) place cut;
+}

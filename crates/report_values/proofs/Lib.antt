@@ -5,6 +5,9 @@ mod KindHints
 mod CaptureLines
 mod CaptureEnds
 mod BehindCaptures
+-- the sections behind them
+mod LineSteps
+mod AnswerSteps
 -- the texts of outcomes, and their numbers
 mod OutcomeParts
 mod OutcomeNumbers

@@ -1,7 +1,13 @@
 -- what is told of a capture's records
 pub mod Records
+-- what stands in a line, and which line of a text is the first that doesn't fit
+pub mod Fields
+pub mod Lines
 -- the lines of captures
 pub mod Captures
+-- the sections behind them, and a whole report
+pub mod Sections
+pub mod Reports
 -- what a record came to
 pub mod Outcomes
 -- where the rules of a number in an edition stand

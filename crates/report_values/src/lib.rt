@@ -4,9 +4,10 @@
 #![tactic(auto)]
 
 pub use capture::{Capture, read_captures};
+pub use capture_lines::EndLine;
 pub use journal_columns::JournalColumns;
 pub use known_rules::KnownRules;
-pub use lines::{EndLine, Lines};
+pub use lines::Lines;
 pub use outcome_parts::{outcome_text, verdict_words};
 pub use outcome_texts::{OutcomeTexts, text_at};
 pub use outcomes::outcome_numbers;
@@ -14,8 +15,10 @@ pub use records::Records;
 pub use report::{Report, ReportError, read_report};
 pub use rules::{CountedRule, KnownRule};
 pub use sections::{Journal, Sections};
+pub use unfit::Unfit;
 
 mod capture;
+mod capture_lines;
 mod fields;
 mod journal_columns;
 mod known_rules;
@@ -23,7 +26,9 @@ mod lines;
 mod outcome_parts;
 mod outcome_texts;
 mod outcomes;
+mod reads;
 mod records;
 mod report;
 mod rules;
 mod sections;
+mod unfit;

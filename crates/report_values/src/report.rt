@@ -1,10 +1,12 @@
-ghost use Rattle.std.specs.Prelude.{◌≡◌, ◌++◌, IfOk};
+ghost use Rattle.std.specs.Prelude.{◌≡◌, ◌++◌, IfErr, IfOk, IsOk, length};
 ghost use Rattle.report_values.specs.Captures.{HaveEnds, IsBehindCaptures, captures_lines};
+ghost use Rattle.report_values.specs.Reports as spec;
+ghost use Rattle.report_values.specs.Sections.{sections};
 
+use crate::lines::line_number;
 use crate::sections::{Sections, read_sections};
-use crate::{Capture, Lines, read_captures};
-use fw_base::OutOfMemory;
-use std::alloc::{AllocError, AllocFailed, Global};
+use crate::{Capture, Lines, Unfit, read_captures};
+use std::alloc::Global;
 
 /// Why a text isn't read as a report.
 #[derive(Clone, Copy, Debug, PartialEq, Eq)]
@@ -13,24 +15,6 @@ pub enum ReportError {
     /// missing.
     Line(u64),
     OutOfMemory,
-}
-
-impl From<OutOfMemory> for ReportError {
-    fn from(_error: OutOfMemory) -> ReportError {
-        ReportError::OutOfMemory
-    }
-}
-
-impl From<AllocError> for ReportError {
-    fn from(_error: AllocError) -> ReportError {
-        ReportError::OutOfMemory
-    }
-}
-
-impl<T: Drop> From<AllocFailed<T>> for ReportError {
-    fn from(_error: AllocFailed<T>) -> ReportError {
-        ReportError::OutOfMemory
-    }
 }
 
 /// A report, whole: the sections in their order.
@@ -44,6 +28,25 @@ pub struct Report<'a> {
     pub sections: Sections<'a>,
 }
 
+/// Reads what a report tells, to the text's end.
+fn read_parts<'a>(alloc: Global, text: &'a [u8]) -> Result<Report<'a>, Unfit<'a>>
+    ensures captures { IfOk result (λ report.
+        spec.HasCaptures text.now report.captures.items report.behind.now) }
+    ensures sections { IfOk result (λ report.
+        IsOk (sections (length report.captures.items) report.behind.now)) }
+    ensures cause { IfErr result (spec.HasUnfit text.now) }
+{
+    let mut lines = Lines::new(text);
+    let captures = read_captures(alloc, &mut lines)?;
+    let behind = lines.rest;
+    let sections = read_sections(alloc, &mut lines, captures.len() as u64)?;
+    Ok(Report {
+        captures,
+        behind,
+        sections,
+    })
+}
+
 /// Reads a whole report. Each section stands there with as many lines as it says, those of caches and of a journal's
 /// lanes with one for each capture, and nothing stands behind the last.
 pub fn read_report<'a>(alloc: Global, text: &'a [u8]) -> Result<Report<'a>, ReportError>
@@ -51,17 +54,13 @@ pub fn read_report<'a>(alloc: Global, text: &'a [u8]) -> Result<Report<'a>, Repo
         text.now ≡ captures_lines 1 report.captures.items ++ report.behind.now) }
     ensures ends { IfOk result (λ report. HaveEnds 1 report.captures.items) }
     ensures behind { IfOk result (λ report. IsBehindCaptures report.behind.now) }
+    ensures sections { IfOk result (λ report.
+        IsOk (sections (length report.captures.items) report.behind.now)) }
+    ensures cause { IfErr result (spec.HasCause text.now) }
 {
-    let mut lines = Lines::new(text);
-    let captures = read_captures(alloc, &mut lines)?;
-    let behind = match lines.behind_captures() {
-        Ok(behind) => behind,
-        Err(line) => return Err(ReportError::Line(line)),
-    };
-    let sections = read_sections(alloc, &mut lines, captures.len() as u64)?;
-    Ok(Report {
-        captures,
-        behind,
-        sections,
-    })
+    match read_parts(alloc, text) {
+        Ok(report) => Ok(report),
+        Err(Unfit::At(rest)) => Err(ReportError::Line(line_number(text, rest))),
+        Err(Unfit::OutOfMemory) => Err(ReportError::OutOfMemory),
+    }
 }

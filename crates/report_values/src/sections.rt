@@ -1,5 +1,15 @@
-use crate::fields::{number_before, rule_number, whole_number};
-use crate::{CountedRule, KnownRule, Lines, ReportError};
+ghost use Rattle.std.specs.Prelude.{◌≡◌, codes};
+ghost use Rattle.report_values.specs.Lines.{ReadsTo, told_at};
+ghost use Rattle.report_values.specs.Sections as spec;
+
+use crate::fields::{edition_in, entries_in, whole_number};
+use crate::lines::line_number;
+use crate::reads::{
+    counted_lines, hits_lines, pass_lanes, pass_lines, read_lines, rule_lines, wanted_number,
+};
+use crate::{CountedRule, KnownRule, Lines, Unfit};
+use fw_base::OutOfMemory;
+use report_reading::behind;
 use std::alloc::Global;
 use std::collections::HashSet;
 
@@ -35,267 +45,250 @@ pub struct Journal<'a> {
     pub lines: &'a [u8],
 }
 
-/// That the next line is none that a report has here.
-fn unfit(lines: &Lines<'_>) -> ReportError {
-    ReportError::Line(lines.read.max(lines.ahead).saturating_add(1))
-}
-
-/// What stands behind this word in the next line, which a report has here.
-fn wanted<'a>(lines: &mut Lines<'a>, word: &[u8]) -> Result<&'a [u8], ReportError> {
-    match lines.behind(word) {
-        Some(told) => Ok(told),
-        None => Err(unfit(lines)),
-    }
-}
-
-/// The number behind this word in the next line.
-fn wanted_number(lines: &mut Lines<'_>, word: &[u8]) -> Result<u64, ReportError> {
-    let line = *lines;
-    match whole_number(wanted(lines, word)?) {
-        Some(value) => Ok(value),
-        None => Err(unfit(&line)),
-    }
-}
-
-/// So many lines, whatever they are.
-fn read_lines<'a>(
-    alloc: Global,
-    lines: &mut Lines<'a>,
-    count: u64,
-) -> Result<Vec<&'a [u8]>, ReportError> {
-    let mut read = Vec::new(alloc);
-    for _ in 0..count {
-        read.push(wanted(lines, b"")?)?;
-    }
-    Ok(read)
-}
-
-/// The rules that are listed, and their editions.
+/// What answers to lines of the script tell.
 #[derive(Drop)]
-struct Listed<'a> {
+struct Answers<'a> {
+    /// The refused lines, each as `line L FAULT`.
+    refused: Vec<&'a [u8]>,
+    /// The rules that are listed.
     rules: Vec<KnownRule<'a>>,
+    /// The editions that are listed.
     editions: HashSet<u64>,
 }
 
-/// The rules that the edition lists, which become known unless they are.
-fn read_listing<'a>(
-    lines: &mut Lines<'a>,
-    edition: u64,
-    listed: &mut Listed<'a>,
-) -> Result<(), ReportError> {
-    let count = wanted_number(lines, b"rules ")?;
-    let is_new = count > 0 && listed.editions.insert(edition)?;
-    for _ in 0..count {
-        let line = *lines;
-        let Some((number, text)) = rule_number(wanted(lines, b"")?) else {
-            return Err(unfit(&line));
-        };
-        if is_new {
-            listed.rules.push(KnownRule {
+impl<'a> Answers<'a> {
+    fn new(alloc: Global) -> Answers<'a> {
+        Answers {
+            refused: Vec::new(alloc),
+            rules: Vec::new(alloc),
+            editions: HashSet::new(alloc),
+        }
+    }
+
+    /// The rules that an edition lists become known, unless they are.
+    fn know(&mut self, edition: u64, rules: &[(u16, &'a [u8])]) -> Result<(), OutOfMemory> {
+        if rules.is_empty() || !self.editions.insert(edition)? {
+            return Ok(());
+        }
+        for (number, text) in rules {
+            self.rules.push(KnownRule {
                 edition,
-                number,
+                number: *number,
                 text,
             })?;
         }
+        Ok(())
     }
+
+    /// The rules of the last edition become known, unless that edition is listed.
+    fn know_last(&mut self, edition: u64, rules: &[CountedRule<'a>]) -> Result<(), OutOfMemory> {
+        if self.editions.contains(&edition) {
+            return Ok(());
+        }
+        for rule in rules {
+            self.rules.push(KnownRule {
+                edition,
+                number: rule.number,
+                text: rule.text,
+            })?;
+        }
+        Ok(())
+    }
+}
+
+/// The rules that the next lines list, behind a line that tells how many.
+#[tactic(auto, unfolding(crate::specs::Sections::listing))]
+fn read_listing<'a>(alloc: Global, lines: &mut Lines<'a>) -> Result<Vec<(u16, &'a [u8])>, Unfit<'a>>
+    ensures { ReadsTo (spec.listing lines.old.rest.now) lines.new.rest.now result }
+{
+    let count = wanted_number(lines, b"rules ")?;
+    rule_lines(alloc, lines, count)
+}
+
+/// The listing of an edition, behind `list line `.
+fn read_listing_of<'a>(
+    alloc: Global,
+    lines: &mut Lines<'a>,
+    line: &'a [u8],
+    told: &[u8],
+    answers: &mut Answers<'a>,
+) -> Result<(), Unfit<'a>>
+    ensures { ReadsTo (spec.listing_of line.now (told.now, lines.old.rest.now))
+        lines.new.rest.now result }
+{
+    let Some(edition) = edition_in(told) else {
+        return Err(Unfit::At(line));
+    };
+    let rules = read_listing(alloc, lines)?;
+    answers.know(edition, rules.as_slice())?;
     Ok(())
 }
 
-/// The edition at the end of ` line L edition E`.
-fn edition_in(text: &[u8]) -> Option<u64> {
-    let (_, rest) = number_before(text, b" edition ")?;
-    whole_number(rest)
+/// Passes over the entries of a table, behind `table `.
+fn pass_entries<'a>(lines: &mut Lines<'a>, line: &'a [u8], told: &[u8]) -> Result<(), Unfit<'a>>
+    ensures { ReadsTo (spec.entries_of line.now (told.now, lines.old.rest.now))
+        lines.new.rest.now result }
+{
+    match entries_in(told) {
+        Some(count) => pass_lines(lines, count),
+        None => Err(Unfit::At(line)),
+    }
 }
 
-/// How many entries the answer to `table NAME list` has, from its first line behind `table `.
-fn entries_in(text: &[u8]) -> Option<u64> {
-    let blank = text.iter().position(|byte| *byte == b' ')?;
-    let (_, rest) = text.split_at(blank);
-    let rest = match rest.strip_prefix(b" addr ") {
-        Some(rest) => rest,
-        None => rest.strip_prefix(b" number ")?,
-    };
-    let (count, rest) = number_before(rest, b" line ")?;
-    let _edition = edition_in(rest)?;
-    Some(count)
+/// Reads the answer to a line of the script, and tells whether there was one.
+#[tactic(auto, unfolding(crate::specs::Sections::answer))]
+fn read_answer<'a>(
+    alloc: Global,
+    lines: &mut Lines<'a>,
+    answers: &mut Answers<'a>,
+) -> Result<bool, Unfit<'a>>
+    ensures { spec.ReadsAnswer (spec.answer lines.old.rest.now) lines.old.rest.now
+        lines.new.rest.now result }
+{
+    let line = lines.rest;
+    if let Some(told) = lines.behind(b"refused ") {
+        answers.refused.push(told)?;
+        Ok(true)
+    } else if let Some(told) = lines.behind(b"list line ") {
+        read_listing_of(alloc, lines, line, told, answers)?;
+        Ok(true)
+    } else if let Some(told) = lines.behind(b"table ") {
+        pass_entries(lines, line, told)?;
+        Ok(true)
+    } else {
+        Ok(false)
+    }
 }
 
 /// The answers to lines of the script.
-fn read_answers<'a>(
-    alloc: Global,
-    lines: &mut Lines<'a>,
-    listed: &mut Listed<'a>,
-) -> Result<Vec<&'a [u8]>, ReportError> {
-    let mut refused = Vec::new(alloc);
+fn read_answers<'a>(alloc: Global, lines: &mut Lines<'a>) -> Result<Answers<'a>, Unfit<'a>>
+    ensures { ReadsTo (spec.answers 18446744073709551615 lines.old.rest.now)
+        lines.new.rest.now result }
+{
+    let mut answers = Answers::new(alloc);
     for _ in 0..u64::MAX {
-        let line = *lines;
-        if let Some(told) = lines.behind(b"refused ") {
-            refused.push(told)?;
-        } else if let Some(told) = lines.behind(b"list line ") {
-            let Some(edition) = edition_in(told) else {
-                return Err(unfit(&line));
-            };
-            read_listing(lines, edition, listed)?;
-        } else if let Some(told) = lines.behind(b"table ") {
-            let Some(entries) = entries_in(told) else {
-                return Err(unfit(&line));
-            };
-            for _ in 0..entries {
-                let _entry = wanted(lines, b"")?;
-            }
-        } else {
-            break;
+        if !read_answer(alloc, lines, &mut answers)? {
+            return Ok(answers);
         }
     }
-    Ok(refused)
+    Ok(answers)
 }
 
-/// A rule of the last edition with what it counted.
-fn counted_rule(line: &[u8]) -> Option<CountedRule<'_>> {
-    let (number, rest) = rule_number(line)?;
-    let (packets, rest) = number_before(rest, b" ")?;
-    let (bytes, text) = number_before(rest, b" ")?;
-    Some(CountedRule {
-        number,
-        packets,
-        bytes,
-        text,
-    })
+/// The disabled sets, in a line that may lack.
+fn read_disabled<'a>(lines: &mut Lines<'a>) -> &'a [u8]
+    ensures { lines.new.rest.now ≡ spec.behind_disabled lines.old.rest.now
+        (told_at (codes "disabled ") lines.old.rest.now) }
+{
+    match lines.behind(b"disabled ") {
+        Some(told) => told,
+        None => b"",
+    }
 }
 
 /// The rules of the last edition with what they counted.
-fn read_rules<'a>(
-    alloc: Global,
-    lines: &mut Lines<'a>,
-) -> Result<Vec<CountedRule<'a>>, ReportError> {
+#[tactic(auto, unfolding(crate::specs::Sections::rules))]
+fn read_rules<'a>(alloc: Global, lines: &mut Lines<'a>) -> Result<Vec<CountedRule<'a>>, Unfit<'a>>
+    ensures { ReadsTo (spec.rules lines.old.rest.now) lines.new.rest.now result }
+{
     let count = wanted_number(lines, b"rules ")?;
-    let mut rules = Vec::new(alloc);
-    for _ in 0..count {
-        let line = *lines;
-        match counted_rule(wanted(lines, b"")?) {
-            Some(rule) => rules.push(rule)?,
-            None => return Err(unfit(&line)),
-        }
-    }
-    Ok(rules)
+    counted_lines(alloc, lines, count)
 }
 
-/// The rules of the last edition become known, unless that edition is listed.
-fn know_last<'a>(
-    listed: &mut Listed<'a>,
-    edition: u64,
-    rules: &[CountedRule<'a>],
-) -> Result<(), ReportError> {
-    if listed.editions.contains(&edition) {
-        return Ok(());
-    }
-    for rule in rules {
-        listed.rules.push(KnownRule {
-            edition,
-            number: rule.number,
-            text: rule.text,
-        })?;
-    }
-    Ok(())
-}
-
-/// The hits of this capture's cache, from `C hits N`.
-fn hits_told(told: &[u8], capture: u64) -> Option<u64> {
-    let (number, rest) = number_before(told, b" hits ")?;
-    let hits = whole_number(rest)?;
-    if number == capture { Some(hits) } else { None }
+/// The live states.
+#[tactic(auto, unfolding(crate::specs::Sections::states))]
+fn read_states<'a>(alloc: Global, lines: &mut Lines<'a>) -> Result<Vec<&'a [u8]>, Unfit<'a>>
+    ensures { ReadsTo (spec.states lines.old.rest.now) lines.new.rest.now result }
+{
+    let count = wanted_number(lines, b"states ")?;
+    read_lines(alloc, lines, count)
 }
 
 /// The hits of the caches of so many captures, in their order; none where no cache was asked for.
-fn read_hits(alloc: Global, lines: &mut Lines<'_>, captures: u64) -> Result<Vec<u64>, ReportError> {
-    let mut hits = Vec::new(alloc);
-    if !lines.rest.starts_with(b"cache ") {
-        return Ok(hits);
+#[tactic(auto, unfolding(crate::specs::Sections::caches))]
+fn read_hits<'a>(alloc: Global, lines: &mut Lines<'a>, captures: u64) -> Result<Vec<u64>, Unfit<'a>>
+    ensures { ReadsTo (spec.caches captures lines.old.rest.now) lines.new.rest.now result }
+{
+    match behind(b"cache ", lines.rest) {
+        Some(_) => hits_lines(alloc, lines, captures),
+        None => Ok(Vec::new(alloc)),
     }
-    for place in 0..captures {
-        let line = *lines;
-        match hits_told(wanted(lines, b"cache ")?, place.saturating_add(1)) {
-            Some(count) => hits.push(count)?,
-            None => return Err(unfit(&line)),
-        }
-    }
-    Ok(hits)
 }
 
-/// Whether this is what a journal tells of the lane of this capture: `C refused N tracker W`.
-fn tells_lane(told: &[u8], capture: u64) -> bool {
-    let Some((number, rest)) = number_before(told, b" refused ") else {
-        return false;
-    };
-    let Some((_, rest)) = number_before(rest, b" tracker ") else {
-        return false;
-    };
-    number == capture && whole_number(rest).is_some()
+/// What stands before a rest of a text.
+fn before<'a>(text: &'a [u8], rest: &[u8]) -> &'a [u8] {
+    let length = text.len().saturating_sub(rest.len());
+    text.get(..length).unwrap_or(text)
 }
 
-/// Reads what a journal tells of the lanes of so many captures, in their order.
-fn read_lanes(lines: &mut Lines<'_>, captures: u64) -> Result<(), ReportError> {
-    for place in 0..captures {
-        let line = *lines;
-        if !tells_lane(wanted(lines, b"lane ")?, place.saturating_add(1)) {
-            return Err(unfit(&line));
-        }
-    }
-    Ok(())
+/// The entries of a journal and the lanes of so many captures, behind the journal's first line.
+#[tactic(auto, unfolding(crate::specs::Sections::journal_of))]
+fn read_journal_of<'a>(
+    lines: &mut Lines<'a>,
+    captures: u64,
+    line: &'a [u8],
+    told: &[u8],
+) -> Result<Journal<'a>, Unfit<'a>>
+    ensures { ReadsTo (spec.journal_of captures line.now (told.now, lines.old.rest.now))
+        lines.new.rest.now result }
+{
+    let Some(entries) = whole_number(told) else {
+        return Err(Unfit::At(line));
+    };
+    let from = lines.rest;
+    pass_lines(lines, entries)?;
+    let behind = lines.rest;
+    pass_lanes(lines, captures)?;
+    Ok(Journal {
+        entries,
+        line: line_number(lines.text, from),
+        lines: before(from, behind),
+    })
 }
 
 /// The journal with the lanes of so many captures, where it is asked for.
-fn read_journal<'a>(
-    lines: &mut Lines<'a>,
-    captures: u64,
-) -> Result<Option<Journal<'a>>, ReportError> {
-    let line = *lines;
-    let Some(told) = lines.behind(b"journal 2 ") else {
-        return Ok(None);
-    };
-    let Some(entries) = whole_number(told) else {
-        return Err(unfit(&line));
-    };
-    let first = lines.read.saturating_add(1);
-    let begun = lines.rest;
-    for _ in 0..entries {
-        let _entry = wanted(lines, b"")?;
+fn read_journal<'a>(lines: &mut Lines<'a>, captures: u64) -> Result<Option<Journal<'a>>, Unfit<'a>>
+    ensures { ReadsTo (spec.journal_if captures lines.old.rest.now
+        (told_at (codes "journal 2 ") lines.old.rest.now)) lines.new.rest.now result }
+{
+    let line = lines.rest;
+    match lines.behind(b"journal 2 ") {
+        Some(told) => Ok(Some(read_journal_of(lines, captures, line, told)?)),
+        None => Ok(None),
     }
-    let length = begun.len().saturating_sub(lines.rest.len());
-    read_lanes(lines, captures)?;
-    Ok(Some(Journal {
-        entries,
-        line: first,
-        lines: begun.get(..length).unwrap_or(begun),
-    }))
+}
+
+/// Nothing is left.
+fn wanted_end<'a>(lines: &mut Lines<'a>) -> Result<(), Unfit<'a>>
+    ensures { ReadsTo (spec.ended lines.old.rest.now) lines.new.rest.now result }
+{
+    match lines.rest {
+        [] => Ok(()),
+        [_, ..] => Err(Unfit::At(lines.rest)),
+    }
 }
 
 /// Reads all that stands behind so many captures, to the text's end.
+#[tactic(auto, unfolding(crate::specs::Sections::sections))]
 pub(crate) fn read_sections<'a>(
     alloc: Global,
     lines: &mut Lines<'a>,
     captures: u64,
-) -> Result<Sections<'a>, ReportError> {
-    let mut listed = Listed {
-        rules: Vec::new(alloc),
-        editions: HashSet::new(alloc),
-    };
-    let refused = read_answers(alloc, lines, &mut listed)?;
+) -> Result<Sections<'a>, Unfit<'a>>
+    ensures { ReadsTo (spec.sections captures lines.old.rest.now) lines.new.rest.now result }
+{
+    let mut answers = read_answers(alloc, lines)?;
     let editions = wanted_number(lines, b"editions ")?;
-    let disabled = lines.behind(b"disabled ").unwrap_or(b"");
+    let disabled = read_disabled(lines);
     let rules = read_rules(alloc, lines)?;
-    know_last(&mut listed, editions, &rules)?;
+    answers.know_last(editions, rules.as_slice())?;
     let _clock = wanted_number(lines, b"clock ")?;
-    let count = wanted_number(lines, b"states ")?;
-    let states = read_lines(alloc, lines, count)?;
+    let states = read_states(alloc, lines)?;
     let hits = read_hits(alloc, lines, captures)?;
     let journal = read_journal(lines, captures)?;
-    if !lines.is_empty() {
-        return Err(unfit(lines));
-    }
+    wanted_end(lines)?;
     Ok(Sections {
-        refused,
-        known: listed.rules,
+        refused: answers.refused,
+        known: answers.rules,
         editions,
         disabled,
         rules,

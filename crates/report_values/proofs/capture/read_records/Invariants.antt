@@ -1,10 +1,10 @@
 -- The lines of the records so far were read.
-use Rattle.std.proofs.Common.{◌≡◌, ◌+◌, ◌++◌, length}
+use Rattle.std.proofs.Common.{◌≡◌, ◌++◌, length}
 use Rattle.fw_report.specs.DocketText.{record_lines}
 use Rattle.report_values.proofs.capture.read_records.Given as goal
 
-abbrev pub invariant-loop-at : goal.invariant-loop-at
-invariant-loop-at l = record {
+abbrev pub invariant-loop-place : goal.invariant-loop-place
+invariant-loop-place l = record {
   lines : l.initial.lines.rest.now ≡ record_lines l.capture 1 l.records ++ l.lines.rest.now;
-  count : 1 + length l.records ≡ l.at;
+  count : length l.records ≡ l.place;
 }

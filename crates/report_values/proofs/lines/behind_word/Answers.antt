@@ -1,9 +1,0 @@
-use Rattle.std.proofs.lemmas.Bool.Decides.{Decides-eqb}
-use Rattle.std.proofs.lemmas.Slice.Eq.{strip_prefix_is}
-use Rattle.report_values.proofs.CaptureEnds.{some_of}
-use Rattle.report_values.proofs.lines.behind_word.Goals as goal
-
-pub returns : goal.returns
-returns c =
-    some_of c.strip_prefix.result _ _
-    (strip_prefix_is Decides-eqb c.args.text.now c.args.word.now c.strip_prefix.result c.strip_prefix.ensures.cases)
