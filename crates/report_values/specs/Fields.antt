@@ -2,7 +2,7 @@
 use Rattle.std.specs.Prelude.{ℕ, ◌==◌, nat_le, if◌then◌else◌, Bool, false, Option, Some, None, List, [], ◌∷◌, codes, drop, position}
 use Rattle.std.specs.Char.{is_ascii_digit}
 use Rattle.report_reading.specs.Parts.{Part, behind, number_on}
-use Rattle.report_reading.specs.Steps.{◌>>=◌, or_else}
+use Rattle.fw_base.specs.Chain.{◌>>=◌, or_else}
 
 -- a text begins with a digit
 unfoldable pub begins_with_digit : List ℕ → Bool

@@ -2,7 +2,7 @@
 use Rattle.std.specs.Prelude.{◌≡◌, ⊤, ℕ, zero, suc, ◌+◌, ◌-◌, ◌==◌, Bool, Option, Some, None, Result, Ok, Err, List, take, drop, position}
 use Rattle.std.specs.List.{count_by}
 use Rattle.report_reading.specs.Parts.{behind}
-use Rattle.report_reading.specs.Steps as steps
+use Rattle.fw_base.specs.Chain as steps
 use Rattle.report_values.specs.declared.unfit.Unfit.{Unfit}
 use Rattle.report_values.specs.declared.unfit.Unfit.TheVariants.{At, OutOfMemory}
 

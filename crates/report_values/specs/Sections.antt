@@ -2,7 +2,7 @@
 use Rattle.std.specs.Prelude.{◌≡◌, ⊤, Bool, true, false, ℕ, zero, suc, is_some, if◌then◌else◌, Option, Some, None, Result, Ok, Err, List, [], ◌∷◌, codes}
 use Rattle.std.specs.Option.{option_map}
 use Rattle.report_reading.specs.Parts.{behind}
-use Rattle.report_reading.specs.Steps.{or_else}
+use Rattle.fw_base.specs.Chain.{or_else}
 use Rattle.report_values.specs.Fields.{whole_number, edition_in, entries_in, rule_number_at, counted_rule, hits_in, lane_in}
 use Rattle.report_values.specs.Lines.{◌>>=◌, any, line_of, lines_of, or_at, told_at}
 use Rattle.report_values.specs.declared.unfit.Unfit.{Unfit}
