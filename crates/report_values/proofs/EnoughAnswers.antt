@@ -138,5 +138,6 @@ both_enough (suc one) (suc other) text in_one in_other =
     by_answer (Some (Ok rest)) shorter more = more rest shorter
     by_answer (Some (Err at)) shorter more = refl
 
+-- more answers than a text has bytes make no difference
 pub enough_answers : (most : ℕ) (text : List ℕ) → length text ≤ most → answers most text ≡ answers (length text) text
 enough_answers most text enough = both_enough most (length text) text enough (omega arith)
