@@ -8,6 +8,7 @@ mod BehindCaptures
 -- the sections behind them
 mod LineSteps
 mod AnswerSteps
+mod EnoughAnswers
 -- the texts of outcomes, and their numbers
 mod OutcomeParts
 mod OutcomeNumbers

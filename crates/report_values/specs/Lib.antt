@@ -14,3 +14,5 @@ pub mod Outcomes
 pub mod KnownPlaces
 -- texts and the map that tells their numbers
 pub mod TextNumbers
+-- what they come to
+pub mod Laws

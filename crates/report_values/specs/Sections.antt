@@ -1,5 +1,5 @@
 -- The sections of a report behind its captures, line by line, as far as a reader looks that wants their numbers.
-use Rattle.std.specs.Prelude.{◌≡◌, ⊤, Bool, true, false, ℕ, zero, suc, is_some, if◌then◌else◌, Option, Some, None, Result, Ok, Err, List, [], ◌∷◌, codes}
+use Rattle.std.specs.Prelude.{◌≡◌, ⊤, Bool, true, false, ℕ, zero, suc, is_some, if◌then◌else◌, Option, Some, None, Result, Ok, Err, List, [], ◌∷◌, codes, length}
 use Rattle.std.specs.Option.{option_map}
 use Rattle.report_reading.specs.Parts.{behind}
 use Rattle.fw_base.specs.Chain.{or_else}
@@ -81,10 +81,10 @@ abbrev pub ended : List ℕ → Lines
 ended [] = Ok []
 ended (byte ∷ bytes) = Err (byte ∷ bytes)
 
--- All sections, to the text's end. An answer has a line at least, so no text has more than this number of them.
+-- All sections, to the text's end. No text has more answers than bytes (specs/Laws).
 unfoldable pub sections : ℕ → List ℕ → Lines
 sections captures text = do
-  answered ← answers 18446744073709551615 text
+  answered ← answers (length text) text
   editions ← line_of whole_number (codes "editions ") answered
   counted ← rules (behind_disabled editions.1 (told_at (codes "disabled ") editions.1))
   clock ← line_of whole_number (codes "clock ") counted

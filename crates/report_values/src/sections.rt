@@ -1,4 +1,4 @@
-ghost use Rattle.std.specs.Prelude.{◌≡◌, codes};
+ghost use Rattle.std.specs.Prelude.{◌≡◌, codes, length};
 ghost use Rattle.report_values.specs.Lines.{ReadsTo, told_at};
 ghost use Rattle.report_values.specs.Sections as spec;
 
@@ -160,13 +160,13 @@ fn read_answer<'a>(
     }
 }
 
-/// The answers to lines of the script.
+/// The answers to lines of the script, of which each has a byte at least.
 fn read_answers<'a>(alloc: Global, lines: &mut Lines<'a>) -> Result<Answers<'a>, Unfit<'a>>
-    ensures { ReadsTo (spec.answers 18446744073709551615 lines.old.rest.now)
+    ensures { ReadsTo (spec.answers (length lines.old.rest.now) lines.old.rest.now)
         lines.new.rest.now result }
 {
     let mut answers = Answers::new(alloc);
-    for _ in 0..u64::MAX {
+    for _ in 0..lines.rest.len() {
         if !read_answer(alloc, lines, &mut answers)? {
             return Ok(answers);
         }
