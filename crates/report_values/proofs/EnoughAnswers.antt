@@ -4,8 +4,8 @@ use Rattle.std.specs.Prelude.{Ok, Err, IfOk, IfSome, codes}
 use Rattle.std.specs.Option.{option_map}
 use Rattle.std.proofs.lemmas.List.{length-drop}
 use Rattle.report_reading.specs.Parts.{behind}
-use Rattle.report_reading.specs.Steps as steps
-use Rattle.report_reading.specs.Steps.{or_else}
+use Rattle.fw_base.specs.Chain as steps
+use Rattle.fw_base.specs.Chain.{or_else}
 use Rattle.report_values.specs.Fields.{whole_number, edition_in, entries_in, rule_number_at}
 use Rattle.report_values.specs.Lines.{◌>>=◌, Fit, any, first_line, is_end, line_of, lines_of, or_at, told_at}
 use Rattle.report_values.specs.Sections.{Lines, answer, answers, behind_answer, entries_of, listing, listing_of}
