@@ -23,18 +23,18 @@ pub record IsUnfitSection (text at : List ℕ) : Type 0 where
   pub unfit : sections (length captures) behind ≡ Err at
 
 -- With this rest begins the first line that is none that a report has there.
-abbrev pub IsUnfit : List ℕ → List ℕ → Type 0
-IsUnfit text at = IsUnfitCapture text at ⊎ IsUnfitSection text at
+abbrev pub IsUnfitAt : List ℕ → List ℕ → Type 0
+IsUnfitAt text at = IsUnfitCapture text at ⊎ IsUnfitSection text at
 
 -- the same of what reading answers; want of memory needs no cause
 abbrev pub HasUnfit : List ℕ → Unfit → Type 0
-HasUnfit text (unfit.At from) = IsUnfit text from.now
+HasUnfit text (unfit.At from) = IsUnfitAt text from.now
 HasUnfit text unfit.OutOfMemory = ⊤
 
 -- The line of this number is the first that is none that a report has there.
 pub record IsUnfitLine (text : List ℕ) (line : ℕ) : Type 0 where
   pub rest : List ℕ
-  pub unfit : IsUnfit text rest
+  pub unfit : IsUnfitAt text rest
   pub number : line ≡ line_number text rest
 
 -- why a text isn't read as a report; want of memory needs no cause

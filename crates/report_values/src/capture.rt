@@ -31,8 +31,8 @@ fn read_records(alloc: Global, lines: &mut Lines<'_>, capture: u64) -> Result<Re
     Ok(records)
 }
 
-/// The lines of the capture of this number; `None` where they don't stand here: then what is left begins with the line
-/// that isn't one of them.
+/// The lines of the capture of this number; `None` where they don't stand here: then what is left
+/// begins with the line that isn't one of them.
 fn read_capture<'a>(
     alloc: Global,
     lines: &mut Lines<'a>,

@@ -135,8 +135,8 @@ impl<'a> Lines<'a> {
         }
     }
 
-    /// Reads the line that tells how this capture ended, where it is the next line: the line with the byte 10, and
-    /// what it tells of a fault.
+    /// Reads the line that tells how this capture ended, where it is the next line: the line with
+    /// the byte 10, and what it tells of a fault.
     pub fn capture_end(&mut self, capture: u64, records: u64) -> Option<EndLine<'a>>
         ensures line { MatchOption result (self.new.rest.now ≡ self.old.rest.now) (λ end.
             self.old.rest.now ≡ end.line.now ++ self.new.rest.now) }

@@ -12,8 +12,8 @@ fn line_end(text: &[u8]) -> Option<usize>
     text.iter().position(|byte| *byte == b'\n')
 }
 
-/// The first line of a text, without the byte 10 that ends it, and the text behind it; `None` where no such byte is
-/// there.
+/// The first line of a text, without the byte 10 that ends it, and the text behind it; `None` where
+/// no such byte is there.
 #[tactic(auto, unfolding(crate::specs::Lines::first_line))]
 fn first_line(text: &[u8]) -> Option<(&[u8], &[u8])>
     ensures { option_map (λ line. (line.0.now, line.1.now)) result ≡ spec.first_line text.now }
@@ -22,7 +22,8 @@ fn first_line(text: &[u8]) -> Option<(&[u8], &[u8])>
     Some((&text[..at], &text[at + 1..]))
 }
 
-/// The first line of a text with the byte 10 that ends it, and the text behind it; `None` where no such byte is there.
+/// The first line of a text with the byte 10 that ends it, and the text behind it; `None` where no
+/// such byte is there.
 #[tactic(auto, unfolding(crate::specs::Lines::whole_line))]
 pub(crate) fn whole_line(text: &[u8]) -> Option<(&[u8], &[u8])>
     ensures is { option_map (λ line. (line.0.now, line.1.now)) result ≡ spec.whole_line text.now }

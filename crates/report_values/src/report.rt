@@ -11,8 +11,8 @@ use std::alloc::Global;
 /// Why a text isn't read as a report.
 #[derive(Clone, Copy, Debug, PartialEq, Eq)]
 pub enum ReportError {
-    /// The line of this number, from 1, is none that a report has there; also one past the last, where lines are
-    /// missing.
+    /// The line of this number, from 1, is none that a report has there; also one past the last,
+    /// where lines are missing.
     Line(u64),
     OutOfMemory,
 }
@@ -47,8 +47,8 @@ fn read_parts<'a>(alloc: Global, text: &'a [u8]) -> Result<Report<'a>, Unfit<'a>
     })
 }
 
-/// Reads a whole report. Each section stands there with as many lines as it says, those of caches and of a journal's
-/// lanes with one for each capture, and nothing stands behind the last.
+/// Reads a whole report. Each section stands there with as many lines as it says, those of caches
+/// and of a journal's lanes with one for each capture, and nothing stands behind the last.
 pub fn read_report<'a>(alloc: Global, text: &'a [u8]) -> Result<Report<'a>, ReportError>
     ensures lines { IfOk result (λ report.
         text.now ≡ captures_lines 1 report.captures.items ++ report.behind.now) }
