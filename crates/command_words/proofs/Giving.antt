@@ -14,6 +14,7 @@ joined before given = record {
   positional = before.positional ++ given.positional;
 }
 
+-- the same, unless something was given twice
 abbrev pub both : Bool → Given → Given → Option Given
 both twice before given = if twice then None else Some (joined before given)
 

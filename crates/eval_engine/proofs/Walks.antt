@@ -54,6 +54,7 @@ unfolding walk
 walk_meets q seen callers rule rest = rw (none_below rule.number) refl
 
 module _ (q : Question) (seen : Seen) where
+  -- the rules of the question's edition
   abbrev pub all_rules : List Rule
   all_rules = q.edition.config.rules
 

@@ -79,6 +79,7 @@ module _ (q : Question) (every : List Reply) where
   IsLawful Mistakes = ⊤
   IsLawful (Returns seen left) = AllByRecursion (IsKnown every) left
 
+  -- what a story tells is of the question's edition
   pub record Tells (story : Story) : Type 0 where
     pub asks : AllByRecursion (λ op. is_installed q op ≡ true) story.asks
     pub hits : AllByRecursion (λ counter. is_hit q every counter ≡ true) story.hits

@@ -17,6 +17,7 @@ use Rattle.lock_bench.specs.declared.boxed_book.BoxedBook.{BoxedBook}
 use Rattle.lock_bench.specs.contracts.facts_edition.FactsEditionNumbered.TheImpl as edition
 use Rattle.lock_bench.specs.contracts.boxed_book.BoxedBookKept.TheImpl as kept
 
+-- what editions and books are to the lock here
 abbrev pub means : Meanings FactsEdition BoxedBook Facts ℕ Item
 means = meanings edition.ghosts kept.ghosts
 

@@ -16,9 +16,11 @@ use Rattle.lock_bench.specs.declared.book.Book.{Book}
 use Rattle.lock_bench.specs.contracts.edition.EditionNumbered.TheImpl as edition
 use Rattle.lock_bench.specs.contracts.book.BookKept.TheImpl as ledger
 
+-- what a seat knows here
 abbrev pub KnownSeat : Type 0
 KnownSeat = Me (Slot Edition Book) (View Edition Book ℕ ℕ ℕ)
 
+-- what editions and books are to the lock here
 abbrev pub means : Meanings Edition Book ℕ ℕ ℕ
 means = meanings edition.ghosts ledger.ghosts
 

@@ -12,6 +12,7 @@ use Rattle.lock_tests.specs.declared.entry_counts.EntryCounts.{EntryCounts}
 use Rattle.lock_tests.specs.contracts.marked_edition.MarkedEditionNumbered.TheImpl as edition
 use Rattle.lock_tests.specs.contracts.entry_counts.EntryCountsKept.TheImpl as counts
 
+-- what editions and books are to the lock here
 abbrev pub means : Meanings MarkedEdition EntryCounts Mark ℕ ℕ
 means = meanings edition.ghosts counts.ghosts
 

@@ -13,6 +13,7 @@ use Rattle.rule_gates.proofs.Admitted.{admits_by}
 abbrev pub IsPartAt : Gate → Gate → Type 0
 IsPartAt gate hull = (words : List ℕ) → AreWords words → is_within gate.source (slice_index words gate.source_word) ≡ true → is_within hull.source (slice_index words hull.source_word) ≡ true
 
+-- the same of the addresses to which packets go
 abbrev pub IsPartTo : Gate → Gate → Type 0
 IsPartTo gate hull = (words : List ℕ) → AreWords words → is_within gate.destination (slice_index words gate.destination_word) ≡ true → is_within hull.destination (slice_index words hull.destination_word) ≡ true
 
