@@ -1,5 +1,5 @@
 -- The record of a capture that is met next.
-use Rattle.std.specs.Prelude.{◌≡◌, Option, None}
+use Rattle.std.specs.Prelude.{◌≡◌, ℕ, Option, None}
 use Rattle.std.specs.Option.{option_map}
 use Rattle.capture_tracks.specs.Reading.{input_of}
 use Rattle.capture_tracks.specs.Tracks.{held_in}
@@ -23,3 +23,8 @@ held_input (Refused source end) = None
 abbrev pub IsTakenAt : {S : Type 0} → Track S → Port → Type 0
 IsTakenAt (Open track) port = track.port ≡ port
 IsTakenAt (Refused source end) port = ⊥
+
+-- the record of this number is the one that the track's capture gave last
+abbrev pub IsLastGiven : {S : Type 0} → Track S → ℕ → Type 0
+IsLastGiven (Open track) number = number ≡ track.records
+IsLastGiven (Refused source end) number = ⊥

@@ -1,6 +1,6 @@
 ghost use Rattle.std.specs.Prelude.{◌≡◌, ◌≤◌, IfSome, length};
 ghost use Rattle.std.specs.Option.{option_map};
-ghost use Rattle.capture_tracks.specs.Taken.{IsTakenAt, held_input, taken_input};
+ghost use Rattle.capture_tracks.specs.Taken.{IsLastGiven, IsTakenAt, held_input, taken_input};
 
 use crate::Track;
 use fw_base::{Link, Port, Source};
@@ -19,6 +19,7 @@ pub struct Taken<'a> {
 /// The record that a track holds.
 pub fn held<S: Source>(track: &Track<S>) -> Option<Taken<'_>>
     ensures input { option_map taken_input result ≡ held_input track.now }
+    ensures number { IfSome result (λ taken. IsLastGiven track.now taken.at) }
     ensures port { IfSome result (λ taken. IsTakenAt track.now taken.port.now) }
     ensures small { IfSome result (λ taken.
         length taken.record.bytes.now ≤ MOST_RECORD_BYTES) }
