@@ -18,18 +18,18 @@ use Rattle.command_words.specs.Words.{CaptureNames}
 use Rattle.command_words.specs.declared.capture_word.CaptureWord.{CaptureWord}
 use Rattle.command_words.specs.declared.invocation.Mode.TheVariants.{Serial}
 use Rattle.fw_base.specs.Pairs.{Pair}
-use Rattle.fw_report.specs.declared.ends.LineAnswer.{LineAnswer}
+use Rattle.report_texts.specs.declared.ends.LineAnswer.{LineAnswer}
 use Rattle.fw_world.specs.Inputs.{Input}
 use Rattle.fw_world.specs.RecordValue.{RecordValue}
 use Rattle.record_laws.proofs.SameEnds.{same_report}
-use Rattle.replay_driver.specs.FirstEdition.{first_edition}
+use Rattle.replay_setup.specs.FirstEdition.{first_edition}
 use Rattle.replay_driver.specs.Found.{known_left, no_failures}
-use Rattle.replay_driver.specs.Openings.{OpensAll}
-use Rattle.replay_driver.specs.Outside.{Files, Output}
-use Rattle.replay_driver.specs.Served.{pace_of}
-use Rattle.replay_driver.specs.declared.first_edition.FirstEdition.{FirstEdition}
+use Rattle.replay_setup.specs.Openings.{OpensAll}
+use Rattle.replay_setup.specs.Outside.{Files, Output}
+use Rattle.replay_setup.specs.FirstEdition.{pace_of}
+use Rattle.replay_setup.specs.declared.first_edition.FirstEdition.{FirstEdition}
 use Rattle.replay_driver.specs.declared.outcome.Outcome.{Outcome}
-use Rattle.replay_driver.specs.declared.script_error.ScriptError.{ScriptError}
+use Rattle.replay_setup.specs.declared.script_error.ScriptError.{ScriptError}
 use Rattle.replay_driver.proofs.Complete.{took_from}
 use Rattle.replay_driver.proofs.Promised.{IfSome-both}
 use Rattle.run_audit.specs.Audit.{IsFirstWrong, IsRebuilt, rebuilt_record}

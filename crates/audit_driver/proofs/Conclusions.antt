@@ -9,29 +9,29 @@ use Rattle.capture_tracks.specs.declared.opened.OpenedCapture.{OpenedCapture}
 use Rattle.command_words.specs.Invocation.{capture_names}
 use Rattle.command_words.specs.Words.{CaptureNames}
 use Rattle.command_words.specs.declared.capture_word.CaptureWord.{CaptureWord}
-use Rattle.fw_report.specs.declared.capture_end.CaptureEnd.{CaptureEnd}
-use Rattle.fw_report.specs.declared.ends.Ends.{Ends}
-use Rattle.fw_report.specs.declared.ends.LineAnswer.{LineAnswer}
-use Rattle.fw_report.specs.Report.{report_text}
+use Rattle.report_texts.specs.declared.capture_end.CaptureEnd.{CaptureEnd}
+use Rattle.report_texts.specs.declared.ends.Ends.{Ends}
+use Rattle.report_texts.specs.declared.ends.LineAnswer.{LineAnswer}
+use Rattle.report_texts.specs.Report.{report_text}
 use Rattle.fw_world.specs.Inputs.{Input}
 use Rattle.fw_world.specs.Legal.{IsLegal}
 use Rattle.fw_world.specs.RecordValue.{RecordValue}
 use Rattle.capture_tracks.specs.Reported.{report_record}
-use Rattle.replay_driver.specs.declared.first_edition.FirstEdition.{FirstEdition}
+use Rattle.replay_setup.specs.declared.first_edition.FirstEdition.{FirstEdition}
 use Rattle.run_audit.specs.Audit.{AuditValue, IsAuditOf, IsFirstWrong, IsRebuilt, FailsAtInput, StandsFor, rebuilt_record}
 use Rattle.run_audit.specs.Comparison.{line_of_first_other}
 use Rattle.run_audit.specs.declared.audit_fault.AuditFault.TheVariants.{Wrong}
-use Rattle.audit_driver.proofs.Examining.{read_counts}
+use Rattle.capture_audits.proofs.Examining.{read_counts}
 use Rattle.fw_command.specs.declared.script.Step.{Step}
 use Rattle.rule_chain.specs.Configuration.{Configuration}
 use Rattle.run_audit.specs.declared.rebuilt.Rebuilt.{Rebuilt}
 use Rattle.audit_driver.specs.Concluding.{ComparesWith, ConcludesFor, Concludes, IsAnAudit, IsStoppedSo, rebuilt_text}
-use Rattle.audit_driver.specs.Examined.{IsStopped, IsStoppedByRead, IsStoppedByFault, GoesOn, HasExamined, ExaminesAll}
-use Rattle.audit_driver.specs.CaptureAudit.{inputs_at}
+use Rattle.capture_audits.specs.Examined.{IsStopped, IsStoppedByRead, IsStoppedByFault, GoesOn, HasExamined, ExaminesAll}
+use Rattle.capture_audits.specs.CaptureAudit.{inputs_at}
 use Rattle.audit_driver.specs.Found.{HasLegalRecord, ConcludesAudit, TellsSoFar, text_of}
 use Rattle.audit_driver.specs.declared.audit_result.AuditResult.{AuditResult}
 use Rattle.audit_driver.specs.declared.audit_result.AuditResult.TheVariants.{Unread, Unready, TooLong, No, Yes}
-use Rattle.audit_driver.specs.declared.examined.Examined.{Examined}
+use Rattle.capture_audits.specs.declared.examined.Examined.{Examined}
 
 -- the text of what was rebuilt is that of its record with the script's answers
 pub rebuilt_is : (edition : FirstEdition) (bytes : List ℕ) (inputs : List (List Input)) (ends : List CaptureEnd) (r : Rebuilt) → IsRebuilt edition.config edition.live bytes inputs r

@@ -14,12 +14,12 @@ use Rattle.fw_command.specs.declared.script.Line.{Line}
 use Rattle.fw_command.specs.declared.script.Pace.{Pace}
 use Rattle.fw_command.specs.declared.script.Script.{Script}
 use Rattle.fw_command.specs.declared.script_fault.ScriptFault.{ScriptFault}
-use Rattle.fw_report.specs.declared.ends.Answer.{Answer}
-use Rattle.fw_report.specs.declared.ends.Answer.TheVariants.{Listed, Refused}
-use Rattle.fw_report.specs.declared.ends.LineAnswer.{LineAnswer}
-use Rattle.replay_driver.specs.FirstEdition.{◌>>=◌, answered_line, configuration_behind, configured_line, first_edition, listed_first, listings_of, on_line, read_script, with_answer}
-use Rattle.replay_driver.specs.declared.first_edition.FirstEdition.{FirstEdition}
-use Rattle.replay_driver.specs.declared.script_error.ScriptError.{ScriptError}
+use Rattle.report_texts.specs.declared.ends.Answer.{Answer}
+use Rattle.report_texts.specs.declared.ends.Answer.TheVariants.{Listed, Refused}
+use Rattle.report_texts.specs.declared.ends.LineAnswer.{LineAnswer}
+use Rattle.replay_setup.specs.FirstEdition.{◌>>=◌, answered_line, configuration_behind, configured_line, first_edition, listed_first, listings_of, on_line, read_script, with_answer}
+use Rattle.replay_setup.specs.declared.first_edition.FirstEdition.{FirstEdition}
+use Rattle.replay_setup.specs.declared.script_error.ScriptError.{ScriptError}
 use Rattle.rule_chain.specs.Configuration.{Configuration}
 use Rattle.rule_chain.specs.First.{first_configuration}
 use Rattle.rule_edits.specs.Answers.{Answer as Applied}

@@ -1,11 +1,11 @@
 -- What is found of the words of an audit.
 use Rattle.std.proofs.Common.{◌≡◌, ℕ, List, ◌∷◌, inl, inr}
 use Rattle.command_words.specs.declared.invocation.Mode.TheVariants.{Serial}
-use Rattle.replay_driver.specs.Found.{IsUnreadable, HasNoEdition}
-use Rattle.replay_driver.specs.Ready.{IsReady}
-use Rattle.replay_driver.specs.Outside.{Files}
-use Rattle.replay_driver.specs.declared.ready.Ready.{Ready}
-use Rattle.replay_driver.specs.declared.script_error.ScriptError.{ScriptError}
+use Rattle.replay_setup.specs.NamesRead.{IsUnreadable, HasNoEdition}
+use Rattle.replay_setup.specs.Ready.{IsReady}
+use Rattle.replay_setup.specs.Outside.{Files}
+use Rattle.replay_setup.specs.declared.ready.Ready.{Ready}
+use Rattle.replay_setup.specs.declared.script_error.ScriptError.{ScriptError}
 use Rattle.audit_driver.specs.AuditNames.{AuditNames}
 use Rattle.audit_driver.specs.Found.{ConcludesAudit, IsAudited, FindsAudit, FindsBehindReport}
 use Rattle.audit_driver.specs.declared.audit_result.AuditResult.{AuditResult}

@@ -1,6 +1,3 @@
--- the records of one capture, and captures one after another
-pub mod CaptureWork
-pub mod Examining
 -- what a comparer compares
 pub mod SameText
 -- what the audit concludes

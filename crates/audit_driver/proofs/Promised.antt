@@ -9,17 +9,19 @@ use Rattle.capture_tracks.specs.declared.opened.OpenedCapture.{OpenedCapture}
 use Rattle.command_words.specs.declared.invocation.Mode.TheVariants.{Serial}
 use Rattle.fw_base.specs.Faults.{Rose}
 use Rattle.fw_base.specs.Pairs.{Pair}
-use Rattle.replay_driver.specs.Openings.{Opens, file_names, pairs_without, sources_of}
-use Rattle.fw_report.specs.declared.capture_end.CaptureEnd.{CaptureEnd}
+use Rattle.replay_setup.specs.Openings.{Opens, file_names, pairs_without}
+use Rattle.capture_tracks.specs.Replay.{sources_of}
+use Rattle.report_texts.specs.declared.capture_end.CaptureEnd.{CaptureEnd}
 use Rattle.pcap_read.specs.Reading.{Captured}
 use Rattle.pcap_read.specs.declared.capture_fault.CaptureFault.{CaptureFault}
-use Rattle.replay_driver.specs.FirstEdition.{first_edition}
-use Rattle.replay_driver.specs.Found.{HasNoEdition, IsUnreadable}
+use Rattle.replay_setup.specs.FirstEdition.{first_edition}
+use Rattle.replay_setup.specs.NamesRead.{HasNoEdition, IsUnreadable}
 use Rattle.replay_driver.specs.Promises.{FailedRead}
-use Rattle.replay_driver.specs.Outside.{Files, Output}
-use Rattle.replay_driver.specs.Served.{ReplayNames, pace_of}
+use Rattle.replay_setup.specs.Outside.{Files, Output}
+use Rattle.replay_driver.specs.Served.{ReplayNames}
+use Rattle.replay_setup.specs.FirstEdition.{pace_of}
 use Rattle.replay_driver.specs.declared.outcome.Outcome.{Outcome}
-use Rattle.replay_driver.specs.declared.script_error.ScriptError.{ScriptError}
+use Rattle.replay_setup.specs.declared.script_error.ScriptError.{ScriptError}
 use Rattle.replay_driver.proofs.Complete.{took_from, all_bytes, not_risen}
 use Rattle.replay_driver.proofs.Statuses.{failed_read}
 use Rattle.replay_driver.proofs.Told.{all_fresh, all_named, names_steady, one_out, script_refused, script_failed, capture_refused}

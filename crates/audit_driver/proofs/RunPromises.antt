@@ -1,7 +1,7 @@
 -- What `run` promises of a replay or a load follows from what it does exactly.
 use Rattle.std.proofs.Common.{Some, Option}
 use Rattle.std.specs.Prelude.{IfSome}
-use Rattle.replay_driver.specs.Outside.{Files, Output}
+use Rattle.replay_setup.specs.Outside.{Files, Output}
 use Rattle.replay_driver.specs.Run.{IsRunOf}
 use Rattle.replay_driver.specs.Served.{Job}
 use Rattle.replay_driver.specs.declared.outcome.Outcome.{Outcome}

@@ -29,11 +29,11 @@ use Rattle.fw_command.specs.declared.script.Pace.TheVariants as pace
 use Rattle.fw_command.specs.declared.script.Script.{Script}
 use Rattle.fw_command.specs.declared.script_fault.ScriptFault.{ScriptFault}
 use Rattle.fw_command.specs.declared.script_fault.ScriptFault.TheVariants.{TooLong, TooManyLines}
-use Rattle.fw_report.specs.CaptureEnds.{is_unread}
-use Rattle.fw_report.specs.Report.{report_text}
-use Rattle.fw_report.specs.declared.capture_end.CaptureEnd.{CaptureEnd}
-use Rattle.fw_report.specs.declared.capture_end.CaptureEnd.TheVariants.{Read, Stopped}
-use Rattle.fw_report.specs.declared.ends.LineAnswer.{LineAnswer}
+use Rattle.report_texts.specs.CaptureEnds.{is_unread}
+use Rattle.report_texts.specs.Report.{report_text}
+use Rattle.report_texts.specs.declared.capture_end.CaptureEnd.{CaptureEnd}
+use Rattle.report_texts.specs.declared.capture_end.CaptureEnd.TheVariants.{Read, Stopped}
+use Rattle.report_texts.specs.declared.ends.LineAnswer.{LineAnswer}
 use Rattle.fw_world.specs.Inputs.{Input}
 use Rattle.fw_world.specs.Legal.{IsLegal}
 use Rattle.fw_world.specs.RecordValue.{RecordValue}
@@ -43,17 +43,18 @@ use Rattle.pcap_read.specs.declared.capture_fault.CaptureFault.{CaptureFault}
 use Rattle.pcap_read.specs.declared.capture_fault.CaptureFault.TheVariants.{ReadFault}
 use Rattle.record_laws.specs.SameCaptures.{printed_end}
 use Rattle.record_laws.proofs.SameEnds.{ended_of_stop, same_report}
-use Rattle.replay_driver.specs.FirstEdition.{◌>>=◌, configuration_behind, first_edition, listings_of, read_script}
+use Rattle.replay_setup.specs.FirstEdition.{◌>>=◌, configuration_behind, first_edition, listings_of, read_script}
 use Rattle.replay_driver.specs.Found.{known_left, no_failures}
-use Rattle.replay_driver.specs.Openings.{OpensAll, port_of}
-use Rattle.replay_driver.specs.Outside.{Files, Output}
+use Rattle.replay_setup.specs.Openings.{OpensAll, port_of}
+use Rattle.replay_setup.specs.Outside.{Files, Output}
 use Rattle.replay_driver.specs.Promises.{IsReported}
 use Rattle.capture_tracks.specs.Reported.{report_record}
 use Rattle.replay_driver.specs.RunResult.{is_refused, is_stopped, report_status}
-use Rattle.replay_driver.specs.Served.{ReplayNames, pace_of}
+use Rattle.replay_driver.specs.Served.{ReplayNames}
+use Rattle.replay_setup.specs.FirstEdition.{pace_of}
 use Rattle.replay_driver.specs.declared.outcome.Outcome.{Outcome}
-use Rattle.replay_driver.specs.declared.first_edition.FirstEdition.{FirstEdition}
-use Rattle.replay_driver.specs.declared.script_error.ScriptError.{ScriptError}
+use Rattle.replay_setup.specs.declared.first_edition.FirstEdition.{FirstEdition}
+use Rattle.replay_setup.specs.declared.script_error.ScriptError.{ScriptError}
 use Rattle.rule_chain.specs.Configuration.{Configuration}
 use Rattle.rule_chain.specs.First.{first_configuration}
 use Rattle.rule_edits.proofs.FlowNames.{name_same}

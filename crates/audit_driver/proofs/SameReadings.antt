@@ -18,8 +18,8 @@ use Rattle.capture_tracks.specs.declared.track.Track.{Track}
 use Rattle.capture_tracks.specs.declared.track.Track.TheVariants.{Open, Refused}
 use Rattle.fw_base.specs.declared.port.Port.{Port}
 use Rattle.fw_base.proofs.Logic.{was_false}
-use Rattle.fw_report.specs.CaptureEnds.{is_unread}
-use Rattle.fw_report.specs.declared.capture_end.CaptureEnd.{CaptureEnd}
+use Rattle.report_texts.specs.CaptureEnds.{is_unread}
+use Rattle.report_texts.specs.declared.capture_end.CaptureEnd.{CaptureEnd}
 use Rattle.fw_world.specs.Inputs.{Input}
 use Rattle.pcap_read.specs.Capture.{held_of}
 use Rattle.pcap_read.specs.Reading.{Captured, Closed, EndsAt, HasFront, HasRecords, Next, Place, Stands, Took, header_of, next_of}
@@ -30,8 +30,8 @@ use Rattle.record_laws.specs.SameCaptures.{printed_end}
 use Rattle.record_laws.proofs.ReadCaptures.{AreTold, are_told, same_records, with_contents}
 use Rattle.record_laws.proofs.SameEnds.{same_ends}
 use Rattle.replay_driver.specs.Found.{known_left, no_failures}
-use Rattle.audit_driver.specs.CaptureAudit.{inputs_at}
-use Rattle.audit_driver.specs.Examined.{HasGiven}
+use Rattle.capture_audits.specs.CaptureAudit.{inputs_at}
+use Rattle.capture_audits.specs.Examined.{HasGiven}
 
 -- ---- captures whose bytes are told
 

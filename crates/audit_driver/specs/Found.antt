@@ -3,34 +3,35 @@ use Rattle.std.specs.Prelude.{◌≡◌, ℕ, ◌<◌, ◌≤◌, true, false, O
 use Rattle.std.specs.List.{list_any}
 use Rattle.capture_tracks.specs.Commands.{lines_outcome}
 use Rattle.capture_tracks.specs.Reading as reading
-use Rattle.capture_tracks.specs.Reading.{AllRead, IsRead, track_inputs}
+use Rattle.capture_tracks.specs.Reading.{AllRead, track_inputs}
 use Rattle.capture_tracks.specs.Replay.{limit_for}
 use Rattle.capture_tracks.specs.declared.opened.OpenedCapture.{OpenedCapture}
 use Rattle.command_words.specs.Words.{CaptureNames}
 use Rattle.command_words.specs.declared.invocation.Mode.TheVariants.{Serial}
 use Rattle.eval_engine.specs.declared.docket_entry.DocketEntry.{DocketEntry}
-use Rattle.fw_report.specs.CaptureEnds.{is_unread}
-use Rattle.fw_report.specs.Report.{report_text}
-use Rattle.fw_report.specs.declared.capture_end.CaptureEnd.{CaptureEnd}
+use Rattle.report_texts.specs.CaptureEnds.{is_unread}
+use Rattle.report_texts.specs.Report.{report_text}
+use Rattle.report_texts.specs.declared.capture_end.CaptureEnd.{CaptureEnd}
 use Rattle.fw_world.specs.Inputs.{Input}
 use Rattle.fw_world.specs.Legal.{IsLegal}
 use Rattle.fw_world.specs.RecordValue.{RecordValue}
 use Rattle.generation_store.specs.Published.{Published}
-use Rattle.replay_driver.specs.FirstEdition.{first_edition}
-use Rattle.replay_driver.specs.Found.{FailsEarly, ReadsNamed, ReadsNames, IsUnreadable, HasNoEdition}
-use Rattle.replay_driver.specs.Openings.{Opens, RefusesToOpen, sources_of}
-use Rattle.replay_driver.specs.Outside.{Files}
+use Rattle.replay_setup.specs.FirstEdition.{first_edition}
+use Rattle.replay_setup.specs.NamesRead.{FailsEarly, ReadsNamed, ReadsNames, IsUnreadable, HasNoEdition}
+use Rattle.replay_setup.specs.Openings.{Opens, RefusesToOpen}
+use Rattle.capture_tracks.specs.Replay.{sources_of}
+use Rattle.replay_setup.specs.Outside.{Files}
 use Rattle.capture_tracks.specs.Reported.{report_record}
-use Rattle.replay_driver.specs.Served.{pace_of}
-use Rattle.replay_driver.specs.declared.first_edition.FirstEdition.{FirstEdition}
+use Rattle.replay_setup.specs.FirstEdition.{pace_of}
+use Rattle.replay_setup.specs.declared.first_edition.FirstEdition.{FirstEdition}
 use Rattle.run_audit.specs.Audit.{FailsAtInput, FailsAtOpening, IsFirstWrong, IsOpened, IsRebuilt, rebuilt_record, told_value}
 use Rattle.run_audit.specs.Comparison.{line_of_first_other}
 use Rattle.run_audit.specs.Judging.{AreToldSo}
 use Rattle.run_audit.specs.declared.rebuilt.Rebuilt.{Rebuilt}
 use Rattle.state_journal.specs.Journal.{Journal}
 use Rattle.audit_driver.specs.AuditNames.{AuditNames}
-use Rattle.audit_driver.specs.CaptureAudit.{inputs_at}
-use Rattle.audit_driver.specs.Examined.{FailsAtOne, HasGiven}
+use Rattle.capture_audits.specs.CaptureAudit.{inputs_at}
+use Rattle.capture_audits.specs.Examined.{FailsAtOne, HasGiven}
 use Rattle.audit_driver.specs.declared.audit_result.AuditResult.{AuditResult}
 use Rattle.audit_driver.specs.declared.audit_result.AuditResult.TheVariants.{Unread, Unready, TooLong, No, Yes}
 

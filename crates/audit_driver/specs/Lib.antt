@@ -1,8 +1,5 @@
 -- which words ask for an audit
 pub mod AuditNames
--- the records of captures
-pub mod CaptureAudit
-pub mod Examined
 -- what an audit comes to
 pub mod Concluding
 pub mod Found

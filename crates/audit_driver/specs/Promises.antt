@@ -5,13 +5,13 @@ use Rattle.std.specs.Io.KnownBytes.{Appends}
 use Rattle.command_words.specs.declared.invocation.Mode.TheVariants.{Serial}
 use Rattle.fw_base.specs.Faults.{Rose}
 use Rattle.fw_base.specs.Pairs.{Pair, take_named}
-use Rattle.replay_driver.specs.FirstEdition.{first_edition}
-use Rattle.replay_driver.specs.Openings.{file_names}
-use Rattle.replay_driver.specs.Outside.{Files, Output}
-use Rattle.replay_driver.specs.Served.{pace_of}
-use Rattle.replay_driver.specs.declared.first_edition.FirstEdition.{FirstEdition}
+use Rattle.replay_setup.specs.FirstEdition.{first_edition}
+use Rattle.replay_setup.specs.Openings.{file_names}
+use Rattle.replay_setup.specs.Outside.{Files, Output}
+use Rattle.replay_setup.specs.FirstEdition.{pace_of}
+use Rattle.replay_setup.specs.declared.first_edition.FirstEdition.{FirstEdition}
 use Rattle.replay_driver.specs.declared.outcome.Outcome.{Outcome}
-use Rattle.replay_driver.specs.declared.script_error.ScriptError.{ScriptError}
+use Rattle.replay_setup.specs.declared.script_error.ScriptError.{ScriptError}
 use Rattle.audit_driver.specs.AuditNames.{AuditNames}
 use Rattle.audit_driver.specs.AuditTexts.{result_text}
 use Rattle.audit_driver.specs.Found.{FindsAudit}

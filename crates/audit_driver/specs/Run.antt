@@ -1,6 +1,6 @@
 -- What an audit leaves: what was found, written with its status.
 use Rattle.std.specs.Prelude.{◌≡◌, [], None, ◌⊎◌}
-use Rattle.replay_driver.specs.Outside.{Files, Output}
+use Rattle.replay_setup.specs.Outside.{Files, Output}
 use Rattle.replay_driver.specs.Run.{IsWithoutMemory, Writes}
 use Rattle.replay_driver.specs.declared.outcome.Outcome.{Outcome}
 use Rattle.audit_driver.specs.AuditNames.{AuditNames}

@@ -1,8 +1,8 @@
 -- What `run` promises of a replay or a load, as one fact.
 use Rattle.std.specs.Prelude.{◌≡◌, ◌≢◌, ◌⊎◌, IfNone, IfSome, length, take}
 use Rattle.fw_base.specs.Faults.{Rose}
-use Rattle.replay_driver.specs.Openings.{pairs_without}
-use Rattle.replay_driver.specs.Outside.{Files, Output}
+use Rattle.replay_setup.specs.Openings.{pairs_without}
+use Rattle.replay_setup.specs.Outside.{Files, Output}
 use Rattle.replay_driver.specs.Promises.{HasFailedRead, HasRefusedCommand, IsCompleteJob, IsFaulty, IsKept, IsQuiet, IsUnreadJob, IsUnreadyJob, opening_order}
 use Rattle.replay_driver.specs.Served.{Job}
 use Rattle.replay_driver.specs.declared.outcome.Outcome.{Outcome}

@@ -3,7 +3,7 @@ use Rattle.std.specs.Prelude.{◌≡◌, ℕ, ◌≤◌, true, None, Some, List}
 use Rattle.std.specs.Io.KnownBytes.{Appends}
 use Rattle.fw_base.specs.Pairs.{Pair}
 use Rattle.fw_world.specs.RecordValue.{RecordValue}
-use Rattle.replay_driver.specs.Outside.{Files, Output}
+use Rattle.replay_setup.specs.Outside.{Files, Output}
 use Rattle.replay_driver.specs.Promises.{IsReported}
 use Rattle.replay_driver.specs.Served.{ReplayNames}
 use Rattle.replay_driver.specs.declared.outcome.Outcome.{Outcome}

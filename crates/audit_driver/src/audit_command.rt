@@ -5,7 +5,8 @@ ghost use Rattle.command_words.specs.Invocation.{capture_names};
 ghost use Rattle.fw_base.specs.Faults.{Rose};
 ghost use Rattle.fw_base.specs.Pairs.{Pair};
 ghost use Rattle.fw_command.specs.WellFormed.{IsStepInRange};
-ghost use Rattle.replay_driver.specs.Openings.{pairs_without, sources_of};
+ghost use Rattle.replay_setup.specs.Openings.{pairs_without};
+ghost use Rattle.capture_tracks.specs.Replay.{sources_of};
 ghost use Rattle.audit_driver.specs.AuditNames.{words_named};
 ghost use Rattle.audit_driver.specs.Concluding.{ComparesWith, Concludes, IsStoppedSo};
 ghost use Rattle.audit_driver.specs.Found.{ConcludesAudit, FindsAudit, FindsBehindReport};
@@ -17,13 +18,14 @@ ghost use Rattle.audit_driver.specs.Run.{IsAuditRun, IsFoundAudit};
 
 use crate::audit_result::AuditResult;
 use crate::concluding::{conclude, stop};
-use crate::examined::{Examined, examine};
+use capture_audits::{Examined, examine};
 use capture_tracks::OpenedCapture;
 use command_words::{CaptureWord, Mode};
 use fw_base::{Library, MOST_CAPTURES, Name, OutOfMemory, Sink, Source};
-use replay_driver::{
-    FirstEdition, LibraryView, NamedSource, Outcome, Readiness, Ready, SinkView, make_ready,
-    no_ends, read_named, status_written,
+use replay_driver::{Outcome, no_ends};
+use replay_setup::{
+    FirstEdition, LibraryView, NamedSource, Readiness, Ready, SinkView, make_ready, read_named,
+    status_written,
 };
 use run_audit::{Audit, AuditFault};
 use std::alloc::Global;

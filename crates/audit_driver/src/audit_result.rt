@@ -1,6 +1,6 @@
 use fw_base::{Failed, Name, Sink, write_pieces, write_text};
 use itoa::Buffer;
-use replay_driver::ScriptError;
+use replay_setup::ScriptError;
 
 /// What an audit comes to, before a byte is written.
 #[derive(Drop)]

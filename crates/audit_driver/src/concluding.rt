@@ -5,8 +5,9 @@ ghost use Rattle.audit_driver.specs.Concluding.{ComparesWith, Concludes, IsAnAud
 use crate::audit_result::AuditResult;
 use command_words::CaptureWord;
 use fw_base::{Name, OutOfMemory};
-use fw_report::{CaptureEnd, Ends, LineAnswer, Recorded, write_report};
+use fw_report::write_report;
 use fw_rule::Items;
+use report_texts::{CaptureEnd, Ends, LineAnswer, Recorded};
 use run_audit::{Audit, AuditFault, Comparer, Rebuilt};
 use std::alloc::Global;
 use std::mem;

@@ -1,7 +1,7 @@
 ghost use Rattle.audit_driver.specs.RunReports.{RunsTakeReports};
 
 use fw_base::{Library, Sink};
-use replay_driver::{LibraryView, SinkView};
+use replay_setup::{LibraryView, SinkView};
 
 /// What a replay prints, with its journal and without a cache, is a report of which an audit says
 /// yes: over a library that tells its list, where `run` keeps a record and its status is at most 3, the

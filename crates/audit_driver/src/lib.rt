@@ -10,8 +10,6 @@ pub use run_command::run;
 
 mod audit_command;
 mod audit_result;
-mod capture_audit;
 mod concluding;
-mod examined;
 mod laws;
 mod run_command;

@@ -2,10 +2,10 @@
 use Rattle.std.proofs.Common.{ℕ, Option, Some, None, List, [], ◌∷◌, ◌++◌, length, codes, subst, append_assoc}
 use Rattle.std.specs.List.{flat_map, AllByRecursion}
 use Rattle.std.specs.Prelude.{IfSome}
-use Rattle.fw_report.specs.AnswerText.{answer_text, answers_text, count_line, edition_of, has_number, listing, origin, rule_line, rules_listing}
-use Rattle.fw_report.specs.declared.ends.Answer.{Answer}
-use Rattle.fw_report.specs.declared.ends.Answer.TheVariants.{Refused, Listed}
-use Rattle.fw_report.specs.declared.ends.LineAnswer.{LineAnswer}
+use Rattle.report_texts.specs.AnswerText.{answer_text, answers_text, count_line, edition_of, has_number, listing, origin, rule_line, rules_listing}
+use Rattle.report_texts.specs.declared.ends.Answer.{Answer}
+use Rattle.report_texts.specs.declared.ends.Answer.TheVariants.{Refused, Listed}
+use Rattle.report_texts.specs.declared.ends.LineAnswer.{LineAnswer}
 use Rattle.fw_rule.specs.declared.rule.Rule.{Rule}
 use Rattle.generation_store.specs.Published.{Published}
 use Rattle.run_audit.proofs.SilentParts.{name_is_silent}

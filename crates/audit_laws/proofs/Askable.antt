@@ -12,7 +12,7 @@ use Rattle.eval_engine.specs.declared.judgement.Judgement.{Judgement}
 use Rattle.evaluation_laws.proofs.Acting.{installs_are_of_rules}
 use Rattle.evaluation_laws.specs.Laws.{is_installed}
 use Rattle.fw_base.specs.declared.port.Port.{Port}
-use Rattle.fw_report.specs.JournalText.{flow_of_ask, name_numbered}
+use Rattle.report_texts.specs.JournalText.{flow_of_ask, name_numbered}
 use Rattle.state_asks.specs.Asked.{asked_second}
 use Rattle.fw_rule.specs.declared.command.Command.{Command}
 use Rattle.fw_world.proofs.Records.{asks_are_within}

@@ -14,7 +14,7 @@ use Rattle.evaluation_laws.proofs.Sound.{IsSuffix, from_suffix, rest_suffix, rul
 use Rattle.evaluation_laws.proofs.Total.{each_reaches}
 use Rattle.evaluation_laws.specs.Runs.{Moment, Runs, BehindAll, IsDisabled, IsUnasked, IsUnanswered, IsFound, IsNotFound, IsMistaken, IsCheckState, IsUnheld, IsFlowless, IsStateless, IsWaiting, IsMade, IsThere, IsLimited, IsFull, IsMisread, IsDecided, IsCounted, IsChecked, IsSkipped, IsDeepest, IsEnded, IsReturned, IsOutside, IsWithin}
 use Rattle.evaluation_laws.specs.Story.{Story}
-use Rattle.fw_report.specs.JournalText.{flow_of_ask}
+use Rattle.report_texts.specs.JournalText.{flow_of_ask}
 use Rattle.state_asks.specs.Asked.{asked_second}
 use Rattle.fw_rule.specs.WellFormed.{HasBody, IsState}
 use Rattle.fw_rule.specs.declared.action.Action.{Action}

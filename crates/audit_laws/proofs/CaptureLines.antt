@@ -3,8 +3,8 @@ use Rattle.std.proofs.Common.{ℕ, ◌+◌, ◌^◌, ◌≤◌, List, [], ◌∷
 use Rattle.std.specs.List.{AllByRecursion}
 use Rattle.eval_engine.specs.Dockets.{DocketValue}
 use Rattle.eval_engine.specs.declared.docket_entry.DocketEntry.{DocketEntry}
-use Rattle.fw_report.specs.DocketText.{captures_text, end_line, record_lines}
-use Rattle.fw_report.specs.declared.capture_end.CaptureEnd.{CaptureEnd}
+use Rattle.report_texts.specs.DocketText.{captures_text, end_line, record_lines}
+use Rattle.report_texts.specs.declared.capture_end.CaptureEnd.{CaptureEnd}
 use Rattle.report_reading.specs.Readings.{LineValue}
 use Rattle.report_reading.specs.RecordLines.{IsEntry, IsRecord}
 use Rattle.run_audit.proofs.RecordTexts.{ArePrintableRecords, record_values, records_tell}

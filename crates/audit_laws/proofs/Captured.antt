@@ -6,7 +6,7 @@ use Rattle.std.specs.List.{AllByRecursion}
 use Rattle.std.specs.Prelude.{IsSomeAnd}
 use Rattle.fw_base.specs.declared.link.Link.{Link}
 use Rattle.fw_base.specs.declared.port.Port.{Port}
-use Rattle.fw_report.specs.declared.capture_end.CaptureEnd.{CaptureEnd}
+use Rattle.report_texts.specs.declared.capture_end.CaptureEnd.{CaptureEnd}
 use Rattle.fw_world.specs.Inputs.{Input}
 use Rattle.ip6_headers.specs.Reading.{read_any}
 use Rattle.ip6_headers.specs.declared.any_packet.AnyPacket.{AnyPacket}

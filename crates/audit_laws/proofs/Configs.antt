@@ -3,8 +3,8 @@ use Rattle.std.proofs.Common.{◌≡◌, ℕ, Bool, true, false, cond, Some, Lis
 use Rattle.std.specs.List.{find, AllByRecursion}
 use Rattle.std.specs.Map.{lookup}
 use Rattle.std.specs.Prelude.{IfSome}
-use Rattle.fw_report.specs.Lines.{lines_in}
-use Rattle.fw_report.specs.Report.{last_edition}
+use Rattle.report_texts.specs.Lines.{lines_in}
+use Rattle.report_texts.specs.Report.{last_edition}
 use Rattle.fw_rule.specs.declared.rule.Rule.{Rule}
 use Rattle.generation_store.specs.Published.{Published}
 use Rattle.lookup_tables.specs.Tables.{NamedTables, table_named}

@@ -1,12 +1,12 @@
 -- Lines that begin with a known word tell nothing.
 use Rattle.std.proofs.Common.{◌≡◌, ℕ, true, List, ◌++◌, codes, refl}
 use Rattle.std.specs.Fmt.{decimal}
-use Rattle.fw_report.proofs.SilentWords.{number_is_silent}
-use Rattle.fw_report.specs.AnswerText.{count_line, origin, refused_line}
-use Rattle.fw_report.specs.DocketText.{end_line}
-use Rattle.fw_report.specs.Lines.{lines_in}
-use Rattle.fw_report.specs.declared.capture_end.CaptureEnd.{CaptureEnd}
-use Rattle.fw_report.specs.declared.capture_end.CaptureEnd.TheVariants.{Read, Stopped}
+use Rattle.report_texts.proofs.SilentWords.{number_is_silent}
+use Rattle.report_texts.specs.AnswerText.{count_line, origin, refused_line}
+use Rattle.report_texts.specs.DocketText.{end_line}
+use Rattle.report_texts.specs.Lines.{lines_in}
+use Rattle.report_texts.specs.declared.capture_end.CaptureEnd.{CaptureEnd}
+use Rattle.report_texts.specs.declared.capture_end.CaptureEnd.TheVariants.{Read, Stopped}
 use Rattle.pcap_read.specs.Words.{word_of}
 use Rattle.pcap_read.specs.declared.capture_fault.CaptureFault.{CaptureFault}
 use Rattle.pcap_read.specs.declared.capture_fault.CaptureFault.TheVariants.{ShortHeader, BadMagic, BadVersion, UnknownLink, ShortRecordHeader, RecordTooLong, ShortRecord, TooManyPackets, ReadFault, OutOfMemory}

@@ -10,8 +10,8 @@ use Rattle.std.proofs.lemmas.Option.{get_or_from_slice_get, slice_get_within}
 use Rattle.eval_engine.specs.Encounter.{is_disabled}
 use Rattle.eval_engine.specs.Question.{Question}
 use Rattle.evaluation_laws.specs.Laws.{is_installed, is_ref}
-use Rattle.fw_report.specs.AskText.{asked_name}
-use Rattle.fw_report.specs.JournalText.{name_numbered}
+use Rattle.report_texts.specs.AskText.{asked_name}
+use Rattle.report_texts.specs.JournalText.{name_numbered}
 use Rattle.fw_rule.specs.declared.rule.Rule.{Rule}
 use Rattle.generation_store.specs.Published.{is_identity, place_of_rule}
 use Rattle.report_reading.specs.AskLines.{printed_op}

@@ -9,11 +9,11 @@ use Rattle.counter_book.specs.declared.tally.Count.{Count}
 use Rattle.dyn_states.specs.StateObject.{StateObject}
 use Rattle.dyn_states.specs.declared.state.State.{State}
 use Rattle.fw_base.specs.Addr.{address_text}
-use Rattle.fw_report.proofs.SilentWords.{number_is_silent}
-use Rattle.fw_report.specs.AnswerText.{count_line}
-use Rattle.fw_report.specs.Lines.{lines_in}
-use Rattle.fw_report.specs.Report.{last_text}
-use Rattle.fw_report.specs.RulesText.{counted_line, disabled_line, disabled_text, rules_text, set_text, sets_text}
+use Rattle.report_texts.proofs.SilentWords.{number_is_silent}
+use Rattle.report_texts.specs.AnswerText.{count_line}
+use Rattle.report_texts.specs.Lines.{lines_in}
+use Rattle.report_texts.specs.Report.{last_text}
+use Rattle.report_texts.specs.RulesText.{counted_line, disabled_line, disabled_text, rules_text, set_text, sets_text}
 use Rattle.fw_rule.specs.Bits.{has_bit}
 use Rattle.fw_rule.specs.declared.rule.Rule.{Rule}
 use Rattle.packet_headers.specs.declared.flows.Flow.{Flow}

@@ -5,7 +5,7 @@ use Rattle.std.proofs.lemmas.Nat.{mod_below}
 use Rattle.counter_book.specs.declared.tally.Count.{Count}
 use Rattle.dyn_states.specs.StateObject.{StateObject, after_ask}
 use Rattle.eval_engine.specs.Dockets.{DocketValue}
-use Rattle.fw_report.specs.Report.{last_edition}
+use Rattle.report_texts.specs.Report.{last_edition}
 use Rattle.fw_rule.specs.declared.command.Command.{Command}
 use Rattle.fw_world.specs.Editions.{AreEditionsFrom}
 use Rattle.fw_world.specs.Inputs.{Input}

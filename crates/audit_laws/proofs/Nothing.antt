@@ -10,7 +10,7 @@ use Rattle.counter_book.specs.declared.tally.Count.{Count}
 use Rattle.eval_engine.specs.Dockets.{DocketValue, judgement_in}
 use Rattle.eval_engine.specs.declared.docket_entry.DocketEntry.{DocketEntry}
 use Rattle.eval_engine.specs.declared.judgement.Judgement.{Judgement}
-use Rattle.fw_report.specs.declared.capture_end.CaptureEnd.{CaptureEnd}
+use Rattle.report_texts.specs.declared.capture_end.CaptureEnd.{CaptureEnd}
 use Rattle.fw_world.specs.Asks.{LaneAsk, AreAsksOf, IsAskOfEntry, IsJudgedUnder, asks_in, lane_asks}
 use Rattle.fw_world.specs.Inputs.{Input}
 use Rattle.fw_world.specs.Lanes.{EachLane, LaneCounts, LaneStands}

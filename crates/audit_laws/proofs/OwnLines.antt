@@ -3,7 +3,7 @@ use Rattle.std.proofs.Common.{◌≡◌, ◌≢◌, ℕ, zero, suc, ◌+◌, tru
 use Rattle.std.specs.Prelude.{slice_get}
 use Rattle.eval_engine.specs.Dockets.{DocketValue}
 use Rattle.eval_engine.specs.declared.docket_entry.DocketEntry.{DocketEntry}
-use Rattle.fw_report.specs.declared.capture_end.CaptureEnd.{CaptureEnd}
+use Rattle.report_texts.specs.declared.capture_end.CaptureEnd.{CaptureEnd}
 use Rattle.fw_world.specs.RecordValue.{RecordValue}
 use Rattle.report_reading.specs.Readings.{LineValue}
 use Rattle.report_reading.specs.RecordLines.{printed}

@@ -6,8 +6,8 @@ use Rattle.counter_book.specs.Counts.{counted_under}
 use Rattle.counter_book.specs.declared.tally.Count.{Count}
 use Rattle.eval_engine.specs.Dockets.{DocketValue}
 use Rattle.fw_command.specs.declared.script.Step.{Step}
-use Rattle.fw_report.specs.declared.capture_end.CaptureEnd.{CaptureEnd}
-use Rattle.fw_report.specs.declared.ends.LineAnswer.{LineAnswer}
+use Rattle.report_texts.specs.declared.capture_end.CaptureEnd.{CaptureEnd}
+use Rattle.report_texts.specs.declared.ends.LineAnswer.{LineAnswer}
 use Rattle.fw_world.specs.Asks.{lane_asks}
 use Rattle.fw_world.specs.Inputs.{Input}
 use Rattle.fw_world.specs.Lanes.{EachLane, LaneStands}

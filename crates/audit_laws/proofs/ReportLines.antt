@@ -2,13 +2,13 @@
 use Rattle.std.proofs.Common.{◌≡◌, ℕ, ◌+◌, ◌≤◌, true, Option, Some, None, List, [], ◌∷◌, ◌++◌, length, map, sym, ap, subst, ◌∙◌, arith, append_assoc}
 use Rattle.std.specs.List.{flat_map, AllByRecursion}
 use Rattle.std.specs.Prelude.{IfSome}
-use Rattle.fw_report.specs.AnswerText.{answers_text}
-use Rattle.fw_report.specs.DocketText.{captures_text}
-use Rattle.fw_report.specs.JournalText.{entry_line, hits_text, journal_heading, journal_text, lanes_text}
-use Rattle.fw_report.specs.Report.{closing_text, last_closing, last_edition, last_text, report_text, start_text}
-use Rattle.fw_report.specs.RulesText.{editions_line}
-use Rattle.fw_report.specs.declared.capture_end.CaptureEnd.{CaptureEnd}
-use Rattle.fw_report.specs.declared.ends.LineAnswer.{LineAnswer}
+use Rattle.report_texts.specs.AnswerText.{answers_text}
+use Rattle.report_texts.specs.DocketText.{captures_text}
+use Rattle.report_texts.specs.JournalText.{entry_line, hits_text, journal_heading, journal_text, lanes_text}
+use Rattle.report_texts.specs.Report.{closing_text, last_closing, last_edition, last_text, report_text, start_text}
+use Rattle.report_texts.specs.RulesText.{editions_line}
+use Rattle.report_texts.specs.declared.capture_end.CaptureEnd.{CaptureEnd}
+use Rattle.report_texts.specs.declared.ends.LineAnswer.{LineAnswer}
 use Rattle.fw_world.specs.Inputs.{Input}
 use Rattle.fw_world.specs.RecordValue.{RecordValue}
 use Rattle.generation_store.specs.Published.{Published}

@@ -5,10 +5,10 @@ use Rattle.std.specs.List.{join_with_byte}
 use Rattle.std.proofs.lemmas.Bool.{cases_Bool}
 use Rattle.counter_book.specs.Counts.{total_under}
 use Rattle.counter_book.specs.declared.tally.Count.{Count}
-use Rattle.fw_report.proofs.SilentWords.{number_is_silent, five_digits_are_silent}
-use Rattle.fw_report.specs.AnswerText.{rule_line}
-use Rattle.fw_report.specs.Lines.{lines_in}
-use Rattle.fw_report.specs.RulesText.{counted_line, counts_text}
+use Rattle.report_texts.proofs.SilentWords.{number_is_silent, five_digits_are_silent}
+use Rattle.report_texts.specs.AnswerText.{rule_line}
+use Rattle.report_texts.specs.Lines.{lines_in}
+use Rattle.report_texts.specs.RulesText.{counted_line, counts_text}
 use Rattle.fw_rule.specs.declared.action.Action.{Action}
 use Rattle.fw_rule.specs.declared.action.Action.TheVariants.{Allow, Deny, Reset, Unreach, Count as CountOnly, SkipTo, Call, Return, CheckState}
 use Rattle.fw_rule.specs.declared.rule.Rule.{Rule}

@@ -8,8 +8,8 @@ use Rattle.fw_base.specs.Addr.{address_text}
 use Rattle.fw_base.specs.PortRange.{Ports}
 use Rattle.fw_base.specs.Prefix6.{Network6}
 use Rattle.fw_base.specs.Prefix.{Network}
-use Rattle.fw_report.proofs.SilentWords.{code_is_silent, glyph_is_silent, number_is_silent}
-use Rattle.fw_report.specs.Lines.{lines_in}
+use Rattle.report_texts.proofs.SilentWords.{code_is_silent, glyph_is_silent, number_is_silent}
+use Rattle.report_texts.specs.Lines.{lines_in}
 use Rattle.fw_rule.specs.Bits.{has_bit}
 use Rattle.fw_rule.specs.FlowName.{default_flow}
 use Rattle.fw_rule.specs.Names.{flag_names, option_names}

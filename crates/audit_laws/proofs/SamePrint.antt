@@ -7,12 +7,12 @@ use Rattle.counter_book.specs.Counts.{counted_under, total_under}
 use Rattle.counter_book.specs.declared.tally.Count.{Count}
 use Rattle.dyn_states.specs.StateObject.{StateObject}
 use Rattle.eval_engine.specs.Dockets.{DocketValue}
-use Rattle.fw_report.specs.AnswerText.{count_line}
-use Rattle.fw_report.specs.JournalText.{hits_text, journal_text}
-use Rattle.fw_report.specs.Report.{closing_text, last_closing, last_edition, last_text, report_text, start_text}
-use Rattle.fw_report.specs.RulesText.{counted_line, counts_text, disabled_text, rules_text}
-use Rattle.fw_report.specs.declared.capture_end.CaptureEnd.{CaptureEnd}
-use Rattle.fw_report.specs.declared.ends.LineAnswer.{LineAnswer}
+use Rattle.report_texts.specs.AnswerText.{count_line}
+use Rattle.report_texts.specs.JournalText.{hits_text, journal_text}
+use Rattle.report_texts.specs.Report.{closing_text, last_closing, last_edition, last_text, report_text, start_text}
+use Rattle.report_texts.specs.RulesText.{counted_line, counts_text, disabled_text, rules_text}
+use Rattle.report_texts.specs.declared.capture_end.CaptureEnd.{CaptureEnd}
+use Rattle.report_texts.specs.declared.ends.LineAnswer.{LineAnswer}
 use Rattle.fw_rule.specs.declared.rule.Rule.{Rule}
 use Rattle.fw_world.specs.RecordValue.{RecordValue}
 use Rattle.generation_store.specs.Published.{Published}

@@ -6,9 +6,9 @@ use Rattle.std.specs.List.{AllByRecursion}
 use Rattle.std.specs.Prelude.{IfSome, is_some}
 use Rattle.fw_base.specs.Addr.{address_text}
 use Rattle.fw_base.specs.Prefix.{Network}
-use Rattle.fw_report.proofs.SilentWords.{number_is_silent}
-use Rattle.fw_report.specs.AnswerText.{address_line, length_text, named_listing, number_line, origin, table_lines, table_listing, table_size}
-use Rattle.fw_report.specs.Lines.{lines_in}
+use Rattle.report_texts.proofs.SilentWords.{number_is_silent}
+use Rattle.report_texts.specs.AnswerText.{address_line, length_text, named_listing, number_line, origin, table_lines, table_listing, table_size}
+use Rattle.report_texts.specs.Lines.{lines_in}
 use Rattle.lookup_tables.specs.Tables.{NamedTables, table_named}
 use Rattle.lookup_tables.specs.declared.table.Table.{Table}
 use Rattle.lookup_tables.specs.declared.table.Table.TheVariants.{Addresses, Numbers}

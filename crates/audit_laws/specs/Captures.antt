@@ -6,8 +6,8 @@ use Rattle.capture_tracks.specs.Reading.{AllRead, Track, track_inputs}
 use Rattle.capture_tracks.specs.Replay.{limit_for}
 use Rattle.capture_tracks.specs.declared.opened.OpenedCapture.{OpenedCapture}
 use Rattle.fw_command.specs.declared.script.Step.{Step}
-use Rattle.fw_report.specs.declared.capture_end.CaptureEnd.{CaptureEnd}
-use Rattle.fw_report.specs.declared.ends.LineAnswer.{LineAnswer}
+use Rattle.report_texts.specs.declared.capture_end.CaptureEnd.{CaptureEnd}
+use Rattle.report_texts.specs.declared.ends.LineAnswer.{LineAnswer}
 use Rattle.fw_world.specs.Legal.{IsLegal}
 use Rattle.fw_world.specs.RecordValue.{RecordValue}
 use Rattle.rule_chain.specs.Configuration.{Configuration}

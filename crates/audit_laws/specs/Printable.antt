@@ -4,11 +4,11 @@ use Rattle.std.specs.List.{AllByRecursion}
 use Rattle.eval_engine.specs.Encounter.{any_flow_of}
 use Rattle.fw_base.specs.Prefix.{Network}
 use Rattle.capture_tracks.specs.Reported.{report_record}
-use Rattle.fw_report.specs.Report.{last_edition, report_text}
-use Rattle.fw_report.specs.declared.capture_end.CaptureEnd.{CaptureEnd}
-use Rattle.fw_report.specs.declared.ends.Answer.{Answer}
-use Rattle.fw_report.specs.declared.ends.Answer.TheVariants.{Refused, Listed}
-use Rattle.fw_report.specs.declared.ends.LineAnswer.{LineAnswer}
+use Rattle.report_texts.specs.Report.{last_edition, report_text}
+use Rattle.report_texts.specs.declared.capture_end.CaptureEnd.{CaptureEnd}
+use Rattle.report_texts.specs.declared.ends.Answer.{Answer}
+use Rattle.report_texts.specs.declared.ends.Answer.TheVariants.{Refused, Listed}
+use Rattle.report_texts.specs.declared.ends.LineAnswer.{LineAnswer}
 use Rattle.fw_rule.specs.FlowName.{IsFlowName}
 use Rattle.fw_world.specs.Inputs.{Input, Other, Malformed, Packet}
 use Rattle.fw_world.specs.RecordValue.{RecordValue}

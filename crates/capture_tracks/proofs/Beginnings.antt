@@ -1,7 +1,7 @@
 -- How a track begins.
 use Rattle.std.proofs.Common.{◌≡◌, ◌≢◌, ℕ, ◌≤◌, Option, Some, None, List, [], refl, sym, ap, subst, arith, inl, inr}
 use Rattle.std.specs.Option.{option_to_list}
-use Rattle.fw_report.specs.declared.capture_end.CaptureEnd.TheVariants.{Stopped}
+use Rattle.report_texts.specs.declared.capture_end.CaptureEnd.TheVariants.{Stopped}
 use Rattle.pcap_read.specs.Capture.{IsOpened, IsReading, link_of}
 use Rattle.pcap_read.specs.declared.capture.Capture.{Capture}
 use Rattle.pcap_read.specs.declared.capture_fault.CaptureFault.TheVariants.{OutOfMemory}

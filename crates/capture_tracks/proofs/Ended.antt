@@ -1,8 +1,8 @@
 -- A capture has ended: what was read of it.
 use Rattle.std.proofs.Common.{◌≡◌, ℕ, Option, Some, None, List, refl, sym, ap, subst}
 use Rattle.std.specs.Prelude.{MatchOption, unwrap_or, is_some}
-use Rattle.fw_report.specs.declared.capture_end.CaptureEnd.{CaptureEnd}
-use Rattle.fw_report.specs.declared.capture_end.CaptureEnd.TheVariants.{Read}
+use Rattle.report_texts.specs.declared.capture_end.CaptureEnd.{CaptureEnd}
+use Rattle.report_texts.specs.declared.capture_end.CaptureEnd.TheVariants.{Read}
 use Rattle.pcap_read.specs.Capture.{source_of}
 use Rattle.pcap_read.specs.Reading.{Captured}
 use Rattle.capture_tracks.specs.Reading as reading

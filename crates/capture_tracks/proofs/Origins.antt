@@ -2,7 +2,7 @@
 use Rattle.std.proofs.Common.{◌≡◌, ℕ, Option, Some, None, List, refl, sym, ap, subst, ◌∙◌}
 use Rattle.std.specs.Prelude.{MatchOption}
 use Rattle.fw_base.specs.declared.port.Port.{Port}
-use Rattle.fw_report.specs.declared.capture_end.CaptureEnd.{CaptureEnd}
+use Rattle.report_texts.specs.declared.capture_end.CaptureEnd.{CaptureEnd}
 use Rattle.pcap_read.specs.Capture.{link_of, source_of}
 use Rattle.pcap_read.specs.Reading.{Captured}
 use Rattle.capture_tracks.specs.Reading.{Origin}

@@ -5,8 +5,8 @@ use Rattle.std.specs.Option.{option_to_list}
 use Rattle.std.proofs.lemmas.List.{take-append-le}
 use Rattle.fw_base.specs.declared.link.Link.{Link}
 use Rattle.fw_base.specs.declared.port.Port.{Port}
-use Rattle.fw_report.specs.declared.capture_end.CaptureEnd.{CaptureEnd}
-use Rattle.fw_report.specs.declared.capture_end.CaptureEnd.TheVariants.{Read, Stopped}
+use Rattle.report_texts.specs.declared.capture_end.CaptureEnd.{CaptureEnd}
+use Rattle.report_texts.specs.declared.capture_end.CaptureEnd.TheVariants.{Read, Stopped}
 use Rattle.pcap_read.specs.Capture.{Advances, IsReading, StopsWith, current_of, format_of, given_of, limit_of, link_of, source_of}
 use Rattle.pcap_read.specs.Reading.{Captured, header_of}
 use Rattle.pcap_read.specs.declared.capture.Capture.{Capture}

@@ -2,9 +2,9 @@
 -- the answers so far.
 use Rattle.std.specs.Prelude.{◌≡◌, ℕ, List, [], ◌∷◌, ◌++◌, length}
 use Rattle.fw_command.specs.declared.script.Line.{Line}
-use Rattle.fw_report.specs.declared.ends.Answer.{Answer}
-use Rattle.fw_report.specs.declared.ends.Answer.TheVariants.{Refused}
-use Rattle.fw_report.specs.declared.ends.LineAnswer.{LineAnswer}
+use Rattle.report_texts.specs.declared.ends.Answer.{Answer}
+use Rattle.report_texts.specs.declared.ends.Answer.TheVariants.{Refused}
+use Rattle.report_texts.specs.declared.ends.LineAnswer.{LineAnswer}
 use Rattle.fw_rule.specs.declared.command.Command.{Command}
 use Rattle.fw_world.specs.CommitFaults.{RefusesCommand}
 use Rattle.fw_world.specs.Editions.{IsLastOf, IsNextEdition}

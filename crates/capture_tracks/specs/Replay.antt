@@ -13,6 +13,10 @@ use Rattle.capture_tracks.specs.declared.replayed.Replayed.{Replayed}
 abbrev pub limit_for : ℕ → ℕ
 limit_for captures = min 4194304 (33554432 / captures)
 
+-- the captures' sources
+abbrev pub sources_of : {S : Type 0} → List (OpenedCapture S) → List S
+sources_of = map (λ opened. opened.source)
+
 module _ {S : Type 0} (left : S → Option (List ℕ)) (faults : S → ℕ) where
   -- Each capture was read to the place where its records end; the record is legal for edition 1, for the
   -- commands that were accepted and for the captures' records; its hits are those of these records in caches for

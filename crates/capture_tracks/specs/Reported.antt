@@ -1,5 +1,5 @@
 -- What a report is written of.
-use Rattle.fw_report.specs.Recorded.{Recorded}
+use Rattle.report_texts.specs.Recorded.{Recorded}
 use Rattle.fw_world.specs.RecordValue.{RecordValue}
 
 -- a record as what is reported of it

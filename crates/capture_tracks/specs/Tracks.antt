@@ -1,8 +1,8 @@
 -- A capture that is being replayed: what was read of it, and which of its records were given.
 use Rattle.std.specs.Prelude.{◌≡◌, ℕ, suc, ◌-◌, unwrap_or, ◌<◌, ◌≤◌, ⊤, List, [], ◌∷◌, ◌++◌, IsSome, Option, Some, None, MatchOption}
 use Rattle.std.specs.Option.{option_to_list}
-use Rattle.fw_report.specs.declared.capture_end.CaptureEnd.{CaptureEnd}
-use Rattle.fw_report.specs.declared.capture_end.CaptureEnd.TheVariants.{Read}
+use Rattle.report_texts.specs.declared.capture_end.CaptureEnd.{CaptureEnd}
+use Rattle.report_texts.specs.declared.capture_end.CaptureEnd.TheVariants.{Read}
 use Rattle.pcap_read.specs.declared.capture_fault.OpenFault.{OpenFault}
 use Rattle.pcap_read.specs.Capture.{IsReading, IsRefused, current_of, given_of, limit_of, link_of, source_of}
 use Rattle.pcap_read.specs.Reading.{Captured}

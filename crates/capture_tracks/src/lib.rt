@@ -10,6 +10,7 @@ pub use opened::{OpenedCapture, limit_for};
 pub use replayed::Replayed;
 pub use taken::{Taken, held};
 pub use track::Track;
+pub use unread::is_unread;
 
 mod listing;
 mod open_track;
@@ -17,3 +18,4 @@ mod opened;
 mod replayed;
 mod taken;
 mod track;
+mod unread;

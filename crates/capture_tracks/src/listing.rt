@@ -4,8 +4,8 @@ ghost use Rattle.capture_tracks.specs.Commands as commands;
 ghost use Rattle.capture_tracks.specs.Listings.{listing_in};
 
 use fw_base::{Name, OutOfMemory};
-use fw_report::Answer;
 use fw_rule::{Command, TableCommand};
+use report_texts::Answer;
 use rule_chain::Config;
 use rule_edits::ApplyFault;
 

@@ -1,11 +1,11 @@
 ghost use Rattle.std.specs.Prelude.{◌≡◌, None, unwrap_or};
 ghost use Rattle.pcap_read.specs.Capture.{source_of};
-ghost use Rattle.fw_report.specs.declared.capture_end.CaptureEnd.TheVariants.{Read};
+ghost use Rattle.report_texts.specs.declared.capture_end.CaptureEnd.TheVariants.{Read};
 ghost use Rattle.capture_tracks.specs.Tracks.{StepsOn, StepsOnOrEnded};
 
 use fw_base::{Port, Source};
-use fw_report::CaptureEnd;
 use pcap_read::Capture;
+use report_texts::CaptureEnd;
 
 /// A capture whose header was read, and the record of it that is to be replayed next.
 #[derive(Drop)]

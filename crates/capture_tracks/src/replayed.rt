@@ -1,5 +1,5 @@
-use fw_report::Ends;
 use fw_world::Record;
+use report_texts::Ends;
 
 /// What a replay comes to.
 #[derive(Drop)]

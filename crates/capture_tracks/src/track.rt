@@ -4,8 +4,8 @@ ghost use Rattle.capture_tracks.specs.Tracks.{Begins, BeginsRefused, GoesFurther
 use crate::OpenedCapture;
 use crate::open_track::OpenTrack;
 use fw_base::{OutOfMemory, Source};
-use fw_report::CaptureEnd;
 use pcap_read::{Capture, CaptureFault, MOST_RECORDS, OpenFault};
+use report_texts::CaptureEnd;
 use std::alloc::Global;
 
 /// A capture that is being replayed.

@@ -13,4 +13,3 @@ pub mod ScriptInRange
 pub mod Standing
 pub mod CommandPlaces
 pub mod FaultPlaces
-pub mod AddLines

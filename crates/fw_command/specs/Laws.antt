@@ -1,15 +1,11 @@
 -- What a script's lines and commands are, in other words.
 use Rattle.std.specs.Prelude.{◌≡◌, ℕ, ◌+◌, Bool, true, false, nat_lt, Option, Some, None, Ok, Err, IfOk, IfErr, IfSome, ⊤, List, [], ◌∷◌, ◌==◌, if◌then◌else◌, ◌≤◌, ◌<◌, length, map, slice_get, codes}
 use Rattle.std.specs.List.{onto_first}
-use Rattle.fw_rule.specs.declared.command.Command.TheVariants.{Add}
-use Rattle.fw_rule.specs.declared.rule.Rule.{Rule}
 use Rattle.fw_lex.specs.Words.{before_comment, first_bad, tokens_of}
 use Rattle.ipfw_parser.specs.declared.kind.Kind.TheVariants.{BadByte}
 use Rattle.ipfw_parser.specs.Reading.{Word, Fault, same, word_at}
 use Rattle.ipfw_parser.specs.Rules.{end_column}
 use Rattle.ipfw_parser.specs.Places.{IsColumn}
-use Rattle.ipfw_parser.specs.Forms.{IsRuleForm}
-use Rattle.rule_round_trip.specs.Laws.{add_line, draft_of}
 use Rattle.fw_command.specs.Lines.{lines_of}
 use Rattle.fw_command.specs.Statements.{says}
 use Rattle.fw_command.specs.Scripts.{script_of}
@@ -170,7 +166,3 @@ IsFaultPlace pace from lines OutOfMemory = ⊤
 -- each fault of a script that a line has is that of its first line with one, in its column
 abbrev pub ScriptFaultsHaveTheirPlaces : Type 0
 ScriptFaultsHaveTheirPlaces = (pace : Pace) (bytes : List ℕ) → IfErr (script_of pace bytes) (IsFaultPlace pace 1 (lines_of bytes))
-
--- wherever the line `add` with a rule's canonical text stands in a script, it is the command that adds this rule
-abbrev pub AddLinesAreReadAgain : Type 0
-AddLinesAreReadAgain = (live : Bool) (rule : Rule) → IsRuleForm rule → says live (add_line rule) ≡ Ok (Order (Add (draft_of rule)))

@@ -1,4 +1,4 @@
-ghost use Rattle.fw_command.specs.Laws.{AddLinesAreReadAgain, CommandsStandOnTheirLines, FaultsHaveTheirColumns, LinesGoByBytes, ScriptFaultsHaveTheirPlaces};
+ghost use Rattle.fw_command.specs.Laws.{CommandsStandOnTheirLines, FaultsHaveTheirColumns, LinesGoByBytes, ScriptFaultsHaveTheirPlaces};
 
 /// The lines of a script, byte after byte: a byte 10 ends a line, and every other byte stands before
 /// the first line of those behind it.
@@ -18,10 +18,4 @@ pub fn commands_stand_on_their_lines()
 pub fn faults_have_their_columns()
     ensures lines { FaultsHaveTheirColumns }
     ensures scripts { ScriptFaultsHaveTheirPlaces }
-{}
-
-/// The line `add` with the canonical text of a rule that the grammar yields, wherever it stands in a
-/// script, is the command that adds this rule.
-pub fn add_lines_are_read_again()
-    ensures { AddLinesAreReadAgain }
 {}

@@ -3,13 +3,11 @@
 //! Tests: `language_tests`, src/scripts.
 #![tactic(auto)]
 
-pub use laws::{
-    add_lines_are_read_again, commands_stand_on_their_lines, faults_have_their_columns,
-    lines_go_by_bytes,
-};
+pub use laws::{commands_stand_on_their_lines, faults_have_their_columns, lines_go_by_bytes};
 pub use script::{Line, Pace, Script, Step};
 pub use script_fault::ScriptFault;
 pub use scripts::{LIVE_COMMANDS, SCRIPT_BYTES, SCRIPT_LINES, parse_script};
+pub use statement::Statement;
 
 mod commands;
 mod ends;

@@ -2,7 +2,7 @@ use fw_rule::Command;
 
 /// What a line of a script says.
 #[derive(Debug, Drop)]
-pub(crate) enum Statement {
+pub enum Statement {
     /// Nothing: the line has no word.
     Nothing,
     Order(Command),

@@ -6,21 +6,21 @@ ghost use Rattle.fw_base.specs.Texts.{WritesText};
 ghost use Rattle.rule_text.specs.Canonical.{rule_text};
 ghost use Rattle.lookup_tables.specs.Tables.{table_named};
 ghost use Rattle.rule_edits.specs.Words.{word_of};
-ghost use Rattle.fw_report.specs.AnswerText as text;
+ghost use Rattle.report_texts.specs.AnswerText as text;
 
 use crate::line::{LINE_BYTES, Line};
-use crate::{Answer, LineAnswer};
 use fw_base::{Failed, Name, Prefix, Sink, write_text};
 use fw_rule::Rule;
 use generation_store::Edition;
 use lookup_tables::Table;
+use report_texts::{Answer, LineAnswer};
 use rule_chain::Config;
 use rule_edits::ApplyFault;
 use rule_text::{write_address, write_rule};
 use std::sync::Arc;
 
 /// Writes which line of the script is answered, and by which edition.
-#[tactic(auto, unfolding(crate::specs::AnswerText::origin))]
+#[tactic(auto, unfolding(report_texts::specs::AnswerText::origin))]
 fn write_origin<K: Sink>(out: &mut K, line: u32, edition: u64) -> Result<(), Failed>
     ensures { WritesText (K.state out.old) (K.state out.new) (text.origin line edition) result }
 {
@@ -40,7 +40,7 @@ fn write_canonical<K: Sink>(out: &mut K, rule: &Rule) -> Result<(), Failed>
 }
 
 /// Writes a rule's line.
-#[tactic(auto, unfolding(crate::specs::AnswerText::rule_line))]
+#[tactic(auto, unfolding(report_texts::specs::AnswerText::rule_line))]
 fn write_rule_line<K: Sink>(out: &mut K, rule: &Arc<Rule>) -> Result<(), Failed>
     ensures { WritesText (K.state out.old) (K.state out.new)
         (text.rule_line (arc_value rule.now)) result }
@@ -60,7 +60,7 @@ fn write_rule_lines<K: Sink>(out: &mut K, rules: &[Arc<Rule>]) -> Result<(), Fai
 }
 
 /// Writes how many rules there are.
-#[tactic(auto, unfolding(crate::specs::AnswerText::count_line))]
+#[tactic(auto, unfolding(report_texts::specs::AnswerText::count_line))]
 pub(crate) fn write_count<K: Sink>(out: &mut K, count: usize) -> Result<(), Failed>
     ensures { WritesText (K.state out.old) (K.state out.new) (text.count_line count) result }
 {
@@ -72,7 +72,7 @@ pub(crate) fn write_count<K: Sink>(out: &mut K, count: usize) -> Result<(), Fail
 }
 
 /// Writes the rules of an edition.
-#[tactic(auto, unfolding(crate::specs::AnswerText::rules_listing))]
+#[tactic(auto, unfolding(report_texts::specs::AnswerText::rules_listing))]
 fn write_rules<K: Sink>(out: &mut K, config: &Config, line: u32, edition: u64) -> Result<(), Failed>
     ensures { WritesText (K.state out.old) (K.state out.new)
         (text.rules_listing line edition config.now.rules) result }
@@ -85,7 +85,7 @@ fn write_rules<K: Sink>(out: &mut K, config: &Config, line: u32, edition: u64) -
 }
 
 /// Writes a prefix's length and its value.
-#[tactic(auto, unfolding(crate::specs::AnswerText::length_text))]
+#[tactic(auto, unfolding(report_texts::specs::AnswerText::length_text))]
 fn write_length<K: Sink>(out: &mut K, bits: u8, value: u32) -> Result<(), Failed>
     ensures { WritesText (K.state out.old) (K.state out.new) (text.length_text bits value) result }
 {
@@ -107,7 +107,7 @@ fn write_address_line<K: Sink>(out: &mut K, entry: &(Prefix, u32)) -> Result<(),
 }
 
 /// Writes the line of a number and its value.
-#[tactic(auto, unfolding(crate::specs::AnswerText::number_line))]
+#[tactic(auto, unfolding(report_texts::specs::AnswerText::number_line))]
 fn write_number_line<K: Sink>(out: &mut K, entry: &(u32, u32)) -> Result<(), Failed>
     ensures { WritesText (K.state out.old) (K.state out.new) (text.number_line entry.now) result }
 {
@@ -160,7 +160,7 @@ fn write_size<K: Sink>(out: &mut K, word: &[u8], size: usize) -> Result<(), Fail
 }
 
 /// Writes a table's type and how many entries it has.
-#[tactic(auto, unfolding(crate::specs::AnswerText::table_size))]
+#[tactic(auto, unfolding(report_texts::specs::AnswerText::table_size))]
 fn write_table_size<K: Sink>(out: &mut K, table: &Table) -> Result<(), Failed>
     ensures { WritesText (K.state out.old) (K.state out.new) (text.table_size table.now) result }
 {
@@ -171,7 +171,7 @@ fn write_table_size<K: Sink>(out: &mut K, table: &Table) -> Result<(), Failed>
 }
 
 /// Writes the entries of a table.
-#[tactic(auto, unfolding(crate::specs::AnswerText::table_listing))]
+#[tactic(auto, unfolding(report_texts::specs::AnswerText::table_listing))]
 fn write_table<K: Sink>(
     out: &mut K,
     name: &Name,
@@ -245,7 +245,7 @@ fn put_refusal(line: &mut Line, fault: ApplyFault)
 }
 
 /// Writes that a command was refused.
-#[tactic(auto, unfolding(crate::specs::AnswerText::refused_line))]
+#[tactic(auto, unfolding(report_texts::specs::AnswerText::refused_line))]
 fn write_refused<K: Sink>(out: &mut K, line: u32, fault: ApplyFault) -> Result<(), Failed>
     ensures { WritesText (K.state out.old) (K.state out.new) (text.refused_line line fault) result }
 {

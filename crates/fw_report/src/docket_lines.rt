@@ -2,15 +2,15 @@ ghost use Rattle.std.specs.Prelude.{◌≡◌, ◌+◌, ◌<◌, ◌≤◌, ◌+
 ghost use Rattle.fw_base.specs.Texts.{WritesText};
 ghost use Rattle.eval_engine.specs.Dockets as definition;
 ghost use Rattle.rule_text.specs.Canonical.{code_word};
-ghost use Rattle.fw_report.specs.DocketText as text;
+ghost use Rattle.report_texts.specs.DocketText as text;
 ghost use Rattle.pcap_read.specs.Words.{word_of};
 
-use crate::CaptureEnd;
 use crate::line::{LINE_BYTES, Line};
 use eval_engine::{Cause, Docket, DocketEntry, Judgement, Verdict};
 use fw_base::{Failed, Sink};
 use fw_rule::UNREACH_NAMES;
 use pcap_read::CaptureFault;
+use report_texts::CaptureEnd;
 use state_asks::RuleRef;
 
 fn name_at<'x>(names: &'x [&'x [u8]], place: usize) -> &'x [u8]
@@ -80,7 +80,7 @@ fn judgement_of(verdict: Verdict, cause: Cause, rule: RuleRef, edition: u64) -> 
 }
 
 /// Puts what is told of a packet that was judged.
-#[tactic(auto, unfolding(crate::specs::DocketText::judged_text))]
+#[tactic(auto, unfolding(report_texts::specs::DocketText::judged_text))]
 #[inline(always)]
 fn put_judged(line: &mut Line, judgement: Judgement)
     ensures items { line.new ≡ text.judged_text judgement }
@@ -107,7 +107,7 @@ fn put_refused(line: &mut Line, judgement: Judgement)
 }
 
 /// Puts that a record is no packet of IP.
-#[tactic(auto, unfolding(crate::specs::DocketText::entry_text))]
+#[tactic(auto, unfolding(report_texts::specs::DocketText::entry_text))]
 #[inline(never)]
 fn put_other(line: &mut Line)
     ensures items { line.new ≡ text.entry_text DocketEntry.Other }
@@ -118,7 +118,7 @@ fn put_other(line: &mut Line)
 }
 
 /// Puts that a packet's header can't be read.
-#[tactic(auto, unfolding(crate::specs::DocketText::entry_text))]
+#[tactic(auto, unfolding(report_texts::specs::DocketText::entry_text))]
 #[inline(never)]
 fn put_malformed(line: &mut Line, kind: u8)
     ensures items { line.new ≡ text.entry_text (DocketEntry.Malformed kind) }
@@ -131,7 +131,7 @@ fn put_malformed(line: &mut Line, kind: u8)
 }
 
 /// Puts what is told of a record.
-#[tactic(auto, unfolding(crate::specs::DocketText::entry_text))]
+#[tactic(auto, unfolding(report_texts::specs::DocketText::entry_text))]
 #[inline(always)]
 fn put_entry(line: &mut Line, entry: DocketEntry)
     ensures items { line.new ≡ text.entry_text entry }
@@ -167,7 +167,7 @@ fn put_entry(line: &mut Line, entry: DocketEntry)
 }
 
 /// Writes the line of a record.
-#[tactic(auto, unfolding(crate::specs::DocketText::record_line))]
+#[tactic(auto, unfolding(report_texts::specs::DocketText::record_line))]
 fn write_record<K: Sink>(
     out: &mut K,
     line: &mut Line,
@@ -194,7 +194,7 @@ fn put_fault(line: &mut Line, fault: CaptureFault)
 }
 
 /// Puts the line of a capture's end.
-#[tactic(auto, unfolding(crate::specs::DocketText::end_line))]
+#[tactic(auto, unfolding(report_texts::specs::DocketText::end_line))]
 fn put_end(line: &mut Line, capture: u64, end: CaptureEnd)
     ensures { line.new ≡ text.end_line capture end }
 {

@@ -3,8 +3,8 @@ ghost use Rattle.std.specs.List.{flat_map};
 ghost use Rattle.fw_base.specs.Texts.{WritesText};
 ghost use Rattle.rule_text.specs.Canonical.{mask_word, protocol_word, spaced_text};
 ghost use Rattle.state_texts.specs.StateTexts.{flow_text};
-ghost use Rattle.fw_report.specs.AskText as ask;
-ghost use Rattle.fw_report.specs.JournalText as text;
+ghost use Rattle.report_texts.specs.AskText as ask;
+ghost use Rattle.report_texts.specs.JournalText as text;
 
 use crate::line::{LINE_BYTES, Line, write_around};
 use eval_engine::Docket;
@@ -18,7 +18,7 @@ use state_journal::Entry;
 const LONGEST_NAME: usize = 100;
 
 /// Writes the hits of a lane's cache.
-#[tactic(auto, unfolding(crate::specs::JournalText::hits_line))]
+#[tactic(auto, unfolding(report_texts::specs::JournalText::hits_line))]
 fn write_lane_hits<K: Sink>(out: &mut K, lane: u64, hits: u64) -> Result<(), Failed>
     ensures { WritesText (K.state out.old) (K.state out.new) (text.hits_line lane hits) result }
 {
@@ -81,7 +81,7 @@ fn put_mask(line: &mut Line, mask: LimitMask)
 }
 
 /// Puts what an install asks for, as far as the name.
-#[tactic(auto, unfolding(crate::specs::AskText::install_start))]
+#[tactic(auto, unfolding(report_texts::specs::AskText::install_start))]
 fn put_install(line: &mut Line, id: u32, limit: Option<(LimitMask, u16)>)
     requires { length line.old + 67 ≤ LINE_BYTES }
     ensures items { line.new ≡ ask.install_start id limit ++ line.old }
@@ -201,7 +201,7 @@ fn put_found(line: &mut Line, way: Way, id: u32)
 }
 
 /// Puts the reply and the line's end.
-#[tactic(auto, unfolding(crate::specs::JournalText::reply_end))]
+#[tactic(auto, unfolding(report_texts::specs::JournalText::reply_end))]
 fn put_reply(line: &mut Line, reply: Reply)
     requires { line.old ≡ [] }
     ensures items { line.new ≡ text.reply_end reply }
@@ -224,7 +224,7 @@ fn put_reply(line: &mut Line, reply: Reply)
 }
 
 /// Puts for which record of a lane was asked, and its second.
-#[tactic(auto, unfolding(crate::specs::JournalText::ask_start))]
+#[tactic(auto, unfolding(report_texts::specs::JournalText::ask_start))]
 fn put_ask_start(line: &mut Line, lane: u32, at: u64, second: u32)
     requires { length line.old + 66 ≤ LINE_BYTES }
     ensures items { line.new ≡ text.ask_start lane at second ++ line.old }
@@ -239,7 +239,7 @@ fn put_ask_start(line: &mut Line, lane: u32, at: u64, second: u32)
 }
 
 /// Puts the flags, the reply and the line's end.
-#[tactic(auto, unfolding(crate::specs::JournalText::ask_end))]
+#[tactic(auto, unfolding(report_texts::specs::JournalText::ask_end))]
 fn put_ask_end(line: &mut Line, flags: u8, reply: Reply)
     requires { line.old ≡ [] }
     ensures items { line.new ≡ text.ask_end flags reply }
@@ -260,7 +260,7 @@ fn flow_of(op: &Op) -> &Flow
 }
 
 /// Puts the line of an ask as far as the name.
-#[tactic(auto, unfolding(crate::specs::AskText::ask_front))]
+#[tactic(auto, unfolding(report_texts::specs::AskText::ask_front))]
 fn put_ask_front(line: &mut Line, lane: u32, at: u64, op: &Op)
     requires { length line.old + 133 ≤ LINE_BYTES }
     ensures items { line.new ≡ ask.ask_front lane at op.now ++ line.old }
@@ -270,7 +270,7 @@ fn put_ask_front(line: &mut Line, lane: u32, at: u64, op: &Op)
 }
 
 /// Puts the line of an ask behind the name.
-#[tactic(auto, unfolding(crate::specs::AskText::ask_rest))]
+#[tactic(auto, unfolding(report_texts::specs::AskText::ask_rest))]
 fn put_ask_rest(line: &mut Line, op: &Op, reply: Reply)
     ensures items { line.new ≡ ask.ask_rest op.now reply }
     ensures room { length line.new ≤ 135 }
@@ -321,7 +321,7 @@ fn write_ask<K: Sink>(
 }
 
 /// Writes the line of a publication.
-#[tactic(auto, unfolding(crate::specs::JournalText::publish_line))]
+#[tactic(auto, unfolding(report_texts::specs::JournalText::publish_line))]
 fn write_publication<K: Sink>(out: &mut K, line: &mut Line, number: u64) -> Result<(), Failed>
     ensures { WritesText (K.state out.old) (K.state out.new) (text.publish_line number) result }
 {
@@ -367,7 +367,7 @@ fn write_entries<K: Sink>(out: &mut K, names: &[Name], entries: &[Entry]) -> Res
 }
 
 /// Writes a lane's refused entries, and its tracker's word.
-#[tactic(auto, unfolding(crate::specs::JournalText::lane_line))]
+#[tactic(auto, unfolding(report_texts::specs::JournalText::lane_line))]
 fn write_lane<K: Sink>(out: &mut K, lane: u64, refused: u64, tracker: u64) -> Result<(), Failed>
     ensures { WritesText (K.state out.old) (K.state out.new)
         (text.lane_line lane refused tracker) result }
@@ -400,7 +400,7 @@ fn write_lanes<K: Sink>(out: &mut K, dockets: &[Docket], trackers: &[u64]) -> Re
     Ok(())
 }
 
-#[tactic(auto, unfolding(crate::specs::JournalText::journal_heading))]
+#[tactic(auto, unfolding(report_texts::specs::JournalText::journal_heading))]
 fn write_heading<K: Sink>(out: &mut K, entries: usize) -> Result<(), Failed>
     ensures { WritesText (K.state out.old) (K.state out.new) (text.journal_heading entries) result }
 {

@@ -2,19 +2,19 @@ ghost use Rattle.std.specs.Prelude.{◌≡◌, ◌<◌, [], All, Some, map, leng
 ghost use Rattle.std.specs.Arc.{arc_value};
 ghost use Rattle.fw_base.specs.Texts.{WritesText};
 ghost use Rattle.state_texts.specs.StateTexts.{states_text};
-ghost use Rattle.fw_report.specs.JournalText.{optional_journal};
-ghost use Rattle.fw_report.specs.Report as text;
+ghost use Rattle.report_texts.specs.JournalText.{optional_journal};
+ghost use Rattle.report_texts.specs.Report as text;
 
 use crate::answer_lines::write_answers;
 use crate::docket_lines::write_captures;
 use crate::journal_lines::{write_hits, write_journal};
 use crate::rule_lines::{write_counted_rules, write_disabled, write_editions};
-use crate::{Ends, Recorded};
 use counter_book::Tally;
 use dyn_states::States;
 use eval_engine::Docket;
 use fw_base::{Failed, Name, Sink};
 use generation_store::Edition;
+use report_texts::{Ends, Recorded};
 use rule_chain::Config;
 use rule_text::WriteFault;
 use state_journal::Entry;

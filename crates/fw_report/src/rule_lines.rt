@@ -3,7 +3,7 @@ ghost use Rattle.std.specs.Arc.{arc_value};
 ghost use Rattle.std.specs.List.{flat_map};
 ghost use Rattle.fw_base.specs.Texts.{WritesText};
 ghost use Rattle.rule_text.specs.Canonical.{rest_text};
-ghost use Rattle.fw_report.specs.RulesText as text;
+ghost use Rattle.report_texts.specs.RulesText as text;
 
 use crate::answer_lines::write_count;
 use crate::line::Line;
@@ -14,7 +14,7 @@ use rule_text::write_rule_rest;
 use std::sync::Arc;
 
 /// Writes how many editions were published.
-#[tactic(auto, unfolding(crate::specs::RulesText::editions_line))]
+#[tactic(auto, unfolding(report_texts::specs::RulesText::editions_line))]
 pub(crate) fn write_editions<K: Sink>(out: &mut K, count: usize) -> Result<(), Failed>
     ensures { WritesText (K.state out.old) (K.state out.new) (text.editions_line count) result }
 {
@@ -51,7 +51,7 @@ fn write_sets<K: Sink>(out: &mut K, mask: u32) -> Result<(), Failed>
 }
 
 /// Writes the disabled sets, where there is one.
-#[tactic(auto, unfolding(crate::specs::RulesText::disabled_line))]
+#[tactic(auto, unfolding(report_texts::specs::RulesText::disabled_line))]
 pub(crate) fn write_disabled<K: Sink>(out: &mut K, disabled: u32) -> Result<(), Failed>
     ensures { WritesText (K.state out.old) (K.state out.new) (text.disabled_text disabled) result }
 {
@@ -70,7 +70,7 @@ fn write_rest<K: Sink>(out: &mut K, rule: &Rule) -> Result<(), Failed>
 }
 
 /// Writes a rule's number and what was counted for it.
-#[tactic(auto, unfolding(crate::specs::RulesText::counts_text))]
+#[tactic(auto, unfolding(report_texts::specs::RulesText::counts_text))]
 fn write_counts<K: Sink>(out: &mut K, tallies: &[Tally], rule: &Rule) -> Result<(), Failed>
     ensures { WritesText (K.state out.old) (K.state out.new)
         (text.counts_text tallies.now rule.now) result }

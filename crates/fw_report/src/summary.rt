@@ -1,12 +1,12 @@
 ghost use Rattle.std.specs.Prelude.{◌≡◌, ◌+◌, ◌≤◌, ◌++◌, count_by, decimal, length};
 ghost use Rattle.fw_base.specs.Texts.{WritesText};
-ghost use Rattle.fw_report.specs.Summary as text;
+ghost use Rattle.report_texts.specs.Summary as text;
 
-use crate::Recorded;
 use crate::line::{LINE_BYTES, Line};
 use eval_engine::{Docket, DocketEntry, Verdict};
 use fw_base::{Failed, Sink};
 use itoa::Buffer;
+use report_texts::Recorded;
 use rule_text::WriteFault;
 
 fn is_allowed(entry: &DocketEntry) -> bool
@@ -90,7 +90,7 @@ fn put_count(line: &mut Line, count: u128)
     line.put_text(digits.format(count).as_bytes());
 }
 
-#[tactic(auto, unfolding(crate::specs::Summary::summary_text))]
+#[tactic(auto, unfolding(report_texts::specs::Summary::summary_text))]
 fn write_totals<K: Sink>(
     out: &mut K,
     dockets: &[Docket],

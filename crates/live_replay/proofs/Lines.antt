@@ -8,7 +8,7 @@ use Rattle.fw_command.specs.Steps.{all_lines}
 use Rattle.fw_command.specs.declared.script.Line.{Line}
 use Rattle.fw_command.specs.declared.script.Step.{Step}
 use Rattle.fw_command.specs.declared.script.Step.TheVariants.{Run, After}
-use Rattle.fw_report.specs.declared.ends.Answer.{Answer}
+use Rattle.report_texts.specs.declared.ends.Answer.{Answer}
 use Rattle.fw_rule.specs.declared.command.Command.{Command}
 use Rattle.fw_world.specs.declared.commit_fault.CommitFault.{CommitFault}
 use Rattle.rule_chain.specs.Configuration.{Configuration}

@@ -10,7 +10,7 @@ use Rattle.capture_tracks.specs.declared.opened.OpenedCapture.{OpenedCapture}
 use Rattle.capture_tracks.specs.declared.replayed.Replayed.{Replayed}
 use Rattle.fw_command.specs.Steps.{all_lines}
 use Rattle.fw_command.specs.declared.script.Step.{Step}
-use Rattle.fw_report.specs.declared.capture_end.CaptureEnd.{CaptureEnd}
+use Rattle.report_texts.specs.declared.capture_end.CaptureEnd.{CaptureEnd}
 use Rattle.fw_rule.specs.declared.command.Command.{Command}
 use Rattle.fw_world.specs.Editions.{IsLastOf}
 use Rattle.fw_world.specs.World as plain

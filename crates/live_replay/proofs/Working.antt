@@ -10,7 +10,7 @@ use Rattle.capture_tracks.specs.declared.track.Track.{Track}
 use Rattle.capture_tracks.specs.declared.track.Track.TheVariants.{Open, Refused}
 use Rattle.capture_tracks.proofs.Ended.{told-track}
 use Rattle.capture_tracks.proofs.Origins.{origin-open}
-use Rattle.fw_report.specs.declared.capture_end.CaptureEnd.{CaptureEnd}
+use Rattle.report_texts.specs.declared.capture_end.CaptureEnd.{CaptureEnd}
 use Rattle.fw_base.specs.declared.port.Port.{Port}
 use Rattle.fw_world.specs.Caches.{capacity_of, IsPortFor}
 use Rattle.fw_world.specs.Inputs.{Input}

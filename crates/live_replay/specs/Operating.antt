@@ -5,7 +5,7 @@ use Rattle.capture_tracks.specs.Operator.{OperatorValue, OperatorStandsFor, Adds
 use Rattle.fw_command.specs.declared.script.Line.{Line}
 use Rattle.fw_command.specs.declared.script.Step.{Step}
 use Rattle.fw_command.specs.declared.script.Step.TheVariants.{Run, After}
-use Rattle.fw_report.specs.declared.ends.LineAnswer.{LineAnswer}
+use Rattle.report_texts.specs.declared.ends.LineAnswer.{LineAnswer}
 use Rattle.fw_rule.specs.declared.command.Command.{Command}
 use Rattle.rule_chain.specs.Configuration.{Configuration}
 use Rattle.live_replay.specs.declared.operator.Operator.{Operator}

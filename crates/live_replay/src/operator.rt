@@ -11,8 +11,8 @@ ghost use Rattle.live_replay.specs.Operating.{AnswersLine, Accepts, RefusesLine,
 use capture_tracks::{Listing, answer_listing, listing_of};
 use fw_base::{Gate, OutOfMemory};
 use fw_command::{Line, Step};
-use fw_report::{Answer, LineAnswer};
 use fw_world::CommitFault;
+use report_texts::{Answer, LineAnswer};
 use shared_world::{Desk, World};
 use std::alloc::Global;
 use std::sync::Wait;

@@ -6,10 +6,10 @@ use Rattle.std.specs.List.{AllByRecursion}
 use Rattle.fw_base.proofs.Lists.{all_push, all_weaker}
 use Rattle.fw_command.specs.declared.script.Line.{Line}
 use Rattle.fw_command.specs.declared.script.Step.{Step}
-use Rattle.fw_report.specs.AnswerText.{edition_of}
-use Rattle.fw_report.specs.declared.ends.Answer.{Answer}
-use Rattle.fw_report.specs.declared.ends.Answer.TheVariants.{Refused, Listed}
-use Rattle.fw_report.specs.declared.ends.LineAnswer.{LineAnswer}
+use Rattle.report_texts.specs.AnswerText.{edition_of}
+use Rattle.report_texts.specs.declared.ends.Answer.{Answer}
+use Rattle.report_texts.specs.declared.ends.Answer.TheVariants.{Refused, Listed}
+use Rattle.report_texts.specs.declared.ends.LineAnswer.{LineAnswer}
 use Rattle.fw_rule.specs.declared.command.Command.{Command}
 use Rattle.fw_world.specs.Editions.{AreEditionsFrom}
 use Rattle.fw_world.specs.Legal.{IsLegal}

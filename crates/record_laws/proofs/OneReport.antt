@@ -6,12 +6,12 @@ use Rattle.std.specs.List.{flat_map}
 use Rattle.counter_book.specs.Counts.{counted_under, total_under}
 use Rattle.counter_book.specs.declared.tally.Count.{Count}
 use Rattle.state_texts.specs.StateTexts.{states_text}
-use Rattle.fw_report.specs.AnswerText.{count_line}
-use Rattle.fw_report.specs.JournalText.{hits_text, optional_journal}
-use Rattle.fw_report.specs.Report.{start_text, last_text, closing_text, last_closing, last_edition, report_text}
-use Rattle.fw_report.specs.RulesText.{counts_text, counted_line, disabled_text, rules_text}
-use Rattle.fw_report.specs.declared.capture_end.CaptureEnd.{CaptureEnd}
-use Rattle.fw_report.specs.declared.ends.LineAnswer.{LineAnswer}
+use Rattle.report_texts.specs.AnswerText.{count_line}
+use Rattle.report_texts.specs.JournalText.{hits_text, optional_journal}
+use Rattle.report_texts.specs.Report.{start_text, last_text, closing_text, last_closing, last_edition, report_text}
+use Rattle.report_texts.specs.RulesText.{counts_text, counted_line, disabled_text, rules_text}
+use Rattle.report_texts.specs.declared.capture_end.CaptureEnd.{CaptureEnd}
+use Rattle.report_texts.specs.declared.ends.LineAnswer.{LineAnswer}
 use Rattle.rule_text.specs.Canonical.{five_digits, rest_text}
 use Rattle.fw_rule.specs.declared.rule.Rule.{Rule}
 use Rattle.fw_world.specs.RecordValue.{RecordValue}

@@ -17,14 +17,14 @@ use Rattle.eval_engine.specs.declared.judgement.Cause.TheVariants.{Rule, Limit, 
 use Rattle.eval_engine.specs.declared.judgement.Judgement.{Judgement}
 use Rattle.fw_command.specs.Lines.{lines_of}
 use Rattle.fw_command.proofs.Pieces.{lines_of-cons}
-use Rattle.fw_report.specs.AnswerText.{answers_text}
-use Rattle.fw_report.specs.DocketText.{verdict_word, verdict_code, cause_word, cause_count, judged_text, entry_text, record_line, record_lines, end_line, captures_text}
-use Rattle.fw_report.specs.Lines.{lines_in}
-use Rattle.fw_report.specs.Report.{start_text, last_closing, last_edition, report_text}
-use Rattle.fw_report.specs.RulesText.{editions_line}
-use Rattle.fw_report.specs.declared.capture_end.CaptureEnd.{CaptureEnd}
-use Rattle.fw_report.specs.declared.capture_end.CaptureEnd.TheVariants.{Read, Stopped}
-use Rattle.fw_report.proofs.SilentWords.{number_is_silent, five_digits_are_silent, verdict_is_silent, verdict_code_is_silent, cause_is_silent, cause_count_is_silent, lines-append}
+use Rattle.report_texts.specs.AnswerText.{answers_text}
+use Rattle.report_texts.specs.DocketText.{verdict_word, verdict_code, cause_word, cause_count, judged_text, entry_text, record_line, record_lines, end_line, captures_text}
+use Rattle.report_texts.specs.Lines.{lines_in}
+use Rattle.report_texts.specs.Report.{start_text, last_closing, last_edition, report_text}
+use Rattle.report_texts.specs.RulesText.{editions_line}
+use Rattle.report_texts.specs.declared.capture_end.CaptureEnd.{CaptureEnd}
+use Rattle.report_texts.specs.declared.capture_end.CaptureEnd.TheVariants.{Read, Stopped}
+use Rattle.report_texts.proofs.SilentWords.{number_is_silent, five_digits_are_silent, verdict_is_silent, verdict_code_is_silent, cause_is_silent, cause_count_is_silent, lines-append}
 use Rattle.fw_world.specs.Entries.{EachRecord, IsEntryFor}
 use Rattle.fw_world.specs.Inputs.{Input}
 use Rattle.fw_world.specs.Lanes.{EachLane, LaneStands}

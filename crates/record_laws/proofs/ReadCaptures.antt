@@ -7,8 +7,8 @@ use Rattle.std.specs.List.{list_any}
 use Rattle.fw_base.specs.Faults.{Rose}
 use Rattle.fw_base.specs.declared.port.Port.{Port}
 use Rattle.fw_base.proofs.Logic.{clash, was_true}
-use Rattle.fw_report.specs.CaptureEnds.{is_unread}
-use Rattle.fw_report.specs.declared.capture_end.CaptureEnd.{CaptureEnd}
+use Rattle.report_texts.specs.CaptureEnds.{is_unread}
+use Rattle.report_texts.specs.declared.capture_end.CaptureEnd.{CaptureEnd}
 use Rattle.pcap_read.specs.Reading.{Captured, Place, Open, InHeader, Closed, HasFront, Stops, place_number, header_of}
 use Rattle.pcap_read.specs.declared.capture_fault.CaptureFault.{CaptureFault}
 use Rattle.pcap_read.specs.declared.capture_fault.CaptureFault.TheVariants.{ReadFault}

@@ -4,15 +4,15 @@ use Rattle.std.proofs.Common.{◌≡◌, ℕ, ◌+◌, inl, inr, Bool, true, Opt
 use Rattle.std.proofs.lemmas.Bool.{or_parts}
 use Rattle.std.specs.List.{list_any}
 use Rattle.eval_engine.specs.Dockets.{DocketValue}
-use Rattle.fw_report.proofs.CaptureEnds.{failed_fault}
-use Rattle.fw_report.specs.AnswerText.{answers_text}
-use Rattle.fw_report.specs.CaptureEnds.{is_failed_read, is_unread}
-use Rattle.fw_report.specs.DocketText.{captures_text, record_lines, end_line}
-use Rattle.fw_report.specs.Report.{start_text, last_closing, last_edition, report_text}
-use Rattle.fw_report.specs.RulesText.{editions_line}
-use Rattle.fw_report.specs.declared.capture_end.CaptureEnd.{CaptureEnd}
-use Rattle.fw_report.specs.declared.capture_end.CaptureEnd.TheVariants.{Read, Stopped}
-use Rattle.fw_report.specs.declared.ends.LineAnswer.{LineAnswer}
+use Rattle.report_texts.proofs.CaptureEnds.{failed_fault}
+use Rattle.report_texts.specs.AnswerText.{answers_text}
+use Rattle.report_texts.specs.CaptureEnds.{is_failed_read, is_unread}
+use Rattle.report_texts.specs.DocketText.{captures_text, record_lines, end_line}
+use Rattle.report_texts.specs.Report.{start_text, last_closing, last_edition, report_text}
+use Rattle.report_texts.specs.RulesText.{editions_line}
+use Rattle.report_texts.specs.declared.capture_end.CaptureEnd.{CaptureEnd}
+use Rattle.report_texts.specs.declared.capture_end.CaptureEnd.TheVariants.{Read, Stopped}
+use Rattle.report_texts.specs.declared.ends.LineAnswer.{LineAnswer}
 use Rattle.fw_world.specs.RecordValue.{RecordValue}
 use Rattle.pcap_read.specs.Reading.{Captured, Place, Open, Closed, HasFront, Stops, place_number}
 use Rattle.pcap_read.specs.declared.capture_fault.CaptureFault.{CaptureFault}

@@ -2,9 +2,9 @@
 use Rattle.std.specs.Prelude.{◌≡◌, ℕ, ◌≤◌, ⊤, Some, List, length, Contains, Option}
 use Rattle.std.specs.List.{AllByRecursion}
 use Rattle.fw_command.specs.declared.script.Step.{Step}
-use Rattle.fw_report.specs.AnswerText.{edition_of}
-use Rattle.fw_report.specs.declared.ends.Answer.{Answer}
-use Rattle.fw_report.specs.declared.ends.Answer.TheVariants.{Refused, Listed}
+use Rattle.report_texts.specs.AnswerText.{edition_of}
+use Rattle.report_texts.specs.declared.ends.Answer.{Answer}
+use Rattle.report_texts.specs.declared.ends.Answer.TheVariants.{Refused, Listed}
 use Rattle.fw_world.specs.RecordValue.{RecordValue}
 use Rattle.generation_store.specs.Published.{Published}
 use Rattle.rule_chain.specs.Configuration.{Configuration}

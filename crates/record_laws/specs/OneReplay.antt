@@ -3,9 +3,9 @@ use Rattle.std.specs.Prelude.{◌≡◌, ℕ, Bool, Option, List, map}
 use Rattle.counter_book.specs.Counts as counts
 use Rattle.counter_book.specs.declared.tally.Count.{Count}
 use Rattle.fw_command.specs.declared.script.Step.{Step}
-use Rattle.fw_report.specs.Report.{report_text}
-use Rattle.fw_report.specs.declared.capture_end.CaptureEnd.{CaptureEnd}
-use Rattle.fw_report.specs.declared.ends.LineAnswer.{LineAnswer}
+use Rattle.report_texts.specs.Report.{report_text}
+use Rattle.report_texts.specs.declared.capture_end.CaptureEnd.{CaptureEnd}
+use Rattle.report_texts.specs.declared.ends.LineAnswer.{LineAnswer}
 use Rattle.fw_world.specs.Publications.{IsLawful}
 use Rattle.fw_world.specs.RecordValue.{RecordValue}
 use Rattle.fw_world.specs.RecordedHits.{TellsHits}

@@ -1,9 +1,9 @@
 -- What the captures of two replays have in common: where they were taken, what they hold, and how they ended.
 use Rattle.std.specs.Prelude.{◌≡◌, ℕ, false, Option, Some, List, map}
 use Rattle.std.specs.List.{list_any}
-use Rattle.fw_report.specs.CaptureEnds.{is_unread}
-use Rattle.fw_report.specs.declared.capture_end.CaptureEnd.{CaptureEnd}
-use Rattle.fw_report.specs.declared.capture_end.CaptureEnd.TheVariants.{Read, Stopped}
+use Rattle.report_texts.specs.CaptureEnds.{is_unread}
+use Rattle.report_texts.specs.declared.capture_end.CaptureEnd.{CaptureEnd}
+use Rattle.report_texts.specs.declared.capture_end.CaptureEnd.TheVariants.{Read, Stopped}
 use Rattle.capture_tracks.specs.Reading.{Track, origin_of}
 use Rattle.capture_tracks.specs.declared.opened.OpenedCapture.{OpenedCapture}
 

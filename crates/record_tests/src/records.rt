@@ -8,7 +8,7 @@ ghost use Rattle.record_tests.specs.OneLane.{IsOneLane};
 
 use fw_base::{Direction, Link, MemorySink, MemorySource, Name, Port};
 use fw_command::{Line, Pace, Script, Step, parse_script};
-use fw_report::{Answer, CaptureEnd, Ends, LineAnswer, Recorded, write_report};
+use fw_report::write_report;
 use fw_rule::Items;
 use fw_world::{CommitFault, Record, Skipped};
 use ip6_headers::{AnyIp, AnyPacket, read_any};
@@ -16,6 +16,7 @@ use record_laws::laws::{
     contents_determine_reports, listings_name_published_editions, replays_are_determined,
     replays_print_each_record,
 };
+use report_texts::{Answer, CaptureEnd, Ends, LineAnswer, Recorded};
 use rows::{ROWS, Row, Timed};
 use rule_chain::Config;
 use rule_edits::{apply_owned, is_changing};

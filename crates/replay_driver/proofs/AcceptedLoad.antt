@@ -15,11 +15,11 @@ use Rattle.rule_chain.specs.First.{first_configuration}
 use Rattle.capture_tracks.specs.Commands.{Standing, listing_of, first_standing, after_line, after_lines}
 use Rattle.capture_tracks.proofs.Listings.{changing-of}
 use Rattle.fw_command.specs.Steps.{all_lines}
-use Rattle.replay_driver.specs.FirstEdition.{configuration_behind, listings_of, first_edition}
+use Rattle.replay_setup.specs.FirstEdition.{configuration_behind, listings_of, first_edition}
 use Rattle.replay_driver.specs.Promises.{IsAccepted}
 use Rattle.replay_driver.specs.RunResult.{is_refused}
-use Rattle.replay_driver.specs.declared.first_edition.FirstEdition.{FirstEdition}
-use Rattle.replay_driver.specs.declared.script_error.ScriptError.{ScriptError}
+use Rattle.replay_setup.specs.declared.first_edition.FirstEdition.{FirstEdition}
+use Rattle.replay_setup.specs.declared.script_error.ScriptError.{ScriptError}
 
 -- no line has a listing
 abbrev AreUnlisted : List Line → Type 0

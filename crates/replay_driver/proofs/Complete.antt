@@ -13,13 +13,13 @@ use Rattle.command_words.specs.declared.invocation.Mode.TheVariants.{Serial}
 use Rattle.fw_command.specs.declared.script.Pace.{Pace}
 use Rattle.fw_command.specs.declared.script.Script.{Script}
 use Rattle.fw_command.specs.Scripts.{script_of}
-use Rattle.fw_report.specs.CaptureEnds.{is_unread}
-use Rattle.fw_report.specs.declared.capture_end.CaptureEnd.{CaptureEnd}
-use Rattle.fw_report.specs.declared.capture_end.CaptureEnd.TheVariants.{Read, Stopped}
-use Rattle.fw_report.specs.declared.ends.Answer.{Answer}
-use Rattle.fw_report.specs.declared.ends.Answer.TheVariants.{Refused, Listed}
-use Rattle.fw_report.specs.declared.ends.Ends.{Ends}
-use Rattle.fw_report.specs.declared.ends.LineAnswer.{LineAnswer}
+use Rattle.report_texts.specs.CaptureEnds.{is_unread}
+use Rattle.report_texts.specs.declared.capture_end.CaptureEnd.{CaptureEnd}
+use Rattle.report_texts.specs.declared.capture_end.CaptureEnd.TheVariants.{Read, Stopped}
+use Rattle.report_texts.specs.declared.ends.Answer.{Answer}
+use Rattle.report_texts.specs.declared.ends.Answer.TheVariants.{Refused, Listed}
+use Rattle.report_texts.specs.declared.ends.Ends.{Ends}
+use Rattle.report_texts.specs.declared.ends.LineAnswer.{LineAnswer}
 use Rattle.fw_world.specs.RecordValue.{RecordValue}
 use Rattle.load_maker.specs.Load as load
 use Rattle.fw_base.specs.declared.limits.TheConstants.{MOST_LOAD_RECORDS}
@@ -35,26 +35,28 @@ use Rattle.capture_tracks.specs.Reading.{Track, IsRead, AllRead, IsEnd}
 use Rattle.capture_tracks.specs.Commands.{lines_outcome}
 use Rattle.capture_tracks.specs.Replay.{limit_for}
 use Rattle.capture_tracks.specs.declared.opened.OpenedCapture.{OpenedCapture}
-use Rattle.replay_driver.specs.FirstEdition.{◌>>=◌, first_edition, configuration_behind, listings_of, answered_line, listed_first, with_answer, read_script}
-use Rattle.replay_driver.specs.Found.{ReadsScript, FindsReplay, FindsLoad, IsReplayOf, known_left, no_failures, made_capture}
-use Rattle.replay_driver.specs.Openings.{OpensAll}
+use Rattle.replay_setup.specs.FirstEdition.{◌>>=◌, first_edition, configuration_behind, listings_of, answered_line, listed_first, with_answer, read_script}
+use Rattle.replay_setup.specs.NamesRead.{ReadsScript}
+use Rattle.replay_driver.specs.Found.{FindsReplay, FindsLoad, IsReplayOf, known_left, no_failures, made_capture}
+use Rattle.replay_setup.specs.Openings.{OpensAll}
 use Rattle.replay_driver.specs.Promises.{AllWhole, IsAccepted, IsComplete, IsCompleteJob}
 use Rattle.replay_driver.specs.Run.{IsRunOf}
 use Rattle.replay_driver.specs.RunResult.{result_status, report_status, is_stopped, is_refused}
-use Rattle.replay_driver.specs.Served.{ReplayNames, Job, Replays, Loads, pace_of}
+use Rattle.replay_driver.specs.Served.{ReplayNames, Job, Replays, Loads}
+use Rattle.replay_setup.specs.FirstEdition.{pace_of}
 use Rattle.buffered_io.specs.WholeSource.{ReadsAll}
-use Rattle.replay_driver.specs.declared.first_edition.FirstEdition.{FirstEdition}
+use Rattle.replay_setup.specs.declared.first_edition.FirstEdition.{FirstEdition}
 use Rattle.replay_driver.specs.declared.outcome.Outcome.{Outcome}
 use Rattle.replay_driver.specs.declared.run_result.RunResult.{RunResult}
 use Rattle.replay_driver.specs.declared.run_result.RunResult.TheVariants.{Usage, Unread, Unready, Reported, Summed}
-use Rattle.replay_driver.specs.declared.script_error.ScriptError.{ScriptError}
+use Rattle.replay_setup.specs.declared.script_error.ScriptError.{ScriptError}
 use Rattle.replay_driver.proofs.AcceptedLoad.{load_accepted, load_ready}
 use Rattle.replay_driver.proofs.LoadWords.{CanBeMade}
-use Rattle.replay_driver.proofs.Openings.{opens_length}
+use Rattle.replay_setup.proofs.Openings.{opens_length}
 use Rattle.replay_driver.proofs.Promised.{IfSome-both}
 use Rattle.replay_driver.proofs.Statuses.{all_well}
 use Rattle.replay_driver.proofs.Told.{names_steady}
-use Rattle.replay_driver.specs.Outside.{Files, Output}
+use Rattle.replay_setup.specs.Outside.{Files, Output}
 
 -- what an opening takes out of a told list
 pub took_from : (a b : Option (List Pair)) (name : List ℕ) (left : Option (List ℕ)) (ps : List Pair) (p : Pair) (rest : List Pair) → TakesOut a b name left

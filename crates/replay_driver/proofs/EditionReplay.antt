@@ -3,12 +3,12 @@ use Rattle.std.proofs.Common.{◌≡◌, ℕ, ◌<◌, List, ◌++◌, Option, l
 use Rattle.std.specs.Prelude.{IfOk, Result}
 use Rattle.command_words.specs.declared.invocation.Mode.{Mode}
 use Rattle.capture_tracks.specs.Replay.{IsReplay}
-use Rattle.fw_report.specs.declared.ends.LineAnswer.{LineAnswer}
+use Rattle.report_texts.specs.declared.ends.LineAnswer.{LineAnswer}
 use Rattle.capture_tracks.specs.declared.opened.OpenedCapture.{OpenedCapture}
 use Rattle.capture_tracks.specs.declared.replayed.Replayed.{Replayed}
 use Rattle.replay_driver.specs.EditionReplay.{ReplaysEdition}
 use Rattle.replay_driver.specs.Found.{IsOrderedIn}
-use Rattle.replay_driver.specs.declared.first_edition.FirstEdition.{FirstEdition}
+use Rattle.replay_setup.specs.declared.first_edition.FirstEdition.{FirstEdition}
 
 module _ {S : Type 0} (left : S → Option (List ℕ)) (failures : S → ℕ) where
   -- the answers before `live` stand before the others

@@ -1,10 +1,6 @@
--- openings, and what they leave of the told list
-pub mod Openings
+-- what openings leave of the told list
 pub mod Told
-pub mod MadeReady
--- a script from its bytes to edition 1
-pub mod ScriptReading
-pub mod ScriptLines
+pub mod ReadyReports
 -- a load's number, and its script's edition 1
 pub mod LoadWords
 pub mod AcceptedLoad

@@ -6,18 +6,19 @@ use Rattle.std.proofs.lemmas.List.{length-map}
 use Rattle.std.specs.Io.KnownBytes.{Appends}
 use Rattle.fw_base.specs.Faults.{Rose}
 use Rattle.fw_base.specs.Pairs.{Pair}
-use Rattle.fw_report.specs.CaptureEnds.{is_unread}
-use Rattle.fw_report.specs.Report.{report_text}
-use Rattle.fw_report.specs.declared.capture_end.CaptureEnd.{CaptureEnd}
-use Rattle.fw_report.specs.declared.ends.Ends.{Ends}
-use Rattle.fw_report.specs.declared.ends.LineAnswer.{LineAnswer}
+use Rattle.report_texts.specs.CaptureEnds.{is_unread}
+use Rattle.report_texts.specs.Report.{report_text}
+use Rattle.report_texts.specs.declared.capture_end.CaptureEnd.{CaptureEnd}
+use Rattle.report_texts.specs.declared.ends.Ends.{Ends}
+use Rattle.report_texts.specs.declared.ends.LineAnswer.{LineAnswer}
 use Rattle.fw_world.specs.RecordValue.{RecordValue}
 use Rattle.command_words.specs.declared.invocation.Mode.{Mode}
 use Rattle.command_words.specs.declared.invocation.Mode.TheVariants.{Serial}
 use Rattle.capture_tracks.specs.Reading.{Track, AllRead}
 use Rattle.capture_tracks.specs.declared.opened.OpenedCapture.{OpenedCapture}
 use Rattle.replay_driver.specs.Found.{FindsJob, FindsWords, FindsReplay, IsReplayOf, ReplaysLoad, known_left, no_failures}
-use Rattle.replay_driver.specs.Openings.{pairs_without, sources_of}
+use Rattle.replay_setup.specs.Openings.{pairs_without}
+use Rattle.capture_tracks.specs.Replay.{sources_of}
 use Rattle.replay_driver.specs.Promises.{IsKept, IsReported, IsSummed, IsUnreadJob, IsUnreadyJob, IsQuiet, HasRefusedCommand, IsFaulty, HasFailedRead, opening_order}
 use Rattle.replay_driver.specs.Run.{Writes, WritesResult, IsUsage, IsNoCommand, IsRunOf, IsFoundRun}
 use Rattle.capture_tracks.specs.Reported.{report_record}
@@ -31,7 +32,7 @@ use Rattle.replay_driver.proofs.AcceptedLoad.{load_ready}
 use Rattle.replay_driver.proofs.LoadWords.{CanBeMade}
 use Rattle.replay_driver.proofs.Statuses.{quiet_ends, refused_lines, faulty_ends, unread_ends, few, AreFresh, failed_read}
 use Rattle.replay_driver.proofs.Told.{names_steady, all_fresh, all_named, script_refused, script_failed, capture_refused}
-use Rattle.replay_driver.specs.Outside.{Files, Output}
+use Rattle.replay_setup.specs.Outside.{Files, Output}
 
 -- what follows of a value from its being the one holds where there is one
 pub IfSome-by : {A : Type 0} (o : Option A) (P : A → Type 0) → ((x : A) → o ≡ Some x → P x) → IfSome o P

@@ -3,7 +3,7 @@
 -- outcome, or calls on with another library or sink: the checker doesn't open the words' definitions to tell why.
 use Rattle.std.proofs.Common.{◌≡◌, Option, None, subst, ◌⊎◌}
 use Rattle.std.specs.Prelude.{IfSome, IfNone}
-use Rattle.replay_driver.specs.Outside.{Files, Output}
+use Rattle.replay_setup.specs.Outside.{Files, Output}
 use Rattle.replay_driver.specs.Promises.{IsKept, IsUnreadJob, IsUnreadyJob, IsCompleteJob}
 use Rattle.replay_driver.specs.Run.{IsNoCommand, IsRunOf}
 use Rattle.replay_driver.specs.Served.{Job}

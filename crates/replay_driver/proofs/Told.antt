@@ -5,13 +5,14 @@ use Rattle.std.proofs.Math.Seq.{take-append_seam, take-length}
 use Rattle.std.proofs.lemmas.List.{length-map, map-append}
 use Rattle.command_words.specs.Words.{CaptureNames}
 use Rattle.fw_base.specs.Pairs.{Pair, take_named, TakesOut}
-use Rattle.replay_driver.specs.Found.{ReadsNames, RefusesScript, FailsScript, RefusesCapture}
-use Rattle.replay_driver.specs.Openings.{Opens, OpensAll, sources_of, file_names, pairs_without}
+use Rattle.replay_setup.specs.NamesRead.{ReadsNames, RefusesScript, FailsScript, RefusesCapture}
+use Rattle.replay_setup.specs.Openings.{Opens, OpensAll, file_names, pairs_without}
+use Rattle.capture_tracks.specs.Replay.{sources_of}
 use Rattle.replay_driver.specs.Served.{ReplayNames}
-use Rattle.replay_driver.proofs.Openings.{opens_length}
+use Rattle.replay_setup.proofs.Openings.{opens_length}
 use Rattle.replay_driver.proofs.Statuses.{AreFresh}
 use Rattle.capture_tracks.specs.declared.opened.OpenedCapture.{OpenedCapture}
-use Rattle.replay_driver.specs.Outside.{Files}
+use Rattle.replay_setup.specs.Outside.{Files}
 
 -- the list behind one opening
 pub one_out : (a b : Option (List Pair)) (name : List ℕ) (names : List (List ℕ)) (left : Option (List ℕ)) (told : List Pair) (last : Option (List Pair)) → TakesOut a b name left → a ≡ Some told

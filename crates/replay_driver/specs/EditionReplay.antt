@@ -4,7 +4,7 @@ use Rattle.command_words.specs.declared.invocation.Mode.{Mode}
 use Rattle.capture_tracks.specs.declared.opened.OpenedCapture.{OpenedCapture}
 use Rattle.capture_tracks.specs.declared.replayed.Replayed.{Replayed}
 use Rattle.replay_driver.specs.Found.{IsReplayBeside}
-use Rattle.replay_driver.specs.declared.first_edition.FirstEdition.{FirstEdition}
+use Rattle.replay_setup.specs.declared.first_edition.FirstEdition.{FirstEdition}
 
 module _ {S : Type 0} (left : S → Option (List ℕ)) (failures : S → ℕ) where
   -- this was replayed in this mode beside the edition and what the script has behind `live`

@@ -2,7 +2,7 @@
 use Rattle.std.specs.Prelude.{◌≡◌, ℕ, List, ◌∷◌, Option}
 use Rattle.replay_driver.specs.Found.{IsReplayBeside}
 use Rattle.replay_driver.specs.declared.manner.Manner.{Manner}
-use Rattle.replay_driver.specs.declared.ready.Ready.{Ready}
+use Rattle.replay_setup.specs.declared.ready.Ready.{Ready}
 use Rattle.replay_driver.specs.declared.run_result.RunResult.{RunResult}
 use Rattle.replay_driver.specs.declared.run_result.RunResult.TheVariants.{Usage, Unread, Unready, Reported, Summed}
 

@@ -1,10 +1,7 @@
 -- What a run finds of a command before a byte is written, and which sources it hands back.
-use Rattle.std.specs.Prelude.{◌≡◌, ℕ, ◌<◌, ⊤, List, [], ◌∷◌, ◌++◌, length, codes, Option, Some, None, Ok, Err, ◌⊎◌}
-use Rattle.std.specs.Io.KnownBytes.{Consumes}
-use Rattle.command_words.specs.Words.{CaptureNames}
-use Rattle.fw_base.specs.Faults.{Rose}
+use Rattle.std.specs.Prelude.{◌≡◌, ℕ, ⊤, List, [], ◌∷◌, ◌++◌, codes, Option, Some, None, Ok, Err}
 use Rattle.fw_base.specs.declared.port.Direction.TheVariants.{In}
-use Rattle.fw_report.specs.declared.ends.Ends.{Ends}
+use Rattle.report_texts.specs.declared.ends.Ends.{Ends}
 use Rattle.fw_world.specs.RecordValue.{RecordValue}
 use Rattle.load_maker.specs.Load.{load_script, load_capture}
 use Rattle.command_words.specs.declared.invocation.Mode.{Mode}
@@ -16,15 +13,14 @@ use Rattle.capture_tracks.specs.Replay.{IsReplay}
 use Rattle.serial_replay.specs.Replay.{ComesOf}
 use Rattle.capture_tracks.specs.declared.opened.OpenedCapture.{OpenedCapture}
 use Rattle.capture_tracks.specs.declared.replayed.Replayed.{Replayed}
-use Rattle.replay_driver.specs.FirstEdition.{first_edition}
-use Rattle.replay_driver.specs.Openings.{Opens, RefusesToOpen, OpensAll, sources_of}
-use Rattle.replay_driver.specs.Served.{ReplayNames, Job, Replays, Loads, pace_of}
-use Rattle.buffered_io.specs.WholeSource.{ReadsAll}
-use Rattle.replay_driver.specs.declared.first_edition.FirstEdition.{FirstEdition}
+use Rattle.replay_setup.specs.FirstEdition.{first_edition}
+use Rattle.replay_driver.specs.Served.{ReplayNames, Job, Replays, Loads}
+use Rattle.replay_setup.specs.FirstEdition.{pace_of}
+use Rattle.replay_setup.specs.declared.first_edition.FirstEdition.{FirstEdition}
 use Rattle.replay_driver.specs.declared.run_result.RunResult.{RunResult}
 use Rattle.replay_driver.specs.declared.run_result.RunResult.TheVariants.{Usage, Unread, Unready, Reported, Summed}
-use Rattle.replay_driver.specs.declared.script_error.ScriptError.{ScriptError}
-use Rattle.replay_driver.specs.Outside.{Files}
+use Rattle.replay_setup.specs.NamesRead.{ReadsNames, IsUnreadable, HasNoEdition}
+use Rattle.replay_setup.specs.Outside.{Files}
 
 -- in serial mode the record comes of going through records and commands in the order of the schedule
 abbrev pub IsOrderedIn : Mode → Configuration → List Step → Option ℕ → List Track → RecordValue → Type 0
@@ -32,13 +28,6 @@ IsOrderedIn modes.Serial config steps cache tracks kept = ComesOf config steps c
 IsOrderedIn modes.Live config steps cache tracks kept = ⊤
 
 module _ {S : Type 0} (left : S → Option (List ℕ)) (failures : S → ℕ) where
-  -- A source failed with fewer than so many of its bytes taken.
-  pub record FailsEarly (limit : ℕ) (opened now : S) : Type 0 where
-    pub rose : Rose (failures opened) (failures now)
-    pub taken : List ℕ
-    pub took : Consumes (left opened) (left now) taken
-    pub few : length taken < limit
-
   -- Captures were replayed in this mode beside an edition 1 and what a script has behind `live`. Each capture's lane had
   -- a cache for so many verdicts, or none had. The answers are those of the listings before `live` and then those of
   -- the lines behind it.
@@ -58,72 +47,12 @@ module _ {S : Type 0} (left : S → Option (List ℕ)) (failures : S → ℕ) wh
     pub beside : IsReplayBeside m edition cache opened kept ends sources
 
 module _ {L S : Type 0} (files : Files L S) where
-  -- the file of this name was opened and read to its end, or to its byte of this number, and none of its reads failed
-  pub record ReadsNamed (limit : ℕ) (old new : L) (name : List ℕ) (source : S) (bytes : List ℕ) : Type 0 where
-    pub opened : S
-    pub opens : Opens files old new name opened
-    pub reads : ReadsAll (files.left opened) (files.left source) (files.failures opened) (files.failures source) limit bytes
-
-  -- the script was opened and read to its end, or to its 1,048,577th byte, and none of its reads failed
-  abbrev pub ReadsScript : L → L → List ℕ → S → List ℕ → Type 0
-  ReadsScript = ReadsNamed 1048577
-
-  -- the script was opened and read, and then these captures were opened, in the order of the words
-  pub record ReadsNames (name : List ℕ) (captures : List CaptureNames) (old new : L) (script : S) (bytes : List ℕ) (opened : List (OpenedCapture S)) : Type 0 where
-    pub between : L
-    pub script_read : ReadsScript old between name script bytes
-    pub captures_opened : OpensAll files between new captures opened
-
-  -- the script's name was refused
-  pub record RefusesScript (wanted : List ℕ) (old new : L) (name : List ℕ) (sources : List S) : Type 0 where
-    pub named : name ≡ wanted
-    pub refuses : RefusesToOpen files old new name
-    pub nothing_opened : sources ≡ []
-
-  -- the script was opened, and its source failed with at most 1,048,576 of its bytes taken
-  pub record FailsScript (wanted : List ℕ) (old new : L) (name : List ℕ) (sources : List S) : Type 0 where
-    pub named : name ≡ wanted
-    pub opened : S
-    pub opens : Opens files old new name opened
-    pub script : S
-    pub fails : FailsEarly files.left files.failures 1048577 opened script
-    pub given_back : sources ≡ script ∷ []
-
-  -- the script was read, the captures before this one were opened, and its name was refused
-  pub record RefusesCapture (wanted : List ℕ) (captures : List CaptureNames) (old new : L) (name : List ℕ) (sources : List S) : Type 0 where
-    pub before : List CaptureNames
-    pub capture : CaptureNames
-    pub behind : List CaptureNames
-    pub stands : captures ≡ before ++ capture ∷ behind
-    pub named : name ≡ capture.name
-    pub between : L
-    pub script : S
-    pub bytes : List ℕ
-    pub opened : List (OpenedCapture S)
-    pub reads : ReadsNames wanted before old between script bytes opened
-    pub refuses : RefusesToOpen files between new name
-    pub given_back : sources ≡ script ∷ sources_of opened
-
-  -- the script's name or a capture's could not be opened, or the script not read
-  abbrev pub IsUnreadable : List ℕ → List CaptureNames → L → L → List ℕ → List S → Type 0
-  IsUnreadable wanted captures old new name sources =
-      RefusesScript wanted old new name sources ⊎ (FailsScript wanted old new name sources ⊎ RefusesCapture wanted captures old new name sources)
-
-  -- all names were opened, and the script gives no edition in this mode
-  pub record HasNoEdition (m : Mode) (name : List ℕ) (captures : List CaptureNames) (old new : L) (error : ScriptError) (sources : List S) : Type 0 where
-    pub script : S
-    pub bytes : List ℕ
-    pub opened : List (OpenedCapture S)
-    pub reads : ReadsNames name captures old new script bytes opened
-    pub first : first_edition (pace_of m) bytes ≡ Err error
-    pub given_back : sources ≡ script ∷ sources_of opened
-
   -- all names were opened, and the captures were replayed beside the script
   pub record ReplaysNames (names : ReplayNames) (old new : L) (kept : RecordValue) (ends : Ends) (sources : List S) : Type 0 where
     pub script : S
     pub bytes : List ℕ
     pub opened : List (OpenedCapture S)
-    pub reads : ReadsNames names.script names.captures old new script bytes opened
+    pub reads : ReadsNames files names.script names.captures old new script bytes opened
     pub captures : List S
     pub replay : IsReplayOf files.left files.failures names.mode names.cache bytes opened kept ends captures
     pub given_back : sources ≡ script ∷ captures
@@ -131,8 +60,8 @@ module _ {L S : Type 0} (files : Files L S) where
   -- This is found of the words of a replay, and these sources are handed back.
   abbrev pub FindsReplay : ReplayNames → L → L → RunResult → List S → Type 0
   FindsReplay names old new Usage sources = ⊥
-  FindsReplay names old new (Unread name) sources = IsUnreadable names.script names.captures old new name sources
-  FindsReplay names old new (Unready error) sources = HasNoEdition names.mode names.script names.captures old new error sources
+  FindsReplay names old new (Unread name) sources = IsUnreadable files names.script names.captures old new name sources
+  FindsReplay names old new (Unready error) sources = HasNoEdition files names.mode names.script names.captures old new error sources
   FindsReplay names old new (Reported kept ends journal) sources = (journal ≡ names.journal) × ReplaysNames names old new kept ends sources
   FindsReplay names old new (Summed kept ends) sources = ⊥
 

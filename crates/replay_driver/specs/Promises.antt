@@ -6,29 +6,31 @@ use Rattle.command_words.specs.Words.{CaptureNames}
 use Rattle.fw_base.specs.Faults.{Rose}
 use Rattle.fw_command.specs.declared.script.Pace.{Pace}
 use Rattle.fw_base.specs.Pairs.{Pair, take_named}
-use Rattle.fw_report.specs.CaptureEnds.{is_unread}
-use Rattle.fw_report.specs.Report.{report_text}
-use Rattle.fw_report.specs.declared.capture_end.CaptureEnd.{CaptureEnd}
-use Rattle.fw_report.specs.declared.capture_end.CaptureEnd.TheVariants.{Stopped}
+use Rattle.report_texts.specs.CaptureEnds.{is_unread}
+use Rattle.report_texts.specs.Report.{report_text}
+use Rattle.report_texts.specs.declared.capture_end.CaptureEnd.{CaptureEnd}
+use Rattle.report_texts.specs.declared.capture_end.CaptureEnd.TheVariants.{Stopped}
 use Rattle.fw_world.specs.RecordValue.{RecordValue}
 use Rattle.pcap_read.specs.Reading.{Captured, HasFront, Open, AtBoundary}
 use Rattle.pcap_read.specs.declared.capture_fault.CaptureFault.TheVariants.{ReadFault}
 use Rattle.capture_tracks.specs.Commands.{lines_outcome}
 use Rattle.capture_tracks.specs.Replay.{limit_for}
 use Rattle.capture_tracks.specs.declared.opened.OpenedCapture.{OpenedCapture}
-use Rattle.replay_driver.specs.FirstEdition.{first_edition}
-use Rattle.replay_driver.specs.Found.{ReadsNames, HasNoEdition, FindsReplay, IsReplayOf, ReplaysLoad}
-use Rattle.replay_driver.specs.Openings.{file_names}
+use Rattle.replay_setup.specs.FirstEdition.{first_edition}
+use Rattle.replay_setup.specs.NamesRead.{ReadsNames, HasNoEdition}
+use Rattle.replay_driver.specs.Found.{FindsReplay, IsReplayOf, ReplaysLoad}
+use Rattle.replay_setup.specs.Openings.{file_names}
 use Rattle.replay_driver.specs.Run.{Writes}
 use Rattle.capture_tracks.specs.Reported.{report_record}
 use Rattle.replay_driver.specs.RunResult.{summary_of, report_status, unread_text, is_stopped, is_refused}
-use Rattle.replay_driver.specs.ScriptTexts.{error_text}
-use Rattle.replay_driver.specs.Served.{ReplayNames, Job, Replays, Loads, pace_of}
-use Rattle.replay_driver.specs.declared.first_edition.FirstEdition.{FirstEdition}
+use Rattle.replay_setup.specs.ScriptTexts.{error_text}
+use Rattle.replay_driver.specs.Served.{ReplayNames, Job, Replays, Loads}
+use Rattle.replay_setup.specs.FirstEdition.{pace_of}
+use Rattle.replay_setup.specs.declared.first_edition.FirstEdition.{FirstEdition}
 use Rattle.replay_driver.specs.declared.outcome.Outcome.{Outcome}
 use Rattle.replay_driver.specs.declared.run_result.RunResult.TheVariants.{Unread}
-use Rattle.replay_driver.specs.declared.script_error.ScriptError.{ScriptError}
-use Rattle.replay_driver.specs.Outside.{Files, Output}
+use Rattle.replay_setup.specs.declared.script_error.ScriptError.{ScriptError}
+use Rattle.replay_setup.specs.Outside.{Files, Output}
 
 -- the names of a command in the order in which they are opened; a load opens none
 abbrev pub opening_order : Job → List (List ℕ)

@@ -1,21 +1,15 @@
 -- What a run leaves: what was found, written with its status.
-use Rattle.std.specs.Prelude.{◌≡◌, ℕ, List, [], None, Result, Ok, Err, ◌⊎◌}
+use Rattle.std.specs.Prelude.{◌≡◌, ℕ, List, [], None, ◌⊎◌}
 use Rattle.std.specs.Io.KnownBytes.{Appends}
 use Rattle.fw_base.specs.Faults.{Rose}
 use Rattle.fw_base.specs.Texts.{AppendsPart}
-use Rattle.fw_base.specs.declared.failure.Failed.{Failed}
 use Rattle.replay_driver.specs.Found.{FindsJob}
 use Rattle.replay_driver.specs.RunResult.{usage_text, result_status, result_text, result_kept, result_ends, result_answers}
 use Rattle.replay_driver.specs.Served.{Job}
 use Rattle.replay_driver.specs.declared.run_result.Found.{Found}
 use Rattle.replay_driver.specs.declared.outcome.Outcome.{Outcome}
 use Rattle.replay_driver.specs.declared.run_result.RunResult.{RunResult}
-use Rattle.replay_driver.specs.Outside.{Files, Output}
-
--- the status of a text that was to be written with this one
-abbrev pub status_of : {U : Type 0} → ℕ → Result U Failed → ℕ
-status_of wanted (Ok u) = wanted
-status_of wanted (Err error) = 5
+use Rattle.replay_setup.specs.Outside.{Files, Output}
 
 -- Memory ran out, and nothing was written.
 pub record IsWithoutMemory {K S : Type 0} (sink sinkAfter : K) (outcome : Outcome S) : Type 0 where

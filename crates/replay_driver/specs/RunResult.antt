@@ -2,16 +2,16 @@
 use Rattle.std.specs.Prelude.{ℕ, ◌<◌, ⊤, Bool, true, false, if◌then◌else◌, List, [], ◌++◌, length, codes, Option, None, Some}
 use Rattle.std.specs.List.{list_any}
 use Rattle.capture_tracks.specs.Reported.{report_record}
-use Rattle.fw_report.specs.CaptureEnds.{is_unread}
-use Rattle.fw_report.specs.Report.{report_text}
-use Rattle.fw_report.specs.Summary.{summary_text}
-use Rattle.fw_report.specs.declared.ends.Answer.{Answer}
-use Rattle.fw_report.specs.declared.ends.Answer.TheVariants as answer
-use Rattle.fw_report.specs.declared.capture_end.CaptureEnd.{CaptureEnd}
-use Rattle.fw_report.specs.declared.capture_end.CaptureEnd.TheVariants.{Read, Stopped}
-use Rattle.fw_report.specs.declared.ends.LineAnswer.{LineAnswer}
+use Rattle.report_texts.specs.CaptureEnds.{is_unread}
+use Rattle.report_texts.specs.Report.{report_text}
+use Rattle.report_texts.specs.Summary.{summary_text}
+use Rattle.report_texts.specs.declared.ends.Answer.{Answer}
+use Rattle.report_texts.specs.declared.ends.Answer.TheVariants as answer
+use Rattle.report_texts.specs.declared.capture_end.CaptureEnd.{CaptureEnd}
+use Rattle.report_texts.specs.declared.capture_end.CaptureEnd.TheVariants.{Read, Stopped}
+use Rattle.report_texts.specs.declared.ends.LineAnswer.{LineAnswer}
 use Rattle.fw_world.specs.RecordValue.{RecordValue}
-use Rattle.replay_driver.specs.ScriptTexts.{error_text}
+use Rattle.replay_setup.specs.ScriptTexts.{error_text}
 use Rattle.replay_driver.specs.declared.run_result.RunResult.{RunResult}
 use Rattle.replay_driver.specs.declared.run_result.RunResult.TheVariants.{Usage, Unread, Unready, Reported, Summed}
 

@@ -2,9 +2,7 @@
 use Rattle.std.specs.Prelude.{◌≡◌, ℕ, ⊤, Bool, List, Option, None, Some, option_and_then}
 use Rattle.command_words.specs.Words.{CommandWords, CaptureNames, Replay, Load, Audit, command_of}
 use Rattle.command_words.specs.declared.invocation.Mode.{Mode}
-use Rattle.command_words.specs.declared.invocation.Mode.TheVariants.{Serial, Live}
-use Rattle.fw_command.specs.declared.script.Pace.{Pace}
-use Rattle.fw_command.specs.declared.script.Pace.TheVariants as pace
+use Rattle.command_words.specs.declared.invocation.Mode.TheVariants.{Serial}
 
 -- What the words of a replay name: its mode, whether the report has the journal, how many verdicts each lane's
 -- cache may hold, where one is asked for, and the files.
@@ -30,11 +28,6 @@ job_of_command (Audit report script captures) = None
 -- what these words ask for
 abbrev pub job_of : List (List ℕ) → Option Job
 job_of words = option_and_then job_of_command (command_of words)
-
--- the pace of a script's steps in this mode
-abbrev pub pace_of : Mode → Pace
-pace_of Serial = pace.Serial
-pace_of Live = pace.Live
 
 -- a replay of this job goes through records and commands in the order of the schedule, as a load's does
 abbrev pub IsSerialJob : Job → Type 0

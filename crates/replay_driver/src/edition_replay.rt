@@ -5,12 +5,12 @@ ghost use Rattle.fw_command.specs.WellFormed.{IsStepInRange};
 ghost use Rattle.fw_world.specs.Caches.{IsCacheSize};
 ghost use Rattle.replay_driver.specs.EditionReplay.{ReplaysEdition};
 
-use crate::first_edition::FirstEdition;
 use capture_tracks::{OpenedCapture, Replayed};
 use fw_base::{Gate, MOST_CAPTURES, OutOfMemory, Source};
-use fw_report::{Ends, LineAnswer};
 use fw_rule::Items;
 use live_replay::{Runner, replay_live};
+use replay_setup::FirstEdition;
+use report_texts::{Ends, LineAnswer};
 use serial_replay::replay_serial;
 use std::alloc::Global;
 use std::sync::Wait;

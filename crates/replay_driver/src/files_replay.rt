@@ -9,16 +9,14 @@ ghost use Rattle.replay_driver.specs.declared.run_result.RunResult.TheVariants a
 ghost use Rattle.replay_driver.specs.Found.{FindsReplay};
 ghost use Rattle.replay_driver.specs.RunResult.{IsWritable};
 
-use crate::LibraryView;
 use crate::edition_replay::{replay_at_once, replay_in_turn};
-use crate::first_edition::FirstEdition;
 use crate::manner::Manner;
-use crate::ready::{Readiness, Ready, make_ready};
 use crate::run_result::{Found, RunResult};
 use capture_tracks::{OpenedCapture, Replayed};
 use command_words::{CaptureWord, Mode};
 use fw_base::{Gate, Library, MOST_CAPTURES, OutOfMemory, Source};
 use live_replay::Runner;
+use replay_setup::{FirstEdition, LibraryView, Readiness, Ready, make_ready};
 use std::alloc::Global;
 use std::sync::Wait;
 use std::thread::Threads;

@@ -1,10 +1,8 @@
 ghost use Rattle.std.specs.Prelude.{◌≡◌, [], None};
-ghost use Rattle.replay_driver.specs.Run.{status_of};
 
 use crate::run_result::no_ends;
-use fw_base::Failed;
-use fw_report::Ends;
 use fw_world::Record;
+use report_texts::Ends;
 use std::alloc::Global;
 
 /// What a run answers.
@@ -36,15 +34,5 @@ impl<S> Outcome<S> {
             kept: None,
             sources: Vec::new(alloc),
         }
-    }
-}
-
-/// The status of a text that was to be written with this one: 5 where the sink failed.
-pub fn status_written(wanted: u8, written: Result<(), Failed>) -> u8
-    ensures { result ≡ status_of wanted written }
-{
-    match written {
-        Ok(()) => wanted,
-        Err(Failed) => 5,
     }
 }

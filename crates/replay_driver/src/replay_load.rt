@@ -2,14 +2,13 @@ ghost use Rattle.std.specs.Prelude.{◌≡◌, ◌≤◌, ◌∷◌, [], IfOk, v
 ghost use Rattle.replay_driver.specs.RunResult.{IsWritable};
 ghost use Rattle.replay_driver.specs.Found.{FindsLoad, made_capture};
 
-use crate::ScriptError;
 use crate::edition_replay::replay_in_turn;
-use crate::first_edition::read_first_edition;
 use crate::run_result::RunResult;
 use capture_tracks::OpenedCapture;
 use fw_base::{Direction, MOST_LOAD_RECORDS, Name, OutOfMemory, Port};
 use fw_command::Pace;
 use load_maker::{Load, MadeCapture, make};
+use replay_setup::{ScriptError, read_first_edition};
 use std::alloc::Global;
 
 /// The made capture, as it would be taken at `in:em0`.

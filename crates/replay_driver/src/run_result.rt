@@ -2,16 +2,17 @@ ghost use Rattle.std.specs.Prelude.{◌≡◌, ◌<◌, [], length};
 ghost use Rattle.std.specs.List.{list_any};
 ghost use Rattle.fw_base.specs.Texts.{WritesText};
 ghost use Rattle.capture_tracks.specs.Reported.{report_record};
-ghost use Rattle.fw_report.specs.CaptureEnds as end_spec;
-ghost use Rattle.fw_report.specs.Report.{report_text};
+ghost use Rattle.report_texts.specs.CaptureEnds as end_spec;
+ghost use Rattle.report_texts.specs.Report.{report_text};
 ghost use Rattle.replay_driver.specs.RunResult as spec;
 
-use crate::ScriptError;
+use capture_tracks::is_unread;
 use fw_base::{Failed, Name, Sink, write_pieces, write_text};
-use fw_report::{Answer, CaptureEnd, Ends, LineAnswer, Recorded, write_report, write_summary};
+use fw_report::{write_report, write_summary};
 use fw_rule::Items;
 use fw_world::Record;
-use pcap_read::CaptureFault;
+use replay_setup::ScriptError;
+use report_texts::{Answer, CaptureEnd, Ends, LineAnswer, Recorded};
 use std::alloc::Global;
 
 /// What a run comes to, before a byte is written.
@@ -34,16 +35,6 @@ pub(crate) enum RunResult {
         kept: Record,
         ends: Ends,
     },
-}
-
-/// Whether the capture ended because its source failed.
-pub fn is_unread(end: &CaptureEnd) -> bool
-    ensures { result ≡ end_spec.is_unread end.now }
-{
-    match end {
-        CaptureEnd::Read { .. } => false,
-        CaptureEnd::Stopped { fault, .. } => *fault == CaptureFault::ReadFault,
-    }
 }
 
 /// Whether the capture ended with a fault.
@@ -69,7 +60,7 @@ fn is_refused(line: &LineAnswer) -> bool
 fn some_unread(ends: &[CaptureEnd]) -> bool
     ensures { result ≡ list_any end_spec.is_unread ends.now }
 {
-    ends.iter().any(is_unread)
+    ends.iter().any(|end| is_unread(end))
 }
 
 fn some_stopped(ends: &[CaptureEnd]) -> bool

@@ -19,9 +19,9 @@ use Rattle.state_asks.specs.declared.op.Op.TheVariants as op
 use Rattle.state_asks.specs.declared.reply.Reply.{Reply}
 use Rattle.state_asks.specs.declared.reply.Reply.TheVariants.{Found, NotFound, Created, Exists, LimitReached, TableFull}
 use Rattle.state_asks.specs.declared.reply.Way.TheVariants.{Forward, Reverse}
-use Rattle.fw_report.specs.JournalText.{ask_line, ask_start, ask_end, lookup_text, install_text, op_text, name_numbered, flags_word, reply_end, flow_of_ask}
+use Rattle.report_texts.specs.JournalText.{ask_line, ask_start, ask_end, lookup_text, install_text, op_text, name_numbered, flags_word, reply_end, flow_of_ask}
 use Rattle.state_asks.specs.Asked.{asked_second}
-use Rattle.fw_report.specs.AskText.{asked_name}
+use Rattle.report_texts.specs.AskText.{asked_name}
 use Rattle.report_reading.specs.Parts.{behind}
 use Rattle.report_reading.specs.RecordLines.{named_code_at, count_in}
 use Rattle.report_reading.specs.FlowTexts.{IsNameText}

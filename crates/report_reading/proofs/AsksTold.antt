@@ -20,9 +20,9 @@ use Rattle.state_asks.specs.declared.reply.Reply.TheVariants.{Found, NotFound, C
 use Rattle.state_asks.specs.declared.reply.Way.{Way}
 use Rattle.state_asks.specs.declared.rule_ref.RuleRef.{RuleRef}
 use Rattle.state_asks.specs.declared.reply.Way.TheVariants.{Forward, Reverse}
-use Rattle.fw_report.specs.JournalText.{ask_line, ask_end, flags_word, way_word, reply_end, flow_of_ask}
+use Rattle.report_texts.specs.JournalText.{ask_line, ask_end, flags_word, way_word, reply_end, flow_of_ask}
 use Rattle.state_asks.specs.Asked.{asked_second}
-use Rattle.fw_report.specs.AskText.{asked_name}
+use Rattle.report_texts.specs.AskText.{asked_name}
 use Rattle.fw_base.specs.Chain.{◌>>=◌, or_else}
 use Rattle.report_reading.specs.Parts.{Part, behind, told_by, told_where, positive_at, number_at}
 use Rattle.report_reading.specs.RecordLines.{named_code_at, count_in}

@@ -1,7 +1,7 @@
 -- The lines of lanes and of publications: what is read is what they are the text of, and each such text is read.
 use Rattle.std.proofs.Common.{◌≡◌, ℕ, Option, Some, List, ◌++◌, codes, refl, ap, subst, ◌∙◌, arith}
 use Rattle.std.specs.Fmt.{decimal}
-use Rattle.fw_report.specs.JournalText.{lane_line, publish_line}
+use Rattle.report_texts.specs.JournalText.{lane_line, publish_line}
 use Rattle.fw_base.specs.Chain.{◌>>=◌}
 use Rattle.report_reading.specs.Parts.{behind, ended, positive_at, number_at}
 use Rattle.report_reading.specs.LaneLines.{IsLane, IsPublication, lane_of, lane_in, publication_in}

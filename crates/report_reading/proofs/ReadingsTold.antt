@@ -6,8 +6,8 @@ use Rattle.std.proofs.lemmas.Option.{none-some, same_Some}
 use Rattle.eval_engine.specs.declared.docket_entry.DocketEntry.{DocketEntry}
 use Rattle.state_asks.specs.declared.op.Op.{Op}
 use Rattle.state_asks.specs.declared.reply.Reply.{Reply}
-use Rattle.fw_report.specs.DocketText.{record_line}
-use Rattle.fw_report.specs.JournalText.{ask_line, ask_start, publish_line, lane_line}
+use Rattle.report_texts.specs.DocketText.{record_line}
+use Rattle.report_texts.specs.JournalText.{ask_line, ask_start, publish_line, lane_line}
 use Rattle.fw_base.specs.Chain.{◌>>=◌, or_else}
 use Rattle.report_reading.specs.Parts.{behind, positive_at}
 use Rattle.report_reading.specs.RecordLines.{IsRecord, printed, record_in}

@@ -15,7 +15,7 @@ use Rattle.eval_engine.specs.declared.judgement.Cause.{Cause}
 use Rattle.eval_engine.specs.declared.judgement.Cause.TheVariants.{Rule, Limit, Full}
 use Rattle.eval_engine.specs.declared.judgement.Verdict.{Verdict}
 use Rattle.eval_engine.specs.declared.judgement.Verdict.TheVariants.{Allow, Deny, Reset, Unreach}
-use Rattle.fw_report.specs.DocketText.{verdict_word, verdict_code, cause_word, cause_count, judged_text, entry_text, record_line}
+use Rattle.report_texts.specs.DocketText.{verdict_word, verdict_code, cause_word, cause_count, judged_text, entry_text, record_line}
 use Rattle.fw_base.specs.Chain.{◌>>=◌, or_else}
 use Rattle.report_reading.specs.Parts.{Part, behind, told_by, told_where, ended, positive_at, number_at, rule_number_at}
 use Rattle.report_reading.specs.RecordLines.{IsVerdict, IsJudged, IsEntry, IsRecord, named, named_code_at, plain_code, any_code_at, code_at, verdict_at, count_in, cause_in, judged_in, malformed_in, entry_in, record_in}

@@ -12,9 +12,9 @@ use Rattle.state_asks.specs.declared.op.Op.TheVariants as op
 use Rattle.state_asks.specs.declared.reply.Reply.{Reply}
 use Rattle.state_asks.specs.declared.reply.Reply.TheVariants.{Found, NotFound, Created, Exists, LimitReached, TableFull}
 use Rattle.state_asks.specs.Flags.{HasKeptFlags}
-use Rattle.fw_report.specs.JournalText.{name_numbered, flow_of_ask}
+use Rattle.report_texts.specs.JournalText.{name_numbered, flow_of_ask}
 use Rattle.state_asks.specs.Asked.{asked_second}
-use Rattle.fw_report.specs.AskText.{asked_name}
+use Rattle.report_texts.specs.AskText.{asked_name}
 use Rattle.fw_base.specs.Chain.{◌>>=◌}
 use Rattle.report_reading.specs.Parts.{behind, positive_at, number_at}
 use Rattle.report_reading.specs.FlowTexts.{IsFlow, IsNameText, name_at, flow_at}

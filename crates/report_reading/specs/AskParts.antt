@@ -5,7 +5,7 @@ use Rattle.fw_rule.specs.declared.state_opt.LimitMask.TheVariants.{SrcAddr, SrcP
 use Rattle.state_asks.specs.declared.reply.Reply.{Reply}
 use Rattle.state_asks.specs.declared.reply.Reply.TheVariants.{Found, NotFound, Created, Exists, LimitReached, TableFull}
 use Rattle.state_asks.specs.declared.reply.Way.TheVariants.{Forward, Reverse}
-use Rattle.fw_report.specs.JournalText.{flags_word}
+use Rattle.report_texts.specs.JournalText.{flags_word}
 use Rattle.fw_base.specs.Chain.{◌>>=◌, or_else}
 use Rattle.report_reading.specs.Parts.{Part, behind, told_by, told_where, number_at, positive_at}
 use Rattle.report_reading.specs.RecordLines.{named_code_at, count_in}

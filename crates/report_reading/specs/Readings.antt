@@ -1,7 +1,7 @@
 -- Each line of a report, read as what it tells.
 use Rattle.std.specs.Prelude.{ℕ, ◌≡◌, true, if◌then◌else◌, Option, Some, None, List, [], ◌∷◌}
-use Rattle.fw_report.specs.DocketText.{record_line}
-use Rattle.fw_report.specs.JournalText.{ask_line, publish_line, lane_line}
+use Rattle.report_texts.specs.DocketText.{record_line}
+use Rattle.report_texts.specs.JournalText.{ask_line, publish_line, lane_line}
 use Rattle.fw_base.specs.Chain.{◌>>=◌, or_else}
 use Rattle.report_reading.specs.RecordLines.{IsRecord, record_in}
 use Rattle.report_reading.specs.LaneLines.{IsLane, IsPublication, lane_in, publication_in}

@@ -1,7 +1,7 @@
 ghost use Rattle.std.specs.Prelude.{◌≡◌, ℕ, List, Some, IfSome, IsSome, true};
 ghost use Rattle.std.specs.Option.{option_map};
-ghost use Rattle.fw_report.specs.DocketText.{record_line};
-ghost use Rattle.fw_report.specs.JournalText.{ask_line, lane_line, publish_line};
+ghost use Rattle.report_texts.specs.DocketText.{record_line};
+ghost use Rattle.report_texts.specs.JournalText.{ask_line, lane_line, publish_line};
 ghost use Rattle.report_reading.specs.RecordLines.{IsRecord, printed};
 ghost use Rattle.report_reading.specs.LaneLines.{IsLane, IsPublication};
 ghost use Rattle.report_reading.specs.AskLines.{IsAsk, printed_ask};

@@ -3,7 +3,7 @@ ghost use Rattle.std.specs.Option.{option_map};
 ghost use Rattle.eval_engine.specs.Dockets.{entry_by_cause};
 ghost use Rattle.report_reading.specs.Parts.{positive_at};
 ghost use Rattle.report_reading.specs.RecordLines as spec;
-ghost use Rattle.fw_report.specs.DocketText.{record_line};
+ghost use Rattle.report_texts.specs.DocketText.{record_line};
 
 use crate::parts::{behind, is_end, is_word, number, positive, rule_number};
 use eval_engine::{Cause, DocketEntry, Judgement, Verdict};

@@ -2,8 +2,8 @@
 use Rattle.std.specs.Prelude.{◌≡◌, ⊤, ℕ, Ok, Err, List}
 use Rattle.fw_command.specs.declared.script.Pace.TheVariants.{Serial}
 use Rattle.generation_store.specs.Published.{Published}
-use Rattle.replay_driver.specs.FirstEdition.{first_edition}
-use Rattle.replay_driver.specs.declared.first_edition.FirstEdition.{FirstEdition}
+use Rattle.replay_setup.specs.FirstEdition.{first_edition}
+use Rattle.replay_setup.specs.declared.first_edition.FirstEdition.{FirstEdition}
 use Rattle.report_values.specs.declared.journal_columns.JournalColumns.{JournalColumns}
 use Rattle.run_audit.specs.Audit.{FailsAtOpening, IsOpened}
 use Rattle.state_journal.specs.Journal.{Journal, IsLawfulFrom, no_states}

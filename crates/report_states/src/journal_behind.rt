@@ -1,12 +1,12 @@
 ghost use Rattle.std.specs.Prelude.{◌≡◌, ℕ, Ok, List, IfOk, IfErr};
 ghost use Rattle.std.specs.List.{AllByRecursion};
 ghost use Rattle.fw_command.specs.WellFormed.{IsStepInRange};
-ghost use Rattle.replay_driver.specs.FirstEdition.{GivesView, first_edition};
+ghost use Rattle.replay_setup.specs.FirstEdition.{GivesView, first_edition};
 ghost use Rattle.report_states.specs.Behind.{HasCause, IsJournalBehind};
 
 use crate::StatesFault;
 use fw_command::Pace;
-use replay_driver::{FirstEdition, ScriptError, read_first_edition};
+use replay_setup::{FirstEdition, ScriptError, read_first_edition};
 use run_audit::{AuditFault, open_journal};
 use state_journal::Book;
 use std::alloc::Global;

@@ -2,7 +2,7 @@ ghost use Rattle.std.specs.Prelude.{◌≡◌};
 ghost use Rattle.report_states.specs.declared.states_fault.StatesFault.TheVariants as fault;
 
 use fw_base::OutOfMemory;
-use replay_driver::ScriptError;
+use replay_setup::ScriptError;
 use std::alloc::AllocError;
 
 /// Why a journal tells no live states.

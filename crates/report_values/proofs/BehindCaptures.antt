@@ -7,7 +7,7 @@ use Rattle.std.specs.List.{list_all}
 use Rattle.std.proofs.lemmas.Bool.{and_parts, or_parts, false≢true}
 use Rattle.std.proofs.lemmas.Fmt.{digits_decimal, decimal_nonempty}
 use Rattle.eval_engine.specs.declared.docket_entry.DocketEntry.{DocketEntry}
-use Rattle.fw_report.specs.DocketText.{record_line, entry_text}
+use Rattle.report_texts.specs.DocketText.{record_line, entry_text}
 use Rattle.report_reading.proofs.Digits.{own}
 use Rattle.report_reading.specs.Parts.{behind}
 use Rattle.report_reading.proofs.Words.{behind_again}

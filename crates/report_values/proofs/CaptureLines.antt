@@ -1,7 +1,7 @@
 -- The lines of records and of captures, with one more behind them.
 use Rattle.std.proofs.Common.{◌≡◌, ℕ, suc, ◌+◌, List, [], ◌∷◌, ◌++◌, length, sym, ap, ◌∙◌, append_assoc, append-nil, add-zero, arith}
 use Rattle.eval_engine.specs.declared.docket_entry.DocketEntry.{DocketEntry}
-use Rattle.fw_report.specs.DocketText.{record_line, record_lines}
+use Rattle.report_texts.specs.DocketText.{record_line, record_lines}
 use Rattle.report_values.specs.Captures.{capture_lines, captures_lines}
 use Rattle.report_values.specs.declared.capture.Capture.{Capture}
 

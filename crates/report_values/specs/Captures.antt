@@ -1,9 +1,9 @@
 -- The lines of captures, by what was read of them.
 use Rattle.std.specs.Prelude.{ℕ, ⊤, ◌≡◌, ◌≢◌, ◌<◌, ◌≤◌, ◌^◌, ◌==◌, ◌+◌, if◌then◌else◌, ◌||◌, Bool, true, false, is_some, Option, Some, None, List, [], ◌∷◌, ◌++◌, codes, decimal, length}
 use Rattle.std.specs.Option.{option_map}
-use Rattle.fw_report.specs.DocketText.{record_line, record_lines, end_line}
+use Rattle.report_texts.specs.DocketText.{record_line, record_lines, end_line}
 use Rattle.eval_engine.specs.declared.docket_entry.DocketEntry.{DocketEntry}
-use Rattle.fw_report.specs.declared.capture_end.CaptureEnd.TheVariants.{Read}
+use Rattle.report_texts.specs.declared.capture_end.CaptureEnd.TheVariants.{Read}
 use Rattle.report_values.specs.declared.capture.Capture.{Capture}
 use Rattle.report_values.specs.declared.capture_lines.EndLine.{EndLine}
 use Rattle.report_values.specs.declared.unfit.Unfit.{Unfit}

@@ -1,5 +1,5 @@
 ghost use Rattle.std.specs.Prelude.{◌≡◌, ◌+◌, ◌++◌, IfErr, IfOk, IfSome, MatchOption, length};
-ghost use Rattle.fw_report.specs.DocketText.{record_lines};
+ghost use Rattle.report_texts.specs.DocketText.{record_lines};
 ghost use Rattle.report_values.specs.Captures as spec;
 
 use crate::capture_lines::begins_capture_line;

@@ -1,6 +1,6 @@
 ghost use Rattle.std.specs.Prelude.{◌≡◌, ◌≢◌, ◌↔◌, ◌++◌, ℕ, List, Option, None, true, is_some, IfSome, MatchOption, codes, decimal};
 ghost use Rattle.std.specs.Option.{option_map};
-ghost use Rattle.fw_report.specs.DocketText.{record_line};
+ghost use Rattle.report_texts.specs.DocketText.{record_line};
 ghost use Rattle.report_reading.specs.Parts.{behind};
 ghost use Rattle.report_values.specs.Captures as spec;
 
@@ -97,7 +97,7 @@ fn tells_end(line: &[u8], capture: u64, records: u64) -> bool
 }
 
 /// What the line tells of a fault that ended the capture; `None` where it doesn't tell how that capture ended.
-#[tactic(auto, unfolding(crate::specs::Captures::end_text, fw_report::specs::DocketText::end_line))]
+#[tactic(auto, unfolding(crate::specs::Captures::end_text, report_texts::specs::DocketText::end_line))]
 fn fault_told(line: &[u8], capture: u64, records: u64) -> Option<Option<&[u8]>>
     ensures { MatchOption result ((fault : Option (List ℕ)) → line.now
         ≢ spec.end_text capture records fault)

@@ -3,24 +3,10 @@
 //! Tests: the built program: `tests/run`.
 #![tactic(auto)]
 
-mod compared;
-mod flows_text;
-mod inputs;
-mod moves_text;
-mod moves_view;
-mod page_view;
-mod run;
-mod script_text;
-mod script_view;
-mod shown;
-mod trouble;
-mod trouble_text;
-mod words;
-
-use crate::run::run;
 use std::io;
 use std::process::ExitCode;
 use system_files::{FaultCounter, FileLibrary, OUT_OF_MEMORY, words_given};
+use view_driver::run;
 
 fn main(rt: HostRuntime) -> ExitCode {
     let alloc = rt.alloc();

@@ -7,3 +7,5 @@ pub mod Addresses
 -- words of a line, and rules
 pub mod Words
 pub mod Rules
+-- a rule on a line of a script
+pub mod AddLines

@@ -1,5 +1,5 @@
 -- What is written in canonical form is read again.
-use Rattle.std.specs.Prelude.{◌≡◌, ℕ, ◌^◌, ◌<◌, ◌≤◌, false, ◌==◌, Ok, Some, None, List, ◌∷◌, ◌++◌, length, map, codes}
+use Rattle.std.specs.Prelude.{◌≡◌, ℕ, Bool, ◌^◌, ◌<◌, ◌≤◌, false, ◌==◌, Ok, Some, None, List, ◌∷◌, ◌++◌, length, map, codes}
 use Rattle.std.specs.List.{AllByRecursion, join_with_byte}
 use Rattle.std.specs.Fmt.{decimal}
 use Rattle.fw_lex.specs.Words.{is_blank, tokens_of, before_comment, first_bad}
@@ -28,6 +28,9 @@ use Rattle.fw_rule.specs.declared.rule.Rule.{Rule}
 use Rattle.fw_rule.specs.declared.rule_draft.RuleDraft.{RuleDraft}
 use Rattle.fw_lex.specs.declared.token.Token.{Token}
 use Rattle.ipfw_parser.specs.Rules.{rule_in}
+use Rattle.fw_command.specs.Statements.{says}
+use Rattle.fw_command.specs.declared.statement.Statement.TheVariants.{Order}
+use Rattle.fw_rule.specs.declared.command.Command.TheVariants.{Add}
 
 -- a number in its range, written in decimal digits, is read as that number
 abbrev pub NumbersAreReadAgain : Type 0
@@ -119,3 +122,7 @@ CanonicalTextsAreReadable = (rule : Rule) → IsRuleForm rule → first_bad (bef
 abbrev pub CanonicalTextsKeepTheirWords : Type 0
 CanonicalTextsKeepTheirWords = (rule : Rule) → IsRuleForm rule
     → map (λ token. (word_at (add_line rule) token).text) (tokens_of (add_line rule)) ≡ codes "add" ∷ rule_words rule
+
+-- wherever the line `add` with a rule's canonical text stands in a script, it is the command that adds this rule
+abbrev pub AddLinesAreReadAgain : Type 0
+AddLinesAreReadAgain = (live : Bool) (rule : Rule) → IsRuleForm rule → says live (add_line rule) ≡ Ok (Order (Add (draft_of rule)))

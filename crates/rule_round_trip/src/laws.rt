@@ -1,4 +1,4 @@
-ghost use Rattle.rule_round_trip.specs.Laws.{AddressListsAreReadAgain, CanonicalTextsAreReadable, CanonicalTextsKeepTheirWords, GroupsAreReadAgain, MasksAreReadAgain, NumbersAreReadAgain, PortListsAreReadAgain, Prefixes6AreReadAgain, PrefixesAreReadAgain, RulesAreReadAgain, RulesInFormAreReadAgain, TextsTellRulesApart, WordsAreReadAgain};
+ghost use Rattle.rule_round_trip.specs.Laws.{AddLinesAreReadAgain, AddressListsAreReadAgain, CanonicalTextsAreReadable, CanonicalTextsKeepTheirWords, GroupsAreReadAgain, MasksAreReadAgain, NumbersAreReadAgain, PortListsAreReadAgain, Prefixes6AreReadAgain, PrefixesAreReadAgain, RulesAreReadAgain, RulesInFormAreReadAgain, TextsTellRulesApart, WordsAreReadAgain};
 
 /// A number in its range, written in decimal digits, is read as that number.
 pub fn numbers_are_read_again()
@@ -65,4 +65,10 @@ pub fn canonical_texts_keep_their_words()
 /// For every rule that the grammar yields, its canonical text behind `add` is read as the same rule.
 pub fn rules_are_read_again()
     ensures { RulesAreReadAgain }
+{}
+
+/// The line `add` with the canonical text of a rule that the grammar yields, wherever it stands in a
+/// script, is the command that adds this rule.
+pub fn add_lines_are_read_again()
+    ensures { AddLinesAreReadAgain }
 {}

@@ -3,11 +3,11 @@ use Rattle.std.proofs.Common.{◌≡◌, ℕ, ◌+◌, Bool, true, false, Option
 use Rattle.std.specs.Fmt.{decimal}
 use Rattle.std.specs.List.{flat_map, AllByRecursion}
 use Rattle.eval_engine.specs.Dockets.{DocketValue}
-use Rattle.fw_report.proofs.SilentWords.{number_is_silent}
+use Rattle.report_texts.proofs.SilentWords.{number_is_silent}
 use Rattle.state_asks.specs.Flags.{asked_flags}
-use Rattle.fw_report.specs.JournalText.{ask_end, ask_line, ask_start, entry_line, flag_letters, flags_word, flow_of_ask, install_text, lane_line, lanes_text, lookup_text, name_numbered, name_word, op_text, publish_line, reply_end, way_word}
+use Rattle.report_texts.specs.JournalText.{ask_end, ask_line, ask_start, entry_line, flag_letters, flags_word, flow_of_ask, install_text, lane_line, lanes_text, lookup_text, name_numbered, name_word, op_text, publish_line, reply_end, way_word}
 use Rattle.state_asks.specs.Asked.{asked_second}
-use Rattle.fw_report.specs.Lines.{lines_in}
+use Rattle.report_texts.specs.Lines.{lines_in}
 use Rattle.fw_rule.specs.Bits.{has_bit}
 use Rattle.fw_rule.specs.declared.state_opt.LimitMask.{LimitMask}
 use Rattle.fw_rule.specs.declared.state_opt.LimitMask.TheVariants.{SrcAddr, SrcPort, DstAddr, DstPort}

@@ -2,10 +2,10 @@
 use Rattle.std.proofs.Common.{◌≡◌, ℕ, suc, ◌-◌, ◌≤◌, ◌==◌, nat_le, true, Some, None, List, [], ◌∷◌, ◌++◌, length, codes, refl, ap, ◌∙◌, arith}
 use Rattle.std.specs.Prelude.{slice_index}
 use Rattle.std.specs.Fmt.{decimal}
-use Rattle.fw_report.proofs.SilentWords.{number_is_silent}
-use Rattle.fw_report.specs.Lines.{lines_in}
-use Rattle.fw_report.specs.RulesText.{editions_line}
-use Rattle.fw_report.specs.JournalText.{journal_heading}
+use Rattle.report_texts.proofs.SilentWords.{number_is_silent}
+use Rattle.report_texts.specs.Lines.{lines_in}
+use Rattle.report_texts.specs.RulesText.{editions_line}
+use Rattle.report_texts.specs.JournalText.{journal_heading}
 use Rattle.report_reading.specs.AskLines.{ask_in}
 use Rattle.report_reading.specs.LaneLines.{lane_in, publication_in}
 use Rattle.report_reading.specs.LightLines.{has_end, has_head, head_words, is_light}

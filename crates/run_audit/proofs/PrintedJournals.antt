@@ -4,7 +4,7 @@ use Rattle.std.specs.Prelude.{unwrap_or}
 use Rattle.std.specs.List.{flat_map, AllByRecursion}
 use Rattle.std.proofs.lemmas.List.{append-nil}
 use Rattle.eval_engine.specs.Dockets.{DocketValue}
-use Rattle.fw_report.specs.JournalText.{entry_line, journal_heading, journal_text, lanes_text}
+use Rattle.report_texts.specs.JournalText.{entry_line, journal_heading, journal_text, lanes_text}
 use Rattle.fw_base.specs.Chain.{or_else}
 use Rattle.fw_world.specs.Publications.{facts_of}
 use Rattle.generation_store.specs.Published.{Published}

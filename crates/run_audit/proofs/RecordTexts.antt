@@ -6,9 +6,9 @@ use Rattle.eval_engine.specs.declared.docket_entry.DocketEntry.{DocketEntry}
 use Rattle.eval_engine.specs.declared.docket_entry.DocketEntry.TheVariants as entry
 use Rattle.eval_engine.specs.declared.judgement.Cause.TheVariants.{Rule, Limit, Full}
 use Rattle.eval_engine.specs.declared.judgement.Judgement.{Judgement}
-use Rattle.fw_report.proofs.SilentWords.{number_is_silent, five_digits_are_silent, verdict_is_silent, verdict_code_is_silent, cause_is_silent, cause_count_is_silent}
-use Rattle.fw_report.specs.DocketText.{cause_count, cause_word, entry_text, judged_text, record_line, record_lines, verdict_code, verdict_word}
-use Rattle.fw_report.specs.Lines.{lines_in}
+use Rattle.report_texts.proofs.SilentWords.{number_is_silent, five_digits_are_silent, verdict_is_silent, verdict_code_is_silent, cause_is_silent, cause_count_is_silent}
+use Rattle.report_texts.specs.DocketText.{cause_count, cause_word, entry_text, judged_text, record_line, record_lines, verdict_code, verdict_word}
+use Rattle.report_texts.specs.Lines.{lines_in}
 use Rattle.report_reading.proofs.ReadingsTold.{record_read}
 use Rattle.report_reading.specs.Readings.{LineValue, OfRecord}
 use Rattle.report_reading.specs.RecordLines.{IsRecord, printed}

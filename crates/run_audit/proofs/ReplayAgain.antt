@@ -3,7 +3,7 @@ use Rattle.std.proofs.Common.{◌≡◌, ℕ, ◌+◌, ◌==◌, true, Option, S
 use Rattle.std.specs.Prelude.{slice_get}
 use Rattle.std.proofs.lemmas.List.{map-append, length-map}
 use Rattle.dyn_states.specs.StateObject.{reply_of}
-use Rattle.fw_report.specs.AskText.{asked_name}
+use Rattle.report_texts.specs.AskText.{asked_name}
 use Rattle.fw_world.specs.Publications.{facts_of}
 use Rattle.generation_store.specs.Published.{Published}
 use Rattle.report_reading.specs.AskLines.{printed_ask, printed_op, printed_reply}

@@ -6,8 +6,8 @@ use Rattle.std.specs.List.{list_all, join_with_byte, AllByRecursion}
 use Rattle.std.proofs.lemmas.Bool.{cases_Bool, and_parts, eqb-true}
 use Rattle.fw_base.specs.Addr.{address_text}
 use Rattle.fw_base.specs.Name.{is_name_byte}
-use Rattle.fw_report.proofs.SilentWords.{number_is_silent}
-use Rattle.fw_report.specs.Lines.{lines_in}
+use Rattle.report_texts.proofs.SilentWords.{number_is_silent}
+use Rattle.report_texts.specs.Lines.{lines_in}
 use Rattle.rule_text.specs.Canonical.{WordTexts, spaced_text, protocol_word}
 use Rattle.packet_headers.specs.declared.flows.Flow.{Flow}
 use Rattle.state_texts.specs.StateTexts.{flow_text}

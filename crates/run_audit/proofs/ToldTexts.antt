@@ -3,8 +3,8 @@ use Rattle.std.proofs.Common.{◌≡◌, ℕ, ◌+◌, ◌==◌, false, Option, 
 use Rattle.std.specs.List.{flat_map, onto_first, AllByRecursion}
 use Rattle.std.proofs.lemmas.Bool.{cases_Bool}
 use Rattle.std.proofs.lemmas.List.{map-append}
-use Rattle.fw_report.proofs.SilentWords.{lines-append}
-use Rattle.fw_report.specs.Lines.{lines_in}
+use Rattle.report_texts.proofs.SilentWords.{lines-append}
+use Rattle.report_texts.specs.Lines.{lines_in}
 use Rattle.report_reading.specs.Lines.{lines_with_ends}
 use Rattle.report_reading.specs.Readings.{LineValue, reading_of}
 

@@ -1,7 +1,7 @@
 -- What is rebuilt where nothing is wrong behind the records.
 use Rattle.std.specs.Prelude.{◌≡◌, ℕ, None, List, map}
 use Rattle.std.specs.Arc.{arc_value}
-use Rattle.fw_report.specs.declared.ends.LineAnswer.{LineAnswer}
+use Rattle.report_texts.specs.declared.ends.LineAnswer.{LineAnswer}
 use Rattle.state_journal.specs.Journal.{IsJournal}
 use Rattle.run_audit.specs.Audit.{AreSectionsTold, entries_rebuilt}
 use Rattle.run_audit.specs.Entering.{JudgingValue}

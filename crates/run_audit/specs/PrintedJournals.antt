@@ -2,8 +2,8 @@
 use Rattle.std.specs.Prelude.{◌≡◌, ℕ, ◌+◌, Option, Some, None, List, [], ◌∷◌}
 use Rattle.std.specs.List.{AllByRecursion}
 use Rattle.eval_engine.specs.Dockets.{DocketValue}
-use Rattle.fw_report.specs.AskText.{asked_name}
-use Rattle.fw_report.specs.JournalText.{journal_text}
+use Rattle.report_texts.specs.AskText.{asked_name}
+use Rattle.report_texts.specs.JournalText.{journal_text}
 use Rattle.fw_world.specs.Publications.{facts_of}
 use Rattle.generation_store.specs.Published.{Published}
 use Rattle.report_reading.specs.AskLines.{IsAsk, printed_ask, printed_op}

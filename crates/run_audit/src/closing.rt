@@ -14,7 +14,7 @@ use crate::told::Told;
 use crate::{AuditFault, Rebuilt};
 use eval_engine::Docket;
 use fw_base::OutOfMemory;
-use fw_report::LineAnswer;
+use report_texts::LineAnswer;
 use std::alloc::Global;
 
 /// The dockets of lanes with what was refused to them, and the lanes' tracker words.

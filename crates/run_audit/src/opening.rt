@@ -15,7 +15,7 @@ use crate::publisher::Publisher;
 use crate::reading_told::told_report;
 use crate::told_report::ToldReport;
 use fw_command::Step;
-use fw_report::LineAnswer;
+use report_texts::LineAnswer;
 use rule_chain::Config;
 use state_journal::Book;
 use std::alloc::Global;

@@ -14,9 +14,9 @@ ghost use Rattle.capture_tracks.specs.Operator.{AddsAnswer, AddsEdition, AddsRef
 use capture_tracks::{Listing, answer_listing, listing_of};
 use fw_base::OutOfMemory;
 use fw_command::{Line, Step};
-use fw_report::{Answer, LineAnswer};
 use fw_world::{CommitFault, last_edition, next_edition, store_of};
 use generation_store::{Edition, Store};
+use report_texts::{Answer, LineAnswer};
 use rule_chain::Config;
 use std::alloc::Global;
 use std::marker::Model;

@@ -1,7 +1,7 @@
 use counter_book::Tally;
 use eval_engine::Docket;
-use fw_report::LineAnswer;
 use generation_store::Edition;
+use report_texts::LineAnswer;
 use state_journal::Book;
 use std::sync::Arc;
 

@@ -4,14 +4,14 @@ use Rattle.std.specs.Option.{option_map}
 use Rattle.command_words.specs.Words.{CaptureNames}
 use Rattle.fw_base.specs.Pairs.{Pair, take_named, TakesOut}
 use Rattle.record_laws.specs.SameCaptures.{HaveSameContents}
-use Rattle.replay_driver.specs.Found.{ReadsNames}
-use Rattle.replay_driver.specs.Openings.{OpensAll, file_names, port_of}
+use Rattle.replay_setup.specs.NamesRead.{ReadsNames}
+use Rattle.replay_setup.specs.Openings.{OpensAll, file_names, port_of}
 use Rattle.replay_driver.specs.Promises.{opening_order}
 use Rattle.replay_driver.specs.Served.{ReplayNames, Replays}
 use Rattle.buffered_io.specs.WholeSource.{ReadsAll}
 use Rattle.run_laws.specs.TwoRuns.{Outside, TellSameContents, contents_of}
 use Rattle.capture_tracks.specs.declared.opened.OpenedCapture.{OpenedCapture}
-use Rattle.replay_driver.specs.Outside.{Files}
+use Rattle.replay_setup.specs.Outside.{Files}
 
 -- ---- reading a file
 

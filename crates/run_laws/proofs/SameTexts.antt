@@ -1,26 +1,26 @@
 -- Replays of the same script and captures have one record, one status and one text.
 use Rattle.std.proofs.Common.{◌≡◌, ℕ, ◌≤◌, Bool, true, false, ◌||◌, List, [], ◌∷◌, ◌++◌, Option, Result, Ok, Err, length, map, refl, sym, ap, ◌∙◌, subst, arith}
 use Rattle.std.specs.List.{list_any}
-use Rattle.fw_report.specs.CaptureEnds.{is_failed_read, is_unread}
-use Rattle.fw_report.specs.Report.{report_text}
-use Rattle.fw_report.specs.Summary.{summary_text}
-use Rattle.fw_report.specs.declared.capture_end.CaptureEnd.{CaptureEnd}
-use Rattle.fw_report.specs.declared.capture_end.CaptureEnd.TheVariants.{Read, Stopped}
-use Rattle.fw_report.specs.declared.ends.Ends.{Ends}
-use Rattle.fw_report.specs.declared.ends.LineAnswer.{LineAnswer}
+use Rattle.report_texts.specs.CaptureEnds.{is_failed_read, is_unread}
+use Rattle.report_texts.specs.Report.{report_text}
+use Rattle.report_texts.specs.Summary.{summary_text}
+use Rattle.report_texts.specs.declared.capture_end.CaptureEnd.{CaptureEnd}
+use Rattle.report_texts.specs.declared.capture_end.CaptureEnd.TheVariants.{Read, Stopped}
+use Rattle.report_texts.specs.declared.ends.Ends.{Ends}
+use Rattle.report_texts.specs.declared.ends.LineAnswer.{LineAnswer}
 use Rattle.fw_world.specs.RecordValue.{RecordValue}
 use Rattle.record_laws.specs.OneReplay.{IsSameRecord}
 use Rattle.record_laws.specs.SameCaptures.{HaveSameContents, HaveNoFailedRead, printed_end}
 use Rattle.record_laws.specs.VerdictLines.{recorded_with}
 use Rattle.record_laws.proofs.OneReplay.{contents_determine_reports}
 use Rattle.replay_driver.proofs.Statuses.{status_by, by_tests}
-use Rattle.replay_driver.specs.FirstEdition.{first_edition}
+use Rattle.replay_setup.specs.FirstEdition.{first_edition}
 use Rattle.replay_driver.specs.Found.{IsReplayOf}
 use Rattle.capture_tracks.specs.Reported.{report_record}
 use Rattle.replay_driver.specs.RunResult.{summary_of, report_status, is_stopped, is_refused}
 use Rattle.command_words.specs.declared.invocation.Mode.TheVariants.{Serial}
 use Rattle.serial_replay.specs.Replay.{IsSerialReplay}
-use Rattle.replay_driver.specs.Served.{pace_of}
+use Rattle.replay_setup.specs.FirstEdition.{pace_of}
 use Rattle.capture_tracks.specs.declared.opened.OpenedCapture.{OpenedCapture}
 
 -- ---- results

@@ -6,7 +6,7 @@ use Rattle.fw_base.specs.Pairs.{Pair, take_named}
 use Rattle.fw_world.specs.RecordValue.{RecordValue}
 use Rattle.record_laws.specs.OneReplay.{IsSameRecord}
 use Rattle.record_laws.specs.SameCaptures.{printed_end}
-use Rattle.replay_driver.specs.Outside.{Files, Output}
+use Rattle.replay_setup.specs.Outside.{Files, Output}
 use Rattle.replay_driver.specs.Promises.{IsKept, IsUnreadyJob, IsQuiet, IsFaulty, opening_order}
 use Rattle.replay_driver.specs.Served.{Job, Replays, Loads, IsSerialJob}
 use Rattle.replay_driver.specs.declared.outcome.Outcome.{Outcome}

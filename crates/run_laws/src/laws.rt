@@ -2,7 +2,7 @@
 ghost use Rattle.run_laws.specs.TwoRuns.{RunsAreDetermined};
 
 use fw_base::{Library, Sink};
-use replay_driver::{LibraryView, SinkView};
+use replay_setup::{LibraryView, SinkView};
 
 /// Two runs of one job that isn't of live mode, over libraries that tell the same bytes under the names that it opens, end with the same
 /// status, keep records that say the same and, where they keep one, give the same answers, and write the same text to

@@ -3,9 +3,9 @@ use Rattle.std.proofs.Common.{◌≡◌, ℕ, ◌+◌, Some, None, Ok, Err, List
 use Rattle.std.specs.Prelude.{◌⊎◌, Result, OnOk}
 use Rattle.std.specs.List.{AllByRecursion}
 use Rattle.fw_command.specs.declared.script.Line.{Line}
-use Rattle.fw_report.specs.declared.ends.Answer.{Answer}
-use Rattle.fw_report.specs.declared.ends.LineAnswer.{LineAnswer}
-use Rattle.fw_report.specs.declared.ends.Answer.TheVariants.{Refused}
+use Rattle.report_texts.specs.declared.ends.Answer.{Answer}
+use Rattle.report_texts.specs.declared.ends.LineAnswer.{LineAnswer}
+use Rattle.report_texts.specs.declared.ends.Answer.TheVariants.{Refused}
 use Rattle.fw_rule.specs.declared.command.Command.{Command}
 use Rattle.fw_world.specs.Closing.{AreLanesFrom, EachStandsFor}
 use Rattle.fw_world.specs.CommitFaults.{RefusesCommand}

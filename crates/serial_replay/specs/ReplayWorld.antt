@@ -3,8 +3,8 @@ use Rattle.std.specs.Prelude.{◌≡◌, ⊤, ℕ, zero, suc, Option, Some, None
 use Rattle.std.specs.List.{AllByRecursion}
 use Rattle.fw_base.specs.declared.port.Port.{Port}
 use Rattle.fw_command.specs.declared.script.Line.{Line}
-use Rattle.fw_report.specs.declared.ends.Answer.TheVariants.{Refused}
-use Rattle.fw_report.specs.declared.ends.LineAnswer.{LineAnswer}
+use Rattle.report_texts.specs.declared.ends.Answer.TheVariants.{Refused}
+use Rattle.report_texts.specs.declared.ends.LineAnswer.{LineAnswer}
 use Rattle.fw_rule.specs.declared.command.Command.{Command}
 use Rattle.fw_world.specs.Caches.{IsPortFor}
 use Rattle.fw_world.specs.RecordedHits.{EachHasRoom}

@@ -13,10 +13,10 @@ ghost use Rattle.capture_tracks.specs.Reading.{input_of};
 use capture_tracks::{Listing, answer_listing, listing_of};
 use fw_base::{Link, OutOfMemory, Port};
 use fw_command::Line;
-use fw_report::{Answer, LineAnswer};
 use fw_world::{CommitFault, Skipped};
 use ip6_headers::{AnyPacket, read_any};
 use pcap_read::{MOST_RECORD_BYTES, Record};
+use report_texts::{Answer, LineAnswer};
 use serial_world::{SerialDesk, SerialLane, SerialWorld};
 use std::alloc::Global;
 

@@ -7,8 +7,8 @@ use crate::replay_world::ReplayWorld;
 use crate::tracks::Tracks;
 use capture_tracks::Replayed;
 use fw_base::{OutOfMemory, Source};
-use fw_report::Ends;
 use fw_rule::Items;
+use report_texts::Ends;
 use serial_schedule::Agenda;
 use std::alloc::Global;
 

@@ -8,8 +8,8 @@ ghost use Rattle.serial_schedule.specs.Order.{moment_of};
 
 use capture_tracks::{OpenTrack, OpenedCapture, Track};
 use fw_base::{OutOfMemory, Source};
-use fw_report::CaptureEnd;
 use pcap_read::{Capture, MOST_RECORDS};
+use report_texts::CaptureEnd;
 use serial_schedule::{Moment, first_capture};
 use std::alloc::Global;
 use std::marker::Model;

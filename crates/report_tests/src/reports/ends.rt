@@ -1,7 +1,7 @@
 use super::{Captured, Row};
 use fw_base::Name;
-use fw_report::{Answer, CaptureEnd, Ends, LineAnswer};
 use fw_rule::Items;
+use report_texts::{Answer, CaptureEnd, Ends, LineAnswer};
 use rule_edits::ApplyFault;
 use std::alloc::Global;
 use std::test::Fail;

@@ -1,6 +1,6 @@
 -- The sources so far.
 use Rattle.std.proofs.Common.{◌≡◌}
-use Rattle.replay_driver.specs.Openings.{sources_of}
+use Rattle.capture_tracks.specs.Replay.{sources_of}
 use Rattle.audit_driver.proofs.audit_command.into_sources.Given as goal
 
 abbrev pub invariant-loop-capture : goal.invariant-loop-capture

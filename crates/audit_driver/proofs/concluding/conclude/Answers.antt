@@ -2,7 +2,7 @@ use Rattle.std.proofs.Common.{ℕ, ◌∙◌, ◌++◌, Global, Vec, ap, arith, 
 use Rattle.std.proofs.lemmas.List.{length-map}
 use Rattle.std.proofs.lemmas.Result.{IfOk-weaker}
 use Rattle.std.specs.Arc.{arc_value}
-use Rattle.fw_report.specs.declared.ends.LineAnswer.{LineAnswer}
+use Rattle.report_texts.specs.declared.ends.LineAnswer.{LineAnswer}
 use Rattle.replay_driver.proofs.SomeEditions.{some_editions}
 use Rattle.run_audit.specs.Audit.{IsFirstWrong}
 use Rattle.audit_driver.proofs.Conclusions.{concludes_so}

@@ -1,6 +1,6 @@
 use Rattle.std.proofs.Common.{◌≡◌, drop, map}
 use Rattle.std.specs.Arc.{arc_value}
-use Rattle.fw_report.specs.AnswerText as text
+use Rattle.report_texts.specs.AnswerText as text
 use Rattle.fw_report.proofs.answer_lines.edition_of.Given as goal
 
 abbrev pub invariant-loop-edition : goal.invariant-loop-edition

@@ -2,7 +2,7 @@ use Rattle.std.proofs.Common.{◌++◌, ℕ, ap, sym}
 use Rattle.fw_base.proofs.Texts.{starts}
 use Rattle.rule_text.proofs.WriteSteps.{goes, breaks_off, finishes}
 use Rattle.fw_base.specs.Addr.{address_text}
-use Rattle.fw_report.specs.AnswerText.{address_line, length_text}
+use Rattle.report_texts.specs.AnswerText.{address_line, length_text}
 use Rattle.fw_report.proofs.answer_lines.write_address_line.Goals as goal
 
 pub returns-in_err-write_address : goal.returns-in_err-write_address

@@ -1,7 +1,7 @@
 use Rattle.std.proofs.Common.{◌+◌, drop, flat_map}
 use Rattle.rule_text.proofs.WriteSteps.{goes, breaks_off}
-use Rattle.fw_report.proofs.Sections.{text_at}
-use Rattle.fw_report.specs.AnswerText.{address_line}
+use Rattle.report_texts.proofs.Sections.{text_at}
+use Rattle.report_texts.specs.AnswerText.{address_line}
 use Rattle.fw_report.proofs.answer_lines.write_address_lines.Goals as goal
 
 pub returns-in_err-write_address_line : goal.returns-in_err-write_address_line

@@ -1,6 +1,6 @@
 use Rattle.std.proofs.Common.{drop, flat_map}
 use Rattle.fw_base.proofs.Texts.{IsUnderWay}
-use Rattle.fw_report.specs.AnswerText.{address_line}
+use Rattle.report_texts.specs.AnswerText.{address_line}
 use Rattle.fw_report.proofs.answer_lines.write_address_lines.Given as goal
 
 abbrev pub invariant-loop-entry : goal.invariant-loop-entry

@@ -1,9 +1,9 @@
 use Rattle.std.proofs.Common.{◌+◌, drop, flat_map}
 use Rattle.rule_text.proofs.WriteSteps.{goes, breaks_off}
-use Rattle.fw_report.proofs.Sections.{text_at}
+use Rattle.report_texts.proofs.Sections.{text_at}
 use Rattle.std.proofs.Common.{map}
 use Rattle.std.specs.Arc.{arc_value}
-use Rattle.fw_report.specs.AnswerText.{answer_text}
+use Rattle.report_texts.specs.AnswerText.{answer_text}
 use Rattle.fw_report.proofs.answer_lines.write_answers.Goals as goal
 
 pub returns-in_err-write_answer : goal.returns-in_err-write_answer

@@ -2,7 +2,7 @@ use Rattle.std.proofs.Common.{drop, flat_map}
 use Rattle.fw_base.proofs.Texts.{IsUnderWay}
 use Rattle.std.proofs.Common.{map}
 use Rattle.std.specs.Arc.{arc_value}
-use Rattle.fw_report.specs.AnswerText.{answer_text}
+use Rattle.report_texts.specs.AnswerText.{answer_text}
 use Rattle.fw_report.proofs.answer_lines.write_answers.Given as goal
 
 abbrev pub invariant-loop-answer : goal.invariant-loop-answer

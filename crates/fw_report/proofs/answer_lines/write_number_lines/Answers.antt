@@ -1,7 +1,7 @@
 use Rattle.std.proofs.Common.{◌+◌, drop, flat_map}
 use Rattle.fw_base.proofs.Texts.{flat_map-drop}
 use Rattle.rule_text.proofs.WriteSteps.{goes, breaks_off}
-use Rattle.fw_report.specs.AnswerText.{number_line}
+use Rattle.report_texts.specs.AnswerText.{number_line}
 use Rattle.fw_report.proofs.answer_lines.write_number_lines.Goals as goal
 
 pub returns-in_err-write_number_line : goal.returns-in_err-write_number_line

@@ -1,5 +1,5 @@
 use Rattle.std.proofs.Common.{◌≡◌}
-use Rattle.fw_report.specs.AnswerText.{refused_line}
+use Rattle.report_texts.specs.AnswerText.{refused_line}
 use Rattle.fw_report.proofs.answer_lines.write_refused.Goals as goal
 
 pub returns : goal.returns

@@ -3,7 +3,7 @@ use Rattle.fw_base.proofs.Texts.{starts}
 use Rattle.rule_text.proofs.WriteSteps.{goes, breaks_off, finishes}
 use Rattle.rule_text.specs.Canonical.{rule_text}
 use Rattle.fw_rule.specs.declared.rule.Rule.{Rule}
-use Rattle.fw_report.specs.AnswerText.{rule_line}
+use Rattle.report_texts.specs.AnswerText.{rule_line}
 use Rattle.fw_report.proofs.answer_lines.write_rule_line.Goals as goal
 
 pub returns-in_err-write_canonical : goal.returns-in_err-write_canonical

@@ -3,7 +3,7 @@ use Rattle.fw_base.proofs.Texts.{IsUnderWay}
 use Rattle.std.specs.Arc.{arc_value}
 use Rattle.std.specs.declared.sync.Arc.{Arc}
 use Rattle.fw_rule.specs.declared.rule.Rule.{Rule}
-use Rattle.fw_report.specs.AnswerText.{rule_line}
+use Rattle.report_texts.specs.AnswerText.{rule_line}
 use Rattle.fw_report.proofs.answer_lines.write_rule_lines.Given as goal
 
 abbrev pub invariant-loop-rule : goal.invariant-loop-rule

@@ -4,8 +4,8 @@ use Rattle.rule_text.proofs.WriteSteps.{goes, breaks_off, finishes}
 use Rattle.std.proofs.lemmas.List.{length-map}
 use Rattle.std.specs.Arc.{arc_value}
 use Rattle.std.specs.List.{flat_map}
-use Rattle.fw_report.specs.AnswerText.{rules_listing, rule_line, count_line}
-use Rattle.fw_report.proofs.Sections.{flat_map_map}
+use Rattle.report_texts.specs.AnswerText.{rules_listing, rule_line, count_line}
+use Rattle.report_texts.proofs.Sections.{flat_map_map}
 use Rattle.fw_report.proofs.answer_lines.write_rules.Goals as goal
 
 pub returns-in_err-write_text : goal.returns-in_err-write_text

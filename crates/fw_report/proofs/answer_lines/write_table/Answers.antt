@@ -1,7 +1,7 @@
 use Rattle.std.proofs.Common.{refl, ◌++◌, ℕ, List, ap, sym}
 use Rattle.fw_base.proofs.Texts.{starts}
 use Rattle.rule_text.proofs.WriteSteps.{goes, breaks_off, finishes}
-use Rattle.fw_report.specs.AnswerText.{table_listing, table_size, origin, table_lines}
+use Rattle.report_texts.specs.AnswerText.{table_listing, table_size, origin, table_lines}
 use Rattle.fw_report.proofs.answer_lines.write_table.Goals as goal
 
 pub returns-in_err-write_text : goal.returns-in_err-write_text

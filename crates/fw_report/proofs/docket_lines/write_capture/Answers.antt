@@ -2,7 +2,7 @@ use Rattle.std.proofs.Common.{arith}
 use Rattle.std.proofs.lemmas.Result.{err_from_is_err_and}
 use Rattle.fw_base.proofs.Texts.{goes_on_with, breaks_in, ends_with}
 use Rattle.eval_engine.specs.declared.docket_entry.DocketEntry.TheVariants.{Other}
-use Rattle.fw_report.proofs.Sections.{next_line, last_line}
+use Rattle.report_texts.proofs.Sections.{next_line, last_line}
 use Rattle.fw_report.proofs.docket_lines.write_capture.Goals as goal
 
 pub returns-in_err-write_record : goal.returns-in_err-write_record

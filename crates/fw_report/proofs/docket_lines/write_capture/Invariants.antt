@@ -1,7 +1,7 @@
 -- The lines of the records so far were written.
 use Rattle.std.proofs.Common.{◌≡◌, ◌+◌, ◌++◌, drop}
 use Rattle.fw_base.proofs.Texts.{IsUnderWay}
-use Rattle.fw_report.specs.DocketText.{record_lines, end_line, capture_text}
+use Rattle.report_texts.specs.DocketText.{record_lines, end_line, capture_text}
 use Rattle.fw_report.proofs.docket_lines.write_capture.Given as goal
 
 abbrev pub invariant-loop-entry : goal.invariant-loop-entry

@@ -2,8 +2,8 @@ use Rattle.std.proofs.Common.{◌≡◌, ◌∙◌, ℕ, List, ◌+◌, ◌++◌
 use Rattle.fw_base.proofs.Texts.{ends}
 use Rattle.rule_text.proofs.WriteSteps.{goes, breaks_off}
 use Rattle.eval_engine.specs.declared.docket_entry.DocketEntry.{DocketEntry}
-use Rattle.fw_report.specs.DocketText.{capture_text, captures_text}
-use Rattle.fw_report.proofs.Sections.{next_capture, no_capture_end, no_capture}
+use Rattle.report_texts.specs.DocketText.{capture_text, captures_text}
+use Rattle.report_texts.proofs.Sections.{next_capture, no_capture_end, no_capture}
 use Rattle.fw_report.proofs.docket_lines.write_captures.Goals as goal
 
 pub returns-in_default : goal.returns-in_default

@@ -1,6 +1,6 @@
 use Rattle.std.proofs.Common.{◌≡◌, ◌+◌, drop}
 use Rattle.fw_base.proofs.Texts.{IsUnderWay}
-use Rattle.fw_report.specs.DocketText.{captures_text}
+use Rattle.report_texts.specs.DocketText.{captures_text}
 use Rattle.fw_report.proofs.docket_lines.write_captures.Given as goal
 
 abbrev pub invariant-loop-docket : goal.invariant-loop-docket

@@ -2,7 +2,7 @@ use Rattle.std.proofs.Common.{◌+◌, drop, flat_map}
 use Rattle.fw_base.proofs.Texts.{flat_map-drop}
 use Rattle.rule_text.proofs.WriteSteps.{goes, breaks_off}
 use Rattle.state_journal.specs.declared.entry.Entry.TheVariants.{Publish}
-use Rattle.fw_report.specs.JournalText.{entry_line}
+use Rattle.report_texts.specs.JournalText.{entry_line}
 use Rattle.fw_report.proofs.journal_lines.write_entries.Goals as goal
 
 pub returns-in_err-write_entry : goal.returns-in_err-write_entry

@@ -1,6 +1,6 @@
 use Rattle.std.proofs.Common.{drop, flat_map}
 use Rattle.fw_base.proofs.Texts.{IsUnderWay}
-use Rattle.fw_report.specs.JournalText.{entry_line}
+use Rattle.report_texts.specs.JournalText.{entry_line}
 use Rattle.fw_report.proofs.journal_lines.write_entries.Given as goal
 
 abbrev pub invariant-loop-entry : goal.invariant-loop-entry

@@ -1,4 +1,4 @@
-use Rattle.fw_report.proofs.AskParts.{ask_parts}
+use Rattle.report_texts.proofs.AskParts.{ask_parts}
 use Rattle.fw_report.proofs.journal_lines.write_entry.Goals as goal
 
 pub returns-in-Ask : goal.returns-in-Ask

@@ -1,8 +1,8 @@
 use Rattle.std.proofs.Common.{arith, ◌+◌, drop}
 use Rattle.fw_base.proofs.Texts.{ends}
 use Rattle.rule_text.proofs.WriteSteps.{goes, breaks_off}
-use Rattle.fw_report.specs.JournalText.{hits_text}
-use Rattle.fw_report.proofs.Sections.{next_hits, no_hits}
+use Rattle.report_texts.specs.JournalText.{hits_text}
+use Rattle.report_texts.proofs.Sections.{next_hits, no_hits}
 use Rattle.fw_report.proofs.journal_lines.write_hits.Goals as goal
 
 pub returns-in_err-write_lane_hits : goal.returns-in_err-write_lane_hits

@@ -1,6 +1,6 @@
 use Rattle.std.proofs.Common.{◌≡◌, ◌+◌, drop}
 use Rattle.fw_base.proofs.Texts.{IsUnderWay}
-use Rattle.fw_report.specs.JournalText.{hits_text}
+use Rattle.report_texts.specs.JournalText.{hits_text}
 use Rattle.fw_report.proofs.journal_lines.write_hits.Given as goal
 
 abbrev pub invariant-loop-count : goal.invariant-loop-count

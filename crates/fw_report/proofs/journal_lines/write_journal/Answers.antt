@@ -1,7 +1,7 @@
 use Rattle.std.proofs.Common.{refl}
 use Rattle.fw_base.proofs.Texts.{starts}
 use Rattle.rule_text.proofs.WriteSteps.{goes, breaks_off, finishes}
-use Rattle.fw_report.specs.JournalText.{journal_text}
+use Rattle.report_texts.specs.JournalText.{journal_text}
 use Rattle.fw_report.proofs.journal_lines.write_journal.Goals as goal
 
 pub returns-in_err-write_heading : goal.returns-in_err-write_heading

@@ -1,8 +1,8 @@
 use Rattle.std.proofs.Common.{◌≡◌, ◌∙◌, ℕ, List, ◌+◌, ◌++◌, ap, sym, length, drop, arith}
 use Rattle.fw_base.proofs.Texts.{ends}
 use Rattle.rule_text.proofs.WriteSteps.{goes, breaks_off}
-use Rattle.fw_report.specs.JournalText.{lane_line, lanes_text}
-use Rattle.fw_report.proofs.Sections.{next_lane, no_tracker, no_lane}
+use Rattle.report_texts.specs.JournalText.{lane_line, lanes_text}
+use Rattle.report_texts.proofs.Sections.{next_lane, no_tracker, no_lane}
 use Rattle.fw_report.proofs.journal_lines.write_lanes.Goals as goal
 
 pub returns-in_default : goal.returns-in_default

@@ -1,6 +1,6 @@
 use Rattle.std.proofs.Common.{◌≡◌, ◌+◌, drop}
 use Rattle.fw_base.proofs.Texts.{IsUnderWay}
-use Rattle.fw_report.specs.JournalText.{lanes_text}
+use Rattle.report_texts.specs.JournalText.{lanes_text}
 use Rattle.fw_report.proofs.journal_lines.write_lanes.Given as goal
 
 abbrev pub invariant-loop-docket : goal.invariant-loop-docket

@@ -1,5 +1,5 @@
 use Rattle.std.proofs.Common.{◌≡◌, append-nil}
-use Rattle.fw_report.specs.AskText.{ask_front}
+use Rattle.report_texts.specs.AskText.{ask_front}
 use Rattle.fw_report.proofs.journal_lines.write_long_ask.Goals as goal
 
 pub returns : goal.returns

@@ -1,7 +1,7 @@
 use Rattle.std.proofs.Common.{ap, sym, ◌∙◌, Some}
 use Rattle.std.specs.Arc.{arc_value}
 use Rattle.generation_store.specs.Published.{Published}
-use Rattle.fw_report.proofs.Sections.{last_at}
+use Rattle.report_texts.proofs.Sections.{last_at}
 use Rattle.fw_report.proofs.report.last_of.Goals as goal
 
 pub returns : goal.returns

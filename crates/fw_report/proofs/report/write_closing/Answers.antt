@@ -3,8 +3,8 @@ use Rattle.fw_base.proofs.Texts.{starts}
 use Rattle.rule_text.proofs.WriteSteps.{goes, breaks_off, finishes}
 use Rattle.dyn_states.specs.StateObject.{StateObject}
 use Rattle.state_journal.specs.declared.entry.Entry.{Entry}
-use Rattle.fw_report.specs.JournalText.{hits_text, optional_journal}
-use Rattle.fw_report.specs.Report.{last_text, closing_text}
+use Rattle.report_texts.specs.JournalText.{hits_text, optional_journal}
+use Rattle.report_texts.specs.Report.{last_text, closing_text}
 use Rattle.fw_report.proofs.report.write_closing.Goals as goal
 
 pub returns-in_err-write_last : goal.returns-in_err-write_last

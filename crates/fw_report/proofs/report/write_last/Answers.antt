@@ -3,8 +3,8 @@ use Rattle.fw_base.proofs.Texts.{starts}
 use Rattle.rule_text.proofs.WriteSteps.{goes, breaks_off, finishes}
 use Rattle.state_texts.specs.StateTexts.{states_text}
 use Rattle.fw_rule.specs.declared.rule.Rule.{Rule}
-use Rattle.fw_report.specs.RulesText.{disabled_text, rules_text}
-use Rattle.fw_report.specs.Report.{last_text}
+use Rattle.report_texts.specs.RulesText.{disabled_text, rules_text}
+use Rattle.report_texts.specs.Report.{last_text}
 use Rattle.fw_report.proofs.report.write_last.Goals as goal
 
 pub returns-in_err-write_disabled : goal.returns-in_err-write_disabled

@@ -2,8 +2,8 @@ use Rattle.std.proofs.Common.{◌∙◌, ◌++◌, ℕ, List, ap, sym}
 use Rattle.fw_base.proofs.Texts.{starts}
 use Rattle.rule_text.proofs.WriteSteps.{goes, breaks_off, finishes}
 use Rattle.rule_chain.specs.Configuration.{Configuration}
-use Rattle.fw_report.specs.Recorded.{Recorded}
-use Rattle.fw_report.specs.Report.{report_text, start_text, closing_text, last_closing, last_edition}
+use Rattle.report_texts.specs.Recorded.{Recorded}
+use Rattle.report_texts.specs.Report.{report_text, start_text, closing_text, last_closing, last_edition}
 use Rattle.fw_report.proofs.report.write_sections.Goals as goal
 
 pub returns-in_err-write_start : goal.returns-in_err-write_start

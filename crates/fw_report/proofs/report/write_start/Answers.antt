@@ -3,12 +3,12 @@ use Rattle.fw_base.proofs.Texts.{starts}
 use Rattle.rule_text.proofs.WriteSteps.{goes, breaks_off, finishes}
 use Rattle.std.proofs.lemmas.List.{length-map}
 use Rattle.std.specs.Arc.{arc_value}
-use Rattle.fw_report.specs.AnswerText.{answers_text}
-use Rattle.fw_report.specs.DocketText.{captures_text}
-use Rattle.fw_report.specs.RulesText.{editions_line}
-use Rattle.fw_report.specs.Report.{start_text}
-use Rattle.fw_report.specs.declared.capture_end.CaptureEnd.{CaptureEnd}
-use Rattle.fw_report.specs.declared.ends.LineAnswer.{LineAnswer}
+use Rattle.report_texts.specs.AnswerText.{answers_text}
+use Rattle.report_texts.specs.DocketText.{captures_text}
+use Rattle.report_texts.specs.RulesText.{editions_line}
+use Rattle.report_texts.specs.Report.{start_text}
+use Rattle.report_texts.specs.declared.capture_end.CaptureEnd.{CaptureEnd}
+use Rattle.report_texts.specs.declared.ends.LineAnswer.{LineAnswer}
 use Rattle.fw_report.proofs.report.write_start.Goals as goal
 
 pub returns-in_err-write_captures : goal.returns-in_err-write_captures

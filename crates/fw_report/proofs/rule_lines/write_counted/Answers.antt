@@ -4,7 +4,7 @@ use Rattle.rule_text.proofs.WriteSteps.{goes, breaks_off, finishes}
 use Rattle.std.specs.Arc.{arc_value}
 use Rattle.rule_text.specs.Canonical.{rest_text}
 use Rattle.fw_rule.specs.declared.rule.Rule.{Rule}
-use Rattle.fw_report.specs.RulesText.{counts_text, counted_line}
+use Rattle.report_texts.specs.RulesText.{counts_text, counted_line}
 use Rattle.fw_report.proofs.rule_lines.write_counted.Goals as goal
 
 pub returns-in_err-write_counts : goal.returns-in_err-write_counts

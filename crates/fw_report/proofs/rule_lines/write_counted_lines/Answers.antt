@@ -1,10 +1,10 @@
 use Rattle.std.proofs.Common.{◌+◌, drop, flat_map, Global}
 use Rattle.rule_text.proofs.WriteSteps.{goes, breaks_off}
-use Rattle.fw_report.proofs.Sections.{text_at}
+use Rattle.report_texts.proofs.Sections.{text_at}
 use Rattle.std.specs.Arc.{arc_value}
 use Rattle.std.specs.declared.sync.Arc.{Arc}
 use Rattle.fw_rule.specs.declared.rule.Rule.{Rule}
-use Rattle.fw_report.specs.RulesText.{counted_line}
+use Rattle.report_texts.specs.RulesText.{counted_line}
 use Rattle.fw_report.proofs.rule_lines.write_counted_lines.Goals as goal
 
 pub returns-in_err-write_counted : goal.returns-in_err-write_counted

@@ -3,7 +3,7 @@ use Rattle.fw_base.proofs.Texts.{IsUnderWay}
 use Rattle.std.specs.Arc.{arc_value}
 use Rattle.std.specs.declared.sync.Arc.{Arc}
 use Rattle.fw_rule.specs.declared.rule.Rule.{Rule}
-use Rattle.fw_report.specs.RulesText.{counted_line}
+use Rattle.report_texts.specs.RulesText.{counted_line}
 use Rattle.fw_report.proofs.rule_lines.write_counted_lines.Given as goal
 
 abbrev pub invariant-loop-rule : goal.invariant-loop-rule

@@ -4,9 +4,9 @@ use Rattle.rule_text.proofs.WriteSteps.{goes, breaks_off, finishes}
 use Rattle.std.proofs.lemmas.List.{length-map}
 use Rattle.std.specs.Arc.{arc_value}
 use Rattle.std.specs.List.{flat_map}
-use Rattle.fw_report.specs.AnswerText.{count_line}
-use Rattle.fw_report.specs.RulesText.{rules_text, counted_line}
-use Rattle.fw_report.proofs.Sections.{flat_map_map}
+use Rattle.report_texts.specs.AnswerText.{count_line}
+use Rattle.report_texts.specs.RulesText.{rules_text, counted_line}
+use Rattle.report_texts.proofs.Sections.{flat_map_map}
 use Rattle.fw_report.proofs.rule_lines.write_counted_rules.Goals as goal
 
 pub returns-in_err-write_count : goal.returns-in_err-write_count

@@ -3,7 +3,7 @@ use Rattle.fw_base.proofs.Texts.{starts}
 use Rattle.rule_text.proofs.WriteSteps.{goes, breaks_off, finishes}
 use Rattle.std.proofs.Common.{false, nat_eq, arith}
 use Rattle.std.proofs.lemmas.Bool.Decides.{nat_tests}
-use Rattle.fw_report.specs.RulesText.{disabled_line}
+use Rattle.report_texts.specs.RulesText.{disabled_line}
 use Rattle.fw_report.proofs.rule_lines.write_disabled.Goals as goal
 
 pub returns-in_err-write_text : goal.returns-in_err-write_text

@@ -1,8 +1,8 @@
 use Rattle.std.proofs.Common.{arith, ◌+◌, ◌-◌}
 use Rattle.fw_base.proofs.Texts.{ends}
 use Rattle.rule_text.proofs.WriteSteps.{goes, breaks_off}
-use Rattle.fw_report.specs.RulesText.{sets_text}
-use Rattle.fw_report.proofs.Sections.{next_set, no_set}
+use Rattle.report_texts.specs.RulesText.{sets_text}
+use Rattle.report_texts.proofs.Sections.{next_set, no_set}
 use Rattle.fw_report.proofs.rule_lines.write_sets.Goals as goal
 
 pub returns-in_err-write_set : goal.returns-in_err-write_set

@@ -1,6 +1,6 @@
 use Rattle.std.proofs.Common.{◌-◌}
 use Rattle.fw_base.proofs.Texts.{IsUnderWay}
-use Rattle.fw_report.specs.RulesText.{sets_text}
+use Rattle.report_texts.specs.RulesText.{sets_text}
 use Rattle.fw_report.proofs.rule_lines.write_sets.Given as goal
 
 abbrev pub invariant-loop-set : goal.invariant-loop-set

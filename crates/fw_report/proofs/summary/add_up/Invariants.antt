@@ -1,5 +1,5 @@
 use Rattle.std.proofs.Common.{◌≡◌, ◌*◌, ◌≤◌, take}
-use Rattle.fw_report.specs.Summary.{is_allow, is_deny, records_in, judged_in}
+use Rattle.report_texts.specs.Summary.{is_allow, is_deny, records_in, judged_in}
 use Rattle.fw_report.proofs.summary.add_up.Given as goal
 
 abbrev pub invariant-loop-docket : goal.invariant-loop-docket

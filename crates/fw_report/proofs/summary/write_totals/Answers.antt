@@ -1,6 +1,6 @@
 use Rattle.std.proofs.Common.{◌≡◌, ap}
 use Rattle.std.specs.Fmt.{decimal}
-use Rattle.fw_report.specs.Summary.{summary_text, records_in, judged_in, is_allow, is_deny}
+use Rattle.report_texts.specs.Summary.{summary_text, records_in, judged_in, is_allow, is_deny}
 use Rattle.fw_report.proofs.summary.write_totals.Goals as goal
 
 pub returns : goal.returns

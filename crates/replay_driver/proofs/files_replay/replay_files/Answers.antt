@@ -2,7 +2,7 @@ use Rattle.std.proofs.Common.{◌∙◌, arith, map}
 use Rattle.std.proofs.lemmas.List.{length-map}
 use Rattle.std.proofs.lemmas.Result.{IfOk-weaker}
 use Rattle.command_words.specs.Invocation.{capture_names}
-use Rattle.replay_driver.proofs.MadeReady.{reported}
+use Rattle.replay_driver.proofs.ReadyReports.{reported}
 use Rattle.replay_driver.proofs.files_replay.replay_files.Goals as goal
 
 pub replay_ready-requires-clause-captures : goal.replay_ready-requires-clause-captures

@@ -1,5 +1,5 @@
 use Rattle.std.proofs.lemmas.Result.{IfOk-weaker}
-use Rattle.replay_driver.proofs.MadeReady.{reports_ready, is_writable}
+use Rattle.replay_driver.proofs.ReadyReports.{reports_ready, is_writable}
 use Rattle.replay_driver.proofs.files_replay.replay_ready.Goals as goal
 
 pub returns-clause-writable : goal.returns-clause-writable

@@ -1,6 +1,6 @@
 use Rattle.std.proofs.Common.{◌≡◌, ℕ, List, Option, Some, None, sym, ap, ◌∙◌}
 use Rattle.std.specs.Prelude.{IfSome}
-use Rattle.fw_report.specs.DocketText.{record_line}
+use Rattle.report_texts.specs.DocketText.{record_line}
 use Rattle.report_reading.specs.RecordLines.{IsRecord, record_in}
 use Rattle.report_reading.specs.declared.record_lines.RecordLine.{RecordLine}
 use Rattle.report_reading.proofs.RecordsAgain.{record_again}

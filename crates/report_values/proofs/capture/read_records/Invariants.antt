@@ -1,6 +1,6 @@
 -- The lines of the records so far were read.
 use Rattle.std.proofs.Common.{◌≡◌, ◌++◌, length}
-use Rattle.fw_report.specs.DocketText.{record_lines}
+use Rattle.report_texts.specs.DocketText.{record_lines}
 use Rattle.report_values.proofs.capture.read_records.Given as goal
 
 abbrev pub invariant-loop-place : goal.invariant-loop-place

@@ -1,0 +1,3 @@
+-- the records of captures
+pub mod CaptureAudit
+pub mod Examined

@@ -1,5 +1,0 @@
-use Rattle.fw_report.proofs.LineCounts.{record_lines_are_records}
-use Rattle.fw_report.proofs.laws.record_lines_are_records.Goals as goal
-
-pub returns : goal.returns
-returns c = record_lines_are_records

@@ -1,0 +1,107 @@
+-- What is told of moves. Figures stand still at the greatest number of 64 bits.
+use Rattle.std.specs.Prelude.{◌≡◌, ◌≢◌, ℕ, ◌-◌, ◌<◌, ◌≤◌, ◌^◌, List, ◌++◌, All, length, map, min, slice_index_or, ⊤}
+use Rattle.report_moves.specs.Moves.{AreToldOnce, HaveSameLengths, IsToldOf, records_of}
+use Rattle.report_moves.specs.declared.moves.Move.{Move}
+use Rattle.report_values.specs.Captures.{captures_lines}
+use Rattle.report_values.specs.declared.capture.Capture.{Capture as ToldCapture}
+use Rattle.view_driver.specs.declared.trouble.Trouble.{Trouble}
+use Rattle.view_driver.specs.declared.trouble.Trouble.TheVariants.{Usage, Unread, NoReport, Script, NoJournal, OtherScript, Captures, Records, Named, OtherRecords, Capture, OutOfMemory}
+use Rattle.view_driver.specs.declared.compared.Compared.{Compared}
+
+-- how many records some moves have
+abbrev pub records_told : List Move → ℕ
+records_told moves = min (records_of moves) (2 ^ 64 - 1)
+
+-- two reports were compared: their captures have as many records, and what moved is told as it is and once
+pub record IsCompared (compared : Compared) : Type 0 where
+  pub lengths : HaveSameLengths compared.old.items compared.new.items
+  pub told : All (IsToldOf compared.old.items compared.new.items) compared.moves.moved.items
+  pub once : AreToldOnce compared.moves.moved.items
+
+-- how many records each capture of a report has
+abbrev pub counts_of : List ToldCapture → List ℕ
+counts_of captures = map (λ capture. length capture.records) captures
+
+-- the captures that both have have as many records, as far as so many
+abbrev pub AreAlike : List ℕ → List ℕ → ℕ → Type 0
+AreAlike old new count = (place : ℕ) → place < count → slice_index_or old place 0 ≡ slice_index_or new place 0
+
+-- the capture at this place is the first of both that has another number of records in one than in the other
+pub record IsOtherAt (old new : List ℕ) (place : ℕ) : Type 0 where
+  pub within : place < min (length old) (length new)
+  pub before : AreAlike old new place
+  pub apart : slice_index_or old place 0 ≢ slice_index_or new place 0
+
+-- the same of its number, from 1, with its numbers of records
+pub record IsFirstOther (old new : List ℕ) (capture was is_now : ℕ) : Type 0 where
+  pub first : 1 ≤ capture
+  pub other : IsOtherAt old new (capture - 1)
+  pub was_is : was ≡ slice_index_or old (capture - 1) 0
+  pub is_so : is_now ≡ slice_index_or new (capture - 1) 0
+
+-- one has more captures, and those that both have have as many records
+pub record IsOtherNumber (old new : List ℕ) (was is_now : ℕ) : Type 0 where
+  pub was_is : was ≡ length old
+  pub is_so : is_now ≡ length new
+  pub apart : was ≢ is_now
+  pub alike : AreAlike old new (min (length old) (length new))
+
+-- what was compared has as many captures, each with as many records, as the reports
+pub record HasCounts (old new : List ℕ) (compared : Compared) : Type 0 where
+  pub old_is : map length compared.old.items ≡ old
+  pub new_is : map length compared.new.items ≡ new
+
+-- Why two reports aren't compared, by how many records each of their captures has. Want of memory is free.
+abbrev pub IsUnlike : List ℕ → List ℕ → Trouble → Type 0
+IsUnlike old new (Captures was is_now) = IsOtherNumber old new was is_now
+IsUnlike old new (Records capture was is_now) = IsFirstOther old new capture was is_now
+IsUnlike old new OutOfMemory = ⊤
+IsUnlike old new Usage = ⊥
+IsUnlike old new (Unread name) = ⊥
+IsUnlike old new (NoReport name line) = ⊥
+IsUnlike old new (Script fault) = ⊥
+IsUnlike old new (NoJournal name) = ⊥
+IsUnlike old new (OtherScript name line script) = ⊥
+IsUnlike old new (Named told named) = ⊥
+IsUnlike old new (OtherRecords name told read) = ⊥
+IsUnlike old new (Capture name at fault) = ⊥
+
+-- a text is no report, or memory ran out
+abbrev pub IsUnfit : Trouble → Type 0
+IsUnfit (NoReport name line) = ⊤
+IsUnfit OutOfMemory = ⊤
+IsUnfit Usage = ⊥
+IsUnfit (Unread name) = ⊥
+IsUnfit (Script fault) = ⊥
+IsUnfit (NoJournal name) = ⊥
+IsUnfit (OtherScript name line script) = ⊥
+IsUnfit (Captures was is_now) = ⊥
+IsUnfit (Records capture was is_now) = ⊥
+IsUnfit (Named told named) = ⊥
+IsUnfit (OtherRecords name told read) = ⊥
+IsUnfit (Capture name at fault) = ⊥
+
+-- two texts begin with the lines of captures that don't fit
+pub record AreUnlikeTexts (old new : List ℕ) (trouble : Trouble) : Type 0 where
+  pub old_captures : List ToldCapture
+  pub new_captures : List ToldCapture
+  pub old_behind : List ℕ
+  pub new_behind : List ℕ
+  pub old_is : old ≡ captures_lines 1 old_captures ++ old_behind
+  pub new_is : new ≡ captures_lines 1 new_captures ++ new_behind
+  pub unlike : IsUnlike (counts_of old_captures) (counts_of new_captures) trouble
+
+-- Why two texts aren't compared. That one is no report is free, as want of memory is.
+abbrev pub IsTroubleOf : List ℕ → List ℕ → Trouble → Type 0
+IsTroubleOf old new (Captures was is_now) = AreUnlikeTexts old new (Captures was is_now)
+IsTroubleOf old new (Records capture was is_now) = AreUnlikeTexts old new (Records capture was is_now)
+IsTroubleOf old new (NoReport name line) = ⊤
+IsTroubleOf old new OutOfMemory = ⊤
+IsTroubleOf old new Usage = ⊥
+IsTroubleOf old new (Unread name) = ⊥
+IsTroubleOf old new (Script fault) = ⊥
+IsTroubleOf old new (NoJournal name) = ⊥
+IsTroubleOf old new (OtherScript name line script) = ⊥
+IsTroubleOf old new (Named told named) = ⊥
+IsTroubleOf old new (OtherRecords name told read) = ⊥
+IsTroubleOf old new (Capture name at fault) = ⊥

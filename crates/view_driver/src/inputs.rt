@@ -1,0 +1,32 @@
+use crate::trouble::Trouble;
+use fw_base::{Failed, Library, Name};
+use replay_setup::{NamedSource, read_named};
+use std::alloc::Global;
+
+/// How many bytes of a report are read at most: 4 GiB.
+const MOST_BYTES: usize = 4_294_967_296;
+
+/// A source of the bytes of that name.
+pub(crate) fn open_source<'a, L: Library>(
+    alloc: Global,
+    library: &mut L,
+    name: &'a [u8],
+) -> Result<L::Reader, Trouble<'a>> {
+    match library.open(Name::new(alloc, name)?) {
+        Ok(source) => Ok(source),
+        Err(Failed) => Err(Trouble::Unread(name)),
+    }
+}
+
+/// The text of that name.
+pub(crate) fn read_text<'a, L: Library>(
+    alloc: Global,
+    library: &mut L,
+    name: &'a [u8],
+) -> Result<Vec<u8>, Trouble<'a>> {
+    let path = Name::new(alloc, name)?;
+    match read_named(alloc, &path, MOST_BYTES, library)? {
+        NamedSource::Read(_source, text) => Ok(text),
+        NamedSource::Broken(_) | NamedSource::Refused => Err(Trouble::Unread(name)),
+    }
+}
