@@ -23,15 +23,15 @@ use Rattle.fw_world.specs.Inputs.{Input}
 use Rattle.fw_world.specs.RecordValue.{RecordValue}
 use Rattle.record_laws.proofs.SameEnds.{same_report}
 use Rattle.replay_setup.specs.FirstEdition.{first_edition}
-use Rattle.replay_driver.specs.Found.{known_left, no_failures}
+use Rattle.replay_setup.specs.InMemory.{known_left, no_failures}
 use Rattle.replay_setup.specs.Openings.{OpensAll}
 use Rattle.replay_setup.specs.Outside.{Files, Output}
 use Rattle.replay_setup.specs.FirstEdition.{pace_of}
 use Rattle.replay_setup.specs.declared.first_edition.FirstEdition.{FirstEdition}
-use Rattle.replay_driver.specs.declared.outcome.Outcome.{Outcome}
+use Rattle.replay_setup.specs.declared.outcome.Outcome.{Outcome}
 use Rattle.replay_setup.specs.declared.script_error.ScriptError.{ScriptError}
-use Rattle.replay_driver.proofs.Complete.{took_from}
-use Rattle.replay_driver.proofs.Promised.{IfSome-both}
+use Rattle.replay_setup.proofs.QuietReads.{took_from}
+use Rattle.replay_setup.proofs.Logic.{IfSome-both}
 use Rattle.run_audit.specs.Audit.{IsFirstWrong, IsRebuilt, rebuilt_record}
 use Rattle.run_audit.specs.Comparison.{line_of_first_other}
 use Rattle.audit_driver.specs.AuditNames.{AuditNames, names_of}

@@ -25,7 +25,7 @@ use Rattle.rule_chain.specs.First.{first_configuration}
 use Rattle.rule_edits.specs.Answers.{Answer as Applied}
 use Rattle.rule_edits.specs.Apply.{apply}
 use Rattle.rule_edits.specs.Changing.{is_changing}
-use Rattle.replay_driver.proofs.Complete.{ok_same}
+use Rattle.replay_setup.proofs.Logic.{ok_same}
 
 -- ---- the configuration
 

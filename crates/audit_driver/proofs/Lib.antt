@@ -12,7 +12,3 @@ pub mod EditionForms
 pub mod SameReadings
 -- that it says yes of what a replay printed
 pub mod Accepted
--- and that a replay prints such a report
-pub mod RunReports
--- what a replay promises
-pub mod RunPromises

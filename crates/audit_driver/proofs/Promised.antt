@@ -16,15 +16,14 @@ use Rattle.pcap_read.specs.Reading.{Captured}
 use Rattle.pcap_read.specs.declared.capture_fault.CaptureFault.{CaptureFault}
 use Rattle.replay_setup.specs.FirstEdition.{first_edition}
 use Rattle.replay_setup.specs.NamesRead.{HasNoEdition, IsUnreadable}
-use Rattle.replay_driver.specs.Promises.{FailedRead}
+use Rattle.replay_setup.specs.FailedReads.{FailedRead}
 use Rattle.replay_setup.specs.Outside.{Files, Output}
-use Rattle.replay_driver.specs.Served.{ReplayNames}
 use Rattle.replay_setup.specs.FirstEdition.{pace_of}
-use Rattle.replay_driver.specs.declared.outcome.Outcome.{Outcome}
+use Rattle.replay_setup.specs.declared.outcome.Outcome.{Outcome}
 use Rattle.replay_setup.specs.declared.script_error.ScriptError.{ScriptError}
-use Rattle.replay_driver.proofs.Complete.{took_from, all_bytes, not_risen}
-use Rattle.replay_driver.proofs.Statuses.{failed_read}
-use Rattle.replay_driver.proofs.Told.{all_fresh, all_named, names_steady, one_out, script_refused, script_failed, capture_refused}
+use Rattle.replay_setup.proofs.QuietReads.{took_from, all_bytes, not_risen}
+use Rattle.replay_setup.proofs.FailedReads.{failed_read}
+use Rattle.replay_setup.proofs.Told.{all_fresh, all_named, names_steady, one_out, script_refused, script_failed, capture_refused}
 use Rattle.audit_driver.specs.AuditNames.{AuditNames}
 use Rattle.audit_driver.specs.AuditTexts.{result_status}
 use Rattle.audit_driver.specs.Found.{FindsAudit, ConcludesAudit, IsAudited, IsBehindReport}
@@ -44,10 +43,6 @@ failed_none end records number stop faults told zero (at, count, is, some) =
     let here = subst (λ (e : CaptureEnd). IsEnd e records number stop faults) is told in
     let same = here.2 in
     absurd (omega arith)
-
--- as the names of a replay
-abbrev as_replay : AuditNames → ReplayNames
-as_replay names = record { mode = Serial; journal = false; cache = None; script = names.script; captures = names.captures }
 
 -- as many sources are handed back as captures were opened
 all_sources : {S : Type 0} (left : S → Option (List ℕ)) (failures : S → ℕ) (edition : _) (bytes : List ℕ) (captures : _) (opened : List (OpenedCapture S)) (result : AuditResult) (sources : List S)
@@ -184,10 +179,10 @@ module _ {K S L : Type 0} (output : Output K) (files : Files L S) (names : Audit
       go (Unread name) (inr (inr (inl b))) =
           rw (b.given_back) (one_out (files.pairs library) (files.pairs b.between) names.report (take (length b.behind) (names.script ∷ file_names names.captures)) (files.left b.reads.opened) told (files.pairs libraryAfter) b.reads.opens.took is
           (λ rest gone. elim b.found [
-            | inl r ↦ script_refused files (as_replay names) b.between libraryAfter name b.behind rest r gone
+            | inl r ↦ script_refused files names.script names.captures b.between libraryAfter name b.behind rest r gone
             | inr more ↦ elim more [
-              | inl f ↦ script_failed files (as_replay names) b.between libraryAfter name b.behind rest f gone
-              | inr r ↦ capture_refused files (as_replay names) b.between libraryAfter name b.behind rest r gone
+              | inl f ↦ script_failed files names.script names.captures b.between libraryAfter name b.behind rest f gone
+              | inr r ↦ capture_refused files names.script names.captures b.between libraryAfter name b.behind rest r gone
             ]
           ]))
       go (Unread name) (inr (inr (inr au))) = audited_names (Unread name) told au is

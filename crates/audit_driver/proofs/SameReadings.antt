@@ -29,7 +29,7 @@ use Rattle.pcap_read.proofs.Fronts.{header_grown, took_grown}
 use Rattle.record_laws.specs.SameCaptures.{printed_end}
 use Rattle.record_laws.proofs.ReadCaptures.{AreTold, are_told, same_records, with_contents}
 use Rattle.record_laws.proofs.SameEnds.{same_ends}
-use Rattle.replay_driver.specs.Found.{known_left, no_failures}
+use Rattle.replay_setup.specs.InMemory.{known_left, no_failures}
 use Rattle.capture_audits.specs.CaptureAudit.{inputs_at}
 use Rattle.capture_audits.specs.Examined.{HasGiven}
 

@@ -1,6 +1,6 @@
 -- The line that an audit prints, and its status.
 use Rattle.std.specs.Prelude.{ℕ, List, ◌++◌, codes, decimal}
-use Rattle.replay_driver.specs.RunResult.{unread_text}
+use Rattle.replay_setup.specs.UnreadName.{unread_text}
 use Rattle.replay_setup.specs.ScriptTexts.{error_text}
 use Rattle.audit_driver.specs.declared.audit_result.AuditResult.{AuditResult}
 use Rattle.audit_driver.specs.declared.audit_result.AuditResult.TheVariants.{Unread, Unready, TooLong, No, Yes}

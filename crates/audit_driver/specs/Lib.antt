@@ -8,8 +8,5 @@ pub mod AuditTexts
 -- what it leaves, and what it promises
 pub mod Run
 pub mod Promises
--- what a replay promises
-pub mod RunPromises
 -- an audit of what a replay printed
 pub mod Printed
-pub mod RunReports

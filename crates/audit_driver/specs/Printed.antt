@@ -10,12 +10,12 @@ use Rattle.fw_base.specs.Pairs.{Pair, take_named}
 use Rattle.report_texts.specs.declared.capture_end.CaptureEnd.{CaptureEnd}
 use Rattle.fw_world.specs.RecordValue.{RecordValue}
 use Rattle.replay_setup.specs.FirstEdition.{first_edition}
-use Rattle.replay_driver.specs.Found.{known_left, no_failures}
+use Rattle.replay_setup.specs.InMemory.{known_left, no_failures}
 use Rattle.replay_setup.specs.Openings.{port_of}
 use Rattle.replay_setup.specs.Outside.{Files, Output}
 use Rattle.replay_setup.specs.FirstEdition.{pace_of}
 use Rattle.replay_setup.specs.declared.first_edition.FirstEdition.{FirstEdition}
-use Rattle.replay_driver.specs.declared.outcome.Outcome.{Outcome}
+use Rattle.replay_setup.specs.declared.outcome.Outcome.{Outcome}
 use Rattle.audit_driver.specs.AuditNames.{AuditNames}
 use Rattle.audit_driver.specs.Found.{HasLegalRecord, text_of}
 

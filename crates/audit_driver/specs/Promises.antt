@@ -10,7 +10,7 @@ use Rattle.replay_setup.specs.Openings.{file_names}
 use Rattle.replay_setup.specs.Outside.{Files, Output}
 use Rattle.replay_setup.specs.FirstEdition.{pace_of}
 use Rattle.replay_setup.specs.declared.first_edition.FirstEdition.{FirstEdition}
-use Rattle.replay_driver.specs.declared.outcome.Outcome.{Outcome}
+use Rattle.replay_setup.specs.declared.outcome.Outcome.{Outcome}
 use Rattle.replay_setup.specs.declared.script_error.ScriptError.{ScriptError}
 use Rattle.audit_driver.specs.AuditNames.{AuditNames}
 use Rattle.audit_driver.specs.AuditTexts.{result_text}

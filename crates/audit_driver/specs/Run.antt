@@ -1,8 +1,8 @@
 -- What an audit leaves: what was found, written with its status.
 use Rattle.std.specs.Prelude.{◌≡◌, [], None, ◌⊎◌}
 use Rattle.replay_setup.specs.Outside.{Files, Output}
-use Rattle.replay_driver.specs.Run.{IsWithoutMemory, Writes}
-use Rattle.replay_driver.specs.declared.outcome.Outcome.{Outcome}
+use Rattle.replay_setup.specs.Outcomes.{IsWithoutMemory, Writes}
+use Rattle.replay_setup.specs.declared.outcome.Outcome.{Outcome}
 use Rattle.audit_driver.specs.AuditNames.{AuditNames}
 use Rattle.audit_driver.specs.AuditTexts.{result_status, result_text}
 use Rattle.audit_driver.specs.Found.{FindsAudit}

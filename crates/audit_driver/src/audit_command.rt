@@ -22,10 +22,9 @@ use capture_audits::{Examined, examine};
 use capture_tracks::OpenedCapture;
 use command_words::{CaptureWord, Mode};
 use fw_base::{Library, MOST_CAPTURES, Name, OutOfMemory, Sink, Source};
-use replay_driver::{Outcome, no_ends};
 use replay_setup::{
-    FirstEdition, LibraryView, NamedSource, Readiness, Ready, SinkView, make_ready, read_named,
-    status_written,
+    FirstEdition, LibraryView, NamedSource, Outcome, Readiness, Ready, SinkView, make_ready,
+    no_ends, read_named, status_written,
 };
 use run_audit::{Audit, AuditFault};
 use std::alloc::Global;

@@ -1,6 +1,6 @@
 use fw_base::{Failed, Name, Sink, write_pieces, write_text};
 use itoa::Buffer;
-use replay_setup::ScriptError;
+use replay_setup::{ScriptError, write_unread};
 
 /// What an audit comes to, before a byte is written.
 #[derive(Drop)]
@@ -41,7 +41,7 @@ impl AuditResult {
             (spec.result_text self.now) result }
     {
         match self {
-            AuditResult::Unread(name) => write_pieces(out, &[b"cannot read ", name.bytes(), b"\n"]),
+            AuditResult::Unread(name) => write_unread(out, name),
             AuditResult::Unready(error) => error.write(out),
             AuditResult::TooLong => write_text(out, b"audit no TooLong\n"),
             AuditResult::No(line) => {

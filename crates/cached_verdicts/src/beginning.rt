@@ -25,7 +25,7 @@ use rule_chain::law_of_configuration;
 use verdict_cache::{Key, VerdictCache};
 
 /// What an evaluation that began comes to, if it ends with no ask, and whether the cache told it.
-#[derive(Clone, Copy, Debug)]
+#[derive(Clone, Copy)]
 pub(crate) struct Begun {
     pub(crate) judged: Option<Judgement>,
     pub(crate) is_hit: bool,

@@ -7,7 +7,7 @@ use crate::bytes::cut_at;
 use fw_base::{Direction, are_name_bytes};
 
 /// What a capture's word names.
-#[derive(Clone, Copy, Debug)]
+#[derive(Clone, Copy)]
 pub struct CaptureWord<'a> {
     /// Which way its packets passed the interface.
     pub direction: Direction,

@@ -1,7 +1,7 @@
 use crate::capture_word::CaptureWord;
 
 /// What the words of a command name. The names are lent from the words.
-#[derive(Debug, Drop)]
+#[derive(Drop)]
 pub enum Invocation<'a> {
     /// `serial` or `live`: captures that are replayed beside a script.
     Replay {
@@ -29,7 +29,7 @@ pub enum Invocation<'a> {
 }
 
 /// How captures are replayed beside a script.
-#[derive(Clone, Copy, Debug, PartialEq, Eq, Hash)]
+#[derive(Clone, Copy, Debug)]
 pub enum Mode {
     /// One record after another, in one thread.
     Serial,

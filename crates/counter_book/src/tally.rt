@@ -7,7 +7,7 @@ use std::alloc::Global;
 use std::marker::Model;
 
 /// What one lane has counted, by counter number.
-#[derive(Debug, Drop)]
+#[derive(Drop)]
 pub struct Tally {
     counts: Vec<Count>,
 }
@@ -84,7 +84,7 @@ pub fn total(tallies: &[Tally], id: u32) -> Count
 }
 
 /// What was counted under one counter number, each modulo 2^64 (ipfw(8), "STATISTICS").
-#[derive(Clone, Copy, Debug, Default, PartialEq, Eq, Hash)]
+#[derive(Clone, Copy, Debug, Default, PartialEq, Eq)]
 pub struct Count {
     pub packets: u64,
     /// The sum of the packets' total lengths.

@@ -9,7 +9,7 @@ use std::alloc::Global;
 use std::collections::HashMap;
 
 /// A flow in either direction, and a flow name: no two live states have one line.
-#[derive(Clone, Copy, Debug, PartialEq, Eq, Hash)]
+#[derive(Clone, Copy, PartialEq, Eq, Hash)]
 pub(crate) struct Line {
     flow: Flow,
     name: u8,

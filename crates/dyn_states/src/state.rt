@@ -3,7 +3,7 @@ use packet_headers::Flow;
 use state_asks::RuleRef;
 
 /// A dynamic state (ipfw(8), "STATEFUL FIREWALL").
-#[derive(Clone, Copy, Debug, PartialEq, Eq, Hash)]
+#[derive(Clone, Copy, Debug, PartialEq, Eq)]
 pub struct State {
     /// The flow of the packet that made it.
     pub flow: Flow,

@@ -5,7 +5,7 @@ ghost use Rattle.eval_engine.specs.Callers.{innermost_first};
 pub const MOST_CALLS: usize = 16;
 
 /// The numbers of the rules whose calls are open.
-#[derive(Clone, Copy, Debug)]
+#[derive(Clone, Copy)]
 pub(crate) struct Callers {
     pub(crate) numbers: [u16; MOST_CALLS],
     pub(crate) depth: usize,

@@ -7,7 +7,7 @@ use std::marker::Model;
 
 /// What was entered for the records of one lane, in order, and how many of its entries into a section
 /// were refused, modulo 2^64.
-#[derive(Debug, Drop)]
+#[derive(Drop)]
 pub struct Docket {
     entries: Vec<DocketEntry>,
     refused: u64,

@@ -1,7 +1,7 @@
 use state_asks::RuleRef;
 
 /// Why the deciding rule decided.
-#[derive(Clone, Copy, Debug, PartialEq, Eq, Hash)]
+#[derive(Clone, Copy, Debug, PartialEq, Eq)]
 pub enum Cause {
     /// Its action ends the search.
     Rule,
@@ -12,7 +12,7 @@ pub enum Cause {
 }
 
 /// What an evaluation comes to.
-#[derive(Clone, Copy, Debug, PartialEq, Eq, Hash)]
+#[derive(Clone, Copy, Debug, PartialEq, Eq)]
 pub struct Judgement {
     /// The number of the edition whose rules were evaluated, from 1.
     pub edition: u64,

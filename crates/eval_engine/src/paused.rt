@@ -7,7 +7,7 @@ use state_asks::Op;
 
 /// An evaluation on its way: where it stands while it waits for a reply. `begin` and `resume` move it on in
 /// place.
-#[derive(Clone, Copy, Debug)]
+#[derive(Clone, Copy)]
 pub struct Paused {
     /// Where it waits, and what it asks.
     pub(crate) position: Position,

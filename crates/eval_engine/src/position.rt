@@ -22,7 +22,7 @@ const NO_ASK: Op = Op::Lookup {
 };
 
 /// Where an evaluation stands.
-#[derive(Clone, Copy, Debug)]
+#[derive(Clone, Copy)]
 pub(crate) struct Position {
     /// The place of the next rule; the list's length stands for its end.
     pub(crate) place: usize,
@@ -56,7 +56,7 @@ impl Position {
 }
 
 /// What comes of one rule, at the position that stands behind the step.
-#[derive(Clone, Copy, Debug)]
+#[derive(Clone, Copy)]
 pub(crate) enum Step {
     /// The evaluation goes on from that position.
     On,

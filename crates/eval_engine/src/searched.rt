@@ -6,7 +6,7 @@ ghost use Rattle.eval_engine.specs.Trace as trace;
 use state_asks::FlowName;
 
 /// The flow names that were looked up.
-#[derive(Clone, Copy, Debug)]
+#[derive(Clone, Copy)]
 pub(crate) struct Searched {
     /// By the bits of a mask, those of the names' numbers.
     pub(crate) named: u64,

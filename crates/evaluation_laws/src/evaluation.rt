@@ -29,7 +29,7 @@ pub enum Outcome {
 }
 
 /// What an evaluation comes to.
-#[derive(Debug, Drop)]
+#[derive(Drop)]
 pub struct Evaluation {
     /// Its asks, in order.
     pub asks: LinkedList<Op>,

@@ -5,7 +5,7 @@ ghost use Rattle.eval_engine.specs.Trace as trace;
 use state_asks::FlowName;
 
 /// The flow names that were looked up.
-#[derive(Clone, Copy, Debug)]
+#[derive(Clone, Copy)]
 pub(crate) struct Searched {
     /// By their numbers.
     pub(crate) names: [bool; 256],

@@ -10,7 +10,7 @@ use std::alloc::Global;
 use std::collections::LinkedList;
 
 /// How a run ends.
-#[derive(Clone, Copy, Debug)]
+#[derive(Clone, Copy)]
 pub(crate) enum Ending<'r> {
     /// By a judgement, with these replies left over.
     Ends(Judgement, &'r [Reply]),

@@ -1,6 +1,5 @@
 -- what comes from outside
 pub mod Faults
-pub mod Memory
 pub mod Pairs
 pub mod Texts
 -- one step after another

@@ -5,7 +5,7 @@ use std::error::Error;
 use std::fmt;
 
 /// Memory ran out. No clause says when this comes.
-#[derive(Clone, Copy, Debug, PartialEq, Eq, Hash)]
+#[derive(Clone, Copy, Debug, PartialEq, Eq)]
 pub struct OutOfMemory;
 
 impl fmt::Display for OutOfMemory {
@@ -31,7 +31,7 @@ impl<T: Drop> From<AllocFailed<T>> for OutOfMemory {
 }
 
 /// A source, a sink or a library failed: its count of faults rose in the call that answers this.
-#[derive(Clone, Copy, Debug, PartialEq, Eq, Hash)]
+#[derive(Clone, Copy, Debug, PartialEq, Eq)]
 pub struct Failed;
 
 impl fmt::Display for Failed {

@@ -1,5 +1,5 @@
 /// The link types that are read, by their numbers in a capture's header (pcap 2.4).
-#[derive(Clone, Copy, Debug, PartialEq, Eq, Hash)]
+#[derive(Clone, Copy, Debug)]
 pub enum Link {
     /// 0: four bytes of address family, in the order of the machine that captured.
     Null,

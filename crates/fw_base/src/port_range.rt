@@ -4,7 +4,7 @@ ghost use Rattle.fw_base.specs.PortRange.{Ports};
 use std::marker::Model;
 
 /// The ports from `low` to `high`, both among them; `low` is at most `high`.
-#[derive(Clone, Copy, Debug, PartialEq, Eq, PartialOrd, Ord, Hash)]
+#[derive(Clone, Copy)]
 pub struct PortRange {
     low: u16,
     high: u16,

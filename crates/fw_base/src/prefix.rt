@@ -7,7 +7,7 @@ use std::marker::Model;
 
 /// An IPv4 prefix: the addresses whose first `length` bits are those of `address` (RFC 4632 section
 /// 3.1). The bits behind them, the host bits, are 0 in `address`.
-#[derive(Clone, Copy, Debug, PartialEq, Eq, PartialOrd, Ord, Hash)]
+#[derive(Clone, Copy, Debug, PartialEq, Eq, PartialOrd, Ord)]
 pub struct Prefix {
     address: Addr,
     bits: u8,

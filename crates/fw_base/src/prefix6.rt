@@ -6,7 +6,7 @@ use std::marker::Model;
 
 /// An IPv6 prefix: the addresses whose first `length` bits are those of `address` (RFC 4291 section
 /// 2.3). The bits behind them, the host bits, are 0 in `address`.
-#[derive(Clone, Copy, Debug, PartialEq, Eq, PartialOrd, Ord, Hash)]
+#[derive(Clone, Copy, Debug, PartialEq, Eq)]
 pub struct Prefix6 {
     address: Addr6,
     bits: u8,

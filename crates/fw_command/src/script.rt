@@ -1,7 +1,7 @@
 use fw_rule::{Command, Items};
 
 /// The commands of a script in the order of its lines.
-#[derive(Debug, Drop)]
+#[derive(Drop)]
 pub struct Script {
     /// Those before `live`, or all where there is no `live`.
     pub before: Items<Line>,
@@ -12,7 +12,7 @@ pub struct Script {
 }
 
 /// A command, and the line of the script where it stands.
-#[derive(Debug, Drop)]
+#[derive(Drop)]
 pub struct Line {
     /// From 1.
     pub line: u32,
@@ -20,7 +20,7 @@ pub struct Line {
 }
 
 /// What happens behind `live`.
-#[derive(Debug, Drop)]
+#[derive(Drop)]
 pub enum Step {
     /// The command is run.
     Run(Line),
@@ -29,7 +29,7 @@ pub enum Step {
 }
 
 /// How the packets of a run go in between the commands of its script.
-#[derive(Clone, Copy, Debug, PartialEq, Eq, Hash)]
+#[derive(Clone, Copy)]
 pub enum Pace {
     /// One after the other: `after` says behind how many packets the next command stands.
     Serial,

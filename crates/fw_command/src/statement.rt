@@ -1,7 +1,7 @@
 use fw_rule::Command;
 
 /// What a line of a script says.
-#[derive(Debug, Drop)]
+#[derive(Drop)]
 pub enum Statement {
     /// Nothing: the line has no word.
     Nothing,

@@ -5,7 +5,7 @@ use std::error::Error;
 use std::fmt;
 
 /// A word of a line: the bytes from `start` up to `end`, counted from 0.
-#[derive(Clone, Copy, Debug, PartialEq, Eq, Hash)]
+#[derive(Clone, Copy)]
 pub struct Token {
     /// Where its first byte stands.
     pub start: u32,

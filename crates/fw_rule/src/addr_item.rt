@@ -4,7 +4,7 @@ use fw_base::{Name, Prefix, Prefix6};
 use std::alloc::AllocError;
 
 /// One element of a list of addresses.
-#[derive(Debug, Drop)]
+#[derive(Drop)]
 pub enum AddrItem {
     /// Every address.
     Any,

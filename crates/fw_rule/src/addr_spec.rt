@@ -5,7 +5,7 @@ use fw_base::OutOfMemory;
 use std::alloc::Global;
 
 /// The addresses that a rule asks for: those of some element or, negated, those of none.
-#[derive(Debug, Drop)]
+#[derive(Drop)]
 pub struct AddrSpec {
     pub negated: bool,
     pub items: Items<AddrItem>,

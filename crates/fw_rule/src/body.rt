@@ -5,7 +5,7 @@ use fw_base::OutOfMemory;
 use std::alloc::Global;
 
 /// What a rule asks of a packet (ipfw(8), "RULE BODY").
-#[derive(Debug, Drop)]
+#[derive(Drop)]
 pub struct Body {
     /// The version of IP.
     pub family: Family,
@@ -24,7 +24,7 @@ pub struct Body {
 }
 
 /// Which version of IP a rule asks for (ipfw(8), "RULE BODY").
-#[derive(Clone, Copy, Debug, PartialEq, Eq, Hash)]
+#[derive(Clone, Copy, PartialEq, Eq)]
 pub enum Family {
     /// `ip`, `all`, and each protocol that is named or numbered: both versions.
     AnyIp,

@@ -2,7 +2,7 @@ use crate::{Items, RuleDraft, Setting, TableCommand};
 use fw_base::{Addr, Name};
 
 /// A command of a script (ipfw(8), "SYNOPSIS").
-#[derive(Debug, Drop)]
+#[derive(Drop)]
 pub enum Command {
     Add(RuleDraft),
     /// The rules of these numbers, each 1 to 65535.

@@ -1,7 +1,7 @@
 use fw_base::Name;
 
 /// Which interfaces a rule asks for.
-#[derive(Clone, Debug, Drop)]
+#[derive(Clone, Drop)]
 pub enum Iface {
     /// Every interface.
     AnyIface,

@@ -4,7 +4,7 @@ use crate::Test;
 use std::alloc::AllocError;
 
 /// One option of a rule's body: a test or, negated, its contrary.
-#[derive(Debug, Drop)]
+#[derive(Drop)]
 pub struct Opt {
     pub negated: bool,
     pub test: Test,

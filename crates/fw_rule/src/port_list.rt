@@ -5,7 +5,7 @@ use fw_base::{OutOfMemory, PortRange};
 use std::alloc::Global;
 
 /// The ports that a rule asks for: those of some range or, negated, those of none.
-#[derive(Debug, Drop)]
+#[derive(Drop)]
 pub struct PortList {
     pub negated: bool,
     pub ranges: Items<PortRange>,

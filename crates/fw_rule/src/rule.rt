@@ -1,7 +1,7 @@
 use crate::{Action, Body};
 
 /// A rule of a list (ipfw(8), "RULE FORMAT").
-#[derive(Debug, Drop)]
+#[derive(Drop)]
 pub struct Rule {
     /// 1 to 65535.
     pub number: u16,

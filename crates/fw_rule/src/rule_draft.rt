@@ -5,7 +5,7 @@ use fw_base::OutOfMemory;
 use std::alloc::Global;
 
 /// A rule as `add` names it, before it has an identity and a counter.
-#[derive(Debug, Drop)]
+#[derive(Drop)]
 pub struct RuleDraft {
     /// 0 to 65535; with none or 0 the list chooses one.
     pub number: Option<u16>,

@@ -11,7 +11,7 @@ pub const LONGEST_LIFETIME: u32 = 86_400;
 
 /// How long dynamic states live, in seconds from 1 to 86,400, how many there may be, from 1 to 65,536,
 /// and whether a state outlives the rule that made it (ipfw(8), "SYSCTL VARIABLES").
-#[derive(Clone, Copy, Debug, PartialEq, Eq, Hash)]
+#[derive(Clone, Copy, Debug)]
 pub struct Settings {
     pub ack: u32,
     pub syn: u32,

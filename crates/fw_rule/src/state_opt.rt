@@ -1,7 +1,7 @@
 use fw_base::Name;
 
 /// How a rule makes dynamic states, and the flow name that they get (ipfw(8), "STATEFUL FIREWALL").
-#[derive(Clone, Debug, Drop)]
+#[derive(Clone, Drop)]
 pub enum StateOpt {
     /// `keep-state`
     Keep(Name),
@@ -10,7 +10,7 @@ pub enum StateOpt {
 }
 
 /// Which part of a flow a `limit` counts by.
-#[derive(Clone, Copy, Debug, PartialEq, Eq, Hash)]
+#[derive(Clone, Copy, Debug, PartialEq, Eq)]
 pub enum LimitMask {
     SrcAddr,
     SrcPort,

@@ -1,7 +1,7 @@
 use fw_base::{Name, Prefix};
 
 /// What is done with a table (ipfw(8), "LOOKUP TABLES").
-#[derive(Debug, Drop)]
+#[derive(Drop)]
 pub enum TableCommand {
     Create(TableType),
     Destroy,
@@ -15,7 +15,7 @@ pub enum TableCommand {
 }
 
 /// What a table's keys are.
-#[derive(Clone, Copy, Debug, PartialEq, Eq, Hash)]
+#[derive(Clone, Copy, Debug)]
 pub enum TableType {
     /// Prefixes.
     Addresses,
@@ -24,7 +24,7 @@ pub enum TableType {
 }
 
 /// A key of a table.
-#[derive(Clone, Copy, Debug, PartialEq, Eq, Hash)]
+#[derive(Clone, Copy)]
 pub enum Key {
     Net(Prefix),
     Number(u32),

@@ -2,7 +2,7 @@ use crate::{Iface, TypeSet};
 use fw_base::Name;
 
 /// What an option of a rule's body asks of a packet (ipfw(8), "RULE OPTIONS").
-#[derive(Clone, Debug, Drop)]
+#[derive(Clone, Drop)]
 pub enum Test {
     /// `in`
     Inward,
@@ -35,7 +35,7 @@ pub enum Test {
 }
 
 /// The field of a packet that `lookup` looks up in a table.
-#[derive(Clone, Copy, Debug, PartialEq, Eq, Hash)]
+#[derive(Clone, Copy)]
 pub enum Field {
     SrcIp,
     DstIp,

@@ -3,7 +3,7 @@ ghost use Rattle.fw_rule.specs.TypeSet.{has_type, no_types, with_type};
 
 /// A set of ICMPv6 types, 0 to 255 (RFC 4443 section 2.1): bit k of `low` is type k, and bit k of
 /// `high` is type 128 + k.
-#[derive(Clone, Copy, Debug, PartialEq, Eq, Hash)]
+#[derive(Clone, Copy)]
 pub struct TypeSet {
     pub low: u128,
     pub high: u128,

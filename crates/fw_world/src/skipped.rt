@@ -4,7 +4,7 @@ ghost use Rattle.fw_world.specs.Skips.{entry_for};
 use eval_engine::DocketEntry;
 
 /// A record that isn't judged.
-#[derive(Clone, Copy, Debug, PartialEq, Eq, Hash)]
+#[derive(Clone, Copy)]
 pub enum Skipped {
     /// It is neither IPv4 nor IPv6.
     Other,

@@ -69,7 +69,7 @@ pub(crate) fn jumps_of(alloc: Global, rules: &[Arc<Rule>]) -> Result<Vec<Jump>, 
 }
 
 /// Where the search goes on behind a rule, as places in the list of rules.
-#[derive(Clone, Copy, Debug, PartialEq, Eq, Hash)]
+#[derive(Clone, Copy)]
 pub struct Jump {
     /// For `skipto N` and `call N` the first rule numbered N or higher, for `skipto` behind its own
     /// place; for others the next place. The list's length stands for its end.

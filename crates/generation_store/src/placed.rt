@@ -10,7 +10,7 @@ use std::alloc::Global;
 use std::sync::Arc;
 
 /// Where the rule of an identity stands.
-#[derive(Clone, Copy, Debug, PartialEq, Eq, Hash)]
+#[derive(Clone, Copy)]
 pub(crate) struct Placed {
     pub(crate) identity: u32,
     pub(crate) place: u32,

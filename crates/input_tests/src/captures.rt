@@ -1,6 +1,7 @@
 //! Worked captures, in every cut.
 use crate::frames::behind;
-use fw_base::{Link, MemorySource, Source};
+use fw_base::{Link, Source};
+use memory_files::MemorySource;
 use pcap_read::{Capture, CaptureFault, count_records};
 use std::alloc::{AllocError, Global};
 use std::process::Abort;

@@ -1,7 +1,7 @@
 use std::marker::Model;
 
 /// A header of an IPv6 packet: what it is, as the header before it says, and where it begins in the packet.
-#[derive(Clone, Copy, Debug)]
+#[derive(Clone, Copy)]
 pub struct Header {
     pub number: u8,
     pub place: usize,

@@ -3,8 +3,8 @@
 //! Tests: the built program: `tests/run`.
 #![tactic(auto)]
 
-use audit_driver::run;
 use fw_base::FreeGate;
+use run_driver::run;
 use std::io;
 use std::process::ExitCode;
 use system_files::{FaultCounter, FileLibrary, OUT_OF_MEMORY, words_given};

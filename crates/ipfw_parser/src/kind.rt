@@ -4,7 +4,7 @@ ghost use Rattle.ipfw_parser.specs.Sentences.{sentence_of};
 use std::fmt;
 
 /// What is wrong with a line of a script, in the order of the manual's grammar.
-#[derive(Clone, Copy, Debug, PartialEq, Eq, Hash)]
+#[derive(Clone, Copy, Debug, PartialEq, Eq)]
 pub enum Kind {
     /// A word of a fixed set is wanted, and another stands there.
     UnknownWord,

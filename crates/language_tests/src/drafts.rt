@@ -1,9 +1,10 @@
 use addresses6::ADDRESSES6;
 use faults::FAULTS;
-use fw_base::{Addr, Addr6, MemorySink, Prefix, Prefix6};
+use fw_base::{Addr, Addr6, Prefix, Prefix6};
 use fw_lex::{LexFault, tokens};
 use fw_rule::{Rule, RuleDraft};
 use ipfw_parser::{Kind, ParseFault, Word, address, parse_rule, prefix, prefix6};
+use memory_files::MemorySink;
 use rule_text::write_rule;
 use rules::RULES;
 use std::alloc::Global;

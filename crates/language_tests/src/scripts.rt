@@ -1,5 +1,5 @@
-use fw_base::MemorySink;
 use fw_command::ScriptFault;
+use memory_files::MemorySink;
 use std::alloc::Global;
 use std::test::Fail;
 

@@ -2,7 +2,7 @@ ghost use Rattle.std.specs.Prelude.{◌≡◌};
 ghost use Rattle.load_maker.specs.Load as load;
 
 /// A linear congruential generator of 64 bits, which gives its upper 31.
-#[derive(Debug, Drop)]
+#[derive(Drop)]
 pub(crate) struct Generator {
     pub(crate) state: u64,
 }

@@ -13,7 +13,7 @@ const SCRIPT_START: &[u8] =
     b"add 100 check-state\nadd 200 allow tcp from 10.0.0.0/24 to any 80 setup keep-state\nadd 300 allow udp from 10.0.0.0/24 to any 53 keep-state\nadd 400 allow icmp from any to any icmptypes 0,8\nadd 500 deny ip from any to any\nlive\nafter ";
 
 /// A script of rules with a live edit, and a capture that it is replayed beside.
-#[derive(Debug, Drop)]
+#[derive(Drop)]
 pub struct Load {
     pub script: Vec<u8>,
     pub capture: MadeCapture,

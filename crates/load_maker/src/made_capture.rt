@@ -14,7 +14,7 @@ const CAPTURE_HEADER: [u8; 24] = [
 ];
 
 /// The capture of a load, as a source that never fails: each of its records is made when it is read.
-#[derive(Debug, Drop)]
+#[derive(Drop)]
 pub struct MadeCapture {
     /// The header or a record, and how many of its bytes were read.
     piece: ArrayVec<u8, RECORD_BYTES>,

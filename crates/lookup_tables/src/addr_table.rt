@@ -17,7 +17,7 @@ use std::marker::Model;
 ///
 /// Beside the entries it keeps all addresses in pieces, cut where another prefix decides, so that a
 /// lookup is a search by halves.
-#[derive(Clone, Debug, Drop)]
+#[derive(Clone, Drop)]
 pub struct AddrTable {
     entries: Vec<(Prefix, u32)>,
     pieces: Vec<Piece>,

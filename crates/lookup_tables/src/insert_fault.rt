@@ -7,7 +7,7 @@ use std::error::Error;
 use std::fmt;
 
 /// Why an entry was not inserted. The table is as it was.
-#[derive(Clone, Copy, Debug, PartialEq, Eq, Hash)]
+#[derive(Clone, Copy, Debug, PartialEq, Eq)]
 pub enum InsertFault {
     /// The table has an entry of that key.
     Exists,

@@ -11,7 +11,7 @@ use std::marker::Model;
 
 /// A table of numbers, each with a value: the equal number answers. Contracts see it as its entries,
 /// the numbers ascending.
-#[derive(Clone, Debug, Drop)]
+#[derive(Clone, Drop)]
 pub struct NumberTable {
     entries: Vec<(u32, u32)>,
 }

@@ -5,7 +5,7 @@ use fw_base::{Addr, Prefix};
 
 /// Addresses side by side that one prefix of a table decides: from `first` to the one before the next
 /// piece begins, or to 255.255.255.255.
-#[derive(Clone, Copy, Debug)]
+#[derive(Clone, Copy)]
 pub struct Piece {
     /// The first of the addresses.
     pub first: Addr,

@@ -8,7 +8,7 @@ use std::sync::Arc;
 
 /// A table that several `Tables` may have at once, in any threads, and that none of them changes.
 /// Contracts see it as the table itself.
-#[derive(Clone, Debug, Drop)]
+#[derive(Clone, Drop)]
 pub struct SharedTable {
     table: Arc<Table>,
 }

@@ -1,7 +1,7 @@
 use crate::{AddrTable, NumberTable};
 
 /// A lookup table of one of the two kinds.
-#[derive(Clone, Debug, Drop)]
+#[derive(Clone, Drop)]
 pub enum Table {
     /// A table of prefixes.
     Addresses(AddrTable),

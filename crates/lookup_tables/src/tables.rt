@@ -12,7 +12,7 @@ use std::mem::replace;
 
 /// Tables under their names. Contracts see them as pairs of a name and its table, in the order of the
 /// names' bytes. Each table stands behind a shared value, so that a second `Tables` copies no entry.
-#[derive(Clone, Debug, Drop)]
+#[derive(Clone, Drop)]
 pub struct Tables {
     tables: Vec<(Name, SharedTable)>,
 }

@@ -7,7 +7,7 @@ use std::error::Error;
 use std::fmt;
 
 /// Why a capture gives no further record (pcap 2.4).
-#[derive(Clone, Copy, Debug, PartialEq, Eq, Hash)]
+#[derive(Clone, Copy, Debug, PartialEq, Eq)]
 pub enum CaptureFault {
     /// The capture ends before its header of 24 bytes does.
     ShortHeader,
@@ -91,7 +91,7 @@ impl From<fw_base::OutOfMemory> for CaptureFault {
 }
 
 /// How a capture stopped.
-#[derive(Clone, Copy, Debug)]
+#[derive(Clone, Copy)]
 pub enum Stop {
     /// At its end, behind a whole record or its header.
     End,
@@ -100,7 +100,7 @@ pub enum Stop {
 }
 
 /// Why a source could not be opened as a capture, and the source.
-#[derive(Debug, Drop)]
+#[derive(Drop)]
 pub struct OpenFault<S> {
     pub fault: CaptureFault,
     pub source: S,

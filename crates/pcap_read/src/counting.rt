@@ -57,7 +57,7 @@ fn count_rest<S: Source>(capture: &mut Capture<S>) -> (u32, Option<CaptureFault>
 }
 
 /// What a capture came to that was read to the place where its records end.
-#[derive(Debug, Drop)]
+#[derive(Drop)]
 pub struct Counted<S> {
     /// How many records it has.
     pub records: u32,

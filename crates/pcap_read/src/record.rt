@@ -1,5 +1,5 @@
 /// A record of a capture, lent from the capture's buffer (pcap 2.4).
-#[derive(Clone, Copy, Debug)]
+#[derive(Clone, Copy)]
 pub struct Record<'a> {
     /// The second of its time.
     pub second: u32,

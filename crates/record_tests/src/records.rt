@@ -6,12 +6,13 @@ ghost use Rattle.fw_world.specs.Caches.{capacity_of};
 ghost use Rattle.fw_world.specs.World.{IsLaneOf};
 ghost use Rattle.record_tests.specs.OneLane.{IsOneLane};
 
-use fw_base::{Direction, Link, MemorySink, MemorySource, Name, Port};
+use fw_base::{Direction, Link, Name, Port};
 use fw_command::{Line, Pace, Script, Step, parse_script};
 use fw_report::write_report;
 use fw_rule::Items;
 use fw_world::{CommitFault, Record, Skipped};
 use ip6_headers::{AnyIp, AnyPacket, read_any};
+use memory_files::{MemorySink, MemorySource};
 use record_laws::laws::{
     contents_determine_reports, listings_name_published_editions, replays_are_determined,
     replays_print_each_record,

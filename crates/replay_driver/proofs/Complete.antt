@@ -37,7 +37,8 @@ use Rattle.capture_tracks.specs.Replay.{limit_for}
 use Rattle.capture_tracks.specs.declared.opened.OpenedCapture.{OpenedCapture}
 use Rattle.replay_setup.specs.FirstEdition.{◌>>=◌, first_edition, configuration_behind, listings_of, answered_line, listed_first, with_answer, read_script}
 use Rattle.replay_setup.specs.NamesRead.{ReadsScript}
-use Rattle.replay_driver.specs.Found.{FindsReplay, FindsLoad, IsReplayOf, known_left, no_failures, made_capture}
+use Rattle.replay_driver.specs.Found.{FindsReplay, FindsLoad, IsReplayOf, made_capture}
+use Rattle.replay_setup.specs.InMemory.{known_left, no_failures}
 use Rattle.replay_setup.specs.Openings.{OpensAll}
 use Rattle.replay_driver.specs.Promises.{AllWhole, IsAccepted, IsComplete, IsCompleteJob}
 use Rattle.replay_driver.specs.Run.{IsRunOf}
@@ -46,39 +47,18 @@ use Rattle.replay_driver.specs.Served.{ReplayNames, Job, Replays, Loads}
 use Rattle.replay_setup.specs.FirstEdition.{pace_of}
 use Rattle.buffered_io.specs.WholeSource.{ReadsAll}
 use Rattle.replay_setup.specs.declared.first_edition.FirstEdition.{FirstEdition}
-use Rattle.replay_driver.specs.declared.outcome.Outcome.{Outcome}
+use Rattle.replay_setup.specs.declared.outcome.Outcome.{Outcome}
 use Rattle.replay_driver.specs.declared.run_result.RunResult.{RunResult}
 use Rattle.replay_driver.specs.declared.run_result.RunResult.TheVariants.{Usage, Unread, Unready, Reported, Summed}
 use Rattle.replay_setup.specs.declared.script_error.ScriptError.{ScriptError}
 use Rattle.replay_driver.proofs.AcceptedLoad.{load_accepted, load_ready}
 use Rattle.replay_driver.proofs.LoadWords.{CanBeMade}
 use Rattle.replay_setup.proofs.Openings.{opens_length}
-use Rattle.replay_driver.proofs.Promised.{IfSome-both}
+use Rattle.replay_setup.proofs.Logic.{IfSome-both, ok_same}
+use Rattle.replay_setup.proofs.QuietReads.{took_from, all_bytes, not_risen}
 use Rattle.replay_driver.proofs.Statuses.{all_well}
-use Rattle.replay_driver.proofs.Told.{names_steady}
+use Rattle.replay_setup.proofs.Told.{names_steady}
 use Rattle.replay_setup.specs.Outside.{Files, Output}
-
--- what an opening takes out of a told list
-pub took_from : (a b : Option (List Pair)) (name : List ℕ) (left : Option (List ℕ)) (ps : List Pair) (p : Pair) (rest : List Pair) → TakesOut a b name left
-    → a ≡ Some ps → take_named name ps ≡ Some (p, rest) → (left ≡ Some p.1) × (b ≡ Some rest)
-took_from None b name left ps p rest took is stands = absurd (cc)
-took_from (Some qs) b name left ps p rest took is stands =
-    let same : qs ≡ ps = cc in
-    let found : take_named name qs ≡ Some (p, rest) = ap (take_named name) same ∙ stands in
-    subst (λ (r : Option (Pair × List Pair)). MatchOption r ⊥ (λ f. (left ≡ Some f.0.1) × (b ≡ Some f.1))) found took
-
--- all of a script that isn't too long was read
-pub all_bytes : (script bytes : List ℕ) (left : Option (List ℕ)) (before now : ℕ) → ReadsAll (Some script) left before now 1048577 bytes → length script ≤ 1048576 → bytes ≡ script
-all_bytes script bytes None before now reads short = absurd reads.taken
-all_bytes script bytes (Some ys) before now reads short =
-    let split : script ≡ bytes ++ ys = reads.taken in
-    let size : length script ≡ length bytes + length ys = ap length split ∙ length-append bytes ys in
-    let none : ys ≡ [] = reads.end (omega arith) in
-    sym (split ∙ ap (λ l. bytes ++ l) none ∙ append-nil bytes)
-
--- no count of faults rises from 0 to 0
-pub not_risen : (before now : ℕ) → before ≡ 0 → now ≡ 0 → Rose before now → ⊥
-not_risen before now zero still rose = omega arith
 
 -- a capture that ends behind a whole record was read to its end
 ends_well : (limit : ℕ) (whole bytes : List ℕ) (left : Option (List ℕ)) (records read : List Captured) (F : Type 0) (place : Place) (stop : Option CaptureFault) → HasFront limit whole records (Open AtBoundary)
@@ -109,10 +89,6 @@ none_of_both test (x ∷ xs) ys p q = by_first (test x) refl p (λ more. none_of
     by_first false is p behind = or_from (test x) (list_any test (xs ++ ys)) is (behind (sym (ap (λ (b : Bool). b || list_any test xs) is) ∙ p))
 
 -- ---- the answers before `live`
-
--- one value is Ok
-pub ok_same : {X E : Type 0} (x y : X) → ◌≡◌ {A = Result X E} (Ok x) (Ok y) → x ≡ y
-ok_same x y e = cc
 
 -- none of them is a refusal
 answered_well : (line : ℕ) (shown : Answer) (a : Option LineAnswer) → answered_line line shown ≡ Ok a → list_any is_refused (with_answer a []) ≡ false

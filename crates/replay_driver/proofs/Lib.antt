@@ -1,11 +1,9 @@
--- what openings leave of the told list
-pub mod Told
+-- what is ready is reported
 pub mod ReadyReports
 -- a load's number, and its script's edition 1
 pub mod LoadWords
 pub mod AcceptedLoad
 -- what a replay answers
-pub mod SomeEditions
 pub mod EditionReplay
 pub mod Statuses
 -- what a run promises

@@ -16,22 +16,27 @@ use Rattle.command_words.specs.declared.invocation.Mode.{Mode}
 use Rattle.command_words.specs.declared.invocation.Mode.TheVariants.{Serial}
 use Rattle.capture_tracks.specs.Reading.{Track, AllRead}
 use Rattle.capture_tracks.specs.declared.opened.OpenedCapture.{OpenedCapture}
-use Rattle.replay_driver.specs.Found.{FindsJob, FindsWords, FindsReplay, IsReplayOf, ReplaysLoad, known_left, no_failures}
+use Rattle.replay_driver.specs.Found.{FindsJob, FindsWords, FindsReplay, IsReplayOf, ReplaysLoad}
+use Rattle.replay_setup.specs.InMemory.{known_left, no_failures}
 use Rattle.replay_setup.specs.Openings.{pairs_without}
 use Rattle.capture_tracks.specs.Replay.{sources_of}
-use Rattle.replay_driver.specs.Promises.{IsKept, IsReported, IsSummed, IsUnreadJob, IsUnreadyJob, IsQuiet, HasRefusedCommand, IsFaulty, HasFailedRead, opening_order}
-use Rattle.replay_driver.specs.Run.{Writes, WritesResult, IsUsage, IsNoCommand, IsRunOf, IsFoundRun}
+use Rattle.replay_driver.specs.Promises.{IsKept, IsReported, IsSummed, IsUnreadJob, IsUnreadyJob, IsQuiet, HasRefusedCommand, IsFaulty, opening_order}
+use Rattle.replay_setup.specs.FailedReads.{HasFailedRead}
+use Rattle.replay_driver.specs.Run.{WritesResult, IsUsage, IsNoCommand, IsRunOf, IsFoundRun}
+use Rattle.replay_setup.specs.Outcomes.{Writes}
 use Rattle.capture_tracks.specs.Reported.{report_record}
 use Rattle.replay_driver.specs.RunResult.{result_status, result_text, usage_text, report_status, is_stopped, is_refused}
 use Rattle.replay_driver.specs.Served.{ReplayNames, Job, Replays, Loads}
 use Rattle.replay_driver.specs.declared.run_result.Found.{Found}
-use Rattle.replay_driver.specs.declared.outcome.Outcome.{Outcome}
+use Rattle.replay_setup.specs.declared.outcome.Outcome.{Outcome}
 use Rattle.replay_driver.specs.declared.run_result.RunResult.{RunResult}
 use Rattle.replay_driver.specs.declared.run_result.RunResult.TheVariants.{Usage, Unread, Unready, Reported, Summed}
 use Rattle.replay_driver.proofs.AcceptedLoad.{load_ready}
 use Rattle.replay_driver.proofs.LoadWords.{CanBeMade}
-use Rattle.replay_driver.proofs.Statuses.{quiet_ends, refused_lines, faulty_ends, unread_ends, few, AreFresh, failed_read}
-use Rattle.replay_driver.proofs.Told.{names_steady, all_fresh, all_named, script_refused, script_failed, capture_refused}
+use Rattle.replay_driver.proofs.Statuses.{quiet_ends, refused_lines, faulty_ends, unread_ends, few}
+use Rattle.replay_setup.proofs.FailedReads.{AreFresh, failed_read}
+use Rattle.replay_setup.proofs.Logic.{IfSome-both}
+use Rattle.replay_setup.proofs.Told.{names_steady, all_fresh, all_named, script_refused, script_failed, capture_refused}
 use Rattle.replay_setup.specs.Outside.{Files, Output}
 
 -- what follows of a value from its being the one holds where there is one
@@ -48,11 +53,6 @@ IfNone-by (Some x) P f = tt
 pub IfSome-map : {A : Type 0} (o : Option A) (P Q : A → Type 0) → ((x : A) → P x → Q x) → IfSome o P → IfSome o Q
 IfSome-map None P Q f h = tt
 IfSome-map (Some x) P Q f h = f x h
-
--- what follows of two facts of each value
-pub IfSome-both : {A : Type 0} (o : Option A) (P Q R : A → Type 0) → ((x : A) → P x → Q x → R x) → IfSome o P → IfSome o Q → IfSome o R
-IfSome-both None P Q R f p q = tt
-IfSome-both (Some x) P Q R f p q = f x p q
 
 -- a case by what there is
 pub by_option : {A : Type 0} (o : Option A) (P : A → Type 0) (R : Type 0) → (o ≡ None → R) → IfSome o P → ((x : A) → P x → R) → R
@@ -338,9 +338,9 @@ module _ {K S L : Type 0} (output : Output K) (files : Files L S) where
         go : (job : Job) (result : RunResult) (sources : List S) → FindsJob files job library libraryAfter result sources → files.pairs libraryAfter ≡ pairs_without (take (length sources) (opening_order job)) told
         go (Loads n) result sources (same, none, found) = rw none (ap files.pairs same ∙ is)
         go (Replays names) Usage sources finds = absurd finds
-        go (Replays names) (Unread name) sources (inl found) = script_refused files names library libraryAfter name sources told found is
-        go (Replays names) (Unread name) sources (inr (inl found)) = script_failed files names library libraryAfter name sources told found is
-        go (Replays names) (Unread name) sources (inr (inr found)) = capture_refused files names library libraryAfter name sources told found is
+        go (Replays names) (Unread name) sources (inl found) = script_refused files names.script names.captures library libraryAfter name sources told found is
+        go (Replays names) (Unread name) sources (inr (inl found)) = script_failed files names.script names.captures library libraryAfter name sources told found is
+        go (Replays names) (Unread name) sources (inr (inr found)) = capture_refused files names.script names.captures library libraryAfter name sources told found is
         go (Replays names) (Unready error) sources found =
             rw (found.given_back) (all_named files names.script names.captures library libraryAfter found.script found.bytes found.opened (sources_of found.opened) told found.reads is (length-map found.opened (λ o. o.source)))
         go (Replays names) (Reported k ends journal) sources (asked, found) =

@@ -7,7 +7,7 @@ use Rattle.replay_setup.specs.Outside.{Files, Output}
 use Rattle.replay_driver.specs.Promises.{IsKept, IsUnreadJob, IsUnreadyJob, IsCompleteJob}
 use Rattle.replay_driver.specs.Run.{IsNoCommand, IsRunOf}
 use Rattle.replay_driver.specs.Served.{Job}
-use Rattle.replay_driver.specs.declared.outcome.Outcome.{Outcome}
+use Rattle.replay_setup.specs.declared.outcome.Outcome.{Outcome}
 
 module _ {K S L : Type 0} (output : Output K) (files : Files L S) (library libraryAfter : L) (sink sinkAfter : K) (command : Option Job) where
   module _ (told answered : Outcome S) (same : told ≡ answered) where

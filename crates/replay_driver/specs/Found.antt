@@ -20,6 +20,7 @@ use Rattle.replay_setup.specs.declared.first_edition.FirstEdition.{FirstEdition}
 use Rattle.replay_driver.specs.declared.run_result.RunResult.{RunResult}
 use Rattle.replay_driver.specs.declared.run_result.RunResult.TheVariants.{Usage, Unread, Unready, Reported, Summed}
 use Rattle.replay_setup.specs.NamesRead.{ReadsNames, IsUnreadable, HasNoEdition}
+use Rattle.replay_setup.specs.InMemory.{known_left, no_failures}
 use Rattle.replay_setup.specs.Outside.{Files}
 
 -- in serial mode the record comes of going through records and commands in the order of the schedule
@@ -71,14 +72,6 @@ made_capture bytes = record {
   port = record { direction = In; interface = codes "em0" };
   source = bytes;
 }
-
--- a made capture tells what is left of it
-abbrev pub known_left : List ℕ → Option (List ℕ)
-known_left bytes = Some bytes
-
--- no read of a made capture fails
-abbrev pub no_failures : List ℕ → ℕ
-no_failures bytes = 0
 
 -- the made capture of so many records was replayed beside the made script
 pub record ReplaysLoad (n : ℕ) (kept : RecordValue) (ends : Ends) : Type 0 where

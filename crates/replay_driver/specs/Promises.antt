@@ -20,14 +20,15 @@ use Rattle.replay_setup.specs.FirstEdition.{first_edition}
 use Rattle.replay_setup.specs.NamesRead.{ReadsNames, HasNoEdition}
 use Rattle.replay_driver.specs.Found.{FindsReplay, IsReplayOf, ReplaysLoad}
 use Rattle.replay_setup.specs.Openings.{file_names}
-use Rattle.replay_driver.specs.Run.{Writes}
+use Rattle.replay_setup.specs.Outcomes.{Writes}
 use Rattle.capture_tracks.specs.Reported.{report_record}
-use Rattle.replay_driver.specs.RunResult.{summary_of, report_status, unread_text, is_stopped, is_refused}
+use Rattle.replay_driver.specs.RunResult.{summary_of, report_status, is_stopped, is_refused}
+use Rattle.replay_setup.specs.UnreadName.{unread_text}
 use Rattle.replay_setup.specs.ScriptTexts.{error_text}
 use Rattle.replay_driver.specs.Served.{ReplayNames, Job, Replays, Loads}
 use Rattle.replay_setup.specs.FirstEdition.{pace_of}
 use Rattle.replay_setup.specs.declared.first_edition.FirstEdition.{FirstEdition}
-use Rattle.replay_driver.specs.declared.outcome.Outcome.{Outcome}
+use Rattle.replay_setup.specs.declared.outcome.Outcome.{Outcome}
 use Rattle.replay_driver.specs.declared.run_result.RunResult.TheVariants.{Unread}
 use Rattle.replay_setup.specs.declared.script_error.ScriptError.{ScriptError}
 use Rattle.replay_setup.specs.Outside.{Files, Output}
@@ -55,15 +56,6 @@ pub record IsFaulty {S : Type 0} (outcome : Outcome S) : Type 0 where
   pub begun : IsSome outcome.kept
   pub read : list_any is_unread outcome.ends.captures ≡ false
   pub stopped : list_any is_stopped outcome.ends.captures ≡ true
-
--- the capture's source failed in this run, in which it was opened with a count of 0
-abbrev pub FailedRead : CaptureEnd → Type 0
-FailedRead end = (at : ℕ) × (count : ℕ) × (end ≡ Stopped at ReadFault count) × (0 < count)
-
--- some capture's source failed
-abbrev pub HasFailedRead : List CaptureEnd → Type 0
-HasFailedRead [] = ⊥
-HasFailedRead (end ∷ ends) = FailedRead end ⊎ HasFailedRead ends
 
 -- ---- what is complete
 

@@ -1,36 +1,19 @@
 -- What a run leaves: what was found, written with its status.
-use Rattle.std.specs.Prelude.{◌≡◌, ℕ, List, [], None, ◌⊎◌}
-use Rattle.std.specs.Io.KnownBytes.{Appends}
-use Rattle.fw_base.specs.Faults.{Rose}
-use Rattle.fw_base.specs.Texts.{AppendsPart}
+use Rattle.std.specs.Prelude.{◌≡◌, [], None, ◌⊎◌}
 use Rattle.replay_driver.specs.Found.{FindsJob}
 use Rattle.replay_driver.specs.RunResult.{usage_text, result_status, result_text, result_kept, result_ends, result_answers}
 use Rattle.replay_driver.specs.Served.{Job}
 use Rattle.replay_driver.specs.declared.run_result.Found.{Found}
-use Rattle.replay_driver.specs.declared.outcome.Outcome.{Outcome}
+use Rattle.replay_setup.specs.Outcomes.{IsWithoutMemory, Writes}
+use Rattle.replay_setup.specs.declared.outcome.Outcome.{Outcome}
 use Rattle.replay_driver.specs.declared.run_result.RunResult.{RunResult}
 use Rattle.replay_setup.specs.Outside.{Files, Output}
 
--- Memory ran out, and nothing was written.
-pub record IsWithoutMemory {K S : Type 0} (sink sinkAfter : K) (outcome : Outcome S) : Type 0 where
-  pub status : outcome.status ≡ 6
-  pub nothing_written : sinkAfter ≡ sink
-  pub nothing_handed_back : outcome.sources.items ≡ []
-  pub nothing_kept : outcome.kept ≡ None
-  pub no_end : outcome.ends.captures ≡ []
-  pub no_answer : outcome.ends.answers ≡ []
-
 module _ {K : Type 0} (output : Output K) where
-  -- A text was to be written with a status. With another status than 5 the sink took the whole text; with 5,
-  -- which replaces it, a front of the text, and the sink's count rose.
-  pub record Writes (sink sinkAfter : K) (wanted got : ℕ) (text : List ℕ) : Type 0 where
-    pub answered : ((got ≡ wanted) × Appends (output.written sink) (output.written sinkAfter) text)
-        ⊎ ((got ≡ 5) × AppendsPart (output.written sink) (output.written sinkAfter) text × Rose (output.faults sink) (output.faults sinkAfter))
-
   module _ {S : Type 0} where
     -- what was found is written with its status, and kept
     pub record WritesResult (sink sinkAfter : K) (result : RunResult) (outcome : Outcome S) : Type 0 where
-      pub writes : Writes sink sinkAfter (result_status result) outcome.status (result_text result)
+      pub writes : Writes output sink sinkAfter (result_status result) outcome.status (result_text result)
       pub kept : outcome.kept ≡ result_kept result
       pub ends : outcome.ends.captures ≡ result_ends result
       pub answers : outcome.ends.answers ≡ result_answers result
@@ -47,7 +30,7 @@ module _ {K : Type 0} (output : Output K) where
       pub nothing_kept : outcome.kept ≡ None
       pub no_end : outcome.ends.captures ≡ []
       pub no_answer : outcome.ends.answers ≡ []
-      pub writes : Writes sink sinkAfter 1 outcome.status usage_text
+      pub writes : Writes output sink sinkAfter 1 outcome.status usage_text
 
     -- the words are no command, or memory ran out before that was known
     abbrev pub IsNoCommand : {L : Type 0} → L → L → K → K → Outcome S → Type 0

@@ -12,16 +12,13 @@ use Rattle.report_texts.specs.declared.capture_end.CaptureEnd.TheVariants.{Read,
 use Rattle.report_texts.specs.declared.ends.LineAnswer.{LineAnswer}
 use Rattle.fw_world.specs.RecordValue.{RecordValue}
 use Rattle.replay_setup.specs.ScriptTexts.{error_text}
+use Rattle.replay_setup.specs.UnreadName.{unread_text}
 use Rattle.replay_driver.specs.declared.run_result.RunResult.{RunResult}
 use Rattle.replay_driver.specs.declared.run_result.RunResult.TheVariants.{Usage, Unread, Unready, Reported, Summed}
 
 -- the usage line
 unfoldable pub usage_text : List ℕ
 usage_text = codes "usage: ipfw_replay serial|live [--journal] SCRIPT in|out:IF:CAPTURE .. | load N\n"
-
--- which name could not be opened or read
-unfoldable pub unread_text : List ℕ → List ℕ
-unread_text name = codes "cannot read " ++ (name ++ codes "\n")
 
 -- the summary of a record: its dockets, and how many editions, entries of the journal and live states there are
 abbrev pub summary_of : RecordValue → List ℕ

@@ -3,14 +3,11 @@
 //! Tests: `run_tests`, src/runs.
 #![tactic(auto)]
 
-pub use outcome::Outcome;
 pub use run_command::run;
-pub use run_result::no_ends;
 
 mod edition_replay;
 mod files_replay;
 mod manner;
-mod outcome;
 mod pieced_text;
 mod replay_load;
 mod run_command;

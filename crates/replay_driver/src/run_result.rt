@@ -7,11 +7,10 @@ ghost use Rattle.report_texts.specs.Report.{report_text};
 ghost use Rattle.replay_driver.specs.RunResult as spec;
 
 use capture_tracks::is_unread;
-use fw_base::{Failed, Name, Sink, write_pieces, write_text};
+use fw_base::{Failed, Name, Sink, write_text};
 use fw_report::{write_report, write_summary};
-use fw_rule::Items;
 use fw_world::Record;
-use replay_setup::ScriptError;
+use replay_setup::{ScriptError, no_ends, write_unread};
 use report_texts::{Answer, CaptureEnd, Ends, LineAnswer, Recorded};
 use std::alloc::Global;
 
@@ -89,17 +88,6 @@ fn report_status(ends: &Ends) -> u8
         2
     } else {
         0
-    }
-}
-
-/// No capture ended, and no line has an answer.
-pub fn no_ends(alloc: Global) -> Ends
-    ensures captures { result.captures ≡ [] }
-    ensures answers { result.answers ≡ [] }
-{
-    Ends {
-        captures: Items::from_vec(Vec::new(alloc)),
-        answers: Items::from_vec(Vec::new(alloc)),
     }
 }
 
@@ -186,15 +174,6 @@ fn sum_up<K: Sink>(out: &mut K, kept: &Record) -> Result<(), Failed>
     ensures { WritesText (K.state out.old) (K.state out.new) (spec.summary_of kept.now) result }
 {
     write_summary(&recorded_of(kept), out).map_err(|_| Failed)
-}
-
-/// Writes which name couldn't be read.
-#[tactic(auto, unfolding(crate::specs::RunResult::unread_text))]
-fn write_unread<K: Sink>(out: &mut K, name: &Name) -> Result<(), Failed>
-    ensures { WritesText (K.state out.old) (K.state out.new) (spec.unread_text name.now) result }
-{
-    let name = name.bytes();
-    write_pieces(out, &[b"cannot read ", name, b"\n"])
 }
 
 /// Writes the usage line.

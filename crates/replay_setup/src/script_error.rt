@@ -10,7 +10,7 @@ use rule_edits::ApplyFault;
 use std::alloc::{AllocError, AllocFailed};
 
 /// Why a script gives no edition, in the order in which it is tested.
-#[derive(Clone, Copy, Debug, PartialEq, Eq)]
+#[derive(Clone, Copy)]
 pub enum ScriptError {
     /// It isn't of the grammar, or passes a limit.
     Fault(ScriptFault),
@@ -72,7 +72,7 @@ impl ScriptError {
 }
 
 /// A command that is refused.
-#[derive(Clone, Copy, Debug, PartialEq, Eq)]
+#[derive(Clone, Copy)]
 pub struct RefusedLine {
     /// The line where it stands, from 1.
     pub line: u32,

@@ -1,8 +1,9 @@
 use crate::run::{Run, run_of};
 use anyhow::{Result, bail};
 use bench_times::{nanoseconds, print_mean};
-use fw_base::{MemorySink, write_text};
+use fw_base::write_text;
 use fw_report::write_report;
+use memory_files::MemorySink;
 use report_texts::Recorded;
 use std::alloc::Global;
 use std::io::Print;

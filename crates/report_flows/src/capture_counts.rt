@@ -16,7 +16,7 @@ use std::alloc::Global;
 use std::collections::HashMap;
 
 /// What the records of a capture came to in two reports.
-#[derive(Clone, Copy, Debug)]
+#[derive(Clone, Copy)]
 pub(crate) struct Outcomes<'a> {
     /// The capture's number, from 1.
     pub(crate) capture: u64,

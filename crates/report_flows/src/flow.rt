@@ -7,7 +7,7 @@ use packet_headers::{Flow, flow};
 
 /// Who speaks to whom by IPv6: the protocol, and both ends. The ports are 0 for protocols other than
 /// TCP and UDP.
-#[derive(Clone, Copy, Debug, PartialEq, Eq, Hash)]
+#[derive(Clone, Copy, PartialEq, Eq, Hash)]
 pub struct Flow6 {
     pub source: Addr6,
     pub destination: Addr6,
@@ -17,7 +17,7 @@ pub struct Flow6 {
 }
 
 /// Who speaks to whom, by either version of the internet protocol.
-#[derive(Clone, Copy, Debug, PartialEq, Eq, Hash)]
+#[derive(Clone, Copy, PartialEq, Eq, Hash)]
 pub enum AnyFlow {
     Four(Flow),
     Six(Flow6),

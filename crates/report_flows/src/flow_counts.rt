@@ -12,7 +12,7 @@ use std::collections::HashMap;
 use std::marker::Model;
 
 /// A flow among records, and how many have it, the first and the last of them.
-#[derive(Clone, Copy, Debug, PartialEq, Eq)]
+#[derive(Clone, Copy)]
 pub struct FlowSpan {
     /// `None` stands for the records that have no flow.
     pub flow: Option<AnyFlow>,

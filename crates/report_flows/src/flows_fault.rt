@@ -6,7 +6,7 @@ use pcap_read::CaptureFault;
 use std::alloc::AllocError;
 
 /// Why the flows of moves aren't told.
-#[derive(Clone, Copy, Debug, PartialEq, Eq)]
+#[derive(Clone, Copy)]
 pub enum FlowsFault {
     /// So many captures are in the reports, and so many others were given.
     Captures {

@@ -8,7 +8,7 @@ use std::alloc::Global;
 use std::collections::HashMap;
 
 /// How many records came to an outcome, and which were the first and the last of them.
-#[derive(Clone, Copy, Debug, PartialEq, Eq)]
+#[derive(Clone, Copy)]
 pub struct Span {
     pub records: u64,
     /// The first one's number, from 1.

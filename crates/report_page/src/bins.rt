@@ -5,7 +5,7 @@ use fw_base::OutOfMemory;
 use std::alloc::Global;
 
 /// What happened to a record, as a strip shows it.
-#[derive(Clone, Copy, Debug, PartialEq, Eq)]
+#[derive(Clone, Copy)]
 pub enum Shade {
     Allow,
     Deny,
@@ -16,7 +16,7 @@ pub enum Shade {
 }
 
 /// How many records of each shade there are.
-#[derive(Clone, Copy, Debug, PartialEq, Eq)]
+#[derive(Clone, Copy)]
 pub struct Bin {
     pub allow: usize,
     pub deny: usize,

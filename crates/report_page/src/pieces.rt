@@ -6,7 +6,7 @@ use fw_base::{Failed, OutOfMemory, Sink, write_text};
 use itoa::Buffer;
 
 /// A piece of a page. Markup is a constant of the program, which text of a report can't be.
-#[derive(Clone, Copy, Debug)]
+#[derive(Clone, Copy)]
 pub enum Piece<'a> {
     Markup(&'static [u8]),
     /// Text that isn't the page's own.

@@ -13,7 +13,7 @@ use state_asks::{FlowName, Op, Reply, RuleRef};
 
 /// What the line of an ask tells. Of a rule it tells the identity alone: the number is 0. The flow name
 /// stands beside what is asked, in which its number is 0.
-#[derive(Clone, Copy, Debug)]
+#[derive(Clone, Copy)]
 pub struct AskLine<'a> {
     /// The lane, 1 to 16.
     pub lane: u64,

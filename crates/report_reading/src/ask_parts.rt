@@ -8,7 +8,7 @@ use fw_rule::LimitMask;
 use state_asks::{Reply, RuleRef, Way};
 
 /// What a line asks, before its flow is read.
-#[derive(Clone, Copy, Debug, PartialEq, Eq)]
+#[derive(Clone, Copy)]
 pub(crate) enum Question {
     Lookup,
     /// By the rule of this identity, limited or not.

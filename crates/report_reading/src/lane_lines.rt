@@ -5,7 +5,7 @@ use crate::parts::{behind, is_end, number, positive};
 use fw_base::MOST_CAPTURES;
 
 /// What the line of a lane tells.
-#[derive(Clone, Copy, Debug, PartialEq, Eq)]
+#[derive(Clone, Copy)]
 pub struct LaneLine {
     /// The capture whose lane it is, 1 to 16.
     pub lane: u64,

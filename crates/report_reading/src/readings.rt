@@ -17,7 +17,7 @@ use eval_engine::DocketEntry;
 use state_asks::{Op, Reply};
 
 /// What a line of a report tells.
-#[derive(Clone, Copy, Debug)]
+#[derive(Clone, Copy)]
 pub enum Reading<'a> {
     Record(RecordLine),
     /// The publication of the edition of this number.

@@ -12,7 +12,7 @@ use fw_rule::UNREACH_NAMES;
 use state_asks::RuleRef;
 
 /// What a line of a record tells. Of a rule it tells the number alone: the identity is 0.
-#[derive(Clone, Copy, Debug, PartialEq, Eq)]
+#[derive(Clone, Copy)]
 pub struct RecordLine {
     /// The capture, 1 to 16.
     pub capture: u64,

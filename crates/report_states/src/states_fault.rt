@@ -6,7 +6,7 @@ use replay_setup::ScriptError;
 use std::alloc::AllocError;
 
 /// Why a journal tells no live states.
-#[derive(Clone, Copy, Debug, PartialEq, Eq)]
+#[derive(Clone, Copy)]
 pub enum StatesFault {
     /// The script gives no edition.
     Script(ScriptError),

@@ -1,7 +1,7 @@
 use pcap_read::CaptureFault;
 
 /// How a capture ended.
-#[derive(Clone, Copy, Debug, PartialEq, Eq)]
+#[derive(Clone, Copy)]
 pub enum CaptureEnd {
     /// At its end, behind so many records.
     Read {

@@ -5,14 +5,14 @@ use rule_edits::ApplyFault;
 
 /// How the captures of a run ended, in the order of the words, and the answers to lines of the script, in
 /// the order of the lines.
-#[derive(Debug, Drop)]
+#[derive(Drop)]
 pub struct Ends {
     pub captures: Items<CaptureEnd>,
     pub answers: Items<LineAnswer>,
 }
 
 /// The answer to a line of a script.
-#[derive(Debug, Drop)]
+#[derive(Drop)]
 pub struct LineAnswer {
     /// From 1.
     pub line: u32,
@@ -20,7 +20,7 @@ pub struct LineAnswer {
 }
 
 /// How a line of a script is answered that is refused, or that asks for a listing.
-#[derive(Debug, Drop)]
+#[derive(Drop)]
 pub enum Answer {
     /// The command is refused, for this reason.
     Refused(ApplyFault),

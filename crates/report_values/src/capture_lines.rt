@@ -110,7 +110,7 @@ fn fault_told(line: &[u8], capture: u64, records: u64) -> Option<Option<&[u8]>>
 }
 
 /// How a capture ended.
-#[derive(Clone, Copy, Debug)]
+#[derive(Clone, Copy)]
 pub struct EndLine<'a> {
     /// The line that tells it, with the byte 10.
     pub line: &'a [u8],

@@ -1,6 +1,6 @@
 /// Columns along seconds, by which a journal is shown: equally many seconds each, one behind the
 /// other.
-#[derive(Clone, Copy, Debug, PartialEq, Eq)]
+#[derive(Clone, Copy)]
 pub struct JournalColumns {
     /// The second at which the first column begins.
     pub first: u32,

@@ -11,7 +11,7 @@ use std::collections::HashMap;
 use std::marker::Model;
 
 /// From where to where the rules of one number in one edition stand among all. Others may stand between them.
-#[derive(Clone, Copy, Debug)]
+#[derive(Clone, Copy)]
 pub(crate) struct Stretch {
     /// The place of the first.
     first: usize,

@@ -61,7 +61,7 @@ pub(crate) fn line_number(text: &[u8], rest: &[u8]) -> u64
 }
 
 /// A text, read line by line.
-#[derive(Clone, Copy, Debug)]
+#[derive(Clone, Copy)]
 pub struct Lines<'a> {
     /// All of it.
     pub text: &'a [u8],

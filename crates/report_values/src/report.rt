@@ -9,7 +9,7 @@ use crate::{Capture, Lines, Unfit, read_captures};
 use std::alloc::Global;
 
 /// Why a text isn't read as a report.
-#[derive(Clone, Copy, Debug, PartialEq, Eq)]
+#[derive(Clone, Copy)]
 pub enum ReportError {
     /// The line of this number, from 1, is none that a report has there; also one past the last,
     /// where lines are missing.

@@ -1,5 +1,5 @@
 /// A rule of an edition that the report lists.
-#[derive(Clone, Copy, Debug, PartialEq, Eq)]
+#[derive(Clone, Copy)]
 pub struct KnownRule<'a> {
     /// The edition's number, from 1.
     pub edition: u64,
@@ -9,7 +9,7 @@ pub struct KnownRule<'a> {
 }
 
 /// A rule of the last edition with what it counted.
-#[derive(Clone, Copy, Debug, PartialEq, Eq)]
+#[derive(Clone, Copy)]
 pub struct CountedRule<'a> {
     pub number: u16,
     pub packets: u64,

@@ -5,7 +5,7 @@ use fw_base::OutOfMemory;
 use std::alloc::{AllocError, AllocFailed};
 
 /// Why the lines of a report aren't read.
-#[derive(Clone, Copy, Debug)]
+#[derive(Clone, Copy)]
 pub enum Unfit<'a> {
     /// With this rest of the text begins the first line that is none that a report has there. It is empty where
     /// lines lack at the end.

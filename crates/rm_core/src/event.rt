@@ -1,7 +1,7 @@
 /// A single step of a processor or of the operator, the one writer. The number is a processor's, 1
 /// for the first; where it names who takes or gives the lock behind, it may also be the operator's,
 /// one past the last processor's. A step with another number is never allowed.
-#[derive(Clone, Copy, Debug, PartialEq, Eq)]
+#[derive(Clone, Copy, Debug)]
 pub enum Event {
     /// The processor raises its tracker.
     Raise(u32),

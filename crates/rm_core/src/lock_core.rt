@@ -9,7 +9,7 @@ use std::marker::Model;
 /// The core of a read-mostly lock of 1 to 64 processors and one writer, the operator. Contracts see its
 /// state, which is a safe one at every moment. It says which steps may come and what each does; who
 /// makes them, in which order and how often, and that anybody waits or is served, is the caller's.
-#[derive(Debug, Drop)]
+#[derive(Drop)]
 pub struct Core {
     number: u64,
     holder: Option<u32>,

@@ -4,7 +4,7 @@ ghost use Rattle.rm_core.specs.CoreState.{after_check, token_answer, after_drain
 use crate::Heard;
 
 /// What a processor's tracker says of it.
-#[derive(Clone, Copy, Debug, PartialEq, Eq)]
+#[derive(Clone, Copy)]
 pub enum Phase {
     /// Outside of every section.
     Out,
@@ -15,7 +15,7 @@ pub enum Phase {
 }
 
 /// A processor's read token.
-#[derive(Clone, Copy, Debug, PartialEq, Eq)]
+#[derive(Clone, Copy)]
 pub enum Token {
     /// The processor may enter.
     Held,
@@ -24,7 +24,7 @@ pub enum Token {
 }
 
 /// What the lock knows of one processor.
-#[derive(Clone, Copy, Debug, PartialEq, Eq)]
+#[derive(Clone, Copy)]
 pub struct ProcessorState {
     /// Its tracker.
     pub phase: Phase,

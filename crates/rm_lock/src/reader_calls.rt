@@ -19,7 +19,7 @@ pub enum Entry<E: Numbered<Tag = B::Facts>, B: Kept> {
 }
 
 /// What a try answers that found another holder.
-#[derive(Debug, Drop)]
+#[derive(Drop)]
 pub struct Busy<T> {
     /// The token, as it was.
     pub back: T,

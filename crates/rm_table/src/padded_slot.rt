@@ -7,7 +7,7 @@ use std::mem;
 
 /// What a slot of the table holds: slot 0 the book, slot i the edition of processor i, or nothing while its
 /// value is out.
-#[derive(Debug, Drop)]
+#[derive(Drop)]
 pub enum Slot<E, B> {
     Edition(Option<E>),
     Book(Option<B>),

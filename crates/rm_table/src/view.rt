@@ -3,7 +3,7 @@ use rm_core::Phase;
 use std::collections::LinkedList;
 
 /// Whose seat it is.
-#[derive(Clone, Copy, Debug, PartialEq, Eq)]
+#[derive(Clone, Copy)]
 pub enum Role {
     /// Nobody's any more: it was joined into another.
     Spent,

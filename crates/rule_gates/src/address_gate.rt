@@ -4,7 +4,7 @@ use crate::Interval;
 use fw_rule::Family;
 
 /// What is told of the addresses that a rule asks for.
-#[derive(Clone, Copy, Debug)]
+#[derive(Clone, Copy)]
 pub(crate) struct AddressGate {
     /// A word of each of them is one of these numbers.
     pub(crate) word: ChosenWord,
@@ -15,7 +15,7 @@ pub(crate) struct AddressGate {
 }
 
 /// One word of an address, and the numbers that it may be.
-#[derive(Clone, Copy, Debug)]
+#[derive(Clone, Copy)]
 pub(crate) struct ChosenWord {
     /// Which word; word 0 is the last one.
     pub(crate) place: u8,

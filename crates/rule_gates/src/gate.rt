@@ -6,7 +6,7 @@ use fw_rule::Family;
 
 /// What can be told of a rule by a few comparisons: a packet whose key it doesn't admit has nothing to do
 /// with the rule. It takes 40 bytes.
-#[derive(Clone, Copy, Debug, PartialEq, Eq)]
+#[derive(Clone, Copy, PartialEq, Eq)]
 pub struct Gate {
     /// The numbers that the chosen word of the source address may be.
     pub(crate) source: Interval,
@@ -54,7 +54,7 @@ impl Gate {
 }
 
 /// What is told of the ports that a rule asks for.
-#[derive(Clone, Copy, Debug)]
+#[derive(Clone, Copy)]
 pub(crate) struct PortGate {
     /// Each of them is one of these numbers.
     pub(crate) numbers: Interval,

@@ -2,7 +2,7 @@ ghost use Rattle.std.specs.Prelude.{◌≤◌};
 ghost use Rattle.rule_gates.specs.Within.{AreWords};
 
 /// What gates ask of a packet.
-#[derive(Clone, Copy, Debug)]
+#[derive(Clone, Copy)]
 pub struct GateKey {
     /// The words of its source address, the last one first.
     pub(crate) source: [u32; 4],

@@ -13,7 +13,7 @@ use std::error::Error;
 use std::fmt;
 
 /// A rule's text wasn't written whole: the sink failed.
-#[derive(Clone, Copy, Debug, PartialEq, Eq, Hash)]
+#[derive(Clone, Copy, Debug, PartialEq, Eq)]
 pub struct WriteFault;
 
 impl fmt::Display for WriteFault {

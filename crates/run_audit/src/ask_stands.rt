@@ -9,7 +9,7 @@ use state_journal::Entry;
 use std::alloc::Global;
 
 /// An ask of the journal, as its place is tested.
-#[derive(Clone, Copy, Debug, PartialEq, Eq)]
+#[derive(Clone, Copy)]
 pub(crate) struct AskStand {
     pub(crate) lane: u16,
     /// The record that it is of.

@@ -5,7 +5,7 @@ use fw_base::OutOfMemory;
 use std::alloc::AllocError;
 
 /// Why a report isn't that of a legal record.
-#[derive(Clone, Copy, Debug, PartialEq, Eq)]
+#[derive(Clone, Copy)]
 pub enum AuditFault {
     /// This line of the report is the first that is wrong, from 1; where a line lacks, it is one
     /// past the last.

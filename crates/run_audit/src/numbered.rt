@@ -5,7 +5,7 @@ ghost use Rattle.std.specs.List.Sorted.{IsNonDecreasingBy, IsPartitionPoint};
 use fw_base::OutOfMemory;
 
 /// Something that is of the record of this number, by its place in a list.
-#[derive(Clone, Copy, Debug, PartialEq, Eq)]
+#[derive(Clone, Copy)]
 pub(crate) struct Numbered {
     pub(crate) at: u64,
     pub(crate) place: usize,

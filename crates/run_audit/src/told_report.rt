@@ -4,7 +4,7 @@ use state_journal::Book;
 use std::sync::Arc;
 
 /// What a report's line of a record tells, and which line that is.
-#[derive(Clone, Copy, Debug, PartialEq, Eq)]
+#[derive(Clone, Copy)]
 pub(crate) struct ToldRecord {
     /// The line of the report, from 1.
     pub(crate) line: u64,
@@ -12,7 +12,7 @@ pub(crate) struct ToldRecord {
 }
 
 /// What a report's line of a lane tells, and which line that is.
-#[derive(Clone, Copy, Debug, PartialEq, Eq)]
+#[derive(Clone, Copy)]
 pub(crate) struct ToldLane {
     /// The line of the report, from 1.
     pub(crate) line: u64,

@@ -11,15 +11,16 @@ use Rattle.load_maker.specs.Load.{load_script, load_capture}
 use Rattle.record_laws.specs.OneReplay.{IsSameRecord}
 use Rattle.replay_setup.specs.FirstEdition.{first_edition}
 use Rattle.command_words.specs.declared.invocation.Mode.{Mode}
-use Rattle.replay_driver.specs.Found.{IsReplayOf, made_capture, known_left, no_failures}
+use Rattle.replay_driver.specs.Found.{IsReplayOf, made_capture}
+use Rattle.replay_setup.specs.InMemory.{known_left, no_failures}
 use Rattle.replay_driver.specs.Promises.{IsKept, IsUnreadyJob}
-use Rattle.replay_driver.specs.Run.{Writes}
+use Rattle.replay_setup.specs.Outcomes.{Writes}
 use Rattle.capture_tracks.specs.Reported.{report_record}
 use Rattle.replay_driver.specs.RunResult.{summary_of}
 use Rattle.replay_setup.specs.ScriptTexts.{error_text}
 use Rattle.replay_driver.specs.Served.{Job, Replays, Loads, IsSerialJob}
 use Rattle.replay_setup.specs.FirstEdition.{pace_of}
-use Rattle.replay_driver.specs.declared.outcome.Outcome.{Outcome}
+use Rattle.replay_setup.specs.declared.outcome.Outcome.{Outcome}
 use Rattle.run_laws.specs.TwoRuns.{Outside, HaveSameFiles, IsSameKept, ComeToTheSame, IsPromisedRun, RunsAreDetermined}
 use Rattle.run_laws.proofs.SameNames.{same_read}
 use Rattle.run_laws.proofs.SameTexts.{err_one, not_both, no_failed_read, same_status, same_summary, same_replay}

@@ -2,7 +2,7 @@
 use Rattle.std.proofs.Common.{◌≡◌, ◌≤◌, Option, None, Some, IfSome, IfNone}
 use Rattle.replay_driver.specs.Promises.{IsKept, IsUnreadyJob, IsQuiet, IsFaulty}
 use Rattle.replay_driver.specs.Served.{Job, IsSerialJob}
-use Rattle.replay_driver.specs.declared.outcome.Outcome.{Outcome}
+use Rattle.replay_setup.specs.declared.outcome.Outcome.{Outcome}
 use Rattle.run_laws.specs.TwoRuns.{Outside, HaveSameFiles, ComeToTheSame, IsPromisedRun}
 use Rattle.run_laws.proofs.Determined.{runs_are_determined}
 

@@ -9,7 +9,7 @@ use Rattle.record_laws.specs.SameCaptures.{printed_end}
 use Rattle.replay_setup.specs.Outside.{Files, Output}
 use Rattle.replay_driver.specs.Promises.{IsKept, IsUnreadyJob, IsQuiet, IsFaulty, opening_order}
 use Rattle.replay_driver.specs.Served.{Job, Replays, Loads, IsSerialJob}
-use Rattle.replay_driver.specs.declared.outcome.Outcome.{Outcome}
+use Rattle.replay_setup.specs.declared.outcome.Outcome.{Outcome}
 
 -- what contracts see of a run's outside: its library with the sources, and its sink
 pub record Outside (L S K : Type 0) : Type 0 where

@@ -4,8 +4,8 @@ ghost use Rattle.replay_driver.specs.Served.{IsSerialJob, job_of};
 ghost use Rattle.run_laws.specs.TwoRuns.{IsPromisedRun, HaveSameFiles, ComeToTheSame};
 
 use fw_base::{Gate, Library, Sink};
-use replay_driver::{Outcome, run};
-use replay_setup::{LibraryView, SinkView};
+use replay_driver::run;
+use replay_setup::{LibraryView, Outcome, SinkView};
 use std::alloc::Global;
 use std::sync::Wait;
 use std::thread::Threads;

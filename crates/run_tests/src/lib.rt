@@ -1,4 +1,4 @@
-//! Tests of whole runs over memory by the public calls of replay_driver, audit_driver and run_laws: the worked rows.
+//! Tests of whole runs over memory by the public calls of replay_driver, run_driver and run_laws: the worked rows.
 //! Also of what run_audit says of a report beside no record.
 #![tactic(auto)]
 

@@ -1,6 +1,8 @@
 use captures::{Packet, capture_of};
-use fw_base::{FreeGate, Gate, MemoryLibrary, MemorySink, MemorySource, Name};
-use replay_driver::{Outcome, run};
+use fw_base::{FreeGate, Gate, Name};
+use memory_files::{MemoryLibrary, MemorySink, MemorySource};
+use replay_driver::run;
+use replay_setup::Outcome;
 use std::alloc::Global;
 use std::process::Abort;
 use std::sync::Wait;

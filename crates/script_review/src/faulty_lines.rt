@@ -6,7 +6,7 @@ use ipfw_parser::Kind;
 use std::alloc::Global;
 
 /// The fault of a line.
-#[derive(Clone, Copy, Debug, PartialEq, Eq)]
+#[derive(Clone, Copy)]
 pub struct LineFault<'a> {
     /// The line's number, from 1.
     pub line: u32,

@@ -12,7 +12,7 @@ use std::alloc::Global;
 use std::sync::Arc;
 
 /// What a script may not have too many of.
-#[derive(Clone, Copy, Debug, PartialEq, Eq)]
+#[derive(Clone, Copy)]
 pub enum Size {
     /// 1,048,576 of them are the most.
     Bytes,
@@ -23,7 +23,7 @@ pub enum Size {
 }
 
 /// What is wrong or odd in a script whose lines have no fault. Lines count from 1.
-#[derive(Debug, Drop)]
+#[derive(Drop)]
 pub enum Finding {
     /// The script has more of these than one may have.
     TooLarge { size: Size },
@@ -300,6 +300,42 @@ fn find_size(findings: &mut Vec<Finding>, fault: ScriptFault) -> Result<(), OutO
     Ok(())
 }
 
+/// What is odd in these lines and the rules that those before `live` give, in the order in which it is told.
+/// Interfaces are looked for where some are given.
+fn find_odd(
+    findings: &mut Vec<Finding>,
+    lines: &[&Line],
+    before: &[Line],
+    (config, added): (&Config, &[u32]),
+    interfaces: &[&[u8]],
+) -> Result<(), OutOfMemory> {
+    find_listings(findings, config, before)?;
+    find_me(findings, lines)?;
+    find_beaten(findings, config, added)?;
+    if !interfaces.is_empty() {
+        for line in lines {
+            find_interfaces(findings, line, interfaces)?;
+        }
+    }
+    find_tables(findings, lines)?;
+    find_disabled(findings, config)
+}
+
+/// What is refused or odd in a script without a fault.
+fn find_in_script(
+    alloc: Global,
+    findings: &mut Vec<Finding>,
+    script: &Script,
+    interfaces: &[&[u8]],
+) -> Result<(), OutOfMemory>
+    requires { AllByRecursion IsLine script.now.before }
+{
+    let lines = lines_of(alloc, script)?;
+    let before = script.before.as_slice();
+    let (config, added) = configure(alloc, findings, before)?;
+    find_odd(findings, &lines, before, (&config, &added), interfaces)
+}
+
 /// What is wrong or odd in a script whose lines have no fault; of one with a faulty line nothing is
 /// told. Interfaces are looked for where some are given.
 pub fn findings_in(
@@ -308,26 +344,10 @@ pub fn findings_in(
     interfaces: &[&[u8]],
 ) -> Result<Vec<Finding>, OutOfMemory> {
     let mut findings = Vec::new(alloc);
-    let script = match parse_script(alloc, text, Pace::Serial) {
-        Ok(script) => script,
+    match parse_script(alloc, text, Pace::Serial) {
+        Ok(script) => find_in_script(alloc, &mut findings, &script, interfaces)?,
         Err(ScriptFault::OutOfMemory) => return Err(OutOfMemory),
-        Err(fault) => {
-            find_size(&mut findings, fault)?;
-            return Ok(findings);
-        }
-    };
-    let lines = lines_of(alloc, &script)?;
-    let before = script.before.as_slice();
-    let (config, added) = configure(alloc, &mut findings, before)?;
-    find_listings(&mut findings, &config, before)?;
-    find_me(&mut findings, &lines)?;
-    find_beaten(&mut findings, &config, &added)?;
-    if !interfaces.is_empty() {
-        for line in &lines {
-            find_interfaces(&mut findings, line, interfaces)?;
-        }
+        Err(fault) => find_size(&mut findings, fault)?,
     }
-    find_tables(&mut findings, &lines)?;
-    find_disabled(&mut findings, &config)?;
     Ok(findings)
 }

@@ -4,7 +4,7 @@ ghost use Rattle.serial_schedule.specs.Order.{earlier_head, head_at};
 use crate::Moment;
 
 /// A capture, by its number from 0, and when its next record was captured.
-#[derive(Clone, Copy, Debug, PartialEq, Eq)]
+#[derive(Clone, Copy)]
 pub struct Head {
     pub capture: usize,
     pub moment: Moment,

@@ -8,7 +8,7 @@ use packet_headers::Flow;
 
 /// What the states are asked for a packet: its flow, its TCP flags, and its second, which raises the
 /// clock. Of the flags FIN 1, SYN 2 and RST 4 are kept (RFC 9293 section 3.1), the others passed over.
-#[derive(Clone, Copy, Debug, PartialEq, Eq, Hash)]
+#[derive(Clone, Copy, Debug, PartialEq, Eq)]
 pub enum Op {
     /// Is there a state for it, of this flow name?
     Lookup {
@@ -51,7 +51,7 @@ impl Op {
 }
 
 /// The flow name that a lookup asks for (ipfw(8), "STATEFUL FIREWALL").
-#[derive(Clone, Copy, Debug, PartialEq, Eq, Hash)]
+#[derive(Clone, Copy, Debug, PartialEq, Eq)]
 pub enum FlowName {
     /// `:any`, every name.
     Any,

@@ -1,7 +1,7 @@
 use crate::RuleRef;
 
 /// What the states answer. `Found` and `NotFound` answer a lookup, the others an install.
-#[derive(Clone, Copy, Debug, PartialEq, Eq, Hash)]
+#[derive(Clone, Copy, Debug, PartialEq, Eq)]
 pub enum Reply {
     /// A live state matches; the packet goes this way, and the state was made by this rule.
     Found(Way, RuleRef),
@@ -17,7 +17,7 @@ pub enum Reply {
 }
 
 /// In which direction of a state a packet goes.
-#[derive(Clone, Copy, Debug, PartialEq, Eq, Hash)]
+#[derive(Clone, Copy, Debug, PartialEq, Eq)]
 pub enum Way {
     /// As the packet that made the state.
     Forward,

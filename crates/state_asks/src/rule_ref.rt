@@ -5,7 +5,7 @@ pub const LAST_RULE: RuleRef = RuleRef {
 };
 
 /// A rule, as a state and a verdict name it.
-#[derive(Clone, Copy, Debug, PartialEq, Eq, PartialOrd, Ord, Hash)]
+#[derive(Clone, Copy, Debug, PartialEq, Eq, Hash)]
 pub struct RuleRef {
     /// Its identity: the place of its `add` among all, from 1; 0 for rule 65535.
     pub id: u32,

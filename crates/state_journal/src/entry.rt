@@ -1,7 +1,7 @@
 use state_asks::{Facts, Op, Reply};
 
 /// What the state object met.
-#[derive(Clone, Copy, Debug, PartialEq, Eq, Hash)]
+#[derive(Clone, Copy, Debug, PartialEq, Eq)]
 pub enum Entry {
     /// The publication of the edition of this number.
     Publish(u64),
@@ -17,7 +17,7 @@ pub enum Entry {
 
 /// What stands in the lists by which contracts see a book that is shared: list 0 has the number of lanes
 /// and then the facts of each publication, list k the asks of lane k.
-#[derive(Debug, Drop)]
+#[derive(Drop)]
 pub enum Item {
     Lanes(u32),
     Published(Facts),

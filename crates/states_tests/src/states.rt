@@ -4,8 +4,9 @@ ghost use Rattle.fw_rule.specs.Settings.{IsLifetime, IsMostStates};
 mod worked_rows;
 
 use dyn_states::{ScannedStates, States};
-use fw_base::{Addr, MemorySink, Name};
+use fw_base::{Addr, Name};
 use fw_rule::{LimitMask, Settings, USUAL_MOST_STATES};
+use memory_files::MemorySink;
 use packet_headers::Flow;
 use state_asks::{Facts, FlowName, Identities, Op, Reply, RuleRef, Way, is_ordered};
 use state_texts::write_states;

@@ -13,7 +13,7 @@ use std::num::NonZeroUsize;
 
 /// The most recent verdicts of one edition. A clause sees the capacity, the edition's number that was
 /// given last, and the list of keys with their values, most recent first.
-#[derive(Debug, Drop)]
+#[derive(Drop)]
 pub struct VerdictCache<V> {
     recent: LruCache<Key, V>,
     number: Option<u64>,

@@ -6,7 +6,7 @@ use fw_base::Addr;
 use packet_headers::Ip4;
 
 /// All that the body of a rule can tell of an IPv4 packet. Total length and time to live aren't in it.
-#[derive(Clone, Copy, Debug, PartialEq, Eq, Hash)]
+#[derive(Clone, Copy, PartialEq, Eq, Hash)]
 pub struct Key {
     pub source: Addr,
     pub destination: Addr,

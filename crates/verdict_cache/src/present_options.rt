@@ -5,7 +5,7 @@ use packet_headers::Ip4;
 use rule_match::{LOOSE_SOURCE_ROUTE, RECORD_ROUTE, STRICT_SOURCE_ROUTE, TIME_STAMP};
 
 /// Which of the IP options that rules can name a header has (ipfw(8), `ipoptions`).
-#[derive(Clone, Copy, Debug, PartialEq, Eq, Hash)]
+#[derive(Clone, Copy, PartialEq, Eq, Hash)]
 pub struct PresentOptions {
     pub strict_source_route: bool,
     pub loose_source_route: bool,

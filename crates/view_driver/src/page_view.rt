@@ -1,9 +1,9 @@
-use crate::compared::{other_verdicts, records_of};
+use crate::compared::{Compared, other_verdicts, records_of};
 use crate::inputs::read_text;
 use crate::moves_view::compared_texts;
 use crate::shown::{Shown, show};
 use crate::trouble::{Trouble, unfit, without_states};
-use fw_base::{Library, Sink};
+use fw_base::{Library, OutOfMemory, Sink};
 use report_page::{LiveStates, MovesShown, columns_of, page_of};
 use report_states::live_states;
 use report_values::{JournalColumns, Report, read_report};
@@ -61,6 +61,33 @@ fn live_states_if<'a, L: Library>(
     }
 }
 
+/// Shows a page of a report, with what moved and with live states where they are told.
+fn show_pieces<'t, K: Sink>(
+    alloc: Global,
+    out: &mut K,
+    report: &Report<'t>,
+    moves: Option<&MovesShown<'t>>,
+    live: Option<&LiveStates>,
+) -> Result<u8, OutOfMemory> {
+    let pieces = page_of(alloc, report, moves, live)?;
+    Ok(show(alloc, out, &Shown::Page(&pieces)))
+}
+
+/// Shows a page of the report of that name, in its text, with what moved where it is told, by the script of that
+/// name where there is one.
+fn show_report<'a, 't, L: Library, K: Sink>(
+    alloc: Global,
+    library: &mut L,
+    out: &mut K,
+    (name, text): (&'a [u8], &'t [u8]),
+    moves: Option<&MovesShown<'t>>,
+    script: Option<&'a [u8]>,
+) -> Result<u8, Trouble<'a>> {
+    let report = report_in(alloc, name, text)?;
+    let live = live_states_if(alloc, library, name, &report, script)?;
+    Ok(show_pieces(alloc, out, &report, moves, live.as_ref())?)
+}
+
 /// Shows a page of one report, by the script of that name where there is one.
 pub(crate) fn show_page<'a, L: Library, K: Sink>(
     alloc: Global,
@@ -70,10 +97,20 @@ pub(crate) fn show_page<'a, L: Library, K: Sink>(
     script: Option<&'a [u8]>,
 ) -> Result<u8, Trouble<'a>> {
     let text = read_text(alloc, library, name)?;
-    let report = report_in(alloc, name, &text)?;
-    let live = live_states_if(alloc, library, name, &report, script)?;
-    let pieces = page_of(alloc, &report, None, live.as_ref())?;
-    Ok(show(alloc, out, &Shown::Page(&pieces)))
+    show_report(alloc, library, out, (name, &text), None, script)
+}
+
+/// What moved, as a page shows it.
+fn moves_shown(compared: &Compared) -> MovesShown<'_> {
+    MovesShown {
+        texts: &compared.texts,
+        old: &compared.old,
+        new: &compared.new,
+        moved: &compared.moves.moved,
+        moved_records: records_of(&compared.moves.moved),
+        verdict_records: other_verdicts(&compared.texts, &compared.moves.moved),
+        stayed_records: records_of(&compared.moves.stayed),
+    }
 }
 
 /// Shows a page of one report with what moved to another, by the script of that name where there is
@@ -88,17 +125,6 @@ pub(crate) fn show_page_with_moves<'a, L: Library, K: Sink>(
     let old_text = read_text(alloc, library, old)?;
     let new_text = read_text(alloc, library, new)?;
     let compared = compared_texts(alloc, (old, new), &old_text, &new_text)?;
-    let report = report_in(alloc, old, &old_text)?;
-    let live = live_states_if(alloc, library, old, &report, script)?;
-    let moves = MovesShown {
-        texts: &compared.texts,
-        old: &compared.old,
-        new: &compared.new,
-        moved: &compared.moves.moved,
-        moved_records: records_of(&compared.moves.moved),
-        verdict_records: other_verdicts(&compared.texts, &compared.moves.moved),
-        stayed_records: records_of(&compared.moves.stayed),
-    };
-    let pieces = page_of(alloc, &report, Some(&moves), live.as_ref())?;
-    Ok(show(alloc, out, &Shown::Page(&pieces)))
+    let moves = moves_shown(&compared);
+    show_report(alloc, library, out, (old, &old_text), Some(&moves), script)
 }

@@ -12,7 +12,7 @@ use report_values::{Journal, ReportError};
 use std::alloc::{AllocFailed, Global};
 
 /// Why there is nothing to show.
-#[derive(Clone, Copy, Debug, PartialEq, Eq)]
+#[derive(Clone, Copy)]
 pub(crate) enum Trouble<'a> {
     /// The words are no command.
     Usage,

@@ -1,7 +1,7 @@
 use crate::scripts::printed;
-use fw_base::MemorySink;
 use fw_command::{Pace, ScriptFault, parse_script};
 use ipfw_parser::Kind;
+use memory_files::MemorySink;
 use std::alloc::Global;
 use std::process::Abort;
 use std::test::Fail;

@@ -5,10 +5,11 @@ ghost use Rattle.record_tests.specs.TwoLanes.{AreTwoLanes};
 
 use super::packets::{End, Packet};
 use super::{configured, judge, printed};
-use fw_base::{Direction, Link, MemorySink, Name, Port};
+use fw_base::{Direction, Link, Name, Port};
 use fw_command::{Line, Pace, Script, parse_script};
 use fw_rule::Items;
 use ip6_headers::{AnyIp, AnyPacket, read_any};
+use memory_files::MemorySink;
 use report_texts::{CaptureEnd, Ends};
 use serial_world::{OpenSerial, SerialDesk, SerialLane, SerialWorld};
 use std::alloc::Global;

@@ -1,8 +1,9 @@
 use super::captures::capture_of;
 use super::states::CONNECTION;
 use super::{ROOM, Seen, add, assert_seen, seen_of, texts};
-use audit_driver::run;
-use fw_base::{FreeGate, MemoryLibrary, MemorySink};
+use fw_base::FreeGate;
+use memory_files::{MemoryLibrary, MemorySink};
+use run_driver::run;
 use std::alloc::Global;
 use std::process::Abort;
 use std::sync::Wait;

@@ -5,7 +5,8 @@ use super::{
     A, B, ROOM, Row, T, Timed, U, add, add_capture, assert_seen, check, library_of_row, run_beside,
 };
 use eval_engine::{DocketEntry, Verdict};
-use fw_base::{FreeGate, MemoryLibrary, MemorySink};
+use fw_base::FreeGate;
+use memory_files::{MemoryLibrary, MemorySink};
 use replay_driver::run;
 use std::alloc::Global;
 use std::process::Abort;

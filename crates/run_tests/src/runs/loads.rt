@@ -1,5 +1,5 @@
 use super::{ROOM, assert_seen, run_over};
-use fw_base::MemoryLibrary;
+use memory_files::MemoryLibrary;
 use std::test::Fail;
 
 #[test]

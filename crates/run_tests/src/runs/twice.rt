@@ -1,6 +1,7 @@
 use super::captures::capture_of;
 use super::{ROOM, SERIAL, Seen, T, U, add, assert_seen, library_of, seen_of, texts};
-use fw_base::{FreeGate, MemoryLibrary, MemorySink};
+use fw_base::FreeGate;
+use memory_files::{MemoryLibrary, MemorySink};
 use run_laws::laws::runs_are_determined;
 use run_laws::two_runs::run_both;
 use std::alloc::Global;

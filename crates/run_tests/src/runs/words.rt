@@ -1,6 +1,7 @@
 use super::captures::syns;
 use super::{DENIED, ROOM, add, assert_seen, library_of, run_over};
-use fw_base::{MemoryLibrary, Name};
+use fw_base::Name;
+use memory_files::MemoryLibrary;
 use std::alloc::Global;
 use std::process::Abort;
 use std::sync::Wait;

@@ -3,7 +3,7 @@ use Rattle.std.proofs.lemmas.List.{length-map}
 use Rattle.std.proofs.lemmas.Result.{IfOk-weaker}
 use Rattle.std.specs.Arc.{arc_value}
 use Rattle.report_texts.specs.declared.ends.LineAnswer.{LineAnswer}
-use Rattle.replay_driver.proofs.SomeEditions.{some_editions}
+use Rattle.replay_setup.proofs.SomeEditions.{some_editions}
 use Rattle.run_audit.specs.Audit.{IsFirstWrong}
 use Rattle.audit_driver.proofs.Conclusions.{concludes_so}
 use Rattle.audit_driver.proofs.concluding.conclude.Goals as goal

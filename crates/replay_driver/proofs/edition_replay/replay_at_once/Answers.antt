@@ -4,7 +4,7 @@ use Rattle.command_words.specs.declared.invocation.Mode.TheVariants.{Live}
 use Rattle.fw_command.specs.declared.script.Step.{Step}
 use Rattle.capture_tracks.specs.Replay.{IsReplay}
 use Rattle.replay_driver.proofs.EditionReplay.{answered_before, editions_stay}
-use Rattle.replay_driver.proofs.SomeEditions.{some_editions}
+use Rattle.replay_setup.proofs.SomeEditions.{some_editions}
 use Rattle.replay_driver.proofs.edition_replay.replay_at_once.Goals as goal
 
 pub returns-clause-replays : goal.returns-clause-replays

@@ -4,7 +4,7 @@ use Rattle.command_words.specs.declared.invocation.Mode.TheVariants.{Serial}
 use Rattle.fw_command.specs.declared.script.Step.{Step}
 use Rattle.serial_replay.specs.Replay.{IsSerialReplay}
 use Rattle.replay_driver.proofs.EditionReplay.{answered_before, editions_stay}
-use Rattle.replay_driver.proofs.SomeEditions.{some_editions}
+use Rattle.replay_setup.proofs.SomeEditions.{some_editions}
 use Rattle.replay_driver.proofs.edition_replay.replay_in_turn.Goals as goal
 
 pub returns-clause-replays : goal.returns-clause-replays

@@ -2,7 +2,8 @@ use Rattle.std.proofs.Common.{◌≡◌, None, ◌∙◌, ap, subst, List, [], �
 use Rattle.command_words.specs.declared.invocation.Mode.TheVariants.{Serial}
 use Rattle.fw_command.specs.declared.script.Pace.TheVariants as pace
 use Rattle.replay_setup.specs.FirstEdition.{first_edition}
-use Rattle.replay_driver.specs.Found.{IsReplayBeside, made_capture, known_left, no_failures}
+use Rattle.replay_driver.specs.Found.{IsReplayBeside, made_capture}
+use Rattle.replay_setup.specs.InMemory.{known_left, no_failures}
 use Rattle.capture_tracks.specs.declared.opened.OpenedCapture.{OpenedCapture}
 use Rattle.replay_driver.proofs.replay_load.replay_load.Goals as goal
 

@@ -1,0 +1,2 @@
+-- the first element that passes a test
+pub mod FirstElements

@@ -1,0 +1,2 @@
+-- what contracts see of them
+pub mod Memory
