@@ -43,7 +43,7 @@ same crates_of_the_words_of_MAP
 
 # The README names each page.
 (cd "$top" && printf '%s\n' CHANGELOG.md docs/*.1 docs/*.md examples/*/README.md tests/captures/README.md) | sort >"$work/wanted"
-awk '/^## / { section = $0 } section == "## Where to read on"' "$top/README.md" | grep -oE '[A-Za-z0-9_/]+[.](md|1)' | sort >"$work/got"
+awk '/^## / { section = $0 } section == "## Where to read on"' "$top/README.md" | grep -oE '[(][A-Za-z0-9_/]+[.](md|1)[)]' | tr -d '()' | sort >"$work/got"
 same pages_of_README
 
 # A crate stands behind those that it uses.
