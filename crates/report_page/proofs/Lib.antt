@@ -4,3 +4,5 @@ mod EscapeLaws
 mod BinLaws
 -- shares
 pub mod ShareLaws
+-- rows of causes
+mod WordLaws

@@ -5,3 +5,5 @@ pub mod Pieces
 pub mod Bins
 -- shares of a whole
 pub mod Shares
+-- plain words for causes
+pub mod PlainWords

@@ -1,3 +1,6 @@
+ghost use Rattle.std.specs.Prelude.{◌≡◌, map};
+ghost use Rattle.report_page.specs.PlainWords as spec;
+
 /// What ended a capture: the word of the report, and plain words for it.
 const FAULTS: [(&[u8], &[u8]); 9] = [
     (b"ShortHeader", b"the capture ends in its header"),
@@ -37,7 +40,10 @@ const REFUSALS: [(&[u8], &[u8]); 12] = [
 ];
 
 /// Whether the last word of a text is this one.
-fn ends_with_word(told: &[u8], word: &[u8]) -> bool {
+#[tactic(auto, unfolding(crate::specs::PlainWords::ends_with_word))]
+fn ends_with_word(told: &[u8], word: &[u8]) -> bool
+    ensures { result ≡ spec.ends_with_word told.now word.now }
+{
     match told.strip_suffix(word) {
         Some(before) => before.is_empty() || before.ends_with(b" "),
         None => false,
@@ -45,7 +51,9 @@ fn ends_with_word(told: &[u8], word: &[u8]) -> bool {
 }
 
 /// The plain words of the text's last word.
-fn words_for(words: &[(&'static [u8], &'static [u8])], told: &[u8]) -> &'static [u8] {
+fn words_for(words: &[(&'static [u8], &'static [u8])], told: &[u8]) -> &'static [u8]
+    ensures { result.now ≡ spec.words_for (map (λ row. (row.0.now, row.1.now)) words.now) told.now }
+{
     for (word, plain) in words {
         if ends_with_word(told, word) {
             return plain;
@@ -55,12 +63,16 @@ fn words_for(words: &[(&'static [u8], &'static [u8])], told: &[u8]) -> &'static 
 }
 
 /// What ended a capture, by the text that tells it.
-pub(crate) fn fault_words(told: &[u8]) -> &'static [u8] {
+pub(crate) fn fault_words(told: &[u8]) -> &'static [u8]
+    ensures { result.now ≡ spec.fault_words told.now }
+{
     words_for(&FAULTS, told)
 }
 
 /// Why a command was refused, in plain words, by the text that tells it: its last word is the
 /// report's own for the cause.
-pub fn refusal_words(told: &[u8]) -> &'static [u8] {
+pub fn refusal_words(told: &[u8]) -> &'static [u8]
+    ensures { result.now ≡ spec.refusal_words told.now }
+{
     words_for(&REFUSALS, told)
 }

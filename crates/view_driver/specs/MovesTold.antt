@@ -1,9 +1,13 @@
 -- What is told of moves. Figures stand still at the greatest number of 64 bits.
-use Rattle.std.specs.Prelude.{◌≡◌, ◌≢◌, ℕ, ◌-◌, ◌<◌, ◌≤◌, ◌^◌, List, ◌++◌, All, length, map, min, slice_index_or, ⊤}
-use Rattle.report_moves.specs.Moves.{AreToldOnce, HaveSameLengths, IsToldOf, records_of}
+use Rattle.std.specs.Prelude.{◌≡◌, ◌≢◌, ℕ, ◌+◌, ◌-◌, ◌<◌, ◌≤◌, ◌^◌, List, ◌++◌, All, length, map, min, nat_eq, slice_index_or, ⊤}
+use Rattle.std.specs.Cmp.Lexicographic.{pointwise}
+use Rattle.std.specs.List.{IsDistinct}
+use Rattle.report_moves.specs.Moves.{AreToldOnce, HaveSameLengths, IsToldOf, records_in, records_of}
 use Rattle.report_moves.specs.declared.moves.Move.{Move}
 use Rattle.report_values.specs.Captures.{captures_lines}
+use Rattle.report_values.specs.Outcomes.{Keeps, outcome_text, texts_at}
 use Rattle.report_values.specs.declared.capture.Capture.{Capture as ToldCapture}
+use Rattle.report_values.specs.declared.rules.KnownRule.{KnownRule}
 use Rattle.view_driver.specs.declared.trouble.Trouble.{Trouble}
 use Rattle.view_driver.specs.declared.trouble.Trouble.TheVariants.{Usage, Unread, NoReport, Script, NoJournal, OtherScript, Captures, Records, Named, OtherRecords, Capture, OutOfMemory}
 use Rattle.view_driver.specs.declared.compared.Compared.{Compared}
@@ -12,15 +16,41 @@ use Rattle.view_driver.specs.declared.compared.Compared.{Compared}
 abbrev pub records_told : List Move → ℕ
 records_told moves = min (records_of moves) (2 ^ 64 - 1)
 
--- two reports were compared: their captures have as many records, and what moved is told as it is and once
+-- Two reports were compared: their captures have as many records. What moved and what stayed is told as it is, once,
+-- and whole: together they have as many records as the captures.
 pub record IsCompared (compared : Compared) : Type 0 where
   pub lengths : HaveSameLengths compared.old.items compared.new.items
   pub told : All (IsToldOf compared.old.items compared.new.items) compared.moves.moved.items
   pub once : AreToldOnce compared.moves.moved.items
+  pub others : All (λ move. move.was ≢ move.is) compared.moves.moved.items
+  pub stayed_told : All (IsToldOf compared.old.items compared.new.items) compared.moves.stayed.items
+  pub stayed_once : AreToldOnce compared.moves.stayed.items
+  pub same : All (λ move. move.was ≡ move.is) compared.moves.stayed.items
+  pub all : records_of compared.moves.moved.items + records_of compared.moves.stayed.items ≡ records_in compared.old.items
 
 -- how many records each capture of a report has
 abbrev pub counts_of : List ToldCapture → List ℕ
 counts_of captures = map (λ capture. length capture.records) captures
+
+-- A list of numbers for each capture: they have texts, and those are what the capture's records came to, by these rules.
+pub record AreOutcomes (texts : List (List ℕ)) (known : List KnownRule) (captures : List ToldCapture) (numbers : List (List ℕ)) : Type 0 where
+  pub within : All (All (λ number. number < length texts)) numbers
+  pub told : map (texts_at texts) numbers ≡ map (λ capture. map (outcome_text known) capture.records) captures
+
+-- the same behind a call that may add texts, by some rules
+pub record TellsOutcomes (old new : List (List ℕ)) (captures : List ToldCapture) (numbers : List (List ℕ)) : Type 0 where
+  pub kept : Keeps old new
+  pub known : List KnownRule
+  pub outcomes : AreOutcomes new known captures numbers
+
+-- What was compared are the outcomes of the records of these captures, then by some rules and now by some: two of
+-- them are the same text exactly where they have one number.
+pub record HasOutcomes (old new : List ToldCapture) (compared : Compared) : Type 0 where
+  pub distinct : IsDistinct (pointwise nat_eq) compared.texts.items
+  pub old_known : List KnownRule
+  pub old_outcomes : AreOutcomes compared.texts.items old_known old compared.old.items
+  pub new_known : List KnownRule
+  pub new_outcomes : AreOutcomes compared.texts.items new_known new compared.new.items
 
 -- the captures that both have have as many records, as far as so many
 abbrev pub AreAlike : List ℕ → List ℕ → ℕ → Type 0
@@ -90,6 +120,17 @@ pub record AreUnlikeTexts (old new : List ℕ) (trouble : Trouble) : Type 0 wher
   pub old_is : old ≡ captures_lines 1 old_captures ++ old_behind
   pub new_is : new ≡ captures_lines 1 new_captures ++ new_behind
   pub unlike : IsUnlike (counts_of old_captures) (counts_of new_captures) trouble
+
+-- two texts begin with the lines of captures, and the outcomes of their records were compared
+pub record ComparesTexts (old new : List ℕ) (compared : Compared) : Type 0 where
+  pub old_captures : List ToldCapture
+  pub new_captures : List ToldCapture
+  pub old_behind : List ℕ
+  pub new_behind : List ℕ
+  pub old_is : old ≡ captures_lines 1 old_captures ++ old_behind
+  pub new_is : new ≡ captures_lines 1 new_captures ++ new_behind
+  pub told : IsCompared compared
+  pub outcomes : HasOutcomes old_captures new_captures compared
 
 -- Why two texts aren't compared. That one is no report is free, as want of memory is.
 abbrev pub IsTroubleOf : List ℕ → List ℕ → Trouble → Type 0

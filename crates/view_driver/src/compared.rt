@@ -1,4 +1,4 @@
-ghost use Rattle.std.specs.Prelude.{◌≡◌, IfErr, IfOk, MatchOption, length, map, min};
+ghost use Rattle.std.specs.Prelude.{◌≡◌, ◌≤◌, IfErr, IfOk, MatchOption, length, map, min};
 ghost use Rattle.report_moves.specs.Moves.{HaveSameLengths};
 ghost use Rattle.view_driver.specs.MovesTold as spec;
 
@@ -29,8 +29,10 @@ fn numbers_of(
     texts: &mut OutcomeTexts,
     report: &Report<'_>,
 ) -> Result<Vec<Items<u32>>, OutOfMemory>
-    ensures { IfOk result (λ numbers. map length numbers.items
+    ensures counts { IfOk result (λ numbers. map length numbers.items
         ≡ spec.counts_of report.now.captures.items) }
+    ensures outcomes { IfOk result (λ numbers.
+        spec.TellsOutcomes texts.old texts.new report.now.captures.items numbers.items) }
 {
     let known = KnownRules::new(alloc, report.sections.known.as_slice())?;
     let mut numbers = Vec::new(alloc);
@@ -79,7 +81,9 @@ pub(crate) fn compare<'a>(
     new: &Report<'_>,
 ) -> Result<Compared, Trouble<'a>>
     ensures compared { IfOk result spec.IsCompared }
-    // What is compared are the records of the reports.
+    // What is compared is what the records of the reports came to.
+    ensures outcomes { IfOk result
+        (spec.HasOutcomes old.now.captures.items new.now.captures.items) }
     ensures counts { IfOk result (λ compared. spec.HasCounts
         (spec.counts_of old.now.captures.items) (spec.counts_of new.now.captures.items) compared) }
     // Where they don't fit, the first capture that doesn't is told, or that one report has more.
@@ -114,7 +118,9 @@ pub(crate) fn records_of(moves: &[Move]) -> u64
 }
 
 /// How many records came to another verdict; the others that moved came to another rule alone.
-pub(crate) fn other_verdicts(texts: &[Items<u8>], moves: &[Move]) -> u64 {
+pub(crate) fn other_verdicts(texts: &[Items<u8>], moves: &[Move]) -> u64
+    ensures { result ≤ spec.records_told moves.now }
+{
     let mut records: u64 = 0;
     for told in moves {
         let was = verdict_words(text_at(texts, told.was));

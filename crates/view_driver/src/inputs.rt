@@ -1,6 +1,9 @@
+ghost use Rattle.std.specs.Prelude.{IfErr, IfOk};
+ghost use Rattle.view_driver.specs.Run as spec;
+
 use crate::trouble::Trouble;
 use fw_base::{Failed, Library, Name};
-use replay_setup::{NamedSource, read_named};
+use replay_setup::{LibraryView, NamedSource, read_named};
 use std::alloc::Global;
 
 /// How many bytes of a report are read at most: 4 GiB.
@@ -11,7 +14,9 @@ pub(crate) fn open_source<'a, L: Library>(
     alloc: Global,
     library: &mut L,
     name: &'a [u8],
-) -> Result<L::Reader, Trouble<'a>> {
+) -> Result<L::Reader, Trouble<'a>>
+    ensures { IfErr result (spec.IsUnreadOrFree ⟦<L as LibraryView>⟧.files library.new) }
+{
     match library.open(Name::new(alloc, name)?) {
         Ok(source) => Ok(source),
         Err(Failed) => Err(Trouble::Unread(name)),
@@ -23,7 +28,11 @@ pub(crate) fn read_text<'a, L: Library>(
     alloc: Global,
     library: &mut L,
     name: &'a [u8],
-) -> Result<Vec<u8>, Trouble<'a>> {
+) -> Result<Vec<u8>, Trouble<'a>>
+    ensures text { IfOk result (λ text.
+        spec.ReadsText ⟦<L as LibraryView>⟧.files library.old library.new name.now text.items) }
+    ensures cause { IfErr result (spec.IsUnreadOrFree ⟦<L as LibraryView>⟧.files library.new) }
+{
     let path = Name::new(alloc, name)?;
     match read_named(alloc, &path, MOST_BYTES, library)? {
         NamedSource::Read(_source, text) => Ok(text),

@@ -1,5 +1,6 @@
-ghost use Rattle.std.specs.Prelude.{IfErr, IfOk};
-ghost use Rattle.view_driver.specs.MovesTold.{IsCompared, IsTroubleOf};
+ghost use Rattle.std.specs.Prelude.{◌≡◌, IfErr, IfOk, OnErr};
+ghost use Rattle.view_driver.specs.MovesTold.{ComparesTexts, IsCompared, IsTroubleOf};
+ghost use Rattle.view_driver.specs.Run as spec;
 
 use crate::compared::{Compared, compare};
 use crate::inputs::{open_source, read_text};
@@ -8,6 +9,7 @@ use crate::trouble::{Trouble, unfit, without_flows};
 use command_words::CaptureWord;
 use fw_base::{Library, Sink};
 use fw_rule::Items;
+use replay_setup::{LibraryView, SinkView};
 use report_flows::{FlowSpan, flows_of};
 use report_values::read_report;
 use std::alloc::Global;
@@ -20,6 +22,7 @@ fn flows_between<'a, L: Library>(
     captures: &[CaptureWord<'a>],
 ) -> Result<Vec<Items<FlowSpan>>, Trouble<'a>>
     requires { IsCompared compared.now }
+    ensures { IfErr result (spec.IsUnreadOrFree ⟦<L as LibraryView>⟧.files library.new) }
 {
     let mut sources = Vec::new(alloc);
     for capture in captures {
@@ -37,6 +40,26 @@ fn flows_between<'a, L: Library>(
     }
 }
 
+/// The same with the flows of what moved, where captures are named.
+fn with_flows<'a, L: Library>(
+    alloc: Global,
+    library: &mut L,
+    compared: Compared,
+    captures: &[CaptureWord<'a>],
+) -> Result<Compared, Trouble<'a>>
+    requires { IsCompared compared }
+    ensures same { IfOk result (λ told. told ≡ record compared { flows = told.flows }) }
+    ensures cause { IfErr result (spec.IsUnreadOrFree ⟦<L as LibraryView>⟧.files library.new) }
+{
+    if captures.is_empty() {
+        return Ok(compared);
+    }
+    let mut told = compared;
+    let flows = flows_between(alloc, library, &told, captures)?;
+    told.flows = Some(flows);
+    Ok(told)
+}
+
 /// What moved from the report in one text to that in another, which have these names.
 pub(crate) fn compared_texts<'a>(
     alloc: Global,
@@ -45,6 +68,7 @@ pub(crate) fn compared_texts<'a>(
     new: &[u8],
 ) -> Result<Compared, Trouble<'a>>
     ensures compared { IfOk result IsCompared }
+    ensures outcomes { IfOk result (ComparesTexts old.now new.now) }
     ensures cause { IfErr result (IsTroubleOf old.now new.now) }
 {
     let old_report = match read_report(alloc, old) {
@@ -64,15 +88,19 @@ pub(crate) fn show_moves<'a, L: Library, K: Sink>(
     alloc: Global,
     library: &mut L,
     out: &mut K,
-    (old, new): (&'a [u8], &'a [u8]),
+    names: (&'a [u8], &'a [u8]),
     captures: &[CaptureWord<'a>],
-) -> Result<u8, Trouble<'a>> {
+) -> Result<u8, Trouble<'a>>
+    ensures shown { IfOk result (spec.ShowsWhatItFinds ⟦<K as SinkView>⟧.output
+        ⟦<L as LibraryView>⟧.files library.old library.new out.old out.new) }
+    ensures cause { IfErr result (spec.ComesToTrouble ⟦<L as LibraryView>⟧.files
+        library.old library.new) }
+    ensures silent { OnErr result (out.new ≡ out.old) }
+{
+    let (old, new) = names;
     let old_text = read_text(alloc, library, old)?;
     let new_text = read_text(alloc, library, new)?;
-    let mut compared = compared_texts(alloc, (old, new), &old_text, &new_text)?;
-    if !captures.is_empty() {
-        let flows = flows_between(alloc, library, &compared, captures)?;
-        compared.flows = Some(flows);
-    }
+    let compared = compared_texts(alloc, names, &old_text, &new_text)?;
+    let compared = with_flows(alloc, library, compared, captures)?;
     Ok(show(alloc, out, &Shown::Moves(&compared)))
 }

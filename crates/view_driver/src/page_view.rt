@@ -1,9 +1,13 @@
+ghost use Rattle.std.specs.Prelude.{◌≡◌, IfErr, IfOk, OnErr};
+ghost use Rattle.view_driver.specs.Run as spec;
+
 use crate::compared::{Compared, other_verdicts, records_of};
 use crate::inputs::read_text;
 use crate::moves_view::compared_texts;
 use crate::shown::{Shown, show};
 use crate::trouble::{Trouble, unfit, without_states};
 use fw_base::{Library, OutOfMemory, Sink};
+use replay_setup::{LibraryView, SinkView};
 use report_page::{LiveStates, MovesShown, columns_of, page_of};
 use report_states::live_states;
 use report_values::{JournalColumns, Report, read_report};
@@ -21,7 +25,9 @@ fn report_in<'a, 't>(
     alloc: Global,
     name: &'a [u8],
     text: &'t [u8],
-) -> Result<Report<'t>, Trouble<'a>> {
+) -> Result<Report<'t>, Trouble<'a>>
+    ensures { IfErr result spec.IsFree }
+{
     match read_report(alloc, text) {
         Ok(report) => Ok(report),
         Err(error) => Err(unfit(name, error)),
@@ -35,7 +41,9 @@ fn live_states_by<'a, L: Library>(
     name: &'a [u8],
     report: &Report<'_>,
     script: &'a [u8],
-) -> Result<LiveStates, Trouble<'a>> {
+) -> Result<LiveStates, Trouble<'a>>
+    ensures { IfErr result (spec.IsUnreadOrFree ⟦<L as LibraryView>⟧.files library.new) }
+{
     let text = read_text(alloc, library, script)?;
     let Some(journal) = &report.sections.journal else {
         return Err(Trouble::NoJournal(name));
@@ -54,7 +62,9 @@ fn live_states_if<'a, L: Library>(
     name: &'a [u8],
     report: &Report<'_>,
     script: Option<&'a [u8]>,
-) -> Result<Option<LiveStates>, Trouble<'a>> {
+) -> Result<Option<LiveStates>, Trouble<'a>>
+    ensures { IfErr result (spec.IsUnreadOrFree ⟦<L as LibraryView>⟧.files library.new) }
+{
     match script {
         Some(script) => Ok(Some(live_states_by(alloc, library, name, report, script)?)),
         None => Ok(None),
@@ -68,7 +78,10 @@ fn show_pieces<'t, K: Sink>(
     report: &Report<'t>,
     moves: Option<&MovesShown<'t>>,
     live: Option<&LiveStates>,
-) -> Result<u8, OutOfMemory> {
+) -> Result<u8, OutOfMemory>
+    ensures shown { IfOk result (spec.ShowsOneText ⟦<K as SinkView>⟧.output out.old out.new) }
+    ensures silent { OnErr result (out.new ≡ out.old) }
+{
     let pieces = page_of(alloc, report, moves, live)?;
     Ok(show(alloc, out, &Shown::Page(&pieces)))
 }
@@ -79,10 +92,15 @@ fn show_report<'a, 't, L: Library, K: Sink>(
     alloc: Global,
     library: &mut L,
     out: &mut K,
-    (name, text): (&'a [u8], &'t [u8]),
+    named: (&'a [u8], &'t [u8]),
     moves: Option<&MovesShown<'t>>,
     script: Option<&'a [u8]>,
-) -> Result<u8, Trouble<'a>> {
+) -> Result<u8, Trouble<'a>>
+    ensures shown { IfOk result (spec.ShowsOneText ⟦<K as SinkView>⟧.output out.old out.new) }
+    ensures cause { IfErr result (spec.IsUnreadOrFree ⟦<L as LibraryView>⟧.files library.new) }
+    ensures silent { OnErr result (out.new ≡ out.old) }
+{
+    let (name, text) = named;
     let report = report_in(alloc, name, text)?;
     let live = live_states_if(alloc, library, name, &report, script)?;
     Ok(show_pieces(alloc, out, &report, moves, live.as_ref())?)
@@ -95,7 +113,11 @@ pub(crate) fn show_page<'a, L: Library, K: Sink>(
     out: &mut K,
     name: &'a [u8],
     script: Option<&'a [u8]>,
-) -> Result<u8, Trouble<'a>> {
+) -> Result<u8, Trouble<'a>>
+    ensures shown { IfOk result (spec.ShowsOneText ⟦<K as SinkView>⟧.output out.old out.new) }
+    ensures cause { IfErr result (spec.IsUnreadOrFree ⟦<L as LibraryView>⟧.files library.new) }
+    ensures silent { OnErr result (out.new ≡ out.old) }
+{
     let text = read_text(alloc, library, name)?;
     show_report(alloc, library, out, (name, &text), None, script)
 }
@@ -119,12 +141,19 @@ pub(crate) fn show_page_with_moves<'a, L: Library, K: Sink>(
     alloc: Global,
     library: &mut L,
     out: &mut K,
-    (old, new): (&'a [u8], &'a [u8]),
+    names: (&'a [u8], &'a [u8]),
     script: Option<&'a [u8]>,
-) -> Result<u8, Trouble<'a>> {
+) -> Result<u8, Trouble<'a>>
+    ensures shown { IfOk result (spec.ShowsWhatItFinds ⟦<K as SinkView>⟧.output
+        ⟦<L as LibraryView>⟧.files library.old library.new out.old out.new) }
+    ensures cause { IfErr result (spec.ComesToTrouble ⟦<L as LibraryView>⟧.files
+        library.old library.new) }
+    ensures silent { OnErr result (out.new ≡ out.old) }
+{
+    let (old, new) = names;
     let old_text = read_text(alloc, library, old)?;
     let new_text = read_text(alloc, library, new)?;
-    let compared = compared_texts(alloc, (old, new), &old_text, &new_text)?;
+    let compared = compared_texts(alloc, names, &old_text, &new_text)?;
     let moves = moves_shown(&compared);
     show_report(alloc, library, out, (old, &old_text), Some(&moves), script)
 }

@@ -1,3 +1,7 @@
+ghost use Rattle.std.specs.Prelude.{◌≡◌, IfErr, IfOk, OnErr};
+ghost use Rattle.fw_base.specs.Faults.{Rose};
+ghost use Rattle.view_driver.specs.Run as spec;
+
 use crate::moves_view::show_moves;
 use crate::page_view::{show_page, show_page_with_moves};
 use crate::script_view::show_script;
@@ -6,6 +10,7 @@ use crate::trouble::Trouble;
 use crate::trouble_text::trouble_status;
 use crate::words::{Request, read_request, words_of_replay};
 use fw_base::{Library, Sink};
+use replay_setup::{LibraryView, SinkView};
 use std::alloc::Global;
 
 /// Shows what is asked for, and answers the status of what was shown.
@@ -14,7 +19,13 @@ fn show_request<'a, L: Library, K: Sink>(
     library: &mut L,
     out: &mut K,
     request: &Request<'a>,
-) -> Result<u8, Trouble<'a>> {
+) -> Result<u8, Trouble<'a>>
+    ensures shown { IfOk result (spec.ShowsWhatItFinds ⟦<K as SinkView>⟧.output
+        ⟦<L as LibraryView>⟧.files library.old library.new out.old out.new) }
+    ensures cause { IfErr result (spec.ComesToTrouble ⟦<L as LibraryView>⟧.files
+        library.old library.new) }
+    ensures silent { OnErr result (out.new ≡ out.old) }
+{
     match request {
         Request::Moves { old, new, captures } => {
             show_moves(alloc, library, out, (old, new), captures)
@@ -43,7 +54,13 @@ fn show_asked<'a, L: Library, K: Sink>(
     replay: &'a [String],
     library: &mut L,
     out: &mut K,
-) -> Result<u8, Trouble<'a>> {
+) -> Result<u8, Trouble<'a>>
+    ensures shown { IfOk result (spec.ShowsWhatItFinds ⟦<K as SinkView>⟧.output
+        ⟦<L as LibraryView>⟧.files library.old library.new out.old out.new) }
+    ensures cause { IfErr result (spec.ComesToTrouble ⟦<L as LibraryView>⟧.files
+        library.old library.new) }
+    ensures silent { OnErr result (out.new ≡ out.old) }
+{
     match read_request(alloc, words, replay)? {
         Some(request) => show_request(alloc, library, out, &request),
         None => Err(Trouble::Usage),
@@ -55,12 +72,15 @@ fn show_asked<'a, L: Library, K: Sink>(
 /// captures, captures that are named aren't those of the reports, or one of them has a fault, and
 /// where the journal of a report lacks or isn't that of the script; 4 where a name could not be
 /// opened or read; 5 where the sink failed; 6 where memory ran out.
-pub fn run<L: Library, K: Sink>(
-    alloc: Global,
-    words: &[String],
-    library: &mut L,
-    out: &mut K,
-) -> u8 {
+pub fn run<L: Library, K: Sink>(alloc: Global, words: &[String], library: &mut L, out: &mut K) -> u8
+    // What is shown was found in the texts that were read, and the sink took it. Which words ask for what is free.
+    ensures shown { spec.ShowsWhatItFinds ⟦<K as SinkView>⟧.output ⟦<L as LibraryView>⟧.files
+        library.old library.new out.old out.new result }
+    // The sink failed only where its count of faults rose, and without memory nothing was written.
+    ensures status_5_cause { result ≡ 5
+        → Rose (K.state out.old).faults (K.state out.new).faults }
+    ensures status_6_silent { result ≡ 6 → out.new ≡ out.old }
+{
     let Ok(replay) = words_of_replay(alloc, words) else {
         return trouble_status(&Trouble::OutOfMemory);
     };

@@ -1,9 +1,13 @@
+ghost use Rattle.std.specs.Prelude.{◌≡◌, IfErr, IfOk, OnErr};
+ghost use Rattle.view_driver.specs.Run as spec;
+
 use crate::inputs::read_text;
 use crate::script_text::Reviewed;
 use crate::shown::{Shown, show};
 use crate::trouble::Trouble;
 use command_words::CaptureWord;
 use fw_base::{Library, OutOfMemory, Sink};
+use replay_setup::{LibraryView, SinkView};
 use script_review::{findings_in, line_faults};
 use std::alloc::Global;
 
@@ -25,7 +29,10 @@ fn show_reviewed<K: Sink>(
     out: &mut K,
     text: &[u8],
     interfaces: &[&[u8]],
-) -> Result<u8, OutOfMemory> {
+) -> Result<u8, OutOfMemory>
+    ensures shown { IfOk result (spec.ShowsOneText ⟦<K as SinkView>⟧.output out.old out.new) }
+    ensures silent { OnErr result (out.new ≡ out.old) }
+{
     let faults = line_faults(alloc, text)?;
     let findings = findings_in(alloc, text, interfaces)?;
     let reviewed = Reviewed {
@@ -42,7 +49,11 @@ pub(crate) fn show_script<'a, L: Library, K: Sink>(
     out: &mut K,
     script: &'a [u8],
     captures: &[CaptureWord<'_>],
-) -> Result<u8, Trouble<'a>> {
+) -> Result<u8, Trouble<'a>>
+    ensures shown { IfOk result (spec.ShowsOneText ⟦<K as SinkView>⟧.output out.old out.new) }
+    ensures cause { IfErr result (spec.IsUnreadOrFree ⟦<L as LibraryView>⟧.files library.new) }
+    ensures silent { OnErr result (out.new ≡ out.old) }
+{
     let text = read_text(alloc, library, script)?;
     let interfaces = interfaces_of(alloc, captures)?;
     Ok(show_reviewed(alloc, out, &text, &interfaces)?)

@@ -1,3 +1,6 @@
+ghost use Rattle.std.specs.Prelude.{◌≡◌};
+ghost use Rattle.view_driver.specs.Shown as spec;
+
 use crate::compared::Compared;
 use crate::moves_text::write_compared;
 use crate::script_text::{Reviewed, review_status, write_reviewed};
@@ -6,7 +9,7 @@ use crate::trouble_text::{trouble_status, write_trouble};
 use buffered_io::{PIECE_BYTES, PieceSink};
 use core::mem::replace_with;
 use fw_base::{Failed, Sink};
-use replay_setup::status_written;
+use replay_setup::{SinkView, status_written};
 use report_page::{Piece, write_page};
 use std::alloc::Global;
 
@@ -20,7 +23,9 @@ pub(crate) enum Shown<'a> {
 }
 
 /// Writes what is shown.
-fn write_shown<K: Sink>(out: &mut K, shown: &Shown<'_>) -> Result<(), Failed> {
+fn write_shown<K: Sink>(out: &mut K, shown: &Shown<'_>) -> Result<(), Failed>
+    ensures { spec.WritesShown (K.state out.old) (K.state out.new) shown.now result }
+{
     match shown {
         Shown::Moves(compared) => write_compared(out, compared),
         Shown::Page(pieces) => write_page(out, pieces),
@@ -30,7 +35,9 @@ fn write_shown<K: Sink>(out: &mut K, shown: &Shown<'_>) -> Result<(), Failed> {
 }
 
 /// The status of what is shown, where it is written.
-fn status_of(shown: &Shown<'_>) -> u8 {
+fn status_of(shown: &Shown<'_>) -> u8
+    ensures { result ≡ spec.shown_status shown.now }
+{
     match shown {
         Shown::Moves(_) | Shown::Page(_) => 0,
         Shown::Script(reviewed) => review_status(reviewed),
@@ -39,7 +46,9 @@ fn status_of(shown: &Shown<'_>) -> u8 {
 }
 
 /// Writes what is shown in pieces as large as the buffer, and gives the sink back.
-fn write_pieced<K: Sink>(sink: K, text: (Vec<u8>, &Shown<'_>)) -> (K, Result<(), Failed>) {
+fn write_pieced<K: Sink>(sink: K, text: (Vec<u8>, &Shown<'_>)) -> (K, Result<(), Failed>)
+    ensures { spec.WritesShown (K.state sink) (K.state result.0) text.entry.1.now result.1 }
+{
     let (mut buffer, shown) = text;
     buffer.clear();
     let mut pieces = PieceSink::new(sink, buffer);
@@ -50,11 +59,17 @@ fn write_pieced<K: Sink>(sink: K, text: (Vec<u8>, &Shown<'_>)) -> (K, Result<(),
     (pieces.into_inner(), written)
 }
 
-/// Shows it, and answers the status.
-pub(crate) fn show<K: Sink>(alloc: Global, out: &mut K, shown: &Shown<'_>) -> u8 {
+/// Shows it, and answers the status. Where memory ran out there is nothing to write.
+pub(crate) fn show<K: Sink>(alloc: Global, out: &mut K, shown: &Shown<'_>) -> u8
+    ensures { spec.ShowsIfMemory ⟦<K as SinkView>⟧.output out.old out.new shown.now result }
+{
+    let wanted = status_of(shown);
+    if wanted == trouble_status(&Trouble::OutOfMemory) {
+        return wanted;
+    }
     let Ok(buffer) = Vec::with_capacity(alloc, PIECE_BYTES) else {
         return trouble_status(&Trouble::OutOfMemory);
     };
     let written = replace_with(out, (buffer, shown), write_pieced);
-    status_written(status_of(shown), written)
+    status_written(wanted, written)
 }

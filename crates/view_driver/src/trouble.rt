@@ -1,6 +1,7 @@
 ghost use Rattle.std.specs.Prelude.{◌≡◌};
 ghost use Rattle.view_driver.specs.declared.trouble.Trouble.TheVariants.{OutOfMemory as NoMemory};
 ghost use Rattle.view_driver.specs.MovesTold.{IsUnfit};
+ghost use Rattle.view_driver.specs.Run.{IsFree};
 
 use command_words::CaptureWord;
 use fw_base::OutOfMemory;
@@ -79,7 +80,8 @@ impl<T: Drop> From<AllocFailed<T>> for Trouble<'_> {
 
 /// The trouble of a text that isn't read as a report.
 pub(crate) fn unfit(name: &[u8], error: ReportError) -> Trouble<'_>
-    ensures { IsUnfit result }
+    ensures unfit { IsUnfit result }
+    ensures free { IsFree result }
 {
     match error {
         ReportError::Line(line) => Trouble::NoReport(name, line),
@@ -96,7 +98,9 @@ fn name_of<'a>(captures: &[CaptureWord<'a>], number: u64) -> &'a [u8] {
 }
 
 /// The trouble of flows that aren't told.
-pub(crate) fn without_flows<'a>(captures: &[CaptureWord<'a>], fault: FlowsFault) -> Trouble<'a> {
+pub(crate) fn without_flows<'a>(captures: &[CaptureWord<'a>], fault: FlowsFault) -> Trouble<'a>
+    ensures { IsFree result }
+{
     match fault {
         FlowsFault::Captures { told, given } => Trouble::Named { told, named: given },
         FlowsFault::Records {
@@ -123,10 +127,13 @@ pub(crate) fn without_flows<'a>(captures: &[CaptureWord<'a>], fault: FlowsFault)
 
 /// The trouble of the journal of a report whose live states aren't told.
 pub(crate) fn without_states<'a>(
-    (report, script): (&'a [u8], &'a [u8]),
+    names: (&'a [u8], &'a [u8]),
     journal: &Journal<'_>,
     fault: StatesFault,
-) -> Trouble<'a> {
+) -> Trouble<'a>
+    ensures { IsFree result }
+{
+    let (report, script) = names;
     match fault {
         StatesFault::Script(error) => Trouble::Script(error),
         StatesFault::Line(line) => Trouble::OtherScript {
