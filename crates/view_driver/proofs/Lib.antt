@@ -10,3 +10,5 @@ mod OutcomesTold
 mod TextSteps
 -- what is shown was found
 mod ShownFound
+-- why a run comes to a trouble
+mod TroubleCauses

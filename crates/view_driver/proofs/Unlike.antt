@@ -1,5 +1,5 @@
 -- Reports whose captures don't fit.
-use Rattle.std.proofs.Common.{◌≡◌, ◌≢◌, ℕ, ◌+◌, ◌-◌, ◌<◌, ◌≤◌, List, [], ◌∷◌, ◌++◌, Result, Ok, Err, length, get_or, map, min, take, sym, ap, ◌∙◌, subst, arith}
+use Rattle.std.proofs.Common.{◌≡◌, ◌≢◌, ℕ, ◌+◌, ◌-◌, ◌<◌, ◌≤◌, List, [], ◌∷◌, ◌++◌, Result, Ok, Err, length, get_or, map, min, take, inl, inr, sym, ap, ◌∙◌, subst, arith}
 use Rattle.std.specs.Prelude.{IfErr}
 use Rattle.std.proofs.lemmas.List.{get_or-map, length-map, map-append, map_more}
 use Rattle.report_moves.specs.Moves.{HaveSameLengths}
@@ -7,7 +7,7 @@ use Rattle.report_values.specs.Captures.{captures_lines}
 use Rattle.report_values.specs.Outcomes.{NumbersAll, outcome_text}
 use Rattle.report_values.specs.declared.capture.Capture.{Capture as ToldCapture}
 use Rattle.report_values.specs.declared.rules.KnownRule.{KnownRule}
-use Rattle.view_driver.specs.MovesTold.{AreAlike, IsFirstOther, IsOtherAt, IsOtherNumber, IsTroubleOf, IsUnfit, IsUnlike, counts_of}
+use Rattle.view_driver.specs.MovesTold.{AreAlike, IsFirstOther, IsOtherAt, IsOtherNumber, IsNoReport, IsTroubleOf, IsUnlike, counts_of}
 use Rattle.view_driver.specs.declared.trouble.Trouble.{Trouble}
 use Rattle.view_driver.specs.declared.trouble.Trouble.TheVariants.{Usage, Unread, NoReport, Script, NoJournal, OtherScript, Captures, Records, Named, OtherRecords, Capture, OutOfMemory}
 
@@ -71,28 +71,44 @@ other_number old new others alike = record {
   alike = subst (AreAlike (map length old) (map length new)) (omega (arith, length-map old length, length-map new length)) alike;
 }
 
--- a text that is no report is a trouble of the texts
-pub unfit_trouble : (old new : List ℕ) (trouble : Trouble) → IsUnfit trouble → IsTroubleOf old new trouble
-unfit_trouble old new Usage unfit = unfit
-unfit_trouble old new (Unread name) unfit = unfit
-unfit_trouble old new (NoReport name line) unfit = tt
-unfit_trouble old new (Script fault) unfit = unfit
-unfit_trouble old new (NoJournal name) unfit = unfit
-unfit_trouble old new (OtherScript name line script) unfit = unfit
-unfit_trouble old new (Captures was is_now) unfit = absurd unfit
-unfit_trouble old new (Records capture was is_now) unfit = absurd unfit
-unfit_trouble old new (Named told named) unfit = unfit
-unfit_trouble old new (OtherRecords name told read) unfit = unfit
-unfit_trouble old new (Capture name at fault) unfit = unfit
-unfit_trouble old new OutOfMemory unfit = tt
+module _ (old_name old new_name new : List ℕ) where
+  -- that the first text is no report is a trouble of the texts
+  pub old_unfit : (trouble : Trouble) → IsNoReport old_name old trouble → IsTroubleOf old_name old new_name new trouble
+  old_unfit Usage unfit = unfit
+  old_unfit (Unread name) unfit = unfit
+  old_unfit (NoReport name line) unfit = inl unfit
+  old_unfit (Script fault) unfit = unfit
+  old_unfit (NoJournal name) unfit = unfit
+  old_unfit (OtherScript name line script) unfit = unfit
+  old_unfit (Captures was is_now) unfit = absurd unfit
+  old_unfit (Records capture was is_now) unfit = absurd unfit
+  old_unfit (Named told named) unfit = unfit
+  old_unfit (OtherRecords name told read) unfit = unfit
+  old_unfit (Capture name at fault) unfit = unfit
+  old_unfit OutOfMemory unfit = tt
 
-module _ (old new : List ℕ) (old_captures new_captures : List ToldCapture) (old_behind new_behind : List ℕ)
+  -- and that the second isn't
+  pub new_unfit : (trouble : Trouble) → IsNoReport new_name new trouble → IsTroubleOf old_name old new_name new trouble
+  new_unfit Usage unfit = unfit
+  new_unfit (Unread name) unfit = unfit
+  new_unfit (NoReport name line) unfit = inr unfit
+  new_unfit (Script fault) unfit = unfit
+  new_unfit (NoJournal name) unfit = unfit
+  new_unfit (OtherScript name line script) unfit = unfit
+  new_unfit (Captures was is_now) unfit = absurd unfit
+  new_unfit (Records capture was is_now) unfit = absurd unfit
+  new_unfit (Named told named) unfit = unfit
+  new_unfit (OtherRecords name told read) unfit = unfit
+  new_unfit (Capture name at fault) unfit = unfit
+  new_unfit OutOfMemory unfit = tt
+
+module _ (old_name old new_name new : List ℕ) (old_captures new_captures : List ToldCapture) (old_behind new_behind : List ℕ)
     (old_is : old ≡ captures_lines 1 old_captures ++ old_behind) (new_is : new ≡ captures_lines 1 new_captures ++ new_behind) where
   -- captures that don't fit are one too
-  pub unlike_trouble : (trouble : Trouble) → IsUnlike (counts_of old_captures) (counts_of new_captures) trouble → IsTroubleOf old new trouble
+  pub unlike_trouble : (trouble : Trouble) → IsUnlike (counts_of old_captures) (counts_of new_captures) trouble → IsTroubleOf old_name old new_name new trouble
   unlike_trouble Usage unlike = unlike
   unlike_trouble (Unread name) unlike = unlike
-  unlike_trouble (NoReport name line) unlike = tt
+  unlike_trouble (NoReport name line) unlike = absurd unlike
   unlike_trouble (Script fault) unlike = unlike
   unlike_trouble (NoJournal name) unlike = unlike
   unlike_trouble (OtherScript name line script) unlike = unlike
@@ -121,6 +137,6 @@ module _ (old new : List ℕ) (old_captures new_captures : List ToldCapture) (ol
 
   -- so of what comparing them answers
   pub unlike_answer : {T : Type 0} (result : Result T Trouble) → IfErr result (IsUnlike (counts_of old_captures) (counts_of new_captures))
-      → IfErr result (IsTroubleOf old new)
+      → IfErr result (IsTroubleOf old_name old new_name new)
   unlike_answer (Ok compared) unlike = tt
   unlike_answer (Err trouble) unlike = unlike_trouble trouble unlike

@@ -1,11 +1,12 @@
 -- What is told of moves. Figures stand still at the greatest number of 64 bits.
-use Rattle.std.specs.Prelude.{◌≡◌, ◌≢◌, ℕ, ◌+◌, ◌-◌, ◌<◌, ◌≤◌, ◌^◌, List, ◌++◌, All, length, map, min, nat_eq, slice_index_or, ⊤}
+use Rattle.std.specs.Prelude.{◌≡◌, ◌≢◌, ℕ, ◌+◌, ◌-◌, ◌<◌, ◌≤◌, ◌^◌, List, ◌++◌, All, length, map, min, nat_eq, slice_index_or, ⊤, ◌⊎◌}
 use Rattle.std.specs.Cmp.Lexicographic.{pointwise}
 use Rattle.std.specs.List.{IsDistinct}
 use Rattle.report_moves.specs.Moves.{AreToldOnce, HaveSameLengths, IsToldOf, records_in, records_of}
 use Rattle.report_moves.specs.declared.moves.Move.{Move}
 use Rattle.report_values.specs.Captures.{captures_lines}
 use Rattle.report_values.specs.Outcomes.{Keeps, outcome_text, texts_at}
+use Rattle.report_values.specs.Reports.{IsUnfitLine}
 use Rattle.report_values.specs.declared.capture.Capture.{Capture as ToldCapture}
 use Rattle.report_values.specs.declared.rules.KnownRule.{KnownRule}
 use Rattle.view_driver.specs.declared.trouble.Trouble.{Trouble}
@@ -96,20 +97,20 @@ IsUnlike old new (Named told named) = ⊥
 IsUnlike old new (OtherRecords name told read) = ⊥
 IsUnlike old new (Capture name at fault) = ⊥
 
--- a text is no report, or memory ran out
-abbrev pub IsUnfit : Trouble → Type 0
-IsUnfit (NoReport name line) = ⊤
-IsUnfit OutOfMemory = ⊤
-IsUnfit Usage = ⊥
-IsUnfit (Unread name) = ⊥
-IsUnfit (Script fault) = ⊥
-IsUnfit (NoJournal name) = ⊥
-IsUnfit (OtherScript name line script) = ⊥
-IsUnfit (Captures was is_now) = ⊥
-IsUnfit (Records capture was is_now) = ⊥
-IsUnfit (Named told named) = ⊥
-IsUnfit (OtherRecords name told read) = ⊥
-IsUnfit (Capture name at fault) = ⊥
+-- the text of this name is no report: the line of this number is the first that none has there; or memory ran out
+abbrev pub IsNoReport : List ℕ → List ℕ → Trouble → Type 0
+IsNoReport name text (NoReport told line) = (told.now ≡ name) × IsUnfitLine text line
+IsNoReport name text OutOfMemory = ⊤
+IsNoReport name text Usage = ⊥
+IsNoReport name text (Unread unread) = ⊥
+IsNoReport name text (Script fault) = ⊥
+IsNoReport name text (NoJournal report) = ⊥
+IsNoReport name text (OtherScript report line script) = ⊥
+IsNoReport name text (Captures was is_now) = ⊥
+IsNoReport name text (Records capture was is_now) = ⊥
+IsNoReport name text (Named told named) = ⊥
+IsNoReport name text (OtherRecords capture told read) = ⊥
+IsNoReport name text (Capture capture at fault) = ⊥
 
 -- two texts begin with the lines of captures that don't fit
 pub record AreUnlikeTexts (old new : List ℕ) (trouble : Trouble) : Type 0 where
@@ -132,17 +133,17 @@ pub record ComparesTexts (old new : List ℕ) (compared : Compared) : Type 0 whe
   pub told : IsCompared compared
   pub outcomes : HasOutcomes old_captures new_captures compared
 
--- Why two texts aren't compared. That one is no report is free, as want of memory is.
-abbrev pub IsTroubleOf : List ℕ → List ℕ → Trouble → Type 0
-IsTroubleOf old new (Captures was is_now) = AreUnlikeTexts old new (Captures was is_now)
-IsTroubleOf old new (Records capture was is_now) = AreUnlikeTexts old new (Records capture was is_now)
-IsTroubleOf old new (NoReport name line) = ⊤
-IsTroubleOf old new OutOfMemory = ⊤
-IsTroubleOf old new Usage = ⊥
-IsTroubleOf old new (Unread name) = ⊥
-IsTroubleOf old new (Script fault) = ⊥
-IsTroubleOf old new (NoJournal name) = ⊥
-IsTroubleOf old new (OtherScript name line script) = ⊥
-IsTroubleOf old new (Named told named) = ⊥
-IsTroubleOf old new (OtherRecords name told read) = ⊥
-IsTroubleOf old new (Capture name at fault) = ⊥
+-- Why two texts, which have these names, aren't compared. Want of memory is free.
+abbrev pub IsTroubleOf : List ℕ → List ℕ → List ℕ → List ℕ → Trouble → Type 0
+IsTroubleOf old_name old new_name new (Captures was is_now) = AreUnlikeTexts old new (Captures was is_now)
+IsTroubleOf old_name old new_name new (Records capture was is_now) = AreUnlikeTexts old new (Records capture was is_now)
+IsTroubleOf old_name old new_name new (NoReport told line) = IsNoReport old_name old (NoReport told line) ⊎ IsNoReport new_name new (NoReport told line)
+IsTroubleOf old_name old new_name new OutOfMemory = ⊤
+IsTroubleOf old_name old new_name new Usage = ⊥
+IsTroubleOf old_name old new_name new (Unread unread) = ⊥
+IsTroubleOf old_name old new_name new (Script fault) = ⊥
+IsTroubleOf old_name old new_name new (NoJournal report) = ⊥
+IsTroubleOf old_name old new_name new (OtherScript report line script) = ⊥
+IsTroubleOf old_name old new_name new (Named told named) = ⊥
+IsTroubleOf old_name old new_name new (OtherRecords capture told read) = ⊥
+IsTroubleOf old_name old new_name new (Capture capture at fault) = ⊥

@@ -1,10 +1,11 @@
--- What a run finds and shows. Which words ask for what is free, and so is what a page and a review of a script are
--- made of: the tests show those.
+-- What a run finds and shows. Free are which words ask for what, what a page and a review of a script tell, and the
+-- causes of the troubles of flows, of journals and of scripts: the tests show those.
 use Rattle.std.specs.Prelude.{◌≡◌, ℕ, List, ◌⊎◌, ⊤}
 use Rattle.replay_setup.specs.NamesRead.{FailsEarly, ReadsNamed}
 use Rattle.replay_setup.specs.Openings.{Opens, RefusesToOpen}
 use Rattle.replay_setup.specs.Outside.{Files, Output}
-use Rattle.view_driver.specs.MovesTold.{ComparesTexts, IsTroubleOf}
+use Rattle.report_values.specs.Reports.{IsUnfitLine}
+use Rattle.view_driver.specs.MovesTold.{ComparesTexts, IsNoReport, IsTroubleOf}
 use Rattle.view_driver.specs.Shown.{Shows}
 use Rattle.view_driver.specs.declared.compared.Compared.{Compared}
 use Rattle.view_driver.specs.declared.shown.Shown.{Shown}
@@ -16,9 +17,9 @@ use Rattle.view_driver.specs.declared.trouble.Trouble.TheVariants.{Usage, Unread
 abbrev pub most_bytes : ℕ
 most_bytes = 4294967296
 
--- a trouble whose cause is free: none of the words, of a name that isn't read, or of two reports that don't fit
+-- a trouble whose cause is free: none of the words, of a name that isn't read, of a text that is no report, or of two
+-- reports that don't fit
 abbrev pub IsFree : Trouble → Type 0
-IsFree (NoReport name line) = ⊤
 IsFree (Script error) = ⊤
 IsFree (NoJournal name) = ⊤
 IsFree (OtherScript report line script) = ⊤
@@ -28,6 +29,7 @@ IsFree (Capture name at fault) = ⊤
 IsFree OutOfMemory = ⊤
 IsFree Usage = ⊥
 IsFree (Unread name) = ⊥
+IsFree (NoReport name line) = ⊥
 IsFree (Captures old new) = ⊥
 IsFree (Records capture old new) = ⊥
 
@@ -59,7 +61,6 @@ module _ {L S : Type 0} (files : Files L S) where
   -- a name that isn't read, or a trouble whose cause is free
   abbrev pub IsUnreadOrFree : L → Trouble → Type 0
   IsUnreadOrFree now (Unread name) = IsUnread now name.now
-  IsUnreadOrFree now (NoReport name line) = ⊤
   IsUnreadOrFree now (Script error) = ⊤
   IsUnreadOrFree now (NoJournal name) = ⊤
   IsUnreadOrFree now (OtherScript report line script) = ⊤
@@ -68,8 +69,21 @@ module _ {L S : Type 0} (files : Files L S) where
   IsUnreadOrFree now (Capture name at fault) = ⊤
   IsUnreadOrFree now OutOfMemory = ⊤
   IsUnreadOrFree now Usage = ⊥
+  IsUnreadOrFree now (NoReport name line) = ⊥
   IsUnreadOrFree now (Captures old new) = ⊥
   IsUnreadOrFree now (Records capture old new) = ⊥
+
+  -- the same, or the text of this name is no report
+  abbrev pub IsUnreadOrNoReport : L → List ℕ → List ℕ → Trouble → Type 0
+  IsUnreadOrNoReport now name text trouble = IsUnreadOrFree now trouble ⊎ IsNoReport name text trouble
+
+  -- the text of a name was read, and the line of this number is the first that no report has there
+  pub record ReadsNoReport (name : List ℕ) (line : ℕ) : Type 0 where
+    pub asked : L
+    pub behind : L
+    pub text : List ℕ
+    pub text_read : ReadsText asked behind name text
+    pub unfit : IsUnfitLine text line
 
   -- the texts of two names were read, one after the other
   pub record ReadsBoth (before now : L) (old new : List ℕ) : Type 0 where
@@ -92,7 +106,7 @@ module _ {L S : Type 0} (files : Files L S) where
     pub old : List ℕ
     pub new : List ℕ
     pub both : ReadsBoth before now old new
-    pub unlike : IsTroubleOf old new trouble
+    pub unlike : IsTroubleOf both.old_name old both.new_name new trouble
 
   -- Where a run came to this trouble, its cause. Where the words are no command, no name was asked for.
   abbrev pub ComesToTrouble : L → L → Trouble → Type 0
@@ -100,7 +114,7 @@ module _ {L S : Type 0} (files : Files L S) where
   ComesToTrouble before now (Captures old new) = ReadsUnlike before now (Captures old new)
   ComesToTrouble before now (Records capture old new) = ReadsUnlike before now (Records capture old new)
   ComesToTrouble before now Usage = now ≡ before
-  ComesToTrouble before now (NoReport name line) = ⊤
+  ComesToTrouble before now (NoReport name line) = ReadsNoReport name.now line
   ComesToTrouble before now (Script error) = ⊤
   ComesToTrouble before now (NoJournal name) = ⊤
   ComesToTrouble before now (OtherScript report line script) = ⊤

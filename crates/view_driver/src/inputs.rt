@@ -1,9 +1,12 @@
-ghost use Rattle.std.specs.Prelude.{IfErr, IfOk};
+ghost use Rattle.std.specs.Prelude.{◌≡◌, ◌++◌, IfErr, IfOk};
+ghost use Rattle.report_values.specs.Captures.{captures_lines};
+ghost use Rattle.view_driver.specs.MovesTold.{IsNoReport};
 ghost use Rattle.view_driver.specs.Run as spec;
 
 use crate::trouble::Trouble;
 use fw_base::{Failed, Library, Name};
 use replay_setup::{LibraryView, NamedSource, read_named};
+use report_values::{Report, ReportError, read_report};
 use std::alloc::Global;
 
 /// How many bytes of a report are read at most: 4 GiB.
@@ -37,5 +40,22 @@ pub(crate) fn read_text<'a, L: Library>(
     match read_named(alloc, &path, MOST_BYTES, library)? {
         NamedSource::Read(_source, text) => Ok(text),
         NamedSource::Broken(_) | NamedSource::Refused => Err(Trouble::Unread(name)),
+    }
+}
+
+/// The report of that name, in its text.
+pub(crate) fn report_in<'a, 't>(
+    alloc: Global,
+    name: &'a [u8],
+    text: &'t [u8],
+) -> Result<Report<'t>, Trouble<'a>>
+    ensures lines { IfOk result (λ report.
+        text.now ≡ captures_lines 1 report.captures.items ++ report.behind.now) }
+    ensures cause { IfErr result (IsNoReport name.now text.now) }
+{
+    match read_report(alloc, text) {
+        Ok(report) => Ok(report),
+        Err(ReportError::Line(line)) => Err(Trouble::NoReport(name, line)),
+        Err(ReportError::OutOfMemory) => Err(Trouble::OutOfMemory),
     }
 }

@@ -3,15 +3,14 @@ ghost use Rattle.view_driver.specs.MovesTold.{ComparesTexts, IsCompared, IsTroub
 ghost use Rattle.view_driver.specs.Run as spec;
 
 use crate::compared::{Compared, compare};
-use crate::inputs::{open_source, read_text};
+use crate::inputs::{open_source, read_text, report_in};
 use crate::shown::{Shown, show};
-use crate::trouble::{Trouble, unfit, without_flows};
+use crate::trouble::{Trouble, without_flows};
 use command_words::CaptureWord;
 use fw_base::{Library, Sink};
 use fw_rule::Items;
 use replay_setup::{LibraryView, SinkView};
 use report_flows::{FlowSpan, flows_of};
-use report_values::read_report;
 use std::alloc::Global;
 
 /// The flows of what moved, from the captures of these names.
@@ -69,16 +68,11 @@ pub(crate) fn compared_texts<'a>(
 ) -> Result<Compared, Trouble<'a>>
     ensures compared { IfOk result IsCompared }
     ensures outcomes { IfOk result (ComparesTexts old.now new.now) }
-    ensures cause { IfErr result (IsTroubleOf old.now new.now) }
+    ensures cause { IfErr result (IsTroubleOf
+        names.entry.0.now old.now names.entry.1.now new.now) }
 {
-    let old_report = match read_report(alloc, old) {
-        Ok(report) => report,
-        Err(error) => return Err(unfit(names.0, error)),
-    };
-    let new_report = match read_report(alloc, new) {
-        Ok(report) => report,
-        Err(error) => return Err(unfit(names.1, error)),
-    };
+    let old_report = report_in(alloc, names.0, old)?;
+    let new_report = report_in(alloc, names.1, new)?;
     compare(alloc, &old_report, &new_report)
 }
 

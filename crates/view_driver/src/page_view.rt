@@ -2,15 +2,15 @@ ghost use Rattle.std.specs.Prelude.{◌≡◌, IfErr, IfOk, OnErr};
 ghost use Rattle.view_driver.specs.Run as spec;
 
 use crate::compared::{Compared, other_verdicts, records_of};
-use crate::inputs::read_text;
+use crate::inputs::{read_text, report_in};
 use crate::moves_view::compared_texts;
 use crate::shown::{Shown, show};
-use crate::trouble::{Trouble, unfit, without_states};
+use crate::trouble::{Trouble, without_states};
 use fw_base::{Library, OutOfMemory, Sink};
 use replay_setup::{LibraryView, SinkView};
 use report_page::{LiveStates, MovesShown, columns_of, page_of};
 use report_states::live_states;
-use report_values::{JournalColumns, Report, read_report};
+use report_values::{JournalColumns, Report};
 use std::alloc::Global;
 
 /// The columns of a journal in which the states are asked nothing.
@@ -19,20 +19,6 @@ const NO_COLUMNS: JournalColumns = JournalColumns {
     seconds: 1,
     count: 0,
 };
-
-/// The report of that name, in its text.
-fn report_in<'a, 't>(
-    alloc: Global,
-    name: &'a [u8],
-    text: &'t [u8],
-) -> Result<Report<'t>, Trouble<'a>>
-    ensures { IfErr result spec.IsFree }
-{
-    match read_report(alloc, text) {
-        Ok(report) => Ok(report),
-        Err(error) => Err(unfit(name, error)),
-    }
-}
 
 /// How many states lived along the journal of that report, by the script of that name.
 fn live_states_by<'a, L: Library>(
@@ -97,7 +83,8 @@ fn show_report<'a, 't, L: Library, K: Sink>(
     script: Option<&'a [u8]>,
 ) -> Result<u8, Trouble<'a>>
     ensures shown { IfOk result (spec.ShowsOneText ⟦<K as SinkView>⟧.output out.old out.new) }
-    ensures cause { IfErr result (spec.IsUnreadOrFree ⟦<L as LibraryView>⟧.files library.new) }
+    ensures cause { IfErr result (spec.IsUnreadOrNoReport ⟦<L as LibraryView>⟧.files
+        library.new named.entry.0.now named.entry.1.now) }
     ensures silent { OnErr result (out.new ≡ out.old) }
 {
     let (name, text) = named;
@@ -115,7 +102,8 @@ pub(crate) fn show_page<'a, L: Library, K: Sink>(
     script: Option<&'a [u8]>,
 ) -> Result<u8, Trouble<'a>>
     ensures shown { IfOk result (spec.ShowsOneText ⟦<K as SinkView>⟧.output out.old out.new) }
-    ensures cause { IfErr result (spec.IsUnreadOrFree ⟦<L as LibraryView>⟧.files library.new) }
+    ensures cause { IfErr result (spec.ComesToTrouble ⟦<L as LibraryView>⟧.files
+        library.old library.new) }
     ensures silent { OnErr result (out.new ≡ out.old) }
 {
     let text = read_text(alloc, library, name)?;

@@ -1,6 +1,5 @@
 ghost use Rattle.std.specs.Prelude.{◌≡◌};
 ghost use Rattle.view_driver.specs.declared.trouble.Trouble.TheVariants.{OutOfMemory as NoMemory};
-ghost use Rattle.view_driver.specs.MovesTold.{IsUnfit};
 ghost use Rattle.view_driver.specs.Run.{IsFree};
 
 use command_words::CaptureWord;
@@ -9,7 +8,7 @@ use pcap_read::CaptureFault;
 use replay_setup::ScriptError;
 use report_flows::FlowsFault;
 use report_states::StatesFault;
-use report_values::{Journal, ReportError};
+use report_values::Journal;
 use std::alloc::{AllocFailed, Global};
 
 /// Why there is nothing to show.
@@ -75,17 +74,6 @@ impl<T: Drop> From<AllocFailed<T>> for Trouble<'_> {
 
     fn from(_error: AllocFailed<T>) -> Self {
         Trouble::OutOfMemory
-    }
-}
-
-/// The trouble of a text that isn't read as a report.
-pub(crate) fn unfit(name: &[u8], error: ReportError) -> Trouble<'_>
-    ensures unfit { IsUnfit result }
-    ensures free { IsFree result }
-{
-    match error {
-        ReportError::Line(line) => Trouble::NoReport(name, line),
-        ReportError::OutOfMemory => Trouble::OutOfMemory,
     }
 }
 
