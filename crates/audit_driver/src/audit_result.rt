@@ -41,7 +41,7 @@ impl AuditResult {
             (spec.result_text self.now) result }
     {
         match self {
-            AuditResult::Unread(name) => write_unread(out, name),
+            AuditResult::Unread(name) => write_unread(out, name.bytes()),
             AuditResult::Unready(error) => error.write(out),
             AuditResult::TooLong => write_text(out, b"audit no TooLong\n"),
             AuditResult::No(line) => {

@@ -117,7 +117,7 @@ impl RunResult {
     {
         match self {
             RunResult::Usage => write_usage(out),
-            RunResult::Unread(name) => write_unread(out, name),
+            RunResult::Unread(name) => write_unread(out, name.bytes()),
             RunResult::Unready(error) => error.write(out),
             RunResult::Reported {
                 kept,

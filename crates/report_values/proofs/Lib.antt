@@ -12,6 +12,8 @@ mod EnoughAnswers
 -- the texts of outcomes, and their numbers
 mod OutcomeParts
 mod OutcomeNumbers
+-- elements of two lists by their places
+pub mod PlacePairs
 -- where the rules of a number in an edition stand
 mod KnownPlaces
 -- texts and the map that tells their numbers

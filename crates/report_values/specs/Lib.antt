@@ -10,6 +10,8 @@ pub mod Sections
 pub mod Reports
 -- what a record came to
 pub mod Outcomes
+-- how many records came to another verdict
+pub mod Verdicts
 -- where the rules of a number in an edition stand
 pub mod KnownPlaces
 -- texts and the map that tells their numbers

@@ -16,9 +16,6 @@ const AT_A_LIMIT: &[u8] = b" at a limit";
 /// Stands behind a verdict of a rule for whose state there was no room.
 const WITH_ALL_STATES_TAKEN: &[u8] = b" with all states taken";
 
-/// What may stand behind a verdict and tells its cause.
-const CAUSES: [&[u8]; 2] = [AT_A_LIMIT, WITH_ALL_STATES_TAKEN];
-
 /// Appends a text.
 fn put_text(text: &mut Vec<u8>, more: &[u8]) -> Result<(), OutOfMemory>
     ensures { OnOk result (text.new.items ≡ text.old.items ++ more.now) }
@@ -251,23 +248,4 @@ pub fn outcome_text(
 {
     let text = outcome_bytes(alloc, known, entry)?;
     Ok(Items::from_vec(text))
-}
-
-/// What stands before the first comma of an outcome.
-fn before_comma(text: &[u8]) -> &[u8] {
-    match text.iter().position(|byte| *byte == b',') {
-        Some(at) => text.get(..at).unwrap_or(text),
-        None => text,
-    }
-}
-
-/// The words of an outcome that tell its verdict, without the verdict's cause and without the rule.
-pub fn verdict_words(text: &[u8]) -> &[u8] {
-    let told = before_comma(text);
-    for cause in CAUSES {
-        if let Some(verdict) = told.strip_suffix(cause) {
-            return verdict;
-        }
-    }
-    told
 }

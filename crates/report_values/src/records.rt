@@ -1,4 +1,4 @@
-ghost use Rattle.std.specs.Prelude.{◌≡◌, ◌∷◌, ◌++◌, ◌<◌, [], All, IfOk, IfSome, None, OnErr, OnOk, length};
+ghost use Rattle.std.specs.Prelude.{◌≡◌, ◌∷◌, ◌++◌, ◌<◌, [], All, IfOk, IfSome, None, OnErr, OnOk, length, slice_index_or};
 ghost use Rattle.eval_engine.specs.declared.docket_entry.DocketEntry.TheVariants.{Other};
 ghost use Rattle.report_values.specs.Records as spec;
 
@@ -84,6 +84,14 @@ impl Records {
         ensures { result ≡ length self.now }
     {
         self.places.len()
+    }
+
+    /// What is told of the record at this place, from 0.
+    pub fn entry(&self, place: usize) -> &DocketEntry
+        requires { place < length self.now }
+        ensures { result.now ≡ slice_index_or self.now place Other }
+    {
+        &self.kinds[self.places[place] as usize]
     }
 
     /// Adds what is told of the next record.

@@ -12,3 +12,5 @@ mod TextSteps
 mod ShownFound
 -- why a run comes to a trouble
 mod TroubleCauses
+-- captures of names, opened one after the other
+mod FlowsFound

@@ -9,7 +9,7 @@ use Rattle.report_values.specs.Captures.{captures_lines}
 use Rattle.report_values.specs.Outcomes.{Keeps, NumbersAll, outcome_text, texts_at}
 use Rattle.report_values.specs.declared.capture.Capture.{Capture as ToldCapture}
 use Rattle.report_values.specs.declared.rules.KnownRule.{KnownRule}
-use Rattle.view_driver.specs.MovesTold.{AreOutcomes, ComparesTexts, HasOutcomes, IsCompared, TellsOutcomes}
+use Rattle.view_driver.specs.MovesTold.{AreOutcomes, ComparesTexts, HasOutcomes, IsCompared, TellsOutcomes, verdicts_between}
 use Rattle.view_driver.specs.declared.compared.Compared.{Compared}
 use Rattle.view_driver.specs.declared.trouble.Trouble.{Trouble}
 
@@ -73,8 +73,8 @@ outcomes_more mid new known captures i capture numbers news one within is all mo
 -- what was compared are the outcomes that were numbered one report after the other
 pub has_outcomes : (first mid last : List (List ℕ)) (old new : List ToldCapture) (compared : Compared) → compared.texts.items ≡ last
     → IsDistinct (pointwise nat_eq) compared.texts.items → TellsOutcomes first mid old compared.old.items
-    → TellsOutcomes mid last new compared.new.items → HasOutcomes old new compared
-has_outcomes first mid last old new compared is distinct was is_now =
+    → TellsOutcomes mid last new compared.new.items → compared.other_verdicts ≡ verdicts_between old new → HasOutcomes old new compared
+has_outcomes first mid last old new compared is distinct was is_now verdicts =
     let back = subst (λ (texts : List (List ℕ)). AreOutcomes texts was.known old compared.old.items) (sym is)
     (outcomes_stay mid last is_now.kept was.known old compared.old.items was.outcomes)
     in
@@ -84,6 +84,7 @@ has_outcomes first mid last old new compared is distinct was is_now =
       old_outcomes = back;
       new_known = is_now.known;
       new_outcomes = subst (λ (texts : List (List ℕ)). AreOutcomes texts is_now.known new compared.new.items) (sym is) is_now.outcomes;
+      verdicts = verdicts;
     }
 
 -- the texts begin with the lines of the captures whose outcomes were compared

@@ -1,12 +1,13 @@
 -- What is shown was found.
-use Rattle.std.proofs.Common.{◌≡◌, ℕ, Bool, true, false, ◌||◌, ◌==◌, not, List, length, inl, inr, sym, subst, ◌∙◌, arith, if◌then◌else◌}
+use Rattle.std.proofs.Common.{◌≡◌, ℕ, Bool, true, false, ◌||◌, ◌==◌, not, List, Option, None, Some, Vec, Global, length, inl, inr, sym, subst, ◌∙◌, arith, if◌then◌else◌}
 use Rattle.std.specs.List.{list_any}
 use Rattle.fw_base.specs.Faults.{Rose}
+use Rattle.report_flows.specs.declared.flow_counts.FlowSpan.{FlowSpan}
 use Rattle.script_review.specs.declared.faulty_lines.LineFault.{LineFault}
 use Rattle.script_review.specs.declared.findings.Finding.{Finding}
 use Rattle.replay_setup.specs.Outside.{Files, Output}
 use Rattle.view_driver.specs.MovesTold.{ComparesTexts}
-use Rattle.view_driver.specs.Run.{IsFound, IsOfOneText, ShowsOneText, ShowsWhatItFinds}
+use Rattle.view_driver.specs.Run.{IsFound, IsOfOneText, ShowsOneText, ShowsWhatItFinds, TellsFlowsIf}
 use Rattle.view_driver.specs.ReviewText.{is_refused, review_status}
 use Rattle.view_driver.specs.Shown.{ShowsIfMemory, shown_status}
 use Rattle.view_driver.specs.declared.shown.Shown.TheVariants.{Moves, Page, Script, Trouble}
@@ -44,8 +45,26 @@ compares_with_flows old new compared told same compares =
         old_outcomes = compares.outcomes.old_outcomes;
         new_known = compares.outcomes.new_known;
         new_outcomes = compares.outcomes.new_outcomes;
+        verdicts = compares.outcomes.verdicts;
       };
     })
+
+module _ {L S : Type 0} (files : Files L S) (before now : L) where
+  -- nor does it of what captures the flows are of
+  flows_again : (compared : Compared) (told flows : Option (Vec (List FlowSpan) Global)) → TellsFlowsIf files before now compared flows
+      → TellsFlowsIf files before now (record compared { flows = told }) flows
+  flows_again compared told None same = same
+  flows_again compared told (Some flows) tells = record {
+    names = tells.names;
+    sources = tells.sources;
+    opens = tells.opens;
+    flows = tells.flows;
+  }
+
+  pub tells_with_flows : (compared told : Compared) → told ≡ record compared { flows = told.flows } → TellsFlowsIf files before now compared told.flows
+      → TellsFlowsIf files before now told told.flows
+  tells_with_flows compared told same tells =
+      subst (λ (c : Compared). TellsFlowsIf files before now c told.flows) (sym same) (flows_again compared told.flows told.flows tells)
 
 module _ {K : Type 0} (output : Output K) where
   -- a page or what is wrong or odd with a script was shown

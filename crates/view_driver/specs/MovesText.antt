@@ -80,8 +80,8 @@ abbrev pub flows_told : {A : Type 0} → Option (Vec (List FlowSpan) A) → List
 flows_told None = []
 flows_told (Some flows) = flows.items
 
--- what moved and what stayed, of which so many records moved to another verdict
-unfoldable pub compared_text : Compared → ℕ → List ℕ
-compared_text compared others =
-    counts_text (records_told compared.moves.moved.items) others (records_told compared.moves.stayed.items)
+-- what moved and what stayed
+unfoldable pub compared_text : Compared → List ℕ
+compared_text compared =
+    counts_text (records_told compared.moves.moved.items) compared.other_verdicts (records_told compared.moves.stayed.items)
     ++ (moved_section compared.texts.items compared.moves.moved.items (flows_told compared.flows) ++ stayed_section compared.texts.items compared.moves.stayed.items)

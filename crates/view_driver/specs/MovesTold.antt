@@ -1,5 +1,5 @@
 -- What is told of moves. Figures stand still at the greatest number of 64 bits.
-use Rattle.std.specs.Prelude.{◌≡◌, ◌≢◌, ℕ, ◌+◌, ◌-◌, ◌<◌, ◌≤◌, ◌^◌, List, ◌++◌, All, length, map, min, nat_eq, slice_index_or, ⊤, ◌⊎◌}
+use Rattle.std.specs.Prelude.{◌≡◌, ◌≢◌, ℕ, ◌+◌, ◌-◌, ◌<◌, ◌≤◌, ◌^◌, List, ◌++◌, All, length, map, min, nat_eq, slice_index_or, sum_by, zip, ⊤, ◌⊎◌}
 use Rattle.std.specs.Cmp.Lexicographic.{pointwise}
 use Rattle.std.specs.List.{IsDistinct}
 use Rattle.report_moves.specs.Moves.{AreToldOnce, HaveSameLengths, IsToldOf, records_in, records_of}
@@ -7,6 +7,7 @@ use Rattle.report_moves.specs.declared.moves.Move.{Move}
 use Rattle.report_values.specs.Captures.{captures_lines}
 use Rattle.report_values.specs.Outcomes.{Keeps, outcome_text, texts_at}
 use Rattle.report_values.specs.Reports.{IsUnfitLine}
+use Rattle.report_values.specs.Verdicts.{other_verdicts}
 use Rattle.report_values.specs.declared.capture.Capture.{Capture as ToldCapture}
 use Rattle.report_values.specs.declared.rules.KnownRule.{KnownRule}
 use Rattle.view_driver.specs.declared.trouble.Trouble.{Trouble}
@@ -29,6 +30,10 @@ pub record IsCompared (compared : Compared) : Type 0 where
   pub same : All (λ move. move.was ≡ move.is) compared.moves.stayed.items
   pub all : records_of compared.moves.moved.items + records_of compared.moves.stayed.items ≡ records_in compared.old.items
 
+-- How many records of captures came to another verdict. A record has one place in both reports.
+abbrev pub verdicts_between : List ToldCapture → List ToldCapture → ℕ
+verdicts_between old new = min (sum_by (λ told. other_verdicts told.0.records told.1.records) (zip old new)) (2 ^ 64 - 1)
+
 -- how many records each capture of a report has
 abbrev pub counts_of : List ToldCapture → List ℕ
 counts_of captures = map (λ capture. length capture.records) captures
@@ -45,13 +50,14 @@ pub record TellsOutcomes (old new : List (List ℕ)) (captures : List ToldCaptur
   pub outcomes : AreOutcomes new known captures numbers
 
 -- What was compared are the outcomes of the records of these captures, then by some rules and now by some: two of
--- them are the same text exactly where they have one number.
+-- them are the same text exactly where they have one number. So many of the records came to another verdict.
 pub record HasOutcomes (old new : List ToldCapture) (compared : Compared) : Type 0 where
   pub distinct : IsDistinct (pointwise nat_eq) compared.texts.items
   pub old_known : List KnownRule
   pub old_outcomes : AreOutcomes compared.texts.items old_known old compared.old.items
   pub new_known : List KnownRule
   pub new_outcomes : AreOutcomes compared.texts.items new_known new compared.new.items
+  pub verdicts : compared.other_verdicts ≡ verdicts_between old new
 
 -- the captures that both have have as many records, as far as so many
 abbrev pub AreAlike : List ℕ → List ℕ → ℕ → Type 0

@@ -1,26 +1,18 @@
 -- What is shown: its text, its status, and what the sink takes of it.
-use Rattle.std.specs.Prelude.{◌≡◌, ◌≢◌, ℕ, ◌≤◌, List, Result, ◌⊎◌}
+use Rattle.std.specs.Prelude.{◌≡◌, ◌≢◌, ℕ, List, Result, ◌⊎◌}
 use Rattle.fw_base.specs.Texts.{SinkState, WritesText}
 use Rattle.report_page.specs.Pieces.{page_text}
 use Rattle.replay_setup.specs.Outcomes.{Writes}
 use Rattle.replay_setup.specs.Outside.{Output}
 use Rattle.view_driver.specs.MovesText.{compared_text}
-use Rattle.view_driver.specs.MovesTold.{records_told}
 use Rattle.view_driver.specs.ReviewText.{review_status, reviewed_text}
 use Rattle.view_driver.specs.TroubleText.{trouble_status, trouble_text}
-use Rattle.view_driver.specs.declared.compared.Compared.{Compared}
 use Rattle.view_driver.specs.declared.shown.Shown.{Shown}
 use Rattle.view_driver.specs.declared.shown.Shown.TheVariants.{Moves, Page, Script, Trouble}
 
--- A text of what was compared. How many of the records that moved came to another verdict is free.
-pub record IsComparedText (compared : Compared) (text : List ℕ) : Type 0 where
-  pub others : ℕ
-  pub within : others ≤ records_told compared.moves.moved.items
-  pub is : text ≡ compared_text compared others
-
 -- a text of what is shown
 abbrev pub IsTextOf : Shown → List ℕ → Type 0
-IsTextOf (Moves compared) text = IsComparedText compared.now text
+IsTextOf (Moves compared) text = text ≡ compared_text compared.now
 IsTextOf (Page pieces) text = text ≡ page_text pieces.now
 IsTextOf (Script reviewed) text = text ≡ reviewed_text reviewed.faults.now reviewed.findings.now
 IsTextOf (Trouble trouble) text = text ≡ trouble_text trouble

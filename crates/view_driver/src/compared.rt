@@ -1,4 +1,4 @@
-ghost use Rattle.std.specs.Prelude.{◌≡◌, ◌≤◌, IfErr, IfOk, MatchOption, length, map, min};
+ghost use Rattle.std.specs.Prelude.{◌≡◌, IfErr, IfOk, MatchOption, None, length, map, min};
 ghost use Rattle.report_moves.specs.Moves.{HaveSameLengths};
 ghost use Rattle.view_driver.specs.MovesTold as spec;
 
@@ -7,7 +7,7 @@ use fw_base::OutOfMemory;
 use fw_rule::Items;
 use report_flows::FlowSpan;
 use report_moves::{Move, Moves, have_same_lengths, moves_between};
-use report_values::{KnownRules, OutcomeTexts, Report, outcome_numbers, text_at, verdict_words};
+use report_values::{Capture, KnownRules, OutcomeTexts, Report, other_verdicts, outcome_numbers};
 use std::alloc::Global;
 
 /// The outcomes of two reports, and what moved between them.
@@ -19,6 +19,9 @@ pub(crate) struct Compared {
     pub(crate) old: Vec<Items<u32>>,
     pub(crate) new: Vec<Items<u32>>,
     pub(crate) moves: Moves,
+    /// How many records came to another verdict; the others that moved came to another rule or by
+    /// another cause.
+    pub(crate) other_verdicts: u64,
     /// The flows of what moved, a list for each move, where they are told.
     pub(crate) flows: Option<Vec<Items<FlowSpan>>>,
 }
@@ -74,6 +77,18 @@ fn unlike<'a>(old: &[Items<u32>], new: &[Items<u32>]) -> Trouble<'a>
     }
 }
 
+/// How many records of these captures came to another verdict.
+fn verdicts_between(old: &[Capture<'_>], new: &[Capture<'_>]) -> u64
+    ensures { result ≡ spec.verdicts_between old.now new.now }
+{
+    let mut records: u64 = 0;
+    for place in 0..old.len().min(new.len()) {
+        let others = other_verdicts(&old[place].records, &new[place].records);
+        records = records.saturating_add(others);
+    }
+    records
+}
+
 /// What moved from a report to another one of the same captures.
 pub(crate) fn compare<'a>(
     alloc: Global,
@@ -81,15 +96,17 @@ pub(crate) fn compare<'a>(
     new: &Report<'_>,
 ) -> Result<Compared, Trouble<'a>>
     ensures compared { IfOk result spec.IsCompared }
-    // What is compared is what the records of the reports came to.
+    // What is compared is what the records of the reports came to, and no flows are told yet.
     ensures outcomes { IfOk result
         (spec.HasOutcomes old.now.captures.items new.now.captures.items) }
     ensures counts { IfOk result (λ compared. spec.HasCounts
         (spec.counts_of old.now.captures.items) (spec.counts_of new.now.captures.items) compared) }
+    ensures flowless { IfOk result (λ compared. compared.flows ≡ None) }
     // Where they don't fit, the first capture that doesn't is told, or that one report has more.
     ensures cause { IfErr result (spec.IsUnlike
         (spec.counts_of old.now.captures.items) (spec.counts_of new.now.captures.items)) }
 {
+    let other_verdicts = verdicts_between(&old.captures, &new.captures);
     let mut texts = OutcomeTexts::new(alloc);
     let old = numbers_of(alloc, &mut texts, old)?;
     let new = numbers_of(alloc, &mut texts, new)?;
@@ -102,6 +119,7 @@ pub(crate) fn compare<'a>(
         old,
         new,
         moves,
+        other_verdicts,
         flows: None,
     })
 }
@@ -113,20 +131,6 @@ pub(crate) fn records_of(moves: &[Move]) -> u64
     let mut records: u64 = 0;
     for told in moves {
         records = records.saturating_add(told.span.records);
-    }
-    records
-}
-
-/// How many records came to another verdict; the others that moved came to another rule alone.
-pub(crate) fn other_verdicts(texts: &[Items<u8>], moves: &[Move]) -> u64
-    ensures { result ≤ spec.records_told moves.now }
-{
-    let mut records: u64 = 0;
-    for told in moves {
-        let was = verdict_words(text_at(texts, told.was));
-        if was != verdict_words(text_at(texts, told.is)) {
-            records = records.saturating_add(told.span.records);
-        }
     }
     records
 }

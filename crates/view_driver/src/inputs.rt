@@ -1,4 +1,5 @@
 ghost use Rattle.std.specs.Prelude.{◌≡◌, ◌++◌, IfErr, IfOk};
+ghost use Rattle.replay_setup.specs.Openings.{Opens};
 ghost use Rattle.report_values.specs.Captures.{captures_lines};
 ghost use Rattle.view_driver.specs.MovesTold.{IsNoReport};
 ghost use Rattle.view_driver.specs.Run as spec;
@@ -18,7 +19,9 @@ pub(crate) fn open_source<'a, L: Library>(
     library: &mut L,
     name: &'a [u8],
 ) -> Result<L::Reader, Trouble<'a>>
-    ensures { IfErr result (spec.IsUnreadOrFree ⟦<L as LibraryView>⟧.files library.new) }
+    ensures opened { IfOk result (λ source.
+        Opens ⟦<L as LibraryView>⟧.files library.old library.new name.now source) }
+    ensures cause { IfErr result (spec.IsUnreadOrMemory ⟦<L as LibraryView>⟧.files library.new) }
 {
     match library.open(Name::new(alloc, name)?) {
         Ok(source) => Ok(source),
@@ -34,7 +37,7 @@ pub(crate) fn read_text<'a, L: Library>(
 ) -> Result<Vec<u8>, Trouble<'a>>
     ensures text { IfOk result (λ text.
         spec.ReadsText ⟦<L as LibraryView>⟧.files library.old library.new name.now text.items) }
-    ensures cause { IfErr result (spec.IsUnreadOrFree ⟦<L as LibraryView>⟧.files library.new) }
+    ensures cause { IfErr result (spec.IsUnreadOrMemory ⟦<L as LibraryView>⟧.files library.new) }
 {
     let path = Name::new(alloc, name)?;
     match read_named(alloc, &path, MOST_BYTES, library)? {

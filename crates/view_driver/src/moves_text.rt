@@ -1,10 +1,9 @@
-ghost use Rattle.std.specs.Prelude.{◌≡◌, ◌≤◌, ℕ, [], flat_map, slice_index_or};
+ghost use Rattle.std.specs.Prelude.{◌≡◌, [], flat_map, slice_index_or};
 ghost use Rattle.fw_base.specs.Texts.{WritesText};
 ghost use Rattle.view_driver.specs.ColumnsText as columns;
 ghost use Rattle.view_driver.specs.MovesText as text;
-ghost use Rattle.view_driver.specs.MovesTold.{records_told};
 
-use crate::compared::{Compared, other_verdicts, records_of};
+use crate::compared::{Compared, records_of};
 use crate::flows_text::write_flows;
 use fw_base::{Failed, Sink, write_pieces, write_text};
 use fw_rule::Items;
@@ -253,30 +252,21 @@ fn write_counts<K: Sink>(
     write_count(out, b"stayed ", stayed)
 }
 
-/// Writes what moved and what stayed, of which so many records moved to another verdict.
-fn write_sections<K: Sink>(
-    out: &mut K,
-    compared: &Compared,
-    other_verdicts: u64,
-) -> Result<(), Failed>
+/// Writes what moved and what stayed, and the flows of what moved where they are told.
+pub(crate) fn write_compared<K: Sink>(out: &mut K, compared: &Compared) -> Result<(), Failed>
     ensures { WritesText (K.state out.old) (K.state out.new)
-        (text.compared_text compared.now other_verdicts) result }
+        (text.compared_text compared.now) result }
 {
     let texts = compared.texts.as_slice();
     let moved = compared.moves.moved.as_slice();
     let stayed = compared.moves.stayed.as_slice();
     let flows = flows_told(compared);
-    write_counts(out, records_of(moved), other_verdicts, records_of(stayed))?;
+    write_counts(
+        out,
+        records_of(moved),
+        compared.other_verdicts,
+        records_of(stayed),
+    )?;
     write_moved(out, texts, moved, flows)?;
     write_stayed(out, texts, stayed)
-}
-
-/// Writes what moved and what stayed, and the flows of what moved where they are told.
-pub(crate) fn write_compared<K: Sink>(out: &mut K, compared: &Compared) -> Result<(), Failed>
-    ensures { (others : ℕ) × (others ≤ records_told compared.now.moves.moved.items)
-        × WritesText (K.state out.old) (K.state out.new)
-        (text.compared_text compared.now others) result }
-{
-    let other_verdicts = other_verdicts(&compared.texts, &compared.moves.moved);
-    write_sections(out, compared, other_verdicts)
 }

@@ -1,4 +1,4 @@
-ghost use Rattle.std.specs.Prelude.{◌≡◌, IfErr, IfOk, OnErr};
+ghost use Rattle.std.specs.Prelude.{◌≡◌, IfErr, IfOk, None, OnErr};
 ghost use Rattle.view_driver.specs.MovesTold.{ComparesTexts, IsCompared, IsTroubleOf};
 ghost use Rattle.view_driver.specs.Run as spec;
 
@@ -21,7 +21,10 @@ fn flows_between<'a, L: Library>(
     captures: &[CaptureWord<'a>],
 ) -> Result<Vec<Items<FlowSpan>>, Trouble<'a>>
     requires { IsCompared compared.now }
-    ensures { IfErr result (spec.IsUnreadOrFree ⟦<L as LibraryView>⟧.files library.new) }
+    ensures told { IfOk result (λ told. spec.TellsFlows ⟦<L as LibraryView>⟧.files
+        library.old library.new compared.now told.items) }
+    ensures cause { IfErr result (spec.IsUnreadOrFlowless ⟦<L as LibraryView>⟧.files
+        library.old library.new compared.now) }
 {
     let mut sources = Vec::new(alloc);
     for capture in captures {
@@ -46,9 +49,13 @@ fn with_flows<'a, L: Library>(
     compared: Compared,
     captures: &[CaptureWord<'a>],
 ) -> Result<Compared, Trouble<'a>>
-    requires { IsCompared compared }
+    requires compared { IsCompared compared }
+    requires flowless { compared.flows ≡ None }
     ensures same { IfOk result (λ told. told ≡ record compared { flows = told.flows }) }
-    ensures cause { IfErr result (spec.IsUnreadOrFree ⟦<L as LibraryView>⟧.files library.new) }
+    ensures flows { IfOk result (λ told. spec.TellsFlowsIf ⟦<L as LibraryView>⟧.files
+        library.old library.new compared told.flows) }
+    ensures cause { IfErr result (spec.IsUnreadOrFlowless ⟦<L as LibraryView>⟧.files
+        library.old library.new compared) }
 {
     if captures.is_empty() {
         return Ok(compared);
@@ -68,6 +75,7 @@ pub(crate) fn compared_texts<'a>(
 ) -> Result<Compared, Trouble<'a>>
     ensures compared { IfOk result IsCompared }
     ensures outcomes { IfOk result (ComparesTexts old.now new.now) }
+    ensures flowless { IfOk result (λ compared. compared.flows ≡ None) }
     ensures cause { IfErr result (IsTroubleOf
         names.entry.0.now old.now names.entry.1.now new.now) }
 {

@@ -1,7 +1,7 @@
 ghost use Rattle.std.specs.Prelude.{◌≡◌, IfErr, IfOk, OnErr};
 ghost use Rattle.view_driver.specs.Run as spec;
 
-use crate::compared::{Compared, other_verdicts, records_of};
+use crate::compared::{Compared, records_of};
 use crate::inputs::{read_text, report_in};
 use crate::moves_view::compared_texts;
 use crate::shown::{Shown, show};
@@ -28,7 +28,7 @@ fn live_states_by<'a, L: Library>(
     report: &Report<'_>,
     script: &'a [u8],
 ) -> Result<LiveStates, Trouble<'a>>
-    ensures { IfErr result (spec.IsUnreadOrFree ⟦<L as LibraryView>⟧.files library.new) }
+    ensures { IfErr result (spec.IsWithoutStates ⟦<L as LibraryView>⟧.files library.new) }
 {
     let text = read_text(alloc, library, script)?;
     let Some(journal) = &report.sections.journal else {
@@ -49,7 +49,7 @@ fn live_states_if<'a, L: Library>(
     report: &Report<'_>,
     script: Option<&'a [u8]>,
 ) -> Result<Option<LiveStates>, Trouble<'a>>
-    ensures { IfErr result (spec.IsUnreadOrFree ⟦<L as LibraryView>⟧.files library.new) }
+    ensures { IfErr result (spec.IsWithoutStates ⟦<L as LibraryView>⟧.files library.new) }
 {
     match script {
         Some(script) => Ok(Some(live_states_by(alloc, library, name, report, script)?)),
@@ -83,7 +83,7 @@ fn show_report<'a, 't, L: Library, K: Sink>(
     script: Option<&'a [u8]>,
 ) -> Result<u8, Trouble<'a>>
     ensures shown { IfOk result (spec.ShowsOneText ⟦<K as SinkView>⟧.output out.old out.new) }
-    ensures cause { IfErr result (spec.IsUnreadOrNoReport ⟦<L as LibraryView>⟧.files
+    ensures cause { IfErr result (spec.IsWithoutPage ⟦<L as LibraryView>⟧.files
         library.new named.entry.0.now named.entry.1.now) }
     ensures silent { OnErr result (out.new ≡ out.old) }
 {
@@ -118,7 +118,7 @@ fn moves_shown(compared: &Compared) -> MovesShown<'_> {
         new: &compared.new,
         moved: &compared.moves.moved,
         moved_records: records_of(&compared.moves.moved),
-        verdict_records: other_verdicts(&compared.texts, &compared.moves.moved),
+        verdict_records: compared.other_verdicts,
         stayed_records: records_of(&compared.moves.stayed),
     }
 }

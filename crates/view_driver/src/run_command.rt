@@ -74,9 +74,10 @@ fn show_asked<'a, L: Library, K: Sink>(
 /// opened or read; 5 where the sink failed; 6 where memory ran out.
 pub fn run<L: Library, K: Sink>(alloc: Global, words: &[String], library: &mut L, out: &mut K) -> u8
     // What is shown was found in the texts that were read, and the sink took it: what moved between
-    // the records of two reports, or why there is nothing to show. Free are which words ask for
-    // what, what a page and a review of a script tell, and the causes of the troubles of flows, of
-    // journals and of scripts; the tests show those.
+    // the records of two reports, with the flows of captures where they are told, or why there is
+    // nothing to show. Free are which words ask for what, what a page and a review of a script
+    // tell, which report has no journal, and which line of a journal isn't its script's; the tests
+    // show those.
     ensures shown { spec.ShowsWhatItFinds ⟦<K as SinkView>⟧.output ⟦<L as LibraryView>⟧.files
         library.old library.new out.old out.new result }
     // The sink failed only where its count of faults rose, and without memory nothing was written.

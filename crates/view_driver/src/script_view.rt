@@ -51,7 +51,7 @@ pub(crate) fn show_script<'a, L: Library, K: Sink>(
     captures: &[CaptureWord<'_>],
 ) -> Result<u8, Trouble<'a>>
     ensures shown { IfOk result (spec.ShowsOneText ⟦<K as SinkView>⟧.output out.old out.new) }
-    ensures cause { IfErr result (spec.IsUnreadOrFree ⟦<L as LibraryView>⟧.files library.new) }
+    ensures cause { IfErr result (spec.IsUnreadOrMemory ⟦<L as LibraryView>⟧.files library.new) }
     ensures silent { OnErr result (out.new ≡ out.old) }
 {
     let text = read_text(alloc, library, script)?;

@@ -1,6 +1,6 @@
 ghost use Rattle.std.specs.Prelude.{◌≡◌};
 ghost use Rattle.view_driver.specs.declared.trouble.Trouble.TheVariants.{OutOfMemory as NoMemory};
-ghost use Rattle.view_driver.specs.Run.{IsFree};
+ghost use Rattle.view_driver.specs.Run as spec;
 
 use command_words::CaptureWord;
 use fw_base::OutOfMemory;
@@ -78,7 +78,9 @@ impl<T: Drop> From<AllocFailed<T>> for Trouble<'_> {
 }
 
 /// The name of the capture of this number, from 1.
-fn name_of<'a>(captures: &[CaptureWord<'a>], number: u64) -> &'a [u8] {
+fn name_of<'a>(captures: &[CaptureWord<'a>], number: u64) -> &'a [u8]
+    ensures { result.now ≡ spec.name_at (spec.names_of captures.now) number }
+{
     match captures.get(number.saturating_sub(1) as usize) {
         Some(capture) => capture.name,
         None => b"",
@@ -87,7 +89,7 @@ fn name_of<'a>(captures: &[CaptureWord<'a>], number: u64) -> &'a [u8] {
 
 /// The trouble of flows that aren't told.
 pub(crate) fn without_flows<'a>(captures: &[CaptureWord<'a>], fault: FlowsFault) -> Trouble<'a>
-    ensures { IsFree result }
+    ensures { spec.IsFlowsTrouble (spec.names_of captures.now) fault result }
 {
     match fault {
         FlowsFault::Captures { told, given } => Trouble::Named { told, named: given },
@@ -119,7 +121,7 @@ pub(crate) fn without_states<'a>(
     journal: &Journal<'_>,
     fault: StatesFault,
 ) -> Trouble<'a>
-    ensures { IsFree result }
+    ensures { spec.TellsFault fault result }
 {
     let (report, script) = names;
     match fault {

@@ -1,13 +1,13 @@
 ghost use Rattle.std.specs.Prelude.{◌≡◌};
 ghost use Rattle.fw_base.specs.Texts.{WritesText};
 ghost use Rattle.pcap_read.specs.Words.{word_of};
-ghost use Rattle.replay_setup.specs.UnreadName.{unread_text};
 ghost use Rattle.view_driver.specs.TroubleText as spec;
 
 use crate::trouble::Trouble;
 use fw_base::{Failed, Sink, write_pieces, write_text};
 use itoa::Buffer;
 use pcap_read::CaptureFault;
+use replay_setup::write_unread;
 
 /// How the program is called.
 const USAGE: &[u8] = b"usage: report_view moves OLD NEW [in|out:IF:CAPTURE ..] \
@@ -49,14 +49,6 @@ fn write_named<K: Sink>(out: &mut K, told: u64, named: u64) -> Result<(), Failed
     ensures { WritesText (K.state out.old) (K.state out.new) (spec.named_text told named) result }
 {
     write_counts(out, b"captures: ", told, b" in the reports, named ", named)
-}
-
-/// Writes a name that could not be opened or read.
-#[tactic(auto, unfolding(replay_setup::specs::UnreadName::unread_text))]
-fn write_unread<K: Sink>(out: &mut K, name: &[u8]) -> Result<(), Failed>
-    ensures { WritesText (K.state out.old) (K.state out.new) (unread_text name.now) result }
-{
-    write_pieces(out, &[b"cannot read ", name, b"\n"])
 }
 
 /// Writes which capture doesn't have as many records in both reports.

@@ -3,7 +3,7 @@ use Rattle.fw_base.proofs.Texts.{starts}
 use Rattle.rule_text.proofs.WriteSteps.{goes, breaks_off, finishes}
 use Rattle.view_driver.specs.MovesTold.{records_told}
 use Rattle.view_driver.specs.MovesText.{compared_text}
-use Rattle.view_driver.proofs.moves_text.write_sections.Goals as goal
+use Rattle.view_driver.proofs.moves_text.write_compared.Goals as goal
 
 pub returns-in_err-write_counts : goal.returns-in_err-write_counts
 unfolding compared_text
