@@ -1,6 +1,6 @@
 -- Runs of asks that grow by one, and what a tally counts over them.
-use Rattle.std.proofs.Common.{◌≡◌, ◌≢◌, ℕ, suc, ◌<◌, ◌≤◌, Bool, true, false, Option, Some, None, List, [], ◌∷◌, ◌++◌, length, inl, inr, refl, sym, ap, ◌∙◌, subst, cond, arith, eq-eqb}
-use Rattle.std.proofs.lemmas.List.{length-set, get_or-set_same, get_or-set_other, append-nil}
+use Rattle.std.proofs.Common.{◌≡◌, ◌≢◌, ℕ, suc, ◌+◌, ◌<◌, ◌≤◌, Bool, true, false, Option, Some, None, List, [], ◌∷◌, ◌++◌, length, inl, inr, refl, sym, ap, ◌∙◌, subst, cond, arith, eq-eqb}
+use Rattle.std.proofs.lemmas.List.{length-set, length-append, get_or-set_same, get_or-set_other, append-nil}
 use Rattle.std.proofs.lemmas.List.Elements.{All-weaker}
 use Rattle.std.proofs.lemmas.Option.{unwrap_or-slice_get}
 use Rattle.std.proofs.Math.Dec.{T}
@@ -99,9 +99,11 @@ AsksFront-reached enters misses old now q counts tally judged paused reached =
 
 -- and stay one where the next wanted memory
 pub AsksFront-missed : {B : Type 0} (enters : B → Op → Reply → B → Type 0) (misses : B → B → Type 0) (old now new : B) (q : Question) (counts tally : List Count) (judged : Option Judgement) (paused : Paused)
-    → IsReached enters old now q counts tally judged paused → misses now new → AsksFront enters misses old new q
-AsksFront-missed enters misses old now new q counts tally judged paused reached missed =
-    record { ops = reached.asks; replies = reached.replies; between = now; entered = reached.entered; begins = (asks_at judged paused, reached.stands.asked); missed = inr missed }
+    → judged ≡ None → IsReached enters old now q counts tally judged paused → misses now new → AsksFront enters misses old new q
+AsksFront-missed enters misses old now new q counts tally judged paused waits reached missed =
+    let asked : (evaluate q reached.replies).asks ≡ reached.asks ++ asked_by paused ∷ [] = reached.stands.asked ∙ ap (λ (j : Option Judgement). reached.asks ++ asks_at j paused) waits in
+    let longer : length (evaluate q reached.replies).asks ≡ length reached.asks + 1 = ap length asked ∙ length-append reached.asks (asked_by paused ∷ []) in
+    record { ops = reached.asks; replies = reached.replies; between = now; entered = reached.entered; begins = (asks_at judged paused, reached.stands.asked); missed = inr (omega (arith, longer), missed) }
 
 -- a tally that was fitted counts as before
 pub Evaluates-fitted : {B : Type 0} (enters : B → Op → Reply → B → Type 0) (old new : B) (q : Question) (counts fitted tally : List Count) (judgement : Judgement)

@@ -1,5 +1,5 @@
 -- The asks of one record, one after the other, of whoever asks the states for a lane.
-use Rattle.std.specs.Prelude.{◌≡◌, ℕ, ◌==◌, ◌⊎◌, if◌then◌else◌, List, [], ◌∷◌, ◌++◌}
+use Rattle.std.specs.Prelude.{◌≡◌, ℕ, ◌<◌, ◌==◌, ◌⊎◌, if◌then◌else◌, List, [], ◌∷◌, ◌++◌, length}
 use Rattle.counter_book.specs.Counts.{counted_under, count_after_packet}
 use Rattle.counter_book.specs.declared.tally.Count.{Count}
 use Rattle.state_asks.specs.declared.op.Op.{Op}
@@ -39,11 +39,11 @@ abbrev pub IsFrontOf : List Op → List Op → Type 0
 IsFrontOf front all = (rest : List Op) × (all ≡ front ++ rest)
 
 -- Asks of one evaluation were entered, a beginning of those that it makes with their replies: all that it
--- came to, or those before an ask that wanted memory.
+-- came to, or those before an ask that it makes too, which wanted memory.
 pub record AsksFront {B : Type 0} (enters : B → Op → Reply → B → Type 0) (misses : B → B → Type 0) (old new : B) (question : Question) : Type 0 where
   pub ops : List Op
   pub replies : List Reply
   pub between : B
   pub entered : EntersEach enters old ops replies between
   pub begins : IsFrontOf ops (evaluate question replies).asks
-  pub missed : (new ≡ between) ⊎ misses between new
+  pub missed : (new ≡ between) ⊎ ((length ops < length (evaluate question replies).asks) × misses between new)

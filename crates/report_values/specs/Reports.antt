@@ -1,5 +1,5 @@
--- Why a text is no report, and which line of it is the first that none has there.
-use Rattle.std.specs.Prelude.{◌≡◌, ⊤, ℕ, ◌⊎◌, Err, List, ◌++◌, length}
+-- What a report's text is; why a text is none, and which line of it is the first that none has there.
+use Rattle.std.specs.Prelude.{◌≡◌, ⊤, ℕ, ◌⊎◌, Err, IsOk, List, ◌++◌, length}
 use Rattle.report_values.specs.Captures.{HaveEnds, IsBehindCaptures, IsUnfitCapture, captures_lines}
 use Rattle.report_values.specs.Lines.{line_number}
 use Rattle.report_values.specs.Sections.{sections}
@@ -14,6 +14,11 @@ pub record HasCaptures (text : List ℕ) (captures : List Capture) (behind : Lis
   pub lines : text ≡ captures_lines 1 captures ++ behind
   pub ends : HaveEnds 1 captures
   pub no_more : IsBehindCaptures behind
+
+-- A text is a report: the lines of these captures, and behind them this, which is its sections, whole.
+pub record IsReport (text : List ℕ) (captures : List Capture) (behind : List ℕ) : Type 0 where
+  pub front : HasCaptures text captures behind
+  pub whole : IsOk (sections (length captures) behind)
 
 -- The captures fit, and of the sections behind them the line with which this rest begins is the first that doesn't.
 pub record IsUnfitSection (text at : List ℕ) : Type 0 where

@@ -1,5 +1,4 @@
-ghost use Rattle.std.specs.Prelude.{◌≡◌, ◌++◌, IfErr, IfOk, IsOk, length};
-ghost use Rattle.report_values.specs.Captures.{HaveEnds, IsBehindCaptures, captures_lines};
+ghost use Rattle.std.specs.Prelude.{IfErr, IfOk, IsOk, length};
 ghost use Rattle.report_values.specs.Reports as spec;
 ghost use Rattle.report_values.specs.Sections.{sections};
 
@@ -50,12 +49,8 @@ fn read_parts<'a>(alloc: Global, text: &'a [u8]) -> Result<Report<'a>, Unfit<'a>
 /// Reads a whole report. Each section stands there with as many lines as it says, those of caches
 /// and of a journal's lanes with one for each capture, and nothing stands behind the last.
 pub fn read_report<'a>(alloc: Global, text: &'a [u8]) -> Result<Report<'a>, ReportError>
-    ensures lines { IfOk result (λ report.
-        text.now ≡ captures_lines 1 report.captures.items ++ report.behind.now) }
-    ensures ends { IfOk result (λ report. HaveEnds 1 report.captures.items) }
-    ensures behind { IfOk result (λ report. IsBehindCaptures report.behind.now) }
-    ensures sections { IfOk result (λ report.
-        IsOk (sections (length report.captures.items) report.behind.now)) }
+    ensures report { IfOk result (λ report.
+        spec.IsReport text.now report.captures.items report.behind.now) }
     ensures cause { IfErr result (spec.HasCause text.now) }
 {
     match read_parts(alloc, text) {

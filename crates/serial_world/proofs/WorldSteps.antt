@@ -1,5 +1,5 @@
 -- What asks and publications leave of a serial world.
-use Rattle.std.proofs.Common.{◌≡◌, ℕ, ◌+◌, ◌-◌, List, [], ◌∷◌, ◌++◌, length, map, inl, inr, refl, sym, ap, ◌∙◌, subst, arith}
+use Rattle.std.proofs.Common.{◌≡◌, ℕ, ◌+◌, ◌-◌, ◌<◌, List, [], ◌∷◌, ◌++◌, length, map, inl, inr, refl, sym, ap, ◌∙◌, subst, arith}
 use Rattle.std.proofs.lemmas.List.{length-append, length-map, map-append}
 use Rattle.std.specs.Prelude.{Some, slice_get, ◌⊎◌}
 use Rattle.fw_base.specs.declared.port.Port.{Port}
@@ -76,9 +76,9 @@ BeginsJudging-run old new lane at packet port second is front =
       editions = ap (λ (w : WorldValue). w.editions) same;
     }
   where
-    stays : (new ≡ front.between) ⊎ (new ≡ front.between) → new ≡ front.between
+    stays : (new ≡ front.between) ⊎ ((length front.ops < length (evaluate (question_under (last_published old.editions) packet port second) front.replies).asks) × (new ≡ front.between)) → new ≡ front.between
     stays (inl same) = same
-    stays (inr same) = same
+    stays (inr missed) = missed.1
 
 -- what began changes no ask of another lane
 pub ChangesAsksOf-begun : (old new : WorldValue) (lane at : ℕ) (packet : AnyIp) (port : Port) (second : ℕ) → BeginsJudging old new lane at packet port second → ChangesAsksOf lane old new

@@ -1,6 +1,6 @@
 -- Lanes that judge a packet in their section.
-use Rattle.std.proofs.Common.{◌≡◌, ℕ, ◌+◌, ◌≤◌, Bool, true, false, List, [], ◌∷◌, ◌++◌, length, Option, Some, None, refl, sym, ap, ◌∙◌, subst, arith, inl, inr, append_assoc}
-use Rattle.std.proofs.lemmas.List.{append-nil}
+use Rattle.std.proofs.Common.{◌≡◌, ℕ, ◌+◌, ◌<◌, ◌≤◌, Bool, true, false, List, [], ◌∷◌, ◌++◌, length, Option, Some, None, refl, sym, ap, ◌∙◌, subst, arith, inl, inr, append_assoc}
+use Rattle.std.proofs.lemmas.List.{append-nil, length-append}
 use Rattle.std.proofs.lemmas.List.Elements.{All-push}
 use Rattle.std.specs.Prelude.{All, Result, Ok, Err, IfOk, OnOk, OnErr, is_ok, IsSomeAnd, option_map, ◌⊎◌, slice_get}
 use Rattle.std.specs.Arc.{arc_value}
@@ -155,6 +155,7 @@ module _ (table : TableId) (v : Known) (work : LaneWork) (reads : ReadsSeen v) (
     visits : ℕ
     least : length ops ≤ visits
     most : visits ≤ length ops + 1
+    asking : visits ≤ length (evaluate question replies).asks
     asks : Asks old new visits (record_asks old.view.part.held at ops replies)
 
   front : (f : AsksFront (Enters at) Misses old new question) → Front f.ops f.replies
@@ -163,12 +164,16 @@ module _ (table : TableId) (v : Known) (work : LaneWork) (reads : ReadsSeen v) (
       a : Asks old f.between (length f.ops) (record_asks old.view.part.held at f.ops f.replies)
       a = runs at old f.ops f.replies f.between f.entered
 
-      by_missed : (new ≡ f.between) ⊎ Misses f.between new → Front f.ops f.replies
-      by_missed (inl same) = record { visits = length f.ops; least = omega arith; most = omega arith; asks = subst (λ (x : AskingValue). Asks old x (length f.ops) (record_asks old.view.part.held at f.ops f.replies)) (sym same) a }
-      by_missed (inr miss) = record {
+      made : length (evaluate question f.replies).asks ≡ length f.ops + length f.begins.0
+      made = ap length f.begins.1 ∙ length-append f.ops f.begins.0
+
+      by_missed : (new ≡ f.between) ⊎ ((length f.ops < length (evaluate question f.replies).asks) × Misses f.between new) → Front f.ops f.replies
+      by_missed (inl same) = record { visits = length f.ops; least = omega arith; most = omega arith; asking = omega (arith, made); asks = subst (λ (x : AskingValue). Asks old x (length f.ops) (record_asks old.view.part.held at f.ops f.replies)) (sym same) a }
+      by_missed (inr missed) = let miss = missed.1 in record {
         visits = length f.ops + 1;
         least = omega arith;
         most = omega arith;
+        asking = omega (arith, missed.0);
         asks = record { lock = miss.0 ∙ a.lock; steady = miss.1.steady ∙ a.steady; taken = omega (arith, miss.1.taken, a.taken); own = ap asks_in miss.1.own_is ∙ a.own };
       }
 
@@ -185,6 +190,7 @@ module _ (table : TableId) (v : Known) (work : LaneWork) (reads : ReadsSeen v) (
         asks = own_asks fr.visits (record_asks old.view.part.held at f.ops f.replies) fr.asks ∙ ap (λ (n : ℕ). asks_in v.part.own ++ record_asks n at f.ops f.replies) number;
         least = omega (arith, all, fr.least);
         most = omega (arith, all, fr.most);
+        asking = omega (arith, all, fr.asking);
       }
 
   still : AsksFront (Enters at) Misses old new question → steady_view u ≡ steady_view v

@@ -31,8 +31,8 @@ pub record Judges (edition : Published) (before after : SharedLane) (packet : An
   pub counted : RisesBy (total_of packet) (evaluate (question_under edition packet port second) replies).hits before.tally after.tally
 
 -- Judging a packet under this edition began: the asks that were entered are a beginning of those that the
--- evaluation makes with their replies, and the book was taken once for each of them, and at most once more, for
--- an ask that wanted memory.
+-- evaluation makes with their replies, and the book was taken once for each of them, and where the evaluation
+-- makes more at most as often as it asks, for one that wanted memory.
 pub record BeginsJudging (edition : Published) (before after : SharedLane) (packet : AnyIp) (port : Port) (second : ℕ) : Type 0 where
   pub ops : List Op
   pub replies : List Reply
@@ -40,7 +40,8 @@ pub record BeginsJudging (edition : Published) (before after : SharedLane) (pack
   pub begins : IsFrontOf ops (evaluate (question_under edition packet port second) replies).asks
   pub asks : after.asks ≡ before.asks ++ record_asks edition.number (length before.docket.entries + 1) ops replies
   pub least : before.book_taken + length ops ≤ after.book_taken
-  pub most : after.book_taken ≤ before.book_taken + length ops + 1
+  pub most : after.book_taken ≤ before.book_taken + (length ops + 1)
+  pub asking : after.book_taken ≤ before.book_taken + length (evaluate (question_under edition packet port second) replies).asks
 
 -- The next record of a lane was judged in its section, or memory was wanted.
 pub record JudgesNext (before after : SharedInside) (packet : AnyIp) (port : Port) (second : ℕ) (result : Result Judgement OutOfMemory) : Type 0 where

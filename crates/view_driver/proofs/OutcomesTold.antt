@@ -5,7 +5,7 @@ use Rattle.std.specs.Cmp.Lexicographic.{pointwise}
 use Rattle.std.specs.List.{IsDistinct}
 use Rattle.std.proofs.lemmas.List.{map-append, map_more}
 use Rattle.std.proofs.lemmas.List.Elements.{All-head, All-tail, All-push, All-weaker}
-use Rattle.report_values.specs.Captures.{captures_lines}
+use Rattle.report_values.specs.Reports.{IsReport}
 use Rattle.report_values.specs.Outcomes.{Keeps, NumbersAll, outcome_text, texts_at}
 use Rattle.report_values.specs.declared.capture.Capture.{Capture as ToldCapture}
 use Rattle.report_values.specs.declared.rules.KnownRule.{KnownRule}
@@ -89,7 +89,7 @@ has_outcomes first mid last old new compared is distinct was is_now verdicts =
 
 -- the texts begin with the lines of the captures whose outcomes were compared
 pub compares_texts : (old new : List ℕ) (old_captures new_captures : List ToldCapture) (old_behind new_behind : List ℕ)
-    → old ≡ captures_lines 1 old_captures ++ old_behind → new ≡ captures_lines 1 new_captures ++ new_behind
+    → IsReport old old_captures old_behind → IsReport new new_captures new_behind
     → (result : Result Compared Trouble) → IfOk result IsCompared → IfOk result (HasOutcomes old_captures new_captures)
     → IfOk result (ComparesTexts old new)
 compares_texts old new old_captures new_captures old_behind new_behind old_is new_is (Ok compared) told outcomes = record {

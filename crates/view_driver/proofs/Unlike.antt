@@ -3,7 +3,7 @@ use Rattle.std.proofs.Common.{◌≡◌, ◌≢◌, ℕ, ◌+◌, ◌-◌, ◌<�
 use Rattle.std.specs.Prelude.{IfErr}
 use Rattle.std.proofs.lemmas.List.{get_or-map, length-map, map-append, map_more}
 use Rattle.report_moves.specs.Moves.{HaveSameLengths}
-use Rattle.report_values.specs.Captures.{captures_lines}
+use Rattle.report_values.specs.Reports.{IsReport}
 use Rattle.report_values.specs.Outcomes.{NumbersAll, outcome_text}
 use Rattle.report_values.specs.declared.capture.Capture.{Capture as ToldCapture}
 use Rattle.report_values.specs.declared.rules.KnownRule.{KnownRule}
@@ -103,7 +103,7 @@ module _ (old_name old new_name new : List ℕ) where
   new_unfit OutOfMemory unfit = tt
 
 module _ (old_name old new_name new : List ℕ) (old_captures new_captures : List ToldCapture) (old_behind new_behind : List ℕ)
-    (old_is : old ≡ captures_lines 1 old_captures ++ old_behind) (new_is : new ≡ captures_lines 1 new_captures ++ new_behind) where
+    (old_is : IsReport old old_captures old_behind) (new_is : IsReport new new_captures new_behind) where
   -- captures that don't fit are one too
   pub unlike_trouble : (trouble : Trouble) → IsUnlike (counts_of old_captures) (counts_of new_captures) trouble → IsTroubleOf old_name old new_name new trouble
   unlike_trouble Usage unlike = unlike

@@ -1,12 +1,11 @@
 -- What is told of moves. Figures stand still at the greatest number of 64 bits.
-use Rattle.std.specs.Prelude.{◌≡◌, ◌≢◌, ℕ, ◌+◌, ◌-◌, ◌<◌, ◌≤◌, ◌^◌, List, ◌++◌, All, length, map, min, nat_eq, slice_index_or, sum_by, zip, ⊤, ◌⊎◌}
+use Rattle.std.specs.Prelude.{◌≡◌, ◌≢◌, ℕ, ◌+◌, ◌-◌, ◌<◌, ◌≤◌, ◌^◌, List, All, length, map, min, nat_eq, slice_index_or, sum_by, zip, ⊤, ◌⊎◌}
 use Rattle.std.specs.Cmp.Lexicographic.{pointwise}
 use Rattle.std.specs.List.{IsDistinct}
 use Rattle.report_moves.specs.Moves.{AreToldOnce, HaveSameLengths, IsToldOf, records_in, records_of}
 use Rattle.report_moves.specs.declared.moves.Move.{Move}
-use Rattle.report_values.specs.Captures.{captures_lines}
 use Rattle.report_values.specs.Outcomes.{Keeps, outcome_text, texts_at}
-use Rattle.report_values.specs.Reports.{IsUnfitLine}
+use Rattle.report_values.specs.Reports.{IsReport, IsUnfitLine}
 use Rattle.report_values.specs.Verdicts.{other_verdicts}
 use Rattle.report_values.specs.declared.capture.Capture.{Capture as ToldCapture}
 use Rattle.report_values.specs.declared.rules.KnownRule.{KnownRule}
@@ -118,24 +117,24 @@ IsNoReport name text (Named told named) = ⊥
 IsNoReport name text (OtherRecords capture told read) = ⊥
 IsNoReport name text (Capture capture at fault) = ⊥
 
--- two texts begin with the lines of captures that don't fit
+-- two texts are reports of captures that don't fit
 pub record AreUnlikeTexts (old new : List ℕ) (trouble : Trouble) : Type 0 where
   pub old_captures : List ToldCapture
   pub new_captures : List ToldCapture
   pub old_behind : List ℕ
   pub new_behind : List ℕ
-  pub old_is : old ≡ captures_lines 1 old_captures ++ old_behind
-  pub new_is : new ≡ captures_lines 1 new_captures ++ new_behind
+  pub old_is : IsReport old old_captures old_behind
+  pub new_is : IsReport new new_captures new_behind
   pub unlike : IsUnlike (counts_of old_captures) (counts_of new_captures) trouble
 
--- two texts begin with the lines of captures, and the outcomes of their records were compared
+-- two texts are reports, and the outcomes of their captures' records were compared
 pub record ComparesTexts (old new : List ℕ) (compared : Compared) : Type 0 where
   pub old_captures : List ToldCapture
   pub new_captures : List ToldCapture
   pub old_behind : List ℕ
   pub new_behind : List ℕ
-  pub old_is : old ≡ captures_lines 1 old_captures ++ old_behind
-  pub new_is : new ≡ captures_lines 1 new_captures ++ new_behind
+  pub old_is : IsReport old old_captures old_behind
+  pub new_is : IsReport new new_captures new_behind
   pub told : IsCompared compared
   pub outcomes : HasOutcomes old_captures new_captures compared
 

@@ -1,6 +1,6 @@
-ghost use Rattle.std.specs.Prelude.{◌≡◌, ◌++◌, IfErr, IfOk};
+ghost use Rattle.std.specs.Prelude.{IfErr, IfOk};
 ghost use Rattle.replay_setup.specs.Openings.{Opens};
-ghost use Rattle.report_values.specs.Captures.{captures_lines};
+ghost use Rattle.report_values.specs.Reports.{IsReport};
 ghost use Rattle.view_driver.specs.MovesTold.{IsNoReport};
 ghost use Rattle.view_driver.specs.Run as spec;
 
@@ -52,8 +52,8 @@ pub(crate) fn report_in<'a, 't>(
     name: &'a [u8],
     text: &'t [u8],
 ) -> Result<Report<'t>, Trouble<'a>>
-    ensures lines { IfOk result (λ report.
-        text.now ≡ captures_lines 1 report.captures.items ++ report.behind.now) }
+    ensures report { IfOk result (λ report.
+        IsReport text.now report.captures.items report.behind.now) }
     ensures cause { IfErr result (IsNoReport name.now text.now) }
 {
     match read_report(alloc, text) {
