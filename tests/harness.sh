@@ -64,11 +64,11 @@ check_reference() {
     same "$name"
 }
 
-# failed_to_run FILE: a file of checks that could not be read to its end is a failed check.
+# failed_to_run FILE [WHY]: a file of checks that could not be run to its end is a failed check.
 failed_to_run() {
     failed=$((failed + 1))
     echo "FAILED $1"
-    echo "    the file ended with an error"
+    echo "    ${2:-the file ended with an error}"
 }
 
 # bytes DIGITS..: writes the bytes that the hexadecimal digits name; blanks and line ends between them are free.

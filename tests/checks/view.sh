@@ -1,4 +1,4 @@
-# report_view on the reports of the examples: its moves beside awk's, its pages parsed, their figures counted.
+# report_view on the reports of the examples: its moves and their flows beside tests/flows.py, its pages parsed, their figures counted.
 # shellcheck shell=bash disable=SC2154
 
 view=$(dirname "$program")/report_view
@@ -207,4 +207,6 @@ no fault, and nothing odd
 status 0
 END
     same view_script_tells_what_is_odd
+else
+    failed_to_run view.sh "there is no program $view"
 fi

@@ -75,4 +75,6 @@ if [[ -x $view ]]; then
         for _ in {1..3}; do printf '%s\nstatus 1\n' "$usage_of_view"; done
     } >"$work/wanted"
     same live_states_of_another_script
+else
+    failed_to_run view_states.sh "there is no program $view"
 fi
