@@ -18,7 +18,7 @@ use Rattle.report_moves.specs.declared.spans.Span.{Span}
 use Rattle.report_flows.specs.declared.flow.AnyFlow.{AnyFlow}
 use Rattle.report_flows.specs.declared.flow_counts.FlowSpan.{FlowSpan}
 use Rattle.report_flows.specs.Flows.{same_flow}
-use Rattle.report_flows.specs.Counting.{Row, Entries, CountsFlow, IsCounted, IsBelow, AreTold, flow_span, is_in, is_of, records_in}
+use Rattle.report_flows.specs.Counting.{Row, Entries, CountsFlow, IsCounted, IsBelow, AreTold, AreFlowsInOrder, flow_span, is_in, is_of, records_in}
 use Rattle.report_flows.proofs.SameFlows.{one_flow, flow_flips}
 
 -- the map has one record more under the flow
@@ -108,8 +108,8 @@ told_sum (entry ∷ entries) =
 -- what was counted is told, in whatever order
 pub are_told : (entries : Entries) (found sorted : List FlowSpan) → found ≡ map flow_span entries → IsPermutation found sorted
     → All (λ (entry : Option AnyFlow × Span). lookup (same_flow entry.0) entries ≡ Some entry.1) entries
-    → IsDistinct same_flow (map (λ (entry : Option AnyFlow × Span). entry.0) entries) → AreTold entries sorted
-are_told entries found sorted is order each unique =
+    → IsDistinct same_flow (map (λ (entry : Option AnyFlow × Span). entry.0) entries) → AreFlowsInOrder sorted → AreTold entries sorted
+are_told entries found sorted is order each unique in_order =
     let Told : FlowSpan → Type 0 = λ told. lookup (same_flow told.flow) entries ≡ Some told.span in
     let flow_of : FlowSpan → Option AnyFlow = λ told. told.flow in
     let told : All Told found = subst (All Told) (sym is) (All-map Told flow_span entries each) in
@@ -120,4 +120,5 @@ are_told entries found sorted is order each unique =
       all =
           sum_by-IsPermutation (λ (t : FlowSpan). t.span.records) found sorted order ∙ ap (sum_by (λ (t : FlowSpan). t.span.records)) is
           ∙ told_sum entries;
+      order = in_order;
     }

@@ -58,6 +58,7 @@ module _ {S : Type 0} (left : S → Option (List ℕ)) (faults : S → ℕ) (cap
         told = All-weaker (λ (f : FlowSpan). lookup (same_flow f.flow) entries ≡ Some f.span) (λ (f : FlowSpan). span_of (is_in (pair_of move) f.flow) rows ≡ Some f.span)
             (λ f found. sym (counted_here.spans f.flow) ∙ found) (get_or told place []) told_here.found;
         once = told_here.once;
+        order = told_here.order;
         all =
             told_here.all ∙ counted_here.all
             ∙ rows_of_pair (pair_of move) (get_or old at []) (get_or new at []) (get_or counted.flows at []) (lengths.records at here) count

@@ -1,7 +1,10 @@
 -- How often each flow is met among the records of a move.
 use Rattle.std.specs.Prelude.{◌≡◌, ◌≢◌, ℕ, ◌+◌, ◌-◌, ◌<◌, ◌&&◌, Bool, true, false, nat_eq, if◌then◌else◌, Option, None, Some, IfSome, List, [], All, length, map, slice_index_or, sum_by, count_by}
 use Rattle.std.specs.List.{zip, IsDistinct}
+use Rattle.std.specs.List.Sorted.{IsSorted}
 use Rattle.std.specs.Map.{lookup}
+use Rattle.std.specs.Ordering.{nat_cmp, ordering_then}
+use Rattle.std.specs.declared.cmp.Ordering.{Ordering}
 use Rattle.report_moves.specs.Spans.{pair_eq, span_of, one_more}
 use Rattle.report_moves.specs.declared.moves.Move.{Move}
 use Rattle.report_moves.specs.declared.spans.Span.{Span}
@@ -81,12 +84,21 @@ pub record AreCounted (moves : List Move) (capture : ℕ) (rows : List Row) (old
   pub here : (place : ℕ) → place < length moves → (move_at moves place).capture ≡ capture → IsCounted (pair_of (move_at moves place)) rows (entries_at new place)
   pub others : (place : ℕ) → (move_at moves place).capture ≢ capture → entries_at new place ≡ entries_at old place
 
+-- the most records first, and of as many the first record
+abbrev pub flow_cmp : FlowSpan → FlowSpan → Ordering
+flow_cmp flow other = ordering_then (nat_cmp other.span.records flow.span.records) (nat_cmp flow.span.first other.span.first)
+
+-- flows stand in that order
+abbrev pub AreFlowsInOrder : List FlowSpan → Type 0
+AreFlowsInOrder flows = IsSorted flow_cmp flows
+
 -- The flows of the records of a move, each told once, by how many records have it, the first and the last of them.
--- Together they have all records of the move.
+-- Together they have all records of the move, and the most records come first.
 pub record AreFlowsOf (move : Move) (rows : List Row) (flows : List FlowSpan) : Type 0 where
   pub told : All (λ told. span_of (is_in (pair_of move) told.flow) rows ≡ Some told.span) flows
   pub once : IsDistinct same_flow (map (λ told. told.flow) flows)
   pub all : sum_by (λ told. told.span.records) flows ≡ move.span.records
+  pub order : AreFlowsInOrder flows
 
 -- the records of a move's capture, by what they came to and by their flows
 abbrev pub rows_at : List (List ℕ) → List (List ℕ) → List (List (Option AnyFlow)) → ℕ → List Row
@@ -102,6 +114,7 @@ pub record AreTold (entries : Entries) (told : List FlowSpan) : Type 0 where
   pub found : All (λ flow. lookup (same_flow flow.flow) entries ≡ Some flow.span) told
   pub once : IsDistinct same_flow (map (λ flow. flow.flow) told)
   pub all : sum_by (λ flow. flow.span.records) told ≡ records_in entries
+  pub order : AreFlowsInOrder told
 
 -- so far fewer records than this have the flow
 abbrev pub IsBelow : Option AnyFlow → ℕ → Entries → Type 0

@@ -8,6 +8,7 @@ use crate::AnyFlow;
 use fw_base::OutOfMemory;
 use report_moves::{Span, one_more};
 use std::alloc::Global;
+use std::cmp::Reverse;
 use std::collections::HashMap;
 use std::marker::Model;
 
@@ -89,7 +90,7 @@ impl FlowCounts {
         ensures { IfOk result (λ told. spec.AreTold self.now told.items) }
     {
         let mut told = told_in(alloc, &self.spans)?;
-        told.sort_by_key(|flow| (u64::MAX - flow.span.records, flow.span.first))?;
+        told.sort_by_key(|flow| (Reverse(flow.span.records), flow.span.first))?;
         Ok(told)
     }
 }

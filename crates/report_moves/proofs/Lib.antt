@@ -6,3 +6,5 @@ pub mod SpanLaws
 mod Rows
 -- that none is told twice
 mod Once
+-- that they stand in order
+mod InOrder

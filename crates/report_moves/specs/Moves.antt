@@ -1,6 +1,9 @@
 -- What moved between two lists of outcomes: the pairs of an outcome then and another one now.
 use Rattle.std.specs.Prelude.{◌≡◌, ◌≢◌, ℕ, ◌-◌, ◌≤◌, ◌<◌, ◌&&◌, None, Some, List, [], length, slice_index_or, sum_by, filter, not, nat_eq, Bool}
 use Rattle.std.specs.List.{zip, IsDistinct}
+use Rattle.std.specs.List.Sorted.{IsSorted}
+use Rattle.std.specs.Ordering.{nat_cmp, ordering_then}
+use Rattle.std.specs.declared.cmp.Ordering.{Ordering}
 use Rattle.report_moves.specs.Spans.{pair_eq, span_of}
 use Rattle.report_moves.specs.declared.moves.Move.{Move}
 use Rattle.report_moves.specs.declared.spans.Span.{Span}
@@ -48,6 +51,14 @@ records_of moves = sum_by (λ move. move.span.records) moves
 -- how many records captures have
 abbrev pub records_in : List (List ℕ) → ℕ
 records_in captures = sum_by length captures
+
+-- the most records first, and of as many the first capture and the first record
+abbrev pub move_cmp : Move → Move → Ordering
+move_cmp move other = ordering_then (ordering_then (nat_cmp other.span.records move.span.records) (nat_cmp move.capture other.capture)) (nat_cmp move.span.first other.span.first)
+
+-- moves stand in that order
+abbrev pub AreInOrder : List Move → Type 0
+AreInOrder moves = IsSorted move_cmp moves
 
 -- the outcome stayed the same
 abbrev pub is_stayed : Move → Bool

@@ -1,4 +1,4 @@
-ghost use Rattle.std.specs.Prelude.{◌≡◌, ◌≢◌, ◌+◌, All, IfOk, Some, length, map, true};
+ghost use Rattle.std.specs.Prelude.{◌≡◌, ◌≢◌, ◌+◌, All, IfOk, OnOk, Some, length, map, true};
 ghost use Rattle.std.specs.HashMap.{get, IsUnique};
 ghost use Rattle.std.specs.List.Sorted.{IsPermutation};
 ghost use Rattle.report_moves.specs.Moves as spec;
@@ -8,6 +8,7 @@ use crate::{Span, spans_of};
 use fw_base::OutOfMemory;
 use fw_rule::Items;
 use std::alloc::Global;
+use std::cmp::Reverse;
 use std::collections::HashMap;
 
 /// The records of a capture that came to one outcome then and to one now, which may be the same.
@@ -102,9 +103,10 @@ fn all_moves(
 
 /// Puts the most records first, and of as many the first capture and the first record.
 fn sort(moves: &mut Vec<Move>) -> Result<(), OutOfMemory>
-    ensures { IsPermutation moves.old.items moves.new.items }
+    ensures same { IsPermutation moves.old.items moves.new.items }
+    ensures order { OnOk result (spec.AreInOrder moves.new.items) }
 {
-    moves.sort_by_key(|told| (u64::MAX - told.span.records, told.capture, told.span.first))?;
+    moves.sort_by_key(|told| (Reverse(told.span.records), told.capture, told.span.first))?;
     Ok(())
 }
 
@@ -141,6 +143,9 @@ pub fn moves_between(
     // What moved came to another outcome, and what stayed to the same.
     ensures others { IfOk result (λ told. All (λ move. move.was ≢ move.is) told.moved.items) }
     ensures same { IfOk result (λ told. All (λ move. move.was ≡ move.is) told.stayed.items) }
+    // The most records come first, and of as many the first capture and the first record.
+    ensures moved_order { IfOk result (λ told. spec.AreInOrder told.moved.items) }
+    ensures stayed_order { IfOk result (λ told. spec.AreInOrder told.stayed.items) }
     // Together they have as many records as the captures.
     ensures all { IfOk result (λ told. spec.records_of told.moved.items
         + spec.records_of told.stayed.items ≡ spec.records_in old.now) }

@@ -2,7 +2,7 @@
 use Rattle.std.specs.Prelude.{◌≡◌, ◌≢◌, ℕ, ◌+◌, ◌-◌, ◌<◌, ◌≤◌, ◌^◌, List, All, length, map, min, nat_eq, slice_index_or, sum_by, zip, ⊤, ◌⊎◌}
 use Rattle.std.specs.Cmp.Lexicographic.{pointwise}
 use Rattle.std.specs.List.{IsDistinct}
-use Rattle.report_moves.specs.Moves.{AreToldOnce, HaveSameLengths, IsToldOf, records_in, records_of}
+use Rattle.report_moves.specs.Moves.{AreInOrder, AreToldOnce, HaveSameLengths, IsToldOf, records_in, records_of}
 use Rattle.report_moves.specs.declared.moves.Move.{Move}
 use Rattle.report_values.specs.Outcomes.{Keeps, outcome_text, texts_at}
 use Rattle.report_values.specs.Reports.{IsReport, IsUnfitLine}
@@ -18,15 +18,17 @@ abbrev pub records_told : List Move → ℕ
 records_told moves = min (records_of moves) (2 ^ 64 - 1)
 
 -- Two reports were compared: their captures have as many records. What moved and what stayed is told as it is, once,
--- and whole: together they have as many records as the captures.
+-- and whole: together they have as many records as the captures. The most records come first.
 pub record IsCompared (compared : Compared) : Type 0 where
   pub lengths : HaveSameLengths compared.old.items compared.new.items
   pub told : All (IsToldOf compared.old.items compared.new.items) compared.moves.moved.items
   pub once : AreToldOnce compared.moves.moved.items
   pub others : All (λ move. move.was ≢ move.is) compared.moves.moved.items
+  pub order : AreInOrder compared.moves.moved.items
   pub stayed_told : All (IsToldOf compared.old.items compared.new.items) compared.moves.stayed.items
   pub stayed_once : AreToldOnce compared.moves.stayed.items
   pub same : All (λ move. move.was ≡ move.is) compared.moves.stayed.items
+  pub stayed_order : AreInOrder compared.moves.stayed.items
   pub all : records_of compared.moves.moved.items + records_of compared.moves.stayed.items ≡ records_in compared.old.items
 
 -- How many records of captures came to another verdict. A record has one place in both reports.
