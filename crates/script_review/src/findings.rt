@@ -336,8 +336,8 @@ fn find_in_script(
     find_odd(findings, &lines, before, (&config, &added), interfaces)
 }
 
-/// What is wrong or odd in a script whose lines have no fault; of one with a faulty line nothing is
-/// told. Interfaces are looked for where some are given.
+/// What is wrong or odd in a script as a whole: that it is too large; or else, where no line has a fault, what is
+/// refused and what is odd. Interfaces are looked for where some are given.
 pub fn findings_in(
     alloc: Global,
     text: &[u8],

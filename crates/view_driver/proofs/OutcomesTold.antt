@@ -87,7 +87,7 @@ has_outcomes first mid last old new compared is distinct was is_now verdicts =
       verdicts = verdicts;
     }
 
--- the texts begin with the lines of the captures whose outcomes were compared
+-- the texts are reports, and the outcomes of their captures' records were compared
 pub compares_texts : (old new : List ℕ) (old_captures new_captures : List ToldCapture) (old_behind new_behind : List ℕ)
     → IsReport old old_captures old_behind → IsReport new new_captures new_behind
     → (result : Result Compared Trouble) → IfOk result IsCompared → IfOk result (HasOutcomes old_captures new_captures)

@@ -34,9 +34,11 @@ compares_with_flows old new compared told same compares =
         told = compares.told.told;
         once = compares.told.once;
         others = compares.told.others;
+        order = compares.told.order;
         stayed_told = compares.told.stayed_told;
         stayed_once = compares.told.stayed_once;
         same = compares.told.same;
+        stayed_order = compares.told.stayed_order;
         all = compares.told.all;
       };
       outcomes = record {
